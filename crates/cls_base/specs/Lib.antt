@@ -1,0 +1,10 @@
+pub mod Memory
+pub mod Outside
+pub mod Pages
+pub mod Spines
+pub mod Subtyping
+pub mod Taxonomies
+pub mod Terms
+pub mod Ty
+pub mod Types
+pub mod Typing

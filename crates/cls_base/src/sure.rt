@@ -1,0 +1,95 @@
+ghost use Rattle.std.specs.Prelude.{◌≡◌, ℕ, ◌+◌, ◌<◌, ◌≤◌, List, [], length, drop, Some, IfOk};
+
+use crate::out_of_memory::OutOfMemory;
+use crate::sink::Sink;
+use crate::source::{Failed, Source};
+use std::alloc::Global;
+use std::marker::Model;
+
+/// A source over memory that never fails, seen as the bytes that are left.
+#[derive(Drop)]
+pub struct SureSource {
+    bytes: Vec<u8>,
+    at: usize,
+}
+
+impl Model for SureSource {
+    ghost Value = { List ℕ };
+
+    ghost view = { λ s. drop s.at s.bytes.items };
+
+    ghost invariant = { λ s. s.at ≤ length s.bytes.items };
+}
+
+impl SureSource {
+    /// A source of these bytes.
+    pub fn new(bytes: Vec<u8>) -> SureSource
+        ensures { result ≡ bytes.items }
+    {
+        SureSource { bytes, at: 0 }
+    }
+}
+
+impl Source for SureSource {
+    ghost left = { λ s. Some s };
+
+    ghost faults = { λ _. 0 };
+
+    fn read(&mut self, into: &mut [u8]) -> Result<usize, Failed> {
+        let count = (self.bytes.len() - self.at).min(into.len());
+        into[..count].copy_from_slice(&self.bytes[self.at..self.at + count]);
+        self.at += count;
+        Ok(count)
+    }
+}
+
+/// A sink over memory that never fails as long as there is room, and takes each piece whole.
+#[derive(Drop)]
+pub struct SureSink {
+    held: Vec<u8>,
+    room: usize,
+}
+
+impl Model for SureSink {
+    ghost use Rattle.std.specs.Prelude.{ℕ, ◌+◌, ◌≤◌, length, vec_capacity};
+    ghost use Rattle.cls_base.specs.Memory.{SureOutput};
+
+    ghost Value = { SureOutput };
+
+    ghost view = { λ s. record { held = s.held.items; room = s.room } };
+
+    ghost invariant = { λ s. length s.held.items + s.room ≤ vec_capacity s.held };
+}
+
+impl SureSink {
+    /// A sink that takes `spare` bytes in all. The memory for them is taken now.
+    pub fn new(alloc: Global, spare: usize) -> Result<SureSink, OutOfMemory>
+        ensures { IfOk result (λ s. s ≡ record { held = []; room = spare }) }
+    {
+        Ok(SureSink {
+            held: Vec::with_capacity(alloc, spare)?,
+            room: spare,
+        })
+    }
+
+    /// The bytes that were taken so far.
+    pub fn held(&self) -> &[u8]
+        ensures { result.now ≡ self.now.held }
+    {
+        self.held.as_slice()
+    }
+}
+
+impl Sink for SureSink {
+    ghost held = { λ s. Some s.held };
+
+    ghost room = { λ s. Some s.room };
+
+    ghost faults = { λ _. 0 };
+
+    fn write(&mut self, piece: &[u8]) -> Result<usize, Failed> {
+        self.held.extend_from_slice(piece).unwrap();
+        self.room -= piece.len();
+        Ok(piece.len())
+    }
+}
