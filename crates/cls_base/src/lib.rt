@@ -8,6 +8,8 @@
 #![tactic(auto)]
 
 mod gate;
+mod memory_sink;
+mod memory_source;
 mod numbers;
 mod out_of_memory;
 mod sink;
@@ -16,6 +18,8 @@ mod sure;
 mod ty;
 
 pub use gate::{Gate, OpenGate};
+pub use memory_sink::MemorySink;
+pub use memory_source::MemorySource;
 pub use numbers::Numbers;
 pub use out_of_memory::OutOfMemory;
 pub use sink::Sink;
