@@ -15,6 +15,8 @@ mod out_of_memory;
 mod sink;
 mod source;
 mod sure;
+#[cfg(test)]
+mod tests;
 mod ty;
 
 pub use gate::{Gate, OpenGate};
