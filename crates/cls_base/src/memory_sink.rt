@@ -9,7 +9,8 @@ use crate::sure::SureSink;
 use std::alloc::Global;
 use std::marker::Model;
 
-/// A sink over memory some of whose writes fail, seen as an `Output`: what is held, how it is taken, and the counts of writes.
+/// A sink over memory, some of whose writes fail. It is seen as an `Output`: the bytes that are held, how they are taken,
+/// and how many writes there were and failed.
 #[derive(Drop)]
 pub struct MemorySink {
     bytes: SureSink,
@@ -38,8 +39,10 @@ impl Model for MemorySink {
 }
 
 impl MemorySink {
-    /// A sink that holds at most `spare` bytes, which are taken now, and takes at most `chunk` bytes a write. A write fails
-    /// where its number, counted from 1, is in `fails`, and where the sink is full and the piece isn't empty.
+    /// A sink that holds at most `spare` bytes and takes at most `chunk` bytes a write. A write fails where its number,
+    /// counted from 1, is in `fails`, and where the sink is full and the piece isn't empty.
+    ///
+    /// The memory is taken now, and `OutOfMemory` is the answer where there is none. A write takes none.
     pub fn new(
         alloc: Global,
         spare: usize,
@@ -81,7 +84,8 @@ impl Sink for MemorySink {
 
     ghost faults = { λ s. s.faults };
 
-    /// Takes all that there is room for, up to `chunk` bytes.
+    /// Takes all that there is room for, up to the sink's chunk. Fails where the number of this write is one of those that
+    /// fail, and where the sink is full and the piece isn't empty.
     fn write(&mut self, piece: &[u8]) -> Result<usize, Failed>
         ensures fails { IsErr result
             ↔ (Contains self.old.fails (next_count self.old.writes)

@@ -6,7 +6,8 @@ use crate::source::{Failed, Source};
 use crate::sure::SureSource;
 use std::marker::Model;
 
-/// A source over memory some of whose reads fail, seen as an `Input`: what is left, how it is given, and the counts of reads.
+/// A source over memory, some of whose reads fail. It is seen as an `Input`: the bytes that are left, how they are given,
+/// and how many reads there were and failed.
 #[derive(Drop)]
 pub struct MemorySource {
     bytes: SureSource,
@@ -34,8 +35,8 @@ impl Model for MemorySource {
 }
 
 impl MemorySource {
-    /// A source of these bytes that gives at most `chunk` bytes a read. A read fails where its number, counted from 1, is
-    /// in `fails`.
+    /// A source of these bytes that gives at most `chunk` bytes a read. A read fails where its number, counted from 1,
+    /// is in `fails`. Takes no memory.
     pub fn new(bytes: Vec<u8>, chunk: usize, fails: Numbers) -> MemorySource
         requires { 0 < chunk }
         ensures { result ≡ record {
@@ -61,12 +62,14 @@ impl Source for MemorySource {
 
     ghost faults = { λ s. s.faults };
 
-    /// Gives all that fits and is left, up to `chunk` bytes.
+    /// Gives all that fits and is left, up to the source's chunk. Fails where the number of this read is one of those
+    /// that fail.
     #[tactic(auto, using(crate::proofs::Lists::front_replaced))]
     fn read(&mut self, into: &mut [u8]) -> Result<usize, Failed>
         ensures fails { IsErr result ↔ Contains self.old.fails (next_count self.old.reads) }
 
-        ensures count { IfOk result (λ n. n ≡ min self.old.chunk (min (length into.old) (length self.old.left))) }
+        ensures count { IfOk result (λ n. n
+            ≡ min self.old.chunk (min (length into.old) (length self.old.left))) }
         // With room for a byte, none comes at the end alone.
         ensures end { IfOk result (λ n. n ≡ 0 → 0 < length into.old → self.old.left ≡ []) }
         ensures copied { IfOk result (λ n. into.new ≡ take n self.old.left ++ drop n into.old) }

@@ -22,7 +22,7 @@ impl Model for SureSource {
 }
 
 impl SureSource {
-    /// A source of these bytes.
+    /// A source of these bytes. Takes no memory.
     pub fn new(bytes: Vec<u8>) -> SureSource
         ensures { result ≡ bytes.items }
     {
@@ -76,7 +76,8 @@ impl Model for SureSink {
 }
 
 impl SureSink {
-    /// A sink that takes `spare` bytes in all. The memory for them is taken now.
+    /// A sink that takes `spare` bytes in all. The memory for them is taken now, and `OutOfMemory` is the answer where
+    /// there is none.
     pub fn new(alloc: Global, spare: usize) -> Result<SureSink, OutOfMemory>
         ensures { IfOk result (λ s. s ≡ record { held = []; room = spare }) }
     {
