@@ -9,8 +9,8 @@ use crate::sure::SureSink;
 use std::alloc::Global;
 use std::marker::Model;
 
-/// A sink over memory, some of whose writes fail. It is seen as an `Output`: the bytes that are held, how they are taken,
-/// and how many writes there were and failed.
+/// A sink over memory, some of whose writes fail. It is seen as an `Output`: the bytes that are held, how they are
+/// taken, and how many writes there were and failed.
 #[derive(Drop)]
 pub struct MemorySink {
     bytes: SureSink,
@@ -84,8 +84,8 @@ impl Sink for MemorySink {
 
     ghost faults = { λ s. s.faults };
 
-    /// Takes all that there is room for, up to the sink's chunk. Fails where the number of this write is one of those that
-    /// fail, and where the sink is full and the piece isn't empty.
+    /// Takes all that there is room for, up to the sink's chunk. Fails where the number of this write is one of those
+    /// that fail, and where the sink is full and the piece isn't empty.
     fn write(&mut self, piece: &[u8]) -> Result<usize, Failed>
         ensures fails { IsErr result
             ↔ (Contains self.old.fails (next_count self.old.writes)

@@ -6,8 +6,8 @@ use crate::source::{Failed, Source};
 use crate::sure::SureSource;
 use std::marker::Model;
 
-/// A source over memory, some of whose reads fail. It is seen as an `Input`: the bytes that are left, how they are given,
-/// and how many reads there were and failed.
+/// A source over memory, some of whose reads fail. It is seen as an `Input`: the bytes that are left, how they are
+/// given, and how many reads there were and failed.
 #[derive(Drop)]
 pub struct MemorySource {
     bytes: SureSource,
