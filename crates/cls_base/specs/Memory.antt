@@ -1,5 +1,5 @@
 -- Sources and sinks over memory, as contracts see them.
-use Rattle.std.specs.Prelude.{ℕ, ◌+◌, ◌-◌, ◌^◌, min, Bool, if◌then◌else◌, List}
+use Rattle.std.specs.Prelude.{ℕ, ◌+◌, ◌-◌, ◌^◌, min, List}
 
 -- What is left, how many bytes a read gives at most, the numbers of the reads that fail, and how many reads there were and failed.
 pub record Input : Type 0 where

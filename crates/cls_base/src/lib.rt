@@ -8,14 +8,20 @@
 #![tactic(auto)]
 
 mod gate;
+mod memory_sink;
+mod memory_source;
 mod numbers;
 mod out_of_memory;
 mod sink;
 mod source;
 mod sure;
+#[cfg(test)]
+mod tests;
 mod ty;
 
 pub use gate::{Gate, OpenGate};
+pub use memory_sink::MemorySink;
+pub use memory_source::MemorySource;
 pub use numbers::Numbers;
 pub use out_of_memory::OutOfMemory;
 pub use sink::Sink;

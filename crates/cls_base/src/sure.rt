@@ -1,4 +1,4 @@
-ghost use Rattle.std.specs.Prelude.{◌≡◌, ℕ, ◌+◌, ◌<◌, ◌≤◌, List, [], length, drop, Some, IfOk};
+ghost use Rattle.std.specs.Prelude.{◌≡◌, ℕ, ◌+◌, ◌-◌, ◌<◌, ◌≤◌, List, [], ◌++◌, length, take, drop, min, Some, Ok, IfOk};
 
 use crate::out_of_memory::OutOfMemory;
 use crate::sink::Sink;
@@ -22,11 +22,23 @@ impl Model for SureSource {
 }
 
 impl SureSource {
-    /// A source of these bytes.
+    /// A source of these bytes. Takes no memory.
     pub fn new(bytes: Vec<u8>) -> SureSource
         ensures { result ≡ bytes.items }
     {
         SureSource { bytes, at: 0 }
+    }
+
+    /// Copies the next bytes to the front of `into`, as many as fit and are left, and says how many.
+    pub(crate) fn copy_next(&mut self, into: &mut [u8]) -> usize
+        ensures count { result ≡ min (length into.old) (length self.old) }
+        ensures copied { into.new ≡ take result self.old ++ drop result into.old }
+        ensures left { self.new ≡ drop result self.old }
+    {
+        let count = (self.bytes.len() - self.at).min(into.len());
+        into[..count].copy_from_slice(&self.bytes[self.at..self.at + count]);
+        self.at += count;
+        count
     }
 }
 
@@ -35,11 +47,13 @@ impl Source for SureSource {
 
     ghost faults = { λ _. 0 };
 
-    fn read(&mut self, into: &mut [u8]) -> Result<usize, Failed> {
-        let count = (self.bytes.len() - self.at).min(into.len());
-        into[..count].copy_from_slice(&self.bytes[self.at..self.at + count]);
-        self.at += count;
-        Ok(count)
+    /// Gives all that fits and is left.
+    fn read(&mut self, into: &mut [u8]) -> Result<usize, Failed>
+        ensures count { result ≡ Ok (min (length into.old) (length self.old)) }
+        ensures copied { IfOk result (λ n. into.new ≡ take n self.old ++ drop n into.old) }
+        ensures left { IfOk result (λ n. self.new ≡ drop n self.old) }
+    {
+        Ok(self.copy_next(into))
     }
 }
 
@@ -62,7 +76,8 @@ impl Model for SureSink {
 }
 
 impl SureSink {
-    /// A sink that takes `spare` bytes in all. The memory for them is taken now.
+    /// A sink that takes `spare` bytes in all. The memory for them is taken now, and `OutOfMemory` is the answer where
+    /// there is none.
     pub fn new(alloc: Global, spare: usize) -> Result<SureSink, OutOfMemory>
         ensures { IfOk result (λ s. s ≡ record { held = []; room = spare }) }
     {
@@ -78,6 +93,25 @@ impl SureSink {
     {
         self.held.as_slice()
     }
+
+    /// How many bytes there is room for yet.
+    pub fn room(&self) -> usize
+        ensures { result ≡ self.now.room }
+    {
+        self.room
+    }
+
+    /// Takes the whole piece.
+    pub(crate) fn append(&mut self, piece: &[u8])
+        requires { length piece.now ≤ self.old.room }
+        ensures { self.new ≡ record {
+          held = self.old.held ++ piece.now;
+          room = self.old.room - length piece.now;
+        } }
+    {
+        self.held.extend_from_slice(piece).unwrap();
+        self.room -= piece.len();
+    }
 }
 
 impl Sink for SureSink {
@@ -87,9 +121,16 @@ impl Sink for SureSink {
 
     ghost faults = { λ _. 0 };
 
-    fn write(&mut self, piece: &[u8]) -> Result<usize, Failed> {
-        self.held.extend_from_slice(piece).unwrap();
-        self.room -= piece.len();
+    /// Takes the whole piece.
+    fn write(&mut self, piece: &[u8]) -> Result<usize, Failed>
+        requires { length piece.now ≤ self.old.room }
+        ensures whole { result ≡ Ok (length piece.now) }
+        ensures after { self.new ≡ record {
+          held = self.old.held ++ piece.now;
+          room = self.old.room - length piece.now;
+        } }
+    {
+        self.append(piece);
         Ok(piece.len())
     }
 }
