@@ -3,3 +3,4 @@ pub mod Costs
 pub mod Orders
 pub mod Spines
 pub mod Steps
+pub mod Writing

@@ -73,7 +73,7 @@ Before-strict_total cost = record {
   total = Before-total cost;
 }
 
-Precedes-when_less : (xs ys : List ℕ) → slice_cmp nat_cmp xs ys ≡ Less → Precedes xs ys
+pub Precedes-when_less : (xs ys : List ℕ) → slice_cmp nat_cmp xs ys ≡ Less → Precedes xs ys
 Precedes-when_less [] [] h = absurd (cc)
 Precedes-when_less [] (y ∷ ys) h = tt
 Precedes-when_less (x ∷ xs) [] h = absurd (cc)
@@ -89,43 +89,43 @@ nat_cmp-less x y l = by_ranked _ _ _ (nat_cmp x y) (ranked x y (nat_cmp x y) ref
 nat_cmp-equal : (x y : ℕ) → x ≡ y → nat_cmp x y ≡ Equal
 nat_cmp-equal x y l = by_ranked _ _ _ (nat_cmp x y) (ranked x y (nat_cmp x y) refl) (λ e m. absurd (omega arith)) (λ e _. e) (λ e m. absurd (omega arith))
 
-slice_cmp-less : (xs ys : List ℕ) → Precedes xs ys → slice_cmp nat_cmp xs ys ≡ Less
+pub slice_cmp-less : (xs ys : List ℕ) → Precedes xs ys → slice_cmp nat_cmp xs ys ≡ Less
 slice_cmp-less [] [] h = absurd h
 slice_cmp-less [] (y ∷ ys) h = refl
 slice_cmp-less (x ∷ xs) [] h = absurd h
 slice_cmp-less (x ∷ xs) (y ∷ ys) (inl l) = simp (nat_cmp-less x y l)
 slice_cmp-less (x ∷ xs) (y ∷ ys) (inr (e, l)) = simp (nat_cmp-equal x y e) (slice_cmp-less xs ys l)
 
-slice_cmp-same : (xs : List ℕ) → slice_cmp nat_cmp xs xs ≡ Equal
+pub slice_cmp-same : (xs : List ℕ) → slice_cmp nat_cmp xs xs ≡ Equal
 slice_cmp-same [] = refl
 slice_cmp-same (x ∷ xs) = simp (nat_cmp-equal x x refl) (slice_cmp-same xs)
 
-Before-when_less : (cost : ℕ → ℕ) (e f : Applicative) → order_of cost e f ≡ Less → Before cost e f
+pub Before-when_less : (cost : ℕ → ℕ) (e f : Applicative) → order_of cost e f ≡ Less → Before cost e f
 Before-when_less cost e f h =
     by_ranked _ _ _ (nat_cmp (size_of cost e) (size_of cost f)) (ranked _ _ (nat_cmp (size_of cost e) (size_of cost f)) refl)
     (λ d l. inl l)
     (λ d l. inr (l, Precedes-when_less (code_of e) (code_of f) (simp d at h)))
     (λ d l. let g : Greater ≡ Less = simp d at h in absurd (cc))
 
-order_of-less : (cost : ℕ → ℕ) (e f : Applicative) → Before cost e f → order_of cost e f ≡ Less
+pub order_of-less : (cost : ℕ → ℕ) (e f : Applicative) → Before cost e f → order_of cost e f ≡ Less
 order_of-less cost e f (inl l) = simp (nat_cmp-less _ _ l)
 order_of-less cost e f (inr (d, l)) = simp (nat_cmp-equal _ _ d) (slice_cmp-less (code_of e) (code_of f) l)
 
-order_of-same : (cost : ℕ → ℕ) (e : Applicative) → order_of cost e e ≡ Equal
+pub order_of-same : (cost : ℕ → ℕ) (e : Applicative) → order_of cost e e ≡ Equal
 order_of-same cost e = simp (nat_cmp-equal (size_of cost e) (size_of cost e) refl) (slice_cmp-same (code_of e))
 
-order_of-equal : (cost : ℕ → ℕ) (e f : Applicative) → e ≡ f → order_of cost e f ≡ Equal
+pub order_of-equal : (cost : ℕ → ℕ) (e f : Applicative) → e ≡ f → order_of cost e f ≡ Equal
 order_of-equal cost e f p = let P : Applicative → Type 0 = λ g. order_of cost e g ≡ Equal in subst P p (order_of-same cost e)
 
 -- terms that compare as equal are one
-equal_when_equal : (cost : ℕ → ℕ) (e f : Applicative) → order_of cost e f ≡ Equal → e ≡ f
+pub equal_when_equal : (cost : ℕ → ℕ) (e f : Applicative) → order_of cost e f ≡ Equal → e ≡ f
 equal_when_equal cost e f h =
     by_ranked _ _ _ (nat_cmp (size_of cost e) (size_of cost f)) (ranked (size_of cost e) (size_of cost f) (nat_cmp (size_of cost e) (size_of cost f)) refl)
     (λ d l. let g : Less ≡ Equal = simp d at h in absurd (cc))
     (λ d l. code_of-one_to_one e f (exact_bytes (code_of e) (code_of f) (simp d at h)))
     (λ d l. let g : Greater ≡ Equal = simp d at h in absurd (cc))
 
-order_of-greater : (cost : ℕ → ℕ) (e f : Applicative) → Before cost f e → order_of cost e f ≡ Greater
+pub order_of-greater : (cost : ℕ → ℕ) (e f : Applicative) → Before cost f e → order_of cost e f ≡ Greater
 order_of-greater cost e f h = outcome (order_of cost e f) refl
   where
     outcome : (o : Ordering) → order_of cost e f ≡ o → order_of cost e f ≡ Greater
@@ -135,13 +135,16 @@ order_of-greater cost e f h = outcome (order_of cost e f) refl
         absurd (Before-irrefl cost e (subst P (sym (equal_when_equal cost e f p)) h))
     outcome Greater p = p
 
-Before-when_greater : (cost : ℕ → ℕ) (e f : Applicative) → order_of cost e f ≡ Greater → Before cost f e
+pub Before-when_greater : (cost : ℕ → ℕ) (e f : Applicative) → order_of cost e f ≡ Greater → Before cost f e
 Before-when_greater cost e f h = decide (Before-total cost e f)
   where
     decide : Before cost e f ⊎ (e ≡ f) ⊎ Before cost f e → Before cost f e
     decide (inl l) = let d = order_of-less cost e f l in absurd (cc)
     decide (inr (inl p)) = let d = order_of-equal cost e f p in absurd (cc)
     decide (inr (inr g)) = g
+
+pub order_of-total : (cost : ℕ → ℕ) → IsTotalOrder (order_of cost)
+order_of-total cost = then_total (on_total (size_of cost) nat_cmp_total) (on_total code_of nat_list_cmp_total)
 
 -- what each answer of a comparison says
 pub less_exactly : (cost : ℕ → ℕ) (e f : Applicative) (answer : Ordering) → answer ≡ order_of cost e f → (answer ≡ Less) ↔ Before cost e f

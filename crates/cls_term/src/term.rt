@@ -1,12 +1,15 @@
-ghost use Rattle.std.specs.Prelude.{◌≡◌, ℕ, ◌+◌, ◌^◌, ◌<◌, ◌↔◌, length, IfOk, OnOk, OnErr, IsTrue, List, [], ◌∷◌, ◌++◌};
+ghost use Rattle.std.specs.Prelude.{◌≡◌, ℕ, ◌+◌, ◌^◌, ◌<◌, ◌↔◌, length, IfOk, OnOk, OnErr, IsTrue, List, [], ◌∷◌, ◌++◌, string_bytes};
 ghost use Rattle.std.specs.Ordering.{nat_cmp};
 ghost use Rattle.std.specs.Cmp.Lexicographic.{slice_cmp};
 ghost use Rattle.cls_base.specs.Terms.{component, length_of, size_of, code_of, Before};
 ghost use Rattle.cls_base.specs.Spines.{spine, lengths_of, sizes_of, codes_of};
+ghost use Rattle.cls_term.specs.Components.{greatest_of, greatest_in};
 ghost use Rattle.cls_term.specs.Costs.{cost_of};
 ghost use Rattle.cls_term.specs.Order.{order_of};
+ghost use Rattle.cls_term.specs.Texts.{name_at, text_of, arguments_text};
 
-use cls_base::{Numbers, OutOfMemory};
+use cls_base::{Name, Numbers, OutOfMemory};
+use cls_syntax::Names;
 use std::alloc::Global;
 use std::cmp::Ordering;
 use std::marker::Model;
@@ -89,7 +92,7 @@ impl Term {
         1 + self.args.length()
     }
 
-    /// What the component occurrences cost together. A component without a cost in the list costs 1.
+    /// What the component occurrences cost together. A component that has no cost in the list costs 1.
     pub fn size(&self, costs: &Numbers) -> u64
         requires { length_of self.now < 2 ^ 32 }
         ensures { result ≡ size_of (cost_of costs.now) self.now }
@@ -97,13 +100,15 @@ impl Term {
         self.size_by(costs.as_slice())
     }
 
-    #[cycle(size_by)]
-    #[tactic(auto, using(crate::proofs::Steps::sizes))]
-    fn size_by(&self, costs: &[u32]) -> u64
-        requires { length_of self.now < 2 ^ 32 }
-        ensures { result ≡ size_of (cost_of costs.now) self.now }
+    /// Compares by size, and at one size by code: `Less` where this term comes before the other.
+    pub fn order(&self, costs: &Numbers, other: &Term) -> Ordering
+        requires short { length_of self.now < 2 ^ 32 }
+        requires other_short { length_of other.now < 2 ^ 32 }
+        ensures less { (result ≡ Ordering.Less) ↔ Before (cost_of costs.now) self.now other.now }
+        ensures equal { (result ≡ Ordering.Equal) ↔ (self.now ≡ other.now) }
+        ensures greater { (result ≡ Ordering.Greater) ↔ Before (cost_of costs.now) other.now self.now }
     {
-        u64::from(cost_at(costs, self.head)) + self.args.size_by(costs)
+        self.order_by(costs, other)
     }
 
     /// The code of the term: the component's number, the number of arguments, and the codes of the arguments.
@@ -114,18 +119,6 @@ impl Term {
         let mut code = Vec::new(alloc);
         self.put_code(&mut code)?;
         Ok(Numbers::new(code))
-    }
-
-    #[cycle(put_code)]
-    #[tactic(auto, using(crate::proofs::Steps::codes))]
-    fn put_code(&self, code: &mut Vec<u32>) -> Result<(), OutOfMemory>
-        requires { length_of self.now < 2 ^ 32 }
-        ensures { OnOk result (code.new.items ≡ code.old.items ++ code_of self.now) }
-    {
-        code.push(self.head)?;
-        code.push(self.args.items.len() as u32)?;
-        self.args.put_codes(code)?;
-        Ok(())
     }
 
     /// A term equal to this one.
@@ -140,15 +133,23 @@ impl Term {
         })
     }
 
-    /// Whether this term comes before the other, is equal to it, or comes after it: by size, and at one size by code.
-    pub fn order(&self, costs: &Numbers, other: &Term) -> Ordering
-        requires short { length_of self.now < 2 ^ 32 }
-        requires other_short { length_of other.now < 2 ^ 32 }
-        ensures less { (result ≡ Ordering.Less) ↔ Before (cost_of costs.now) self.now other.now }
-        ensures equal { (result ≡ Ordering.Equal) ↔ (self.now ≡ other.now) }
-        ensures greater { (result ≡ Ordering.Greater) ↔ Before (cost_of costs.now) other.now self.now }
+    /// The text of the term, where each component goes by its name in the table: `x` alone, or `x(e1, .., en)`.
+    pub fn print(&self, alloc: Global, components: &Names) -> Result<String, OutOfMemory>
+        requires { greatest_of self.now < length components.now }
+        ensures { IfOk result (λ text. string_bytes text ≡ text_of (name_at components.now) self.now) }
     {
-        self.order_by(costs, other)
+        let mut text = String::new(alloc);
+        self.write_to(components, &mut text)?;
+        Ok(text)
+    }
+
+    #[cycle(size_by)]
+    #[tactic(auto, using(crate::proofs::Steps::sizes))]
+    fn size_by(&self, costs: &[u32]) -> u64
+        requires { length_of self.now < 2 ^ 32 }
+        ensures { result ≡ size_of (cost_of costs.now) self.now }
+    {
+        u64::from(cost_at(costs, self.head)) + self.args.size_by(costs)
     }
 
     fn order_by(&self, costs: &Numbers, other: &Term) -> Ordering
@@ -172,10 +173,33 @@ impl Term {
             by_head => by_head,
         }
     }
+
+    #[cycle(put_code)]
+    #[tactic(auto, using(crate::proofs::Steps::codes))]
+    fn put_code(&self, code: &mut Vec<u32>) -> Result<(), OutOfMemory>
+        requires { length_of self.now < 2 ^ 32 }
+        ensures { OnOk result (code.new.items ≡ code.old.items ++ code_of self.now) }
+    {
+        code.push(self.head)?;
+        code.push(self.args.items.len() as u32)?;
+        self.args.put_codes(code)?;
+        Ok(())
+    }
+
+    #[cycle(write_to)]
+    #[tactic(auto, using(crate::proofs::Steps::texts))]
+    fn write_to(&self, components: &Names, text: &mut String) -> Result<(), OutOfMemory>
+        requires { greatest_of self.now < length components.now }
+        ensures { OnOk result (string_bytes text.new ≡ string_bytes text.old ++ text_of (name_at components.now) self.now) }
+    {
+        text.push_str(components.text(Name(self.head)))?;
+        self.args.write_to(components, text)?;
+        Ok(())
+    }
 }
 
 impl Terms {
-    /// The empty list, which takes no memory.
+    /// The empty list. It takes no memory.
     pub fn new(alloc: Global) -> Terms
         ensures { result ≡ [] }
     {
@@ -198,20 +222,6 @@ impl Terms {
         self.items
     }
 
-    /// The number of terms.
-    pub fn len(&self) -> usize
-        ensures { result ≡ length self.now }
-    {
-        self.items.len()
-    }
-
-    /// Whether there are no terms.
-    pub fn is_empty(&self) -> bool
-        ensures { IsTrue result ↔ (self.now ≡ []) }
-    {
-        self.items.is_empty()
-    }
-
     /// The terms as a slice, in order.
     pub fn as_slice(&self) -> &[Term]
         ensures { result.now ≡ self.now }
@@ -219,13 +229,40 @@ impl Terms {
         self.items.as_slice()
     }
 
-    /// Adds a term at the end. Without memory the list stays as it was, and the term is dropped.
+    /// The number of terms.
+    pub fn len(&self) -> usize
+        ensures { result ≡ length self.now }
+    {
+        self.items.len()
+    }
+
+    /// Whether there is no term.
+    pub fn is_empty(&self) -> bool
+        ensures { IsTrue result ↔ (self.now ≡ []) }
+    {
+        self.items.is_empty()
+    }
+
+    /// Adds a term at the end. Where no memory is found the list is as before, and the term is dropped.
     pub fn push(&mut self, term: Term) -> Result<(), OutOfMemory>
         ensures ok { OnOk result (self.new ≡ self.old ++ term ∷ []) }
         ensures err { OnErr result (self.new ≡ self.old) }
     {
         self.items.push(term)?;
         Ok(())
+    }
+
+    /// A list equal to this one.
+    #[cycle(copy)]
+    #[tactic(auto, using(crate::proofs::Steps::lengths))]
+    pub fn copy(&self, alloc: Global) -> Result<Terms, OutOfMemory>
+        ensures { IfOk result (λ terms. terms ≡ self.now) }
+    {
+        let mut items = Vec::new(alloc);
+        for term in &self.items {
+            items.push(term.copy(alloc)?)?;
+        }
+        Ok(Terms { items })
     }
 
     #[cycle(length)]
@@ -254,31 +291,7 @@ impl Terms {
         total
     }
 
-    #[cycle(put_code)]
-    #[tactic(auto, using(crate::proofs::Steps::codes))]
-    fn put_codes(&self, code: &mut Vec<u32>) -> Result<(), OutOfMemory>
-        requires { lengths_of self.now < 2 ^ 32 }
-        ensures { OnOk result (code.new.items ≡ code.old.items ++ codes_of self.now) }
-    {
-        for term in &self.items {
-            term.put_code(code)?;
-        }
-        Ok(())
-    }
-
-    /// A list equal to this one.
-    #[cycle(copy)]
-    #[tactic(auto, using(crate::proofs::Steps::lengths))]
-    pub fn copy(&self, alloc: Global) -> Result<Terms, OutOfMemory>
-        ensures { IfOk result (λ terms. terms ≡ self.now) }
-    {
-        let mut items = Vec::new(alloc);
-        for term in &self.items {
-            items.push(term.copy(alloc)?)?;
-        }
-        Ok(Terms { items })
-    }
-
+    /// Compares the numbers of terms, and where these are equal the codes one after another.
     #[cycle(order_code)]
     #[tactic(auto, using(crate::proofs::Steps::codes))]
     fn order_codes(&self, other: &Terms) -> Ordering
@@ -296,6 +309,38 @@ impl Terms {
         }
         Ordering::Equal
     }
+
+    #[cycle(put_code)]
+    #[tactic(auto, using(crate::proofs::Steps::codes))]
+    fn put_codes(&self, code: &mut Vec<u32>) -> Result<(), OutOfMemory>
+        requires { lengths_of self.now < 2 ^ 32 }
+        ensures { OnOk result (code.new.items ≡ code.old.items ++ codes_of self.now) }
+    {
+        for term in &self.items {
+            term.put_code(code)?;
+        }
+        Ok(())
+    }
+
+    /// Writes the terms as the arguments of a component, and nothing where there are none.
+    #[cycle(write_to)]
+    #[tactic(auto, using(crate::proofs::Steps::texts))]
+    fn write_to(&self, components: &Names, text: &mut String) -> Result<(), OutOfMemory>
+        requires { greatest_in self.now < length components.now }
+        ensures { OnOk result (string_bytes text.new ≡ string_bytes text.old ++ arguments_text (name_at components.now) self.now) }
+    {
+        let Some((first, rest)) = self.items.split_first() else {
+            return Ok(());
+        };
+        text.push('(')?;
+        first.write_to(components, text)?;
+        for term in rest {
+            text.push_str(", ")?;
+            term.write_to(components, text)?;
+        }
+        text.push(')')?;
+        Ok(())
+    }
 }
 
 /// The component's cost in the list, and 1 where it has none there.
@@ -303,4 +348,61 @@ fn cost_at(costs: &[u32], component: u32) -> u32
     ensures { result ≡ cost_of costs.now component }
 {
     costs.get(component as usize).copied().unwrap_or(1)
+}
+
+#[cfg(test)]
+mod tests {
+    ghost use Rattle.std.specs.Prelude.{◌≡◌, IfOk};
+    ghost use Rattle.cls_base.specs.Terms.{component, apply};
+
+    use super::*;
+    use std::test::Fail;
+
+    /// The term `id(id, n)` over the components id and n.
+    fn id_of_id_and_n(alloc: Global) -> Result<Term, OutOfMemory>
+        ensures { IfOk result (λ term. term ≡ apply (apply (component 0) (component 0)) (component 1)) }
+    {
+        let mut args = Terms::new(alloc);
+        args.push(Term::new(0, Terms::new(alloc)))?;
+        args.push(Term::new(1, Terms::new(alloc)))?;
+        Ok(Term::new(0, args))
+    }
+
+    #[test]
+    fn a_term_prints_as_a_spine(rt: HostRuntime) -> Result<(), Fail> {
+        let mut components = Names::new(rt.alloc());
+        components.intern(rt.alloc(), "id")?;
+        assert_eq!(rt; components.len(), 1);
+        components.intern(rt.alloc(), "n")?;
+        assert_eq!(rt; components.len(), 2);
+        let term = id_of_id_and_n(rt.alloc())?;
+        let text = term.print(rt.alloc(), &components)?;
+        assert_eq!(rt; text.as_str(), "id(id, n)");
+        Ok(())
+    }
+
+    #[test]
+    fn a_code_counts_arguments(rt: HostRuntime) -> Result<(), Fail> {
+        let code = id_of_id_and_n(rt.alloc())?.code(rt.alloc())?;
+        assert_eq!(rt; code.as_slice(), [0, 2, 0, 0, 1, 0].as_slice());
+        Ok(())
+    }
+
+    #[test]
+    fn a_size_adds_costs(rt: HostRuntime) -> Result<(), Fail> {
+        let costs = Numbers::new(vec![in rt.alloc(); 3, 2]?);
+        let term = id_of_id_and_n(rt.alloc())?;
+        assert_eq!(rt; term.length(), 3);
+        assert_eq!(rt; term.size(&costs), 8);
+        Ok(())
+    }
+
+    #[test]
+    fn a_copy_is_equal(rt: HostRuntime) -> Result<(), Fail> {
+        let costs = Numbers::new(Vec::new(rt.alloc()));
+        let term = id_of_id_and_n(rt.alloc())?;
+        let copy = term.copy(rt.alloc())?;
+        assert_eq!(rt; term.order(&costs, &copy), Ordering::Equal);
+        Ok(())
+    }
 }
