@@ -1,5 +1,5 @@
 -- How large a size can be.
-use Rattle.std.proofs.Common.{ℕ, zero, suc, ◌+◌, ◌*◌, ◌<◌, ◌≤◌, List, [], ◌∷◌, get_or, Fits, w32, arith}
+use Rattle.std.proofs.Common.{ℕ, zero, suc, ◌*◌, ◌≤◌, List, [], ◌∷◌, get_or, Fits, w32, arith}
 use Rattle.cls_base.specs.Terms.{Applicative, component, apply, length_of, size_of}
 use Rattle.cls_base.specs.Spines.{lengths_of, sizes_of}
 use Rattle.cls_term.specs.Costs.{cost_of}
