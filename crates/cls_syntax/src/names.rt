@@ -1,0 +1,102 @@
+ghost use Rattle.std.specs.Prelude.{◌≡◌, ℕ, ◌-◌, ◌^◌, ◌<◌, ◌↔◌, List, [], Some, None, length, map, Contains, IsTrue, IsNone, IfSome, IfOk, OnOk, OnErr, slice_get, slice_index_or};
+ghost use Rattle.std.specs.List.{IsDistinct};
+ghost use Rattle.std.specs.Str.{bytes_eq};
+ghost use Rattle.cls_syntax.specs.Names.{number_of, with_text};
+
+use cls_base::{Name, OutOfMemory};
+use indexmap::IndexSet;
+use std::alloc::Global;
+use std::marker::Model;
+
+/// A table of texts, each of which has a number: 0 for the first, and so on in the order in which they first came.
+///
+/// It is seen as the list of the texts. They all differ, and there are fewer than 2^32.
+#[derive(Drop)]
+pub struct Names {
+    texts: IndexSet<String>,
+}
+
+impl Model for Names {
+    ghost use Rattle.std.specs.Prelude.{ℕ, List, map, string_bytes};
+    ghost use Rattle.cls_syntax.specs.Names.{IsTable};
+
+    ghost Value = { List (List ℕ) };
+
+    ghost view = { λ n. map string_bytes n.texts.keys };
+
+    ghost invariant = { λ n. IsTable (map string_bytes n.texts.keys) };
+}
+
+impl Names {
+    /// The table with no text. It takes no memory.
+    pub fn new(alloc: Global) -> Names
+        ensures { result ≡ [] }
+    {
+        Names {
+            texts: IndexSet::new(alloc),
+        }
+    }
+
+    /// How many texts there are.
+    pub fn len(&self) -> u32
+        ensures count { result ≡ length self.now }
+        ensures distinct { IsDistinct bytes_eq self.now }
+    {
+        self.texts.len() as u32
+    }
+
+    /// Whether there is no text.
+    pub fn is_empty(&self) -> bool
+        ensures { IsTrue result ↔ (length self.now ≡ 0) }
+    {
+        self.texts.is_empty()
+    }
+
+    /// The number of the text. A text that is known keeps its number, and a new one goes last.
+    pub fn intern(&mut self, alloc: Global, text: &str) -> Result<Name, OutOfMemory>
+        requires { length self.old < 2 ^ 32 - 1 }
+        ensures number { IfOk result (λ name. name.0 ≡ number_of self.old text.now) }
+        ensures table { OnOk result (self.new ≡ with_text self.old text.now) }
+        ensures stands { IfOk result (λ name. slice_get self.new name.0 ≡ Some text.now) }
+        ensures distinct { IsDistinct bytes_eq self.new }
+        ensures err { OnErr result (self.new ≡ self.old) }
+    {
+        if let Some(name) = self.find(text) {
+            return Ok(name);
+        }
+        let (place, _) = self.texts.insert_full(String::from_str(alloc, text)?)?;
+        Ok(Name(place as u32))
+    }
+
+    /// The number of the text, or None where it isn't held.
+    pub fn find(&self, text: &str) -> Option<Name>
+        ensures absent { IsNone result ↔ ¬ Contains self.now text.now }
+        ensures number { IfSome result (λ name. name.0 ≡ number_of self.now text.now) }
+        ensures stands { IfSome result (λ name. slice_get self.now name.0 ≡ Some text.now) }
+    {
+        let place = self.texts.get_index_of(text)?;
+        Some(Name(place as u32))
+    }
+
+    /// The text of the number.
+    pub fn text(&self, name: Name) -> &str
+        requires { name.0 < length self.now }
+        ensures { result.now ≡ slice_index_or self.now name.0 [] }
+    {
+        self.texts.as_slice()[name.0 as usize].as_str()
+    }
+}
+
+#[cfg(test)]
+mod tests {
+    use super::*;
+    use std::test::Fail;
+
+    #[test]
+    fn numbers_follow_the_first_coming(rt: HostRuntime) -> Result<(), Fail> {
+        let mut names = Names::new(rt.alloc());
+        let apple = names.intern(rt.alloc(), "apple")?;
+        assert_eq!(rt; apple.0, 0);
+        Ok(())
+    }
+}
