@@ -10,8 +10,9 @@ abbrev pub Holds : Option ℕ → ℕ → Type 0
 Holds None n = Unit {0}
 Holds (Some room) n = n ≤ room
 
--- so many bytes took their room, where it is told
+-- So many bytes took their room, where it is told. It isn't told only afterwards.
 abbrev pub Fills : Option ℕ → Option ℕ → ℕ → Type 0
-Fills None new n = Unit {0}
+Fills None None n = Unit {0}
+Fills None (Some new) n = ⊥
 Fills (Some old) None n = ⊥
 Fills (Some old) (Some new) n = old ≡ new + n

@@ -1,0 +1,11 @@
+pub mod Firsts
+pub mod Omega
+pub mod Typing
+pub mod Repositories
+pub mod Standings
+pub mod Decisions
+pub mod Totality
+pub mod Writing
+pub mod Pages
+pub mod Replying
+pub mod Driving

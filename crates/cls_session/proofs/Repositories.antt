@@ -1,0 +1,70 @@
+-- How a repository grows by a line, and that its lines determine it.
+use Rattle.std.proofs.Common.{◌≡◌, ℕ, zero, suc, ◌+◌, ◌<◌, ◌≤◌, List, [], ◌∷◌, ◌++◌, length, map, refl, sym, ap, ◌∙◌, subst, inl, inr, arith, append_assoc, append-nil, length-append}
+use Rattle.std.specs.Prelude.{◌⊎◌, Contains}
+use Rattle.std.proofs.lemmas.List.Elements.{Contains-append_cases, Contains-append_left, Contains-append_right}
+use Rattle.cls_syntax.specs.Skipped.{IsSkipped}
+use Rattle.cls_session.specs.Declarations.{Declaration}
+use Rattle.cls_session.specs.Forms.{IsDeclaration, IsEnd, declaration_words}
+use Rattle.cls_session.specs.Repositories.{Entry, skipped, declares, Declares, AreDifferent, IsRepository}
+use Rattle.cls_session.specs.Standings.{names_of}
+
+pub same_declaration : (line : List ℕ) (c d : Declaration) → IsDeclaration line c → IsDeclaration line d → c ≡ d
+same_declaration line c d p q =
+    let words : declaration_words c ≡ declaration_words d = sym p.words ∙ q.words in
+    let component : c.component ≡ d.component = cc in
+    let type : c.type ≡ d.type = cc in
+    λ i. record { component = component i; type = type i }
+
+Entry-unique : (line : List ℕ) (a b : List Declaration) → Entry line a → Entry line b → a ≡ b
+Entry-unique line a b (skipped s e) (skipped t f) = e ∙ sym f
+Entry-unique line a b (skipped s e) (declares d q f) = absurd (q.read.unskipped s)
+Entry-unique line a b (declares c p e) (skipped t f) = absurd (p.read.unskipped t)
+Entry-unique line a b (declares c p e) (declares d q f) = e ∙ (ap (λ (x : Declaration). x ∷ []) (same_declaration line c d p q) ∙ sym f)
+
+pub Declares-unique : (lines : List (List ℕ)) (a b : List Declaration) → Declares lines a → Declares lines b → a ≡ b
+Declares-unique [] a b p q = p ∙ sym q
+Declares-unique (line ∷ lines) a b (x, xs, p, ps, e) (y, ys, q, qs, f) =
+    let first : x ≡ y = Entry-unique line x y p q in
+    let rest : xs ≡ ys = Declares-unique lines xs ys ps qs in
+    cc
+
+pub Declares-push : (lines : List (List ℕ)) (line : List ℕ) (a b : List Declaration) → Declares lines a → Entry line b → Declares (lines ++ line ∷ []) (a ++ b)
+Declares-push [] line a b e q = (b, [], q, refl, rw e (sym (append-nil b)))
+Declares-push (l ∷ lines) line a b (x, xs, p, ps, e) q = (x, xs ++ b, p, Declares-push lines line xs b ps q, rw e (append_assoc x xs b))
+
+pub Declares-pop : (lines : List (List ℕ)) (line : List ℕ) (c : List Declaration) → Declares (lines ++ line ∷ []) c → (a b : List Declaration) × Declares lines a × Entry line b × (c ≡ a ++ b)
+Declares-pop [] line c (x, xs, p, e, f) = ([], x, refl, p, f ∙ (ap (λ (y : List Declaration). x ++ y) e ∙ append-nil x))
+Declares-pop (l ∷ lines) line c (x, xs, p, ps, f) =
+    let r = Declares-pop lines line xs ps in
+    (x ++ r.0, r.1, (x, r.0, p, r.2, refl), r.3, f ∙ (ap (λ (y : List Declaration). x ++ y) r.4 ∙ sym (append_assoc x r.0 r.1)))
+
+pub names_of-append : (a b : List Declaration) → names_of (a ++ b) ≡ names_of a ++ names_of b
+names_of-append [] b = refl
+names_of-append (d ∷ a) b = ap (λ (xs : List (List ℕ)). d.component ∷ xs) (names_of-append a b)
+
+pub length-names_of : (a : List Declaration) → length (names_of a) ≡ length a
+length-names_of [] = refl
+length-names_of (d ∷ a) = ap suc (length-names_of a)
+
+contains_one : (x y : List ℕ) → Contains (x ∷ []) y → x ≡ y
+contains_one x y (zero, l, e) = e
+contains_one x y (suc k, l, e) = absurd (omega arith)
+
+contains_first : (x : List ℕ) (xs : List (List ℕ)) → Contains (x ∷ xs) x
+contains_first x xs = (0, omega arith, refl)
+
+contains_later : (x y : List ℕ) (xs : List (List ℕ)) → Contains xs x → Contains (y ∷ xs) x
+contains_later x y xs c = (suc c.0, (let l = c.1 in omega arith), c.2)
+
+pub AreDifferent-push : (xs : List (List ℕ)) (y : List ℕ) → AreDifferent xs → (Contains xs y → ⊥) → AreDifferent (xs ++ y ∷ [])
+AreDifferent-push [] y d n = ((λ c. let l = c.1 in absurd (omega arith)), tt)
+AreDifferent-push (x ∷ xs) y d n =
+    ((λ c. elim (Contains-append_cases xs (y ∷ []) x c) [
+      | inl a ↦ d.0 a
+      | inr b ↦ n (subst (λ (z : List ℕ). Contains (x ∷ xs) z) (sym (contains_one y x b)) (contains_first x xs))
+    ]), AreDifferent-push xs y d.1 (λ c. n (contains_later y x xs c)))
+
+pub AreDifferent-last : (xs : List (List ℕ)) (y : List ℕ) → AreDifferent (xs ++ y ∷ []) → Contains xs y → ⊥
+AreDifferent-last [] y d c = let l = c.1 in absurd (omega arith)
+AreDifferent-last (x ∷ xs) y d (zero, l, e) = d.0 (subst (λ (z : List ℕ). Contains (xs ++ y ∷ []) z) (sym e) (Contains-append_right xs (y ∷ []) y (contains_first y [])))
+AreDifferent-last (x ∷ xs) y d (suc k, l, e) = AreDifferent-last xs y d.1 (k, omega arith, e)

@@ -1,0 +1,119 @@
+-- Whatever lines follow, there is something to be written for them: a prefix of the lines has a prefix of an output.
+use Rattle.std.proofs.Common.{◌≡◌, ℕ, zero, suc, ◌+◌, ◌-◌, ◌<◌, ◌≤◌, List, [], ◌∷◌, ◌++◌, length, map, refl, sym, ap, ◌∙◌, subst, inl, inr, arith, append_assoc, append-nil, Bool, true, false, min}
+use Rattle.std.specs.Prelude.{◌⊎◌, Contains, nat_lt}
+use Rattle.std.proofs.lemmas.Bool.{cases_lt}
+use Rattle.std.proofs.lemmas.Bool.Decides.{nat_tests}
+use Rattle.cls_syntax.specs.Skipped.{IsSkipped}
+use Rattle.cls_session.specs.declared.status.Status.{Status}
+use Rattle.cls_session.specs.declared.status.Status.TheVariants.{Done, Refused}
+use Rattle.cls_session.specs.Declarations.{Declaration}
+use Rattle.cls_session.specs.Forms.{IsDeclaration, IsEnd, IsListing}
+use Rattle.cls_session.specs.Listings.{IsOver, term_at, terms_within, request}
+use Rattle.cls_session.specs.Repositories.{IsRepository, IsFirstFault}
+use Rattle.cls_session.specs.Replies.{name_in, page_text, ListsOmega, Reply, skipped, listing, unbuilt, reply_line, Replies}
+use Rattle.cls_session.specs.Transcripts.{IsAnswered, Transcript, opening, answering, refusal, IsRefused, Ending, without_end, complete}
+use Rattle.cls_session.specs.Standings.{names_of}
+use Rattle.cls_session.proofs.Firsts.{firsts}
+use Rattle.cls_session.proofs.Omega.{front}
+use Rattle.cls_session.proofs.Typing.{omega_page}
+use Rattle.cls_session.proofs.Repositories.{length-names_of}
+use Rattle.cls_session.proofs.Standings.{IsFaulty, foreign, repeated, full, IsRepository-skip, IsRepository-declare, IsRepository-none, IsAnswered-push, IsAnswered-end}
+use Rattle.cls_session.proofs.Decisions.{skipped_decided, is_end_decided, is_declaration_decided, is_listing_decided, contains_decided}
+
+-- the page that a listing asks for
+lists_omega : (ds : List Declaration) (max take : ℕ) → (1 ≤ max) × (max ≤ 2) → (1 ≤ take) × (take ≤ 10000) → (text : List ℕ) × ListsOmega ds max take text
+lists_omega ds max take m t =
+    let n = length ds in
+    let all = terms_within n max in
+    let k = min take all in
+    let more = nat_lt k all in
+    let terms = firsts (term_at n) 0 k in
+    (page_text (name_in ds) terms more, record {
+      terms = terms; more = more;
+      page = omega_page ds (request max take) terms more (front n max take m.0 m.1 k more (omega arith) (omega arith) (λ l. omega arith) (let p = t.0 in omega arith) refl);
+      written = refl;
+    })
+
+-- each line after the repository has a reply
+pub reply_exists : (ds : List Declaration) (line : List ℕ) → (text : List ℕ) × Reply ds line text
+reply_exists ds line =
+    elim (skipped_decided line) [
+      | inl s ↦ ([], skipped s refl)
+      | inr n ↦ elim (is_listing_decided line) [
+        | inl q ↦ (let r = lists_omega ds q.0 q.1 q.2.max_within q.2.take_within in (r.0, listing q.0 q.1 q.2 r.1))
+        | inr m ↦ (_, unbuilt n (λ max take q. m (max, take, q)) refl)
+      ]
+    ]
+
+-- what may come of a line of a repository
+data Next (lines : List (List ℕ)) (line : List ℕ) (ds : List Declaration) : Type 0 where
+  grows : (cs : List Declaration) → IsRepository (lines ++ line ∷ []) cs → Next lines line ds
+  ends : IsEnd line → Next lines line ds
+  fails : IsFaulty (names_of ds) line → (IsEnd line → ⊥) → Next lines line ds
+
+next : (lines : List (List ℕ)) (line : List ℕ) (ds : List Declaration) → IsRepository lines ds → Next lines line ds
+next lines line ds r =
+    elim (skipped_decided line) [
+      | inl s ↦ grows ds (IsRepository-skip lines line ds r s)
+      | inr n ↦ elim (is_end_decided line) [
+        | inl e ↦ ends e
+        | inr m ↦ elim (is_declaration_decided line) [
+          | inr f ↦ fails (foreign n (λ d q. f (d, q))) m
+          | inl p ↦ elim (contains_decided (names_of ds) p.0.component) [
+            | inl c ↦ fails (repeated p.0 p.1 c) m
+            | inr new ↦ elim (cases_lt (length ds) 1000) [
+              | inl l ↦ grows (ds ++ p.0 ∷ []) (IsRepository-declare lines line ds p.0 r p.1 new l)
+              | inr g ↦ fails (full p.0 p.1 (let e = length-names_of ds in omega arith)) m
+            ]
+          ]
+        ]
+      ]
+    ]
+
+-- what may come of all lines
+pub data Goes (lines : List (List ℕ)) (text : List ℕ) : Type 0 where
+  refused : (more : List ℕ) → IsRefused lines (text ++ more) → Goes lines text
+  stands : (more : List ℕ) → Transcript lines (text ++ more) → Goes lines text
+
+-- a first fault stays the first
+pub IsRefused-append : (lines more : List (List ℕ)) (text : List ℕ) → IsRefused lines text → IsRefused (lines ++ more) text
+IsRefused-append lines more text r = record {
+  place = r.place;
+  fault = (let f = r.fault in record {
+    before = f.before; line = f.line; after = f.after ++ more;
+    split = ap (λ (xs : List (List ℕ)). xs ++ more) f.split ∙ append_assoc f.before (f.line ∷ f.after) more;
+    number = f.number; so_far = f.so_far; no_end = f.no_end; no_entry = f.no_entry;
+  });
+  written = r.written;
+}
+
+answers_on : (ds : List Declaration) (lines more : List (List ℕ)) (text : List ℕ) → IsAnswered lines ds text → (rest : List ℕ) × IsAnswered (lines ++ more) ds (text ++ rest)
+answers_on ds lines [] text a = ([], subst (λ (x : List ℕ). IsAnswered (lines ++ []) ds x) (sym (append-nil text)) (subst (λ (xs : List (List ℕ)). IsAnswered xs ds text) (sym (append-nil lines)) a))
+answers_on ds lines (line ∷ more) text a =
+    let r = reply_exists ds line in
+    let on = answers_on ds (lines ++ line ∷ []) more (text ++ r.0) (IsAnswered-push lines line text r.0 ds a r.1) in
+    (r.0 ++ on.0, subst (λ (x : List ℕ). IsAnswered (lines ++ line ∷ more) ds x) (append_assoc text r.0 on.0) (subst (λ (xs : List (List ℕ)). IsAnswered xs ds ((text ++ r.0) ++ on.0)) (append_assoc lines (line ∷ []) more) on.1))
+
+reads_on : (ds : List Declaration) (lines more : List (List ℕ)) → IsRepository lines ds → Goes (lines ++ more) []
+reads_on ds lines [] r = stands [] (opening ds (subst (λ (xs : List (List ℕ)). IsRepository xs ds) (sym (append-nil lines)) r) refl)
+reads_on ds lines (line ∷ more) r =
+    let joined : (lines ++ line ∷ []) ++ more ≡ lines ++ line ∷ more = append_assoc lines (line ∷ []) more in
+    elim (next lines line ds r) [
+      | grows cs q ↦ subst (λ (xs : List (List ℕ)). Goes xs []) joined (reads_on cs (lines ++ line ∷ []) more q)
+      | ends e ↦ (let on = answers_on ds (lines ++ line ∷ []) more [] (IsAnswered-end lines line ds r e) in subst (λ (xs : List (List ℕ)). Goes xs []) joined (stands on.0 (answering ds on.1)))
+      | fails f n ↦ refused (refusal (length lines + 1)) record {
+          place = length lines + 1;
+          fault = record { before = lines; line = line; after = more; split = refl; number = refl; so_far = (ds, r); no_end = n; no_entry = IsRepository-none lines line ds r f };
+          written = refl;
+        }
+    ]
+
+-- what was written goes on to what is written for all lines
+pub goes_on : (lines more : List (List ℕ)) (text : List ℕ) → Transcript lines text → Goes (lines ++ more) text
+goes_on lines more text (opening ds r e) = subst (λ (x : List ℕ). Goes (lines ++ more) x) (sym e) (reads_on ds lines more r)
+goes_on lines more text (answering ds a) = let on = answers_on ds lines more text a in stands on.0 (answering ds on.1)
+
+-- where no more lines follow, there is an end of what is written
+pub ends_by : (lines : List (List ℕ)) (text : List ℕ) → Transcript lines text → (more : List ℕ) × (status : Status) × Ending lines (text ++ more) status
+ends_by lines text (opening ds r e) = (refusal (length lines), Refused, without_end ds r (ap (λ (x : List ℕ). x ++ refusal (length lines)) e) refl)
+ends_by lines text (answering ds a) = ([], Done, complete ds (subst (λ (x : List ℕ). IsAnswered lines ds x) (sym (append-nil text)) a) refl)

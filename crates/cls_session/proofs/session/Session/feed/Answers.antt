@@ -1,0 +1,6 @@
+use Rattle.std.proofs.Common.{◌≡◌, true, ◌∙◌, Bool, rules}
+use Rattle.cls_session.proofs.Replying.{answers}
+use Rattle.cls_session.proofs.session.Session.feed.Goals as goal
+
+pub returns-clause-replied : goal.returns-clause-replied
+returns-clause-replied c = λ lines written stands. answers _ _ _ _ c.self.view_is lines written stands _ _ c.if-not-self.false c.in_ok-text.ensures

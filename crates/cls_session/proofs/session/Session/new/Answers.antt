@@ -1,0 +1,7 @@
+use Rattle.std.proofs.Common.{[], refl, ◌≡◌, ℕ, List, subst, sym}
+use Rattle.cls_session.specs.Standings.{Stands}
+use Rattle.cls_session.proofs.Standings.{Stands-nothing, reading}
+use Rattle.cls_session.proofs.session.Session.new.Goals as goal
+
+pub returns : goal.returns
+returns c = subst (λ (xs : List (List ℕ)). Stands [] [] (reading xs 0)) (sym c.new.ensures) Stands-nothing

@@ -1,0 +1,67 @@
+-- How the lines of the input are answered one after another.
+use Rattle.std.specs.Prelude.{ℕ, ◌≡◌, ◌⊎◌, List, [], ◌∷◌, ◌++◌, length, Option, Result, Ok, Err}
+use Rattle.std.specs.Io.KnownBytes.{Appends}
+use Rattle.cls_base.specs.Outside.{Fills, HasRisen, Holds}
+use Rattle.cls_syntax.specs.Lines.{CutsLine}
+use Rattle.cls_session.specs.declared.driver.Stop.{Stop}
+use Rattle.cls_session.specs.declared.driver.Stop.TheVariants as stops
+use Rattle.cls_session.specs.Standings.{Standing, Stands}
+use Rattle.cls_session.specs.Transcripts.{Transcript, IsRefused}
+
+-- The text begins with these lines, each with its line feed, and the rest follows.
+abbrev pub CutsLines : List ℕ → List (List ℕ) → List ℕ → Type 0
+CutsLines text [] rest = text ≡ rest
+CutsLines text (line ∷ lines) rest = (after : List ℕ) × CutsLine text line after × CutsLines after lines rest
+
+-- The text was written: it is held now, and took its room.
+abbrev pub Writes : Option (List ℕ) → Option (List ℕ) → Option ℕ → Option ℕ → List ℕ → Type 0
+Writes held held' room room' text = Appends held held' text × Fills room room' (length text)
+
+-- What may stand written for the lines, be it that the repository is refused at the last of them.
+abbrev pub IsWritten : List (List ℕ) → List ℕ → Type 0
+IsWritten lines text = Transcript lines text ⊎ IsRefused lines text
+
+-- The session was fed lines for which something was written, and the room, where it is told, is enough for whatever is to be
+-- written for the lines that the text begins with.
+abbrev pub FitsLines : Option ℕ → Standing → List ℕ → Type 0
+FitsLines room s text = (lines : List (List ℕ)) × (written : List ℕ) × Stands lines written s
+    × ((more : List (List ℕ)) (rest reply : List ℕ) → CutsLines text more rest → IsWritten (lines ++ more) (written ++ reply) → Holds room (length reply))
+
+-- The same of one line.
+abbrev pub FitsLine : Option ℕ → Standing → List ℕ → Type 0
+FitsLine room s line = (lines : List (List ℕ)) × (written : List ℕ) × Stands lines written s
+    × ((reply : List ℕ) → IsWritten (lines ++ line ∷ []) (written ++ reply) → Holds room (length reply))
+
+-- The line was answered: whatever was written for the lines before, the reply goes on with it.
+abbrev pub AnswersLine : Option (List ℕ) → Option (List ℕ) → Option ℕ → Option ℕ → Standing → Standing → List ℕ → Type 0
+AnswersLine held held' room room' old new line = (lines : List (List ℕ)) (written : List ℕ) → Stands lines written old
+    → (reply : List ℕ) × Stands (lines ++ line ∷ []) (written ++ reply) new × Writes held held' room room' reply
+
+-- The line was refused, and the refusal was written.
+abbrev pub RefusesLine : Option (List ℕ) → Option (List ℕ) → Option ℕ → Option ℕ → Standing → List ℕ → Type 0
+RefusesLine held held' room room' old line = (lines : List (List ℕ)) (written : List ℕ) → Stands lines written old
+    → (reply : List ℕ) × IsRefused (lines ++ line ∷ []) (written ++ reply) × Writes held held' room room' reply
+
+-- The lines that the text begins with were answered, and the rest is without a line feed.
+abbrev pub AnswersLines : Option (List ℕ) → Option (List ℕ) → Option ℕ → Option ℕ → Standing → Standing → List ℕ → List ℕ → Type 0
+AnswersLines held held' room room' old new text rest = (lines : List (List ℕ)) (written : List ℕ) → Stands lines written old
+    → (more : List (List ℕ)) × (reply : List ℕ) × CutsLines text more rest × Stands (lines ++ more) (written ++ reply) new × Writes held held' room room' reply
+
+-- One of the lines that the text begins with was refused, and all replies up to the refusal were written.
+abbrev pub RefusesLines : Option (List ℕ) → Option (List ℕ) → Option ℕ → Option ℕ → Standing → List ℕ → Type 0
+RefusesLines held held' room room' old text = (lines : List (List ℕ)) (written : List ℕ) → Stands lines written old
+    → (more : List (List ℕ)) × (rest reply : List ℕ) × CutsLines text more rest × IsRefused (lines ++ more) (written ++ reply) × Writes held held' room room' reply
+
+-- What holds where all went well, and where the repository was refused. Of a fault and of want of memory nothing else is said.
+abbrev pub Comes : Result (Unit {0}) Stop → Type 0 → Type 0 → Type 0
+Comes (Ok a) Well Refused = Well
+Comes (Err stops.Refused) Well Refused = Refused
+Comes (Err stops.WriteFault) Well Refused = Unit {0}
+Comes (Err stops.NoMemory) Well Refused = Unit {0}
+
+-- The count of the sink's faults rose where a write failed, and is the same else.
+abbrev pub CountsFaults : Result (Unit {0}) Stop → ℕ → ℕ → Type 0
+CountsFaults (Ok a) old new = new ≡ old
+CountsFaults (Err stops.Refused) old new = new ≡ old
+CountsFaults (Err stops.WriteFault) old new = HasRisen old new
+CountsFaults (Err stops.NoMemory) old new = new ≡ old

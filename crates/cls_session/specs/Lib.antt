@@ -1,0 +1,13 @@
+pub mod Commands
+pub mod Declarations
+pub mod Driving
+pub mod Forms
+pub mod Lines
+pub mod Listings
+pub mod Outputs
+pub mod Replies
+pub mod Repositories
+pub mod Sessions
+pub mod Standings
+pub mod Transcripts
+pub mod Typings

@@ -1,0 +1,45 @@
+-- The replies to queries.
+use Rattle.std.specs.Prelude.{ℕ, ◌≡◌, List, [], ◌∷◌, ◌++◌, Bool, if◌then◌else◌, codes, map, slice_index_or}
+use Rattle.std.specs.List.{flat_map}
+use Rattle.cls_base.specs.Types as types
+use Rattle.cls_base.specs.Terms.{Applicative}
+use Rattle.cls_base.specs.Pages.{IsPage}
+use Rattle.cls_syntax.specs.Skipped.{IsSkipped}
+use Rattle.cls_session.specs.Declarations.{Declaration}
+use Rattle.cls_session.specs.Forms.{IsListing}
+use Rattle.cls_session.specs.Listings.{request}
+use Rattle.cls_session.specs.Typings.{Has}
+use Rattle.cls_term.specs.Texts.{text_of}
+
+-- a line of the output
+abbrev pub reply_line : List ℕ → List ℕ
+reply_line text = text ++ 10 ∷ []
+
+-- the name of the component with the number
+abbrev pub name_in : List Declaration → ℕ → List ℕ
+name_in declared x = slice_index_or (map (λ d. d.component) declared) x []
+
+abbrev pub term_line : (ℕ → List ℕ) → Applicative → List ℕ
+term_line names e = reply_line (codes "term " ++ text_of names e)
+
+-- a line for each term, and whether more terms follow
+abbrev pub page_text : (ℕ → List ℕ) → List Applicative → Bool → List ℕ
+page_text names terms more = flat_map (term_line names) terms ++ reply_line (if more then codes "more" else codes "done")
+
+-- The text lists the one page of the terms of type omega.
+pub record ListsOmega (declared : List Declaration) (max take : ℕ) (text : List ℕ) : Type 0 where
+  pub terms : List Applicative
+  pub more : Bool
+  pub page : IsPage (λ e. Has declared e types.omega) (request max take) terms more
+  pub written : text ≡ page_text (name_in declared) terms more
+
+-- what is written for a line after the repository
+pub data Reply (declared : List Declaration) (line text : List ℕ) : Type 0 where
+  skipped : IsSkipped line → text ≡ [] → Reply declared line text
+  listing : (max take : ℕ) → IsListing line max take → ListsOmega declared max take text → Reply declared line text
+  unbuilt : (IsSkipped line → ⊥) → ((max take : ℕ) → IsListing line max take → ⊥) → text ≡ reply_line (codes "error unbuilt") → Reply declared line text
+
+-- what is written for lines after the repository, in turn
+abbrev pub Replies : List Declaration → List (List ℕ) → List ℕ → Type 0
+Replies declared [] text = text ≡ []
+Replies declared (line ∷ lines) text = (first rest : List ℕ) × Reply declared line first × Replies declared lines rest × (text ≡ first ++ rest)

@@ -1,0 +1,105 @@
+ghost use Rattle.std.specs.Prelude.{◌≡◌, ℕ, ◌+◌, ◌^◌, ◌<◌, ◌≤◌, ◌++◌, length, OnOk, OnErr};
+ghost use Rattle.cls_base.specs.Outside.{HasRisen, Holds};
+ghost use Rattle.cls_session.specs.declared.driver.Stop.TheVariants.{WriteFault, NoMemory};
+ghost use Rattle.cls_session.specs.Driving.{Writes, FitsLine, FitsLines, AnswersLine, RefusesLine, AnswersLines, RefusesLines, Comes, CountsFaults};
+
+use crate::session::{Reply, Session};
+use cls_base::{Failed, OutOfMemory, Sink};
+use cls_syntax::{Line, LineReader};
+use std::alloc::Global;
+
+/// Why a run ends before the end of its input.
+#[derive(Clone, Copy, Debug, PartialEq, Eq)]
+pub enum Stop {
+    /// The repository has a fault, and the refusal was written.
+    Refused,
+    /// A write failed.
+    WriteFault,
+    /// No memory was found.
+    NoMemory,
+}
+
+impl From<OutOfMemory> for Stop {
+    ghost from_gives = { λ _ stop. stop ≡ NoMemory };
+
+    fn from(_: OutOfMemory) -> Stop {
+        Stop::NoMemory
+    }
+}
+
+impl From<Failed> for Stop {
+    ghost from_gives = { λ _ stop. stop ≡ WriteFault };
+
+    fn from(_: Failed) -> Stop {
+        Stop::WriteFault
+    }
+}
+
+/// Writes the text, all of it.
+pub fn write_all<K: Sink>(sink: &mut K, text: &[u8]) -> Result<(), Failed>
+    requires { Holds (K.room sink.old) (length text.now) }
+    ensures written { OnOk result (Writes (K.held sink.old) (K.held sink.new) (K.room sink.old) (K.room sink.new) text.now) }
+    ensures ok { OnOk result (K.faults sink.new ≡ K.faults sink.old) }
+    ensures failed { OnErr result (HasRisen (K.faults sink.old) (K.faults sink.new)) }
+{
+    let mut rest = text;
+    while !rest.is_empty() {
+        let count = sink.write(rest)?;
+        rest = rest.split_at(count).1;
+    }
+    Ok(())
+}
+
+/// Answers one line, and writes the reply before anything else is done.
+pub fn answer_line<K: Sink>(
+    alloc: Global,
+    session: &mut Session,
+    line: &Line,
+    sink: &mut K,
+) -> Result<(), Stop>
+    requires few { session.old.lines < 2 ^ 32 }
+    requires room { FitsLine (K.room sink.old) session.old line.now }
+    ensures comes { Comes result
+        (AnswersLine (K.held sink.old) (K.held sink.new) (K.room sink.old) (K.room sink.new) session.old session.new line.now)
+        (RefusesLine (K.held sink.old) (K.held sink.new) (K.room sink.old) (K.room sink.new) session.old line.now) }
+    ensures counted { OnOk result (session.new.lines ≤ session.old.lines + 1) }
+    ensures faults { CountsFaults result (K.faults sink.old) (K.faults sink.new) }
+{
+    match session.feed(alloc, line)? {
+        Reply::Text(text) => {
+            write_all(sink, text.as_bytes())?;
+            Ok(())
+        }
+        Reply::Refusal(text) => {
+            write_all(sink, text.as_bytes())?;
+            Err(Stop::Refused)
+        }
+    }
+}
+
+/// Answers the lines that end in the piece one after another, and holds back what comes after the last line feed.
+pub fn answer_lines<K: Sink>(
+    alloc: Global,
+    session: &mut Session,
+    reader: &mut LineReader,
+    piece: &[u8],
+    sink: &mut K,
+) -> Result<(), Stop>
+    requires few { session.old.lines + length (reader.old ++ piece.now) < 2 ^ 32 }
+    requires room { FitsLines (K.room sink.old) session.old (reader.old ++ piece.now) }
+    ensures comes { Comes result
+        (AnswersLines (K.held sink.old) (K.held sink.new) (K.room sink.old) (K.room sink.new) session.old session.new (reader.old ++ piece.now) reader.new)
+        (RefusesLines (K.held sink.old) (K.held sink.new) (K.room sink.old) (K.room sink.new) session.old (reader.old ++ piece.now)) }
+    ensures counted { OnOk result (session.new.lines + length reader.new ≤ session.old.lines + length (reader.old ++ piece.now)) }
+    ensures faults { CountsFaults result (K.faults sink.old) (K.faults sink.new) }
+{
+    let mut rest = piece;
+    'lines: loop {
+        let (line, after) = reader.take(alloc, rest)?;
+        let Some(line) = line else {
+            return Ok(());
+        };
+        answer_line(alloc, session, &line, sink)?;
+        rest = after;
+    }
+}

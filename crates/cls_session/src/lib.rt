@@ -1,0 +1,15 @@
+//! The session.
+#![tactic(auto)]
+
+mod driver;
+mod forms;
+mod listing;
+mod session;
+mod status;
+mod words;
+
+pub use driver::{Stop, answer_line, answer_lines, write_all};
+pub use listing::{Page, list_omega, print_page};
+pub use session::{MAX_COMPONENTS, Outcome, Reply, Session};
+pub use status::Status;
+pub use words::{Command, UsageFault, read_words};
