@@ -100,7 +100,8 @@ impl Term {
         self.size_by(costs.as_slice())
     }
 
-    /// Compares by size, and at one size by code: `Less` where this term comes before the other.
+    /// Compares by size, and at one size by code, which is this project's own choice: `Less` where this term comes before
+    /// the other. A component that has no cost in the list costs 1.
     pub fn order(&self, costs: &Numbers, other: &Term) -> Ordering
         requires short { length_of self.now < 2 ^ 32 }
         requires other_short { length_of other.now < 2 ^ 32 }
@@ -111,7 +112,8 @@ impl Term {
         self.order_by(costs, other)
     }
 
-    /// The code of the term: the component's number, the number of arguments, and the codes of the arguments.
+    /// The code of the term: the component's number, the number of arguments, and the codes of the arguments. That is two
+    /// numbers for each component occurrence. The only error is want of memory.
     pub fn code(&self, alloc: Global) -> Result<Numbers, OutOfMemory>
         requires { length_of self.now < 2 ^ 32 }
         ensures { IfOk result (λ code. code ≡ code_of self.now) }
@@ -121,7 +123,7 @@ impl Term {
         Ok(Numbers::new(code))
     }
 
-    /// A term equal to this one.
+    /// A term equal to this one. The only error is want of memory.
     #[cycle(copy)]
     pub fn copy(&self, alloc: Global) -> Result<Term, OutOfMemory>
         ensures { IfOk result (λ term. term ≡ self.now) }
@@ -133,7 +135,8 @@ impl Term {
         })
     }
 
-    /// The text of the term, where each component goes by its name in the table: `x` alone, or `x(e1, .., en)`.
+    /// The text of the term, where each component goes by its name in the table: `x` alone, or `x(e1, .., en)`. The only
+    /// error is want of memory.
     pub fn print(&self, alloc: Global, components: &Names) -> Result<String, OutOfMemory>
         requires { greatest_of self.now < length components.now }
         ensures { IfOk result (λ text. string_bytes text ≡ text_of (name_at components.now) self.now) }
@@ -252,7 +255,7 @@ impl Terms {
         Ok(())
     }
 
-    /// A list equal to this one.
+    /// A list equal to this one. The only error is want of memory.
     #[cycle(copy)]
     #[tactic(auto, using(crate::proofs::Steps::lengths))]
     pub fn copy(&self, alloc: Global) -> Result<Terms, OutOfMemory>
