@@ -1,1 +1,4 @@
+pub mod Feeds
+pub mod LineEndings
+pub mod LinePieces
 pub mod TextTables

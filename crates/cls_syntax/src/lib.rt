@@ -1,8 +1,16 @@
 //! From bytes to what a line says: lines, tokens, lexemes, and the numbers of names.
 //!
+//! - [`LineReader`] cuts a text that comes in pieces into its [`Line`]s, the same however it was cut.
 //! - [`Names`] numbers texts in the order in which they first came.
 #![tactic(auto)]
 
+mod characters;
+mod laws;
+mod line;
+mod line_reader;
 mod names;
 
+pub use laws::{cut_line_is_first, ended_lines_come_first, held_bytes_are_the_last_line};
+pub use line::{Line, MAX_LINE_BYTES, TextFault};
+pub use line_reader::LineReader;
 pub use names::Names;
