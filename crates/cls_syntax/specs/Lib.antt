@@ -3,3 +3,5 @@ pub mod LineLaws
 pub mod Lines
 pub mod Names
 pub mod Skipped
+pub mod Spelling
+pub mod Tokens
