@@ -1,6 +1,7 @@
 ghost use Rattle.std.specs.Prelude.{◌≡◌, []};
 ghost use Rattle.cls_syntax.specs.Lines.{lines_of, ended_lines};
 ghost use Rattle.cls_syntax.specs.LineLaws.{CutIsFirst, CutStays, NoneEnded, HeldIsLast, EndedAreFront, EndedStay};
+ghost use Rattle.cls_syntax.specs.Spelling.{SpelledOnce, TokensAreLongest, TokensAscend, TokensCover, TokensAreCut};
 
 /// Law: the line that a line feed cuts off is the first line, and stays it whatever follows.
 pub fn cut_line_is_first()
@@ -21,4 +22,18 @@ pub fn ended_lines_come_first()
     ensures front { EndedAreFront }
     ensures ended { EndedStay ended_lines }
     ensures lines { EndedStay lines_of }
+{}
+
+/// Law: each token of a line is spelled by its kind and by no other, and no longer one begins where it does.
+pub fn tokens_are_longest()
+    ensures longest { TokensAreLongest }
+    ensures once { SpelledOnce }
+{}
+
+/// Law: the tokens of a line follow one another, and hold exactly its bytes that aren't blank. Those of a text split no
+/// character.
+pub fn tokens_cover_the_line()
+    ensures ascending { TokensAscend }
+    ensures covered { TokensCover }
+    ensures cut { TokensAreCut }
 {}

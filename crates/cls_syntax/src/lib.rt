@@ -13,7 +13,10 @@ mod names;
 mod scan;
 mod token;
 
-pub use laws::{cut_line_is_first, ended_lines_come_first, held_bytes_are_the_last_line};
+pub use laws::{
+    cut_line_is_first, ended_lines_come_first, held_bytes_are_the_last_line, tokens_are_longest,
+    tokens_cover_the_line,
+};
 pub use line::{Line, MAX_LINE_BYTES, TextFault};
 pub use line_reader::LineReader;
 pub use names::Names;
