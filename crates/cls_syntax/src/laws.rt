@@ -1,5 +1,6 @@
 ghost use Rattle.std.specs.Prelude.{◌≡◌, []};
 ghost use Rattle.cls_syntax.specs.Lines.{lines_of, ended_lines};
+ghost use Rattle.cls_syntax.specs.Fronts.{FrontsAreExact};
 ghost use Rattle.cls_syntax.specs.LineLaws.{CutIsFirst, CutStays, NoneEnded, HeldIsLast, EndedAreFront, EndedStay};
 ghost use Rattle.cls_syntax.specs.Spelling.{SpelledOnce, TokensAreLongest, TokensAscend, TokensCover, TokensAreCut};
 
@@ -36,4 +37,9 @@ pub fn tokens_cover_the_line()
     ensures ascending { TokensAscend }
     ensures covered { TokensCover }
     ensures cut { TokensAreCut }
+{}
+
+/// Law: the words begin with a name, a number or a sign exactly where the front of that kind gives it, and what follows.
+pub fn fronts_are_exact()
+    ensures { FrontsAreExact }
 {}
