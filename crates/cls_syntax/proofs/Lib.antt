@@ -1,1 +1,11 @@
+pub mod Feeds
+pub mod LineEndings
+pub mod LinePieces
+pub mod Numerals
 pub mod TextTables
+pub mod TokenCuts
+pub mod TokenPlaces
+pub mod TokenSpelling
+pub mod TokenSteps
+pub mod TokenTexts
+pub mod WordFronts

@@ -1,1 +1,10 @@
+pub mod Characters
+pub mod Fronts
+pub mod LineLaws
+pub mod Lines
 pub mod Names
+pub mod Numerals
+pub mod Skipped
+pub mod Spelling
+pub mod Tokens
+pub mod Words

@@ -1,0 +1,84 @@
+ghost use Rattle.std.specs.Prelude.{◌≡◌, ℕ, ◌↔◌, List, [], ◌++◌, IsNone, IfNone, IfSome, OnSome, IfOk, OnErr, ◌==◌, position};
+ghost use Rattle.cls_syntax.specs.Lines.{without_return, HasNoFeed, CutsLine};
+
+use crate::line::Line;
+use cls_base::OutOfMemory;
+use std::alloc::Global;
+use std::marker::Model;
+
+/// Cuts a text that comes in pieces into its lines. It is seen as the bytes that came since the last line feed.
+#[derive(Drop)]
+pub struct LineReader {
+    bytes: Vec<u8>,
+}
+
+impl Model for LineReader {
+    ghost Value = { List ℕ };
+
+    ghost view = { λ r. r.bytes.items };
+
+    ghost invariant = { λ r. HasNoFeed r.bytes.items };
+}
+
+impl LineReader {
+    /// The reader at the beginning of a text. It takes no memory.
+    pub fn new(alloc: Global) -> LineReader
+        ensures { result ≡ [] }
+    {
+        LineReader {
+            bytes: Vec::new(alloc),
+        }
+    }
+
+    /// Takes the bytes of the piece up to and with its first line feed, and gives the line that this ends beside the
+    /// rest of the piece.
+    ///
+    /// Where the piece has no line feed, all of it is taken and no line is given.
+    pub fn take<'a>(
+        &mut self,
+        alloc: Global,
+        piece: &'a [u8],
+    ) -> Result<(Option<Line>, &'a [u8]), OutOfMemory>
+        ensures line { IfOk result (λ r. IfSome r.0 (λ line. CutsLine (self.old ++ piece.now) line r.1.now)) }
+        ensures fresh { IfOk result (λ r. OnSome r.0 (self.new ≡ [])) }
+
+        // With no line feed the piece is held.
+        ensures none { IfOk result (λ r. IfNone r.0 (HasNoFeed piece.now)) }
+        ensures held { IfOk result (λ r. IfNone r.0 (self.new ≡ self.old ++ piece.now)) }
+        ensures nothing_left { IfOk result (λ r. IfNone r.0 (r.1.now ≡ [])) }
+
+        ensures no_feed { HasNoFeed self.new }
+        ensures err { OnErr result (self.new ≡ self.old) }
+    {
+        match first_feed(piece) {
+            None => {
+                self.bytes.extend_from_slice(piece)?;
+                Ok((None, &piece[piece.len()..]))
+            }
+            Some(place) => {
+                self.bytes.extend_from_slice(&piece[..place])?;
+                let bytes = std::mem::replace(&mut self.bytes, Vec::new(alloc));
+                Ok((Some(Line::ended(bytes)), &piece[place + 1..]))
+            }
+        }
+    }
+
+    /// Ends the text, and gives the last line where a byte stands after the last line feed. It takes no memory.
+    pub fn finish(self) -> Option<Line>
+        ensures none { IsNone result ↔ (self ≡ []) }
+        ensures line { IfSome result (λ line. line ≡ without_return self) }
+    {
+        let LineReader { bytes } = self;
+        if bytes.is_empty() {
+            None
+        } else {
+            Some(Line::ended(bytes))
+        }
+    }
+}
+
+fn first_feed(bytes: &[u8]) -> Option<usize>
+    ensures { result ≡ position (λ b. b == 10) bytes.now }
+{
+    bytes.iter().position(|byte| *byte == b'\n')
+}
