@@ -8,7 +8,8 @@ use Rattle.std.proofs.lemmas.Bool.{cases_lt}
 use Rattle.std.proofs.lemmas.Bool.Decides.{nat_tests}
 use Rattle.cls_syntax.specs.declared.token.TokenKind.TheVariants.{Colon}
 use Rattle.cls_syntax.specs.Skipped.{IsText, IsSkipped, says_nothing}
-use Rattle.cls_syntax.specs.Words.{Word, name, number, sign, words_of, number_value}
+use Rattle.cls_syntax.specs.Words.{Word, name, number, sign, words_of}
+use Rattle.cls_syntax.specs.Numerals.{number_value}
 use Rattle.cls_session.specs.Declarations.{Declaration}
 use Rattle.cls_session.specs.Forms.{IsRead, IsDeclaration, IsEnd, IsListing, declaration_words, end_words, listing_words}
 
@@ -19,7 +20,7 @@ Decided P = P ⊎ (P → ⊥)
 pub same_bytes : (xs ys : List ℕ) → bytes_eq xs ys ≡ true → xs ≡ ys
 same_bytes xs ys e = same_text xs ys (sym e)
 
-bytes_eq-refl : (xs : List ℕ) → bytes_eq xs xs ≡ true
+pub bytes_eq-refl : (xs : List ℕ) → bytes_eq xs xs ≡ true
 bytes_eq-refl [] = refl
 bytes_eq-refl (x ∷ xs) = let h = bytes_eq-refl xs in grind (arith, nat_tests)
 

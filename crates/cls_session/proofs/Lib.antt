@@ -9,3 +9,5 @@ pub mod Writing
 pub mod Pages
 pub mod Replying
 pub mod Driving
+pub mod Readings
+pub mod LineForms

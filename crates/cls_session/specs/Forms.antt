@@ -2,7 +2,8 @@
 use Rattle.std.specs.Prelude.{ℕ, ◌≡◌, ◌≢◌, ◌≤◌, List, [], ◌∷◌, codes}
 use Rattle.cls_syntax.specs.declared.token.TokenKind.TheVariants.{Colon}
 use Rattle.cls_syntax.specs.Skipped.{IsText, IsSkipped}
-use Rattle.cls_syntax.specs.Words.{Word, name, number, sign, words_of, number_value}
+use Rattle.cls_syntax.specs.Words.{Word, name, number, sign, words_of}
+use Rattle.cls_syntax.specs.Numerals.{number_value}
 use Rattle.cls_session.specs.Declarations.{Declaration}
 
 -- A line that is cut into tokens: a text of at most 65,536 bytes that isn't skipped.

@@ -5,6 +5,7 @@ pub mod Forms
 pub mod Lines
 pub mod Listings
 pub mod Outputs
+pub mod Readings
 pub mod Replies
 pub mod Repositories
 pub mod Sessions
