@@ -27,3 +27,26 @@ pub fn lexemes<'a>(
     }
     Ok(out)
 }
+
+#[cfg(test)]
+mod tests {
+    use crate::cursor::{end_at, name_at, number_at, sign_at, word_at};
+    use crate::scan::tokens;
+    use crate::token::TokenKind;
+    use std::test::Fail;
+
+    #[test]
+    fn a_line_is_read_from_the_left(rt: HostRuntime) -> Result<(), Fail> {
+        let line = "cost f <= 007";
+        let found = tokens(rt.alloc(), line)?;
+        let lexemes = super::lexemes(rt.alloc(), line, &found)?;
+        let rest = word_at(&lexemes, "cost").ok_or("another word")?;
+        let (name, rest) = name_at(rest).ok_or("no name")?;
+        assert!(rt; name == "f");
+        let rest = sign_at(rest, TokenKind::AtMost).ok_or("no sign")?;
+        let (number, rest) = number_at(rest).ok_or("no number")?;
+        assert_eq!(rt; number.number(), Some(7));
+        assert!(rt; end_at(rest).is_some());
+        Ok(())
+    }
+}

@@ -1,5 +1,5 @@
-ghost use Rattle.std.specs.Prelude.{◌≡◌, ℕ, ◌↔◌, List, [], ◌++◌, IsNone, IfNone, IfSome, OnSome, IfOk, OnErr, ◌==◌, position};
-ghost use Rattle.cls_syntax.specs.Lines.{without_return, HasNoFeed, CutsLine};
+ghost use Rattle.std.specs.Prelude.{◌≡◌, ℕ, ◌↔◌, List, [], ◌++◌, IsNone, IfNone, IfSome, OnSome, IfOk, OnErr, ◌==◌, position, option_to_list};
+ghost use Rattle.cls_syntax.specs.Lines.{lines_of, without_return, HasNoFeed, CutsLine};
 
 use crate::line::Line;
 use cls_base::OutOfMemory;
@@ -67,6 +67,7 @@ impl LineReader {
     pub fn finish(self) -> Option<Line>
         ensures none { IsNone result ↔ (self ≡ []) }
         ensures line { IfSome result (λ line. line ≡ without_return self) }
+        ensures lines { option_to_list result ≡ lines_of self }
     {
         let LineReader { bytes } = self;
         if bytes.is_empty() {
@@ -81,4 +82,22 @@ fn first_feed(bytes: &[u8]) -> Option<usize>
     ensures { result ≡ position (λ b. b == 10) bytes.now }
 {
     bytes.iter().position(|byte| *byte == b'\n')
+}
+
+#[cfg(test)]
+mod tests {
+    use super::*;
+    use std::test::Fail;
+
+    #[test]
+    fn a_line_ends_in_a_later_piece(rt: HostRuntime) -> Result<(), Fail> {
+        let mut reader = LineReader::new(rt.alloc());
+        let (none, rest) = reader.take(rt.alloc(), b"comp f")?;
+        assert!(rt; none.is_none());
+        assert_eq!(rt; rest.len(), 0);
+        let (line, rest) = reader.take(rt.alloc(), b" : a\r\nend")?;
+        assert_eq!(rt; line.ok_or("no line")?.as_bytes(), b"comp f : a".as_slice());
+        assert_eq!(rt; rest, b"end".as_slice());
+        Ok(())
+    }
 }

@@ -93,10 +93,13 @@ mod tests {
     use std::test::Fail;
 
     #[test]
-    fn numbers_follow_the_first_coming(rt: HostRuntime) -> Result<(), Fail> {
+    fn a_known_text_keeps_its_number(rt: HostRuntime) -> Result<(), Fail> {
         let mut names = Names::new(rt.alloc());
-        let apple = names.intern(rt.alloc(), "apple")?;
-        assert_eq!(rt; apple.0, 0);
+        let first = names.intern(rt.alloc(), "List")?;
+        let second = names.intern(rt.alloc(), "Int")?;
+        let again = names.intern(rt.alloc(), "List")?;
+        assert_eq!(rt; (first.0, second.0, again.0), (0, 1, 0));
+        assert_eq!(rt; names.len(), 2);
         Ok(())
     }
 }
