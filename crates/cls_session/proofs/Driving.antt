@@ -85,10 +85,10 @@ module _ (a b c : Option (List ℕ)) (r s t : Option ℕ) (first mid last : Stan
   shorter_next = subst (λ (x : List ℕ). length (x ++ after) + 1 ≤ length between) (sym none) (CutLine-shorter between line after cut)
 
 -- at an error only the refusal says anything
-pub comes_refused : (stop : Stop) (Well Refused Well' Refused' : Type 0) → Comes (Err stop) Well Refused → (Refused → Refused') → Comes (Err stop) Well' Refused'
-comes_refused stops.Refused Well Refused Well' Refused' c f = f c
-comes_refused stops.WriteFault Well Refused Well' Refused' c f = tt
-comes_refused stops.NoMemory Well Refused Well' Refused' c f = tt
+pub comes_refused : (A B : Type 0) (stop : Stop) (Well : A → Type 0) (Well' : B → Type 0) (Refused Refused' : Type 0) → Comes {A = A} (Err stop) Well Refused → (Refused → Refused') → Comes {A = B} (Err stop) Well' Refused'
+comes_refused A B stops.Refused Well Well' Refused Refused' c f = f c
+comes_refused A B stops.WriteFault Well Well' Refused Refused' c f = tt
+comes_refused A B stops.NoMemory Well Well' Refused Refused' c f = tt
 
 -- what is held back ends the answer to the piece
 pub answers_held : (a b : Option (List ℕ)) (r s : Option ℕ) (first last : Standing) (text between held : List ℕ) → held ≡ between

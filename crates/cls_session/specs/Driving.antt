@@ -2,11 +2,12 @@
 use Rattle.std.specs.Prelude.{ℕ, ◌≡◌, ◌⊎◌, List, [], ◌∷◌, ◌++◌, length, Option, Result, Ok, Err}
 use Rattle.std.specs.Io.KnownBytes.{Appends}
 use Rattle.cls_base.specs.Outside.{Fills, HasRisen, Holds}
-use Rattle.cls_syntax.specs.Lines.{CutsLine}
+use Rattle.cls_syntax.specs.Lines.{CutsLine, lines_of}
+use Rattle.cls_session.specs.declared.status.Status.{Status}
 use Rattle.cls_session.specs.declared.driver.Stop.{Stop}
 use Rattle.cls_session.specs.declared.driver.Stop.TheVariants as stops
 use Rattle.cls_session.specs.Standings.{Standing, Stands}
-use Rattle.cls_session.specs.Transcripts.{Transcript, IsRefused}
+use Rattle.cls_session.specs.Transcripts.{Transcript, IsRefused, Ending}
 
 -- The text begins with these lines, each with its line feed, and the rest follows.
 abbrev pub CutsLines : List ℕ → List (List ℕ) → List ℕ → Type 0
@@ -52,15 +53,36 @@ abbrev pub RefusesLines : Option (List ℕ) → Option (List ℕ) → Option ℕ
 RefusesLines held held' room room' old text = (lines : List (List ℕ)) (written : List ℕ) → Stands lines written old
     → (more : List (List ℕ)) × (rest reply : List ℕ) × CutsLines text more rest × IsRefused (lines ++ more) (written ++ reply) × Writes held held' room room' reply
 
+-- The lines that are left at the end of the input were answered.
+abbrev pub AnswersLast : Option (List ℕ) → Option (List ℕ) → Option ℕ → Option ℕ → Standing → Standing → List ℕ → Type 0
+AnswersLast held held' room room' old new text = (lines : List (List ℕ)) (written : List ℕ) → Stands lines written old
+    → (reply : List ℕ) × Stands (lines ++ lines_of text) (written ++ reply) new × Writes held held' room room' reply
+
+-- One of them was refused.
+abbrev pub RefusesLast : Option (List ℕ) → Option (List ℕ) → Option ℕ → Option ℕ → Standing → List ℕ → Type 0
+RefusesLast held held' room room' old text = (lines : List (List ℕ)) (written : List ℕ) → Stands lines written old
+    → (reply : List ℕ) × IsRefused (lines ++ lines_of text) (written ++ reply) × Writes held held' room room' reply
+
+-- They were answered, and the output was ended with this status.
+abbrev pub EndsOutput : Option (List ℕ) → Option (List ℕ) → Option ℕ → Option ℕ → Standing → List ℕ → Status → Type 0
+EndsOutput held held' room room' old text status = (lines : List (List ℕ)) (written : List ℕ) → Stands lines written old
+    → (reply : List ℕ) × Ending (lines ++ lines_of text) (written ++ reply) status × Writes held held' room room' reply
+
+-- The room, where it is told, is enough for whatever is to be written where the text is all that is left.
+abbrev pub FitsLast : Option ℕ → Standing → List ℕ → Type 0
+FitsLast room s text = (lines : List (List ℕ)) × (written : List ℕ) × Stands lines written s
+    × ((reply : List ℕ) → IsRefused (lines ++ lines_of text) (written ++ reply) → Holds room (length reply))
+    × ((reply : List ℕ) (status : Status) → Ending (lines ++ lines_of text) (written ++ reply) status → Holds room (length reply))
+
 -- What holds where all went well, and where the repository was refused. Of a fault and of want of memory nothing else is said.
-abbrev pub Comes : Result (Unit {0}) Stop → Type 0 → Type 0 → Type 0
-Comes (Ok a) Well Refused = Well
+abbrev pub Comes : {A : Type 0} → Result A Stop → (A → Type 0) → Type 0 → Type 0
+Comes (Ok a) Well Refused = Well a
 Comes (Err stops.Refused) Well Refused = Refused
 Comes (Err stops.WriteFault) Well Refused = Unit {0}
 Comes (Err stops.NoMemory) Well Refused = Unit {0}
 
 -- The count of the sink's faults rose where a write failed, and is the same else.
-abbrev pub CountsFaults : Result (Unit {0}) Stop → ℕ → ℕ → Type 0
+abbrev pub CountsFaults : {A : Type 0} → Result A Stop → ℕ → ℕ → Type 0
 CountsFaults (Ok a) old new = new ≡ old
 CountsFaults (Err stops.Refused) old new = new ≡ old
 CountsFaults (Err stops.WriteFault) old new = HasRisen old new

@@ -1,9 +1,11 @@
 ghost use Rattle.std.specs.Prelude.{◌≡◌, ℕ, ◌+◌, ◌^◌, ◌<◌, ◌≤◌, ◌++◌, length, OnOk, OnErr};
 ghost use Rattle.cls_base.specs.Outside.{HasRisen, Holds};
+ghost use Rattle.cls_syntax.specs.Lines.{HasNoFeed};
 ghost use Rattle.cls_session.specs.declared.driver.Stop.TheVariants.{WriteFault, NoMemory};
-ghost use Rattle.cls_session.specs.Driving.{Writes, FitsLine, FitsLines, AnswersLine, RefusesLine, AnswersLines, RefusesLines, Comes, CountsFaults};
+ghost use Rattle.cls_session.specs.Driving.{Writes, FitsLine, FitsLines, FitsLast, AnswersLine, RefusesLine, AnswersLines, RefusesLines, AnswersLast, RefusesLast, EndsOutput, Comes, CountsFaults};
 
 use crate::session::{Reply, Session};
+use crate::status::Status;
 use cls_base::{Failed, OutOfMemory, Sink};
 use cls_syntax::{Line, LineReader};
 use std::alloc::Global;
@@ -60,7 +62,7 @@ pub fn answer_line<K: Sink>(
     requires few { session.old.lines < 2 ^ 32 }
     requires room { FitsLine (K.room sink.old) session.old line.now }
     ensures comes { Comes result
-        (AnswersLine (K.held sink.old) (K.held sink.new) (K.room sink.old) (K.room sink.new) session.old session.new line.now)
+        (λ _. AnswersLine (K.held sink.old) (K.held sink.new) (K.room sink.old) (K.room sink.new) session.old session.new line.now)
         (RefusesLine (K.held sink.old) (K.held sink.new) (K.room sink.old) (K.room sink.new) session.old line.now) }
     ensures counted { OnOk result (session.new.lines ≤ session.old.lines + 1) }
     ensures faults { CountsFaults result (K.faults sink.old) (K.faults sink.new) }
@@ -88,8 +90,9 @@ pub fn answer_lines<K: Sink>(
     requires few { session.old.lines + length (reader.old ++ piece.now) < 2 ^ 32 }
     requires room { FitsLines (K.room sink.old) session.old (reader.old ++ piece.now) }
     ensures comes { Comes result
-        (AnswersLines (K.held sink.old) (K.held sink.new) (K.room sink.old) (K.room sink.new) session.old session.new (reader.old ++ piece.now) reader.new)
+        (λ _. AnswersLines (K.held sink.old) (K.held sink.new) (K.room sink.old) (K.room sink.new) session.old session.new (reader.old ++ piece.now) reader.new)
         (RefusesLines (K.held sink.old) (K.held sink.new) (K.room sink.old) (K.room sink.new) session.old (reader.old ++ piece.now)) }
+    ensures no_feed { OnOk result (HasNoFeed reader.new) }
     ensures counted { OnOk result (session.new.lines + length reader.new ≤ session.old.lines + length (reader.old ++ piece.now)) }
     ensures faults { CountsFaults result (K.faults sink.old) (K.faults sink.new) }
 {
@@ -102,4 +105,47 @@ pub fn answer_lines<K: Sink>(
         answer_line(alloc, session, &line, sink)?;
         rest = after;
     }
+}
+
+/// Answers the last line, which has no line feed, where a byte stands in it.
+pub fn answer_last<K: Sink>(
+    alloc: Global,
+    session: &mut Session,
+    reader: LineReader,
+    sink: &mut K,
+) -> Result<(), Stop>
+    requires few { session.old.lines < 2 ^ 32 }
+    requires room { FitsLast (K.room sink.old) session.old reader }
+    ensures comes { Comes result
+        (λ _. AnswersLast (K.held sink.old) (K.held sink.new) (K.room sink.old) (K.room sink.new) session.old session.new reader)
+        (RefusesLast (K.held sink.old) (K.held sink.new) (K.room sink.old) (K.room sink.new) session.old reader) }
+    ensures faults { CountsFaults result (K.faults sink.old) (K.faults sink.new) }
+{
+    match reader.finish() {
+        None => Ok(()),
+        Some(line) => {
+            answer_line(alloc, session, &line, sink)?;
+            Ok(())
+        }
+    }
+}
+
+/// Answers what is left at the end of the input, and ends the output.
+pub fn finish<K: Sink>(
+    alloc: Global,
+    mut session: Session,
+    reader: LineReader,
+    sink: &mut K,
+) -> Result<Status, Stop>
+    requires few { session.lines < 2 ^ 32 }
+    requires room { FitsLast (K.room sink.old) session reader }
+    ensures comes { Comes result
+        (EndsOutput (K.held sink.old) (K.held sink.new) (K.room sink.old) (K.room sink.new) session reader)
+        (RefusesLast (K.held sink.old) (K.held sink.new) (K.room sink.old) (K.room sink.new) session reader) }
+    ensures faults { CountsFaults result (K.faults sink.old) (K.faults sink.new) }
+{
+    answer_last(alloc, &mut session, reader, sink)?;
+    let outcome = session.finish(alloc)?;
+    write_all(sink, outcome.text.as_bytes())?;
+    Ok(outcome.status)
 }

@@ -8,7 +8,7 @@ mod session;
 mod status;
 mod words;
 
-pub use driver::{Stop, answer_line, answer_lines, write_all};
+pub use driver::{Stop, answer_last, answer_line, answer_lines, finish, write_all};
 pub use listing::{Page, list_omega, print_page};
 pub use session::{MAX_COMPONENTS, Outcome, Reply, Session};
 pub use status::Status;
