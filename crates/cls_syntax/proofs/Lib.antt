@@ -2,6 +2,8 @@ pub mod Feeds
 pub mod LineEndings
 pub mod LinePieces
 pub mod Numerals
+pub mod Positions
+pub mod Runs
 pub mod TextTables
 pub mod TokenCuts
 pub mod TokenPlaces

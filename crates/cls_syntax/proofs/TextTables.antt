@@ -1,9 +1,9 @@
 -- The number of a text in a table of texts.
-use Rattle.std.proofs.Common.{◌≡◌, ℕ, ◌≤◌, Bool, true, false, cond, ltb, List, [], ◌∷◌, ◌++◌, map, length, get_or, Option, Some, None, refl, ap, sym, ◌∙◌, arith, Contains, slice_get}
+use Rattle.std.proofs.Common.{◌≡◌, ℕ, Bool, true, false, List, [], ◌∷◌, ◌++◌, map, get_or, Option, Some, None, refl, ap, sym, ◌∙◌, arith, Contains, slice_get}
 use Rattle.std.specs.List.{list_any, position, position_or_len, IsDistinct, AllByRecursion}
 use Rattle.std.specs.Str.{bytes_eq}
 use Rattle.std.proofs.Common.{not}
-use Rattle.std.proofs.lemmas.Bool.{true≢false, not-true, ltb-false}
+use Rattle.std.proofs.lemmas.Bool.{true≢false, not-true}
 use Rattle.std.proofs.lemmas.List.{get_or_default, length-map, map-append}
 use Rattle.std.proofs.lemmas.List.Sums.{prefix_len_passes}
 use Rattle.std.proofs.lemmas.List.Folds.{list_any_at}
@@ -14,6 +14,7 @@ use Rattle.std.specs.Prelude.{if◌then◌else◌, String}
 use Rattle.std.specs.String.{string_bytes, string_eq}
 use Rattle.indexmap.specs.IndexSet.{insert_key}
 use Rattle.std.proofs.lemmas.Slice.Eq.{bytes_eq-Decides}
+use Rattle.cls_syntax.proofs.Positions.{position-found, position-none}
 use Rattle.cls_syntax.specs.Names.{IsTable, number_of, with_text}
 
 module _ {X Y : Type 0} (f : X → Y) where
@@ -44,30 +45,23 @@ pub record IsFound (texts : List (List ℕ)) (text : List ℕ) (place : ℕ) : T
   pub held : Contains texts text
   pub stays : with_text texts text ≡ texts
 
-placed : (p : List ℕ → Bool) (texts : List (List ℕ)) (n : ℕ) → position p texts ≡ Some n → n ≡ position_or_len p texts
-placed p texts n h =
-    (elim (ltb (position_or_len p texts) (length texts)) as (λ b. cond b (Some (position_or_len p texts)) None ≡ Some n → n ≡ position_or_len p texts) [ true ↦ λ e. cc | false ↦ λ e. cc ]) h
-
+-- a number that was found stands for the text
 pub found : (texts : List (List ℕ)) (text : List ℕ) (n : ℕ) → position (bytes_eq text) texts ≡ Some n → IsFound texts text n
 found texts text n h =
     let at = position-Some (bytes_eq text) texts n [] h in
     let same : text ≡ get_or texts n [] = (bytes_eq-Decides text (get_or texts n [])).0 at.1 in
     let any : list_any (bytes_eq text) texts ≡ true = list_any_at (bytes_eq text) texts n [] at.0 at.1 in
     record {
-      number = placed (bytes_eq text) texts n h;
+      number = position-found (bytes_eq text) texts n h;
       stands = slice_get-get_or texts n [] at.0 ∙ ap (λ (t : List ℕ). Some t) (sym same);
       held = (n, at.0, get_or_default texts n text [] at.0 ∙ sym same);
       stays = rw any refl;
     }
 
--- no place is before the length
-past : (p : List ℕ → Bool) (texts : List (List ℕ)) → position p texts ≡ None → length texts ≤ position_or_len p texts
-past p texts h =
-    (elim (ltb (position_or_len p texts) (length texts)) as (λ b. ltb (position_or_len p texts) (length texts) ≡ b → cond b (Some (position_or_len p texts)) None ≡ None → length texts ≤ position_or_len p texts) [ true ↦ λ t e. cc | false ↦ λ t e. ltb-false _ _ t ]) refl h
-
+-- where no number was found, the text isn't held
 pub absent : (texts : List (List ℕ)) (text : List ℕ) → position (bytes_eq text) texts ≡ None → Contains texts text → ⊥
 absent texts text h at =
-    let late = past (bytes_eq text) texts h in
+    let late = position-none (bytes_eq text) texts h in
     let passes = prefix_len_passes (λ t. not (bytes_eq text t)) texts at.0 text (omega (arith, late, at.1)) in
     let same : bytes_eq text (get_or texts at.0 text) ≡ true = (bytes_eq-Decides text _).1 (sym at.2) in
     true≢false (sym same ∙ not-true _ passes)
@@ -93,6 +87,7 @@ module _ {A : Type 0} where
   stored_text keys place text key k is at same =
       slice_get-map string_bytes keys place ∙ (ap (λ (o : Option (String A)). option_map string_bytes o) at ∙ ap (λ (t : List ℕ). Some t) (sym ((bytes_eq-Decides (string_bytes key) (string_bytes k)).0 same) ∙ is))
 
+-- the table with no text
 pub no_texts : IsTable []
 unfolding IsDistinct
 no_texts = record { few = omega arith; distinct = tt }

@@ -12,6 +12,7 @@ pub data Word : Type 0 where
   number : List ℕ → Word
   sign : TokenKind → Word
 
+-- What a token of this kind and text says.
 abbrev pub word_from : TokenKind → List ℕ → Word
 word_from Name text = name text
 word_from Number text = number text
@@ -28,13 +29,14 @@ word_from Bar text = sign Bar
 word_from AtMost text = sign AtMost
 word_from Bad text = sign Bad
 
+-- What the lexeme says.
 abbrev pub word_of : Lexeme → Word
 word_of lexeme = word_from lexeme.kind lexeme.text.now
 
 -- What the token says, by its text in the line.
-abbrev pub word_at : List ℕ → Token → Word
-word_at line token = word_from token.kind (text_of line token)
+abbrev pub word_in : List ℕ → Token → Word
+word_in line token = word_from token.kind (text_of line token)
 
 -- What the line says.
 unfoldable pub words_of : List ℕ → List Word
-words_of line = map (word_at line) (tokens_of line)
+words_of line = map (word_in line) (tokens_of line)

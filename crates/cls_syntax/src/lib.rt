@@ -5,6 +5,8 @@
 //! - [`lexemes`] cuts their texts from it. From a slice of [`Lexeme`]s a line form is read from the left by [`word_at`],
 //!   [`name_at`], [`number_at`], [`sign_at`] and [`end_at`].
 //! - [`Names`] numbers texts in the order in which they first came.
+//! - The functions without parameters, as [`cut_line_is_first`], do nothing: what each ensures is a law of the
+//!   definitions in `specs/`.
 #![tactic(auto)]
 
 mod characters;

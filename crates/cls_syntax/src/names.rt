@@ -53,6 +53,8 @@ impl Names {
     }
 
     /// The number of the text. A text that is known keeps its number, and a new one goes last.
+    ///
+    /// The caller sees to it that there is a number left. After an error the table is as before.
     pub fn intern(&mut self, alloc: Global, text: &str) -> Result<Name, OutOfMemory>
         requires { length self.old < 2 ^ 32 - 1 }
         ensures number { IfOk result (λ name. name.0 ≡ number_of self.old text.now) }
