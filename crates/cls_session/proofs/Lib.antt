@@ -1,4 +1,5 @@
 pub mod Firsts
+pub mod LastLines
 pub mod Omega
 pub mod Typing
 pub mod Repositories
