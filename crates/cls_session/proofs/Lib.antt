@@ -12,3 +12,4 @@ pub mod Replying
 pub mod Driving
 pub mod Readings
 pub mod LineForms
+pub mod Outputs

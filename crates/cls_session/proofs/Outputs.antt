@@ -1,0 +1,123 @@
+-- How lines that were answered one after another make an output.
+use Rattle.std.proofs.Common.{◌≡◌, ℕ, zero, suc, ◌+◌, ◌-◌, ◌<◌, ◌≤◌, List, [], ◌∷◌, ◌++◌, length, take, drop, refl, sym, ap, ◌∙◌, subst, inl, inr, arith, append_assoc, append-nil, length-append, Bool, true, false}
+use Rattle.std.specs.Prelude.{◌⊎◌, Option, None, Some, nat_lt, if◌then◌else◌}
+use Rattle.std.proofs.Math.Seq.{take-append-add, take-append_seam}
+use Rattle.std.proofs.lemmas.Bool.{cases_lt, le-ltb, lt-ltb}
+use Rattle.std.specs.Io.KnownBytes.{Appends, Consumes, IsAtEnd}
+use Rattle.cls_base.specs.Outside.{Holds, Fills}
+use Rattle.cls_syntax.specs.Lines.{lines_of, ended_lines, HasNoFeed, CutsLine}
+use Rattle.cls_syntax.proofs.LinePieces.{lines_of-CutsLine, ended_lines-CutsLine, CutsLine-append, ended_lines-HasNoFeed}
+use Rattle.cls_session.specs.declared.status.Status.{Status}
+use Rattle.cls_session.specs.declared.status.Status.TheVariants.{Refused, TooLong}
+use Rattle.cls_session.specs.Driving.{CutsLines, IsWritten}
+use Rattle.cls_session.specs.Outputs.{lines_read, Output, Answers, HasRoom}
+use Rattle.cls_session.specs.Outputs as outputs
+use Rattle.cls_session.specs.Transcripts.{Transcript, IsRefused, Ending}
+use Rattle.cls_session.proofs.Totality.{Goes, refused, stands, goes_on, ends_by, IsRefused-append}
+
+pub CutsLines-append : (text rest more : List ℕ) (lines : List (List ℕ)) → CutsLines text lines rest → CutsLines (text ++ more) lines (rest ++ more)
+CutsLines-append text rest more [] e = ap (λ (x : List ℕ). x ++ more) e
+CutsLines-append text rest more (l ∷ lines) (after, c, cs) = (after ++ more, CutsLine-append text l after more c, CutsLines-append after rest more lines cs)
+
+pub lines_of-CutsLines : (text rest : List ℕ) (lines : List (List ℕ)) → CutsLines text lines rest → lines_of text ≡ lines ++ lines_of rest
+lines_of-CutsLines text rest [] e = ap lines_of e
+lines_of-CutsLines text rest (l ∷ lines) (after, c, cs) = lines_of-CutsLine text l after c ∙ ap (λ (xs : List (List ℕ)). l ∷ xs) (lines_of-CutsLines after rest lines cs)
+
+pub ended_lines-CutsLines : (text rest : List ℕ) (lines : List (List ℕ)) → CutsLines text lines rest → ended_lines text ≡ lines ++ ended_lines rest
+ended_lines-CutsLines text rest [] e = ap ended_lines e
+ended_lines-CutsLines text rest (l ∷ lines) (after, c, cs) = ended_lines-CutsLine text l after c ∙ ap (λ (xs : List (List ℕ)). l ∷ xs) (ended_lines-CutsLines after rest lines cs)
+
+-- which lines count
+lines_read-short : (bytes : List ℕ) → length bytes ≤ 1048576 → lines_read bytes ≡ lines_of bytes
+lines_read-short bytes l = ap (λ (b : Bool). if b then ended_lines (take 1048576 bytes) else lines_of bytes) (le-ltb 1048576 (length bytes) l)
+
+lines_read-long : (bytes : List ℕ) → 1048576 < length bytes → lines_read bytes ≡ ended_lines (take 1048576 bytes)
+lines_read-long bytes l = ap (λ (b : Bool). if b then ended_lines (take 1048576 bytes) else lines_of bytes) (lt-ltb 1048576 (length bytes) l)
+
+take-past : (n : ℕ) (front tail : List ℕ) → length front ≤ n → take n (front ++ tail) ≡ front ++ take (n - length front) tail
+take-past n front tail l = subst (λ k. take k (front ++ tail) ≡ front ++ take (n - length front) tail) (omega arith) (take-append-add front tail (n - length front))
+
+-- the lines that a short front begins with are the first that count
+read_begins : (front rest tail : List ℕ) (lines : List (List ℕ)) → CutsLines front lines rest → length front ≤ 1048576 → (others : List (List ℕ)) × (lines_read (front ++ tail) ≡ lines ++ others)
+read_begins front rest tail lines cs l =
+    elim (cases_lt 1048576 (length (front ++ tail))) [
+      | inr short ↦ (lines_of (rest ++ tail), lines_read-short (front ++ tail) (omega arith) ∙ lines_of-CutsLines (front ++ tail) (rest ++ tail) lines (CutsLines-append front rest tail lines cs))
+      | inl long ↦ (let over = take (1048576 - length front) tail in
+          (ended_lines (rest ++ over), lines_read-long (front ++ tail) long ∙ (ap ended_lines (take-past 1048576 front tail l) ∙ ended_lines-CutsLines (front ++ over) (rest ++ over) lines (CutsLines-append front rest over lines cs))))
+    ]
+
+-- what was written goes on to an output
+goes_to_output : (bytes text : List ℕ) (lines others : List (List ℕ)) → lines_read bytes ≡ lines ++ others → IsWritten lines text → (more : List ℕ) × (status : Status) × Output [] bytes (text ++ more) status
+goes_to_output bytes text lines others e (inr r) =
+    let whole = IsRefused-append lines others (text ++ []) (subst (λ (x : List ℕ). IsRefused lines x) (sym (append-nil text)) r) in
+    ([], Refused, outputs.refused refl (subst (λ (xs : List (List ℕ)). IsRefused xs (text ++ [])) (sym e) whole) refl)
+goes_to_output bytes text lines others e (inl t) =
+    elim (goes_on lines others text t) [
+      | refused more r ↦ (more, Refused, outputs.refused refl (subst (λ (xs : List (List ℕ)). IsRefused xs (text ++ more)) (sym e) r) refl)
+      | stands more s ↦ elim (cases_lt 1048576 (length bytes)) [
+        | inl long ↦ (more, TooLong, outputs.too_long refl long (subst (λ (xs : List (List ℕ)). Transcript xs (text ++ more)) (sym e) s) refl)
+        | inr short ↦ (let (last, status, end) = ends_by (lines ++ others) (text ++ more) s in
+            let here = subst (λ (xs : List (List ℕ)). Ending xs ((text ++ more) ++ last) status) (sym e ∙ lines_read-short bytes (omega arith)) end in
+            (more ++ last, status, outputs.ended refl (omega arith) (subst (λ (x : List ℕ). Ending (lines_of bytes) x status) (append_assoc text more last) here)))
+      ]
+    ]
+
+-- What the source told begins with these bytes.
+abbrev pub Begins : Option (List ℕ) → List ℕ → Type 0
+Begins None front = Unit {0}
+Begins (Some bytes) front = (tail : List ℕ) × (bytes ≡ front ++ tail)
+
+-- What the source told is these bytes.
+abbrev pub IsWholly : Option (List ℕ) → List ℕ → Type 0
+IsWholly None front = Unit {0}
+IsWholly (Some bytes) front = bytes ≡ front
+
+pub begins_wholly : (left : Option (List ℕ)) (front : List ℕ) → IsWholly left front → Begins left front
+begins_wholly None front e = tt
+begins_wholly (Some bytes) front e = ([], e ∙ sym (append-nil front))
+
+-- whatever is to be written for the lines that a short front begins with fits the room that is left
+pub output_fits : (left : Option (List ℕ)) (room room' : Option ℕ) (front rest written reply : List ℕ) (lines : List (List ℕ)) → HasRoom [] left room → Begins left front
+    → CutsLines front lines rest → length front ≤ 1048576 → Fills room room' (length written) → IsWritten lines (written ++ reply) → Holds room' (length reply)
+output_fits left None None front rest written reply lines h b cs l f w = tt
+output_fits left None (Some n) front rest written reply lines h b cs l f w = absurd f
+output_fits None (Some m) room' front rest written reply lines h b cs l f w = absurd h
+output_fits (Some bytes) (Some m) None front rest written reply lines h b cs l f w = absurd f
+output_fits (Some bytes) (Some m) (Some n) front rest written reply lines h (tail, e) cs l f w =
+    let (others, begun) = read_begins front rest tail lines cs l in
+    let (more, status, output) = goes_to_output bytes (written ++ reply) lines others (ap lines_read e ∙ begun) w in
+    let whole = h ((written ++ reply) ++ more) status output in
+    let a = length-append (written ++ reply) more in
+    let b = length-append written reply in
+    omega arith
+
+module _ (held held' : Option (List ℕ)) (front rest text : List ℕ) (lines : List (List ℕ)) (cuts : CutsLines front lines rest) (short : length front ≤ 1048576) (appends : Appends held held' text) where
+  -- the repository was refused at a line that the front holds
+  pub answers_refused : (left : Option (List ℕ)) → Begins left front → IsRefused lines text → Answers [] left held held' Refused
+  answers_refused None b r = tt
+  answers_refused (Some bytes) (tail, e) r =
+      let (others, begun) = read_begins front rest tail lines cuts short in
+      (text, outputs.refused refl (subst (λ (xs : List (List ℕ)). IsRefused xs text) (sym (ap lines_read e ∙ begun)) (IsRefused-append lines others text r)) refl, appends)
+
+  -- the input is the front
+  pub answers_refused_last : (left : Option (List ℕ)) → IsWholly left front → IsRefused (lines ++ lines_of rest) text → Answers [] left held held' Refused
+  answers_refused_last None e r = tt
+  answers_refused_last (Some bytes) e r =
+      let same : lines_read bytes ≡ lines ++ lines_of rest = ap lines_read e ∙ (lines_read-short front short ∙ lines_of-CutsLines front rest lines cuts) in
+      (text, outputs.refused refl (subst (λ (xs : List (List ℕ)). IsRefused xs text) (sym same) r) refl, appends)
+
+  pub answers_ended : (left : Option (List ℕ)) (status : Status) → IsWholly left front → Ending (lines ++ lines_of rest) text status → Answers [] left held held' status
+  answers_ended None status e r = tt
+  answers_ended (Some bytes) status e r =
+      let same : lines_of bytes ≡ lines ++ lines_of rest = ap lines_of e ∙ lines_of-CutsLines front rest lines cuts in
+      (text, outputs.ended refl (let k = ap length e in omega arith) (subst (λ (xs : List (List ℕ)). Ending xs text status) (sym same) r), appends)
+
+  -- the input goes on after a front that is as long as may be
+  pub answers_too_long : (left : Option (List ℕ)) (more : List ℕ) → Begins left (front ++ more) → length front ≡ 1048576 → 0 < length more → HasNoFeed rest → Transcript lines text → Answers [] left held held' TooLong
+  answers_too_long None more b full some free t = tt
+  answers_too_long (Some bytes) more (tail, e) full some free t =
+      let whole : bytes ≡ front ++ (more ++ tail) = e ∙ append_assoc front more tail in
+      let long : 1048576 < length bytes = (let k = ap length whole in let a = length-append front (more ++ tail) in let b = length-append more tail in omega arith) in
+      let taken : take 1048576 bytes ≡ front = ap (λ (x : List ℕ). take 1048576 x) whole ∙ subst (λ k. take k (front ++ (more ++ tail)) ≡ front) full (take-append_seam front (more ++ tail)) in
+      let same : lines_read bytes ≡ lines = lines_read-long bytes long ∙ (ap ended_lines taken ∙ (ended_lines-CutsLines front rest lines cuts ∙ (ap (λ (xs : List (List ℕ)). lines ++ xs) (ended_lines-HasNoFeed rest free) ∙ append-nil lines))) in
+      (text, outputs.too_long refl long (subst (λ (xs : List (List ℕ)). Transcript xs text) (sym same) t) refl, appends)
