@@ -71,7 +71,7 @@ impl Source for MemorySource {
         ensures count { IfOk result (λ n. n
             ≡ min self.old.chunk (min (length into.old) (length self.old.left))) }
         // With room for a byte, none comes at the end alone.
-        ensures end { IfOk result (λ n. n ≡ 0 → 0 < length into.old → self.old.left ≡ []) }
+        ensures end { IfOk result (λ n. n ≡ 0 → 0 < length into.old → self.new.left ≡ []) }
         ensures copied { IfOk result (λ n. into.new ≡ take n self.old.left ++ drop n into.old) }
         ensures given { IfOk result (λ n. self.new ≡ record self.old {
           left = drop n self.old.left;

@@ -20,7 +20,7 @@ pub trait Source {
         // What was read are the next bytes, and is left no longer.
         ensures bytes { IfOk result (λ n. Consumes (left self.old) (left self.new) (take n into.new)) }
         // With room for a byte, none comes at the end alone.
-        ensures end { IfOk result (λ n. n ≡ 0 → 0 < length into.old → IsAtEnd (left self.old)) }
+        ensures end { IfOk result (λ n. n ≡ 0 → 0 < length into.old → IsAtEnd (left self.new)) }
         ensures ok { OnOk result (faults self.new ≡ faults self.old) }
 
         ensures failed { OnErr result (HasRisen (faults self.old) (faults self.new)) }

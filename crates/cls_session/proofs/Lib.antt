@@ -13,3 +13,4 @@ pub mod Driving
 pub mod Readings
 pub mod LineForms
 pub mod Outputs
+pub mod InputLoop

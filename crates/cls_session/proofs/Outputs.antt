@@ -72,52 +72,54 @@ abbrev pub IsWholly : Option (List ℕ) → List ℕ → Type 0
 IsWholly None front = Unit {0}
 IsWholly (Some bytes) front = bytes ≡ front
 
-pub begins_wholly : (left : Option (List ℕ)) (front : List ℕ) → IsWholly left front → Begins left front
-begins_wholly None front e = tt
-begins_wholly (Some bytes) front e = ([], e ∙ sym (append-nil front))
+-- what is told is an output
+pub told : (left held held' : Option (List ℕ)) (text : List ℕ) (end : Status) → Appends held held' text → ((bytes : List ℕ) → left ≡ Some bytes → Output [] bytes text end) → Answers [] left held held' end
+told None held held' text end a output = tt
+told (Some bytes) held held' text end a output = (text, output bytes refl, a)
 
--- whatever is to be written for the lines that a short front begins with fits the room that is left
-pub output_fits : (left : Option (List ℕ)) (room room' : Option ℕ) (front rest written reply : List ℕ) (lines : List (List ℕ)) → HasRoom [] left room → Begins left front
-    → CutsLines front lines rest → length front ≤ 1048576 → Fills room room' (length written) → IsWritten lines (written ++ reply) → Holds room' (length reply)
-output_fits left None None front rest written reply lines h b cs l f w = tt
-output_fits left None (Some n) front rest written reply lines h b cs l f w = absurd f
-output_fits None (Some m) room' front rest written reply lines h b cs l f w = absurd h
-output_fits (Some bytes) (Some m) None front rest written reply lines h b cs l f w = absurd f
-output_fits (Some bytes) (Some m) (Some n) front rest written reply lines h (tail, e) cs l f w =
-    let (others, begun) = read_begins front rest tail lines cs l in
-    let (more, status, output) = goes_to_output bytes (written ++ reply) lines others (ap lines_read e ∙ begun) w in
-    let whole = h ((written ++ reply) ++ more) status output in
+-- an output that goes on with the reply fits, and the reply fits the room that is left
+pub room_left : (left : Option (List ℕ)) (room room' : Option ℕ) (written reply : List ℕ) → HasRoom [] left room → Fills room room' (length written)
+    → ((bytes : List ℕ) → left ≡ Some bytes → (more : List ℕ) × (end : Status) × Output [] bytes ((written ++ reply) ++ more) end) → Holds room' (length reply)
+room_left left None None written reply h f output = tt
+room_left left None (Some n) written reply h f output = absurd f
+room_left None (Some m) room' written reply h f output = absurd h
+room_left (Some bytes) (Some m) None written reply h f output = absurd f
+room_left (Some bytes) (Some m) (Some n) written reply h f output =
+    let (more, end, whole) = output bytes refl in
+    let fits = h ((written ++ reply) ++ more) end whole in
     let a = length-append (written ++ reply) more in
     let b = length-append written reply in
     omega arith
 
-module _ (held held' : Option (List ℕ)) (front rest text : List ℕ) (lines : List (List ℕ)) (cuts : CutsLines front lines rest) (short : length front ≤ 1048576) (appends : Appends held held' text) where
-  -- the repository was refused at a line that the front holds
-  pub answers_refused : (left : Option (List ℕ)) → Begins left front → IsRefused lines text → Answers [] left held held' Refused
-  answers_refused None b r = tt
-  answers_refused (Some bytes) (tail, e) r =
+module _ (front rest text : List ℕ) (lines : List (List ℕ)) (cuts : CutsLines front lines rest) (short : length front ≤ 1048576) (bytes : List ℕ) where
+  -- something was written for the lines that the front begins with
+  pub output_goes_on : Begins (Some bytes) front → IsWritten lines text → (more : List ℕ) × (end : Status) × Output [] bytes (text ++ more) end
+  output_goes_on (tail, e) w =
       let (others, begun) = read_begins front rest tail lines cuts short in
-      (text, outputs.refused refl (subst (λ (xs : List (List ℕ)). IsRefused xs text) (sym (ap lines_read e ∙ begun)) (IsRefused-append lines others text r)) refl, appends)
+      goes_to_output bytes text lines others (ap lines_read e ∙ begun) w
+
+  -- the repository was refused at one of them
+  pub output_refused : Begins (Some bytes) front → IsRefused lines text → Output [] bytes text Refused
+  output_refused (tail, e) r =
+      let (others, begun) = read_begins front rest tail lines cuts short in
+      outputs.refused refl (subst (λ (xs : List (List ℕ)). IsRefused xs text) (sym (ap lines_read e ∙ begun)) (IsRefused-append lines others text r)) refl
 
   -- the input is the front
-  pub answers_refused_last : (left : Option (List ℕ)) → IsWholly left front → IsRefused (lines ++ lines_of rest) text → Answers [] left held held' Refused
-  answers_refused_last None e r = tt
-  answers_refused_last (Some bytes) e r =
+  pub output_refused_last : IsWholly (Some bytes) front → IsRefused (lines ++ lines_of rest) text → Output [] bytes text Refused
+  output_refused_last e r =
       let same : lines_read bytes ≡ lines ++ lines_of rest = ap lines_read e ∙ (lines_read-short front short ∙ lines_of-CutsLines front rest lines cuts) in
-      (text, outputs.refused refl (subst (λ (xs : List (List ℕ)). IsRefused xs text) (sym same) r) refl, appends)
+      outputs.refused refl (subst (λ (xs : List (List ℕ)). IsRefused xs text) (sym same) r) refl
 
-  pub answers_ended : (left : Option (List ℕ)) (status : Status) → IsWholly left front → Ending (lines ++ lines_of rest) text status → Answers [] left held held' status
-  answers_ended None status e r = tt
-  answers_ended (Some bytes) status e r =
+  pub output_ended : (end : Status) → IsWholly (Some bytes) front → Ending (lines ++ lines_of rest) text end → Output [] bytes text end
+  output_ended end e r =
       let same : lines_of bytes ≡ lines ++ lines_of rest = ap lines_of e ∙ lines_of-CutsLines front rest lines cuts in
-      (text, outputs.ended refl (let k = ap length e in omega arith) (subst (λ (xs : List (List ℕ)). Ending xs text status) (sym same) r), appends)
+      outputs.ended refl (let k = ap length e in omega arith) (subst (λ (xs : List (List ℕ)). Ending xs text end) (sym same) r)
 
   -- the input goes on after a front that is as long as may be
-  pub answers_too_long : (left : Option (List ℕ)) (more : List ℕ) → Begins left (front ++ more) → length front ≡ 1048576 → 0 < length more → HasNoFeed rest → Transcript lines text → Answers [] left held held' TooLong
-  answers_too_long None more b full some free t = tt
-  answers_too_long (Some bytes) more (tail, e) full some free t =
+  pub output_too_long : (more : List ℕ) → Begins (Some bytes) (front ++ more) → length front ≡ 1048576 → 0 < length more → HasNoFeed rest → Transcript lines text → Output [] bytes text TooLong
+  output_too_long more (tail, e) full some free t =
       let whole : bytes ≡ front ++ (more ++ tail) = e ∙ append_assoc front more tail in
       let long : 1048576 < length bytes = (let k = ap length whole in let a = length-append front (more ++ tail) in let b = length-append more tail in omega arith) in
       let taken : take 1048576 bytes ≡ front = ap (λ (x : List ℕ). take 1048576 x) whole ∙ subst (λ k. take k (front ++ (more ++ tail)) ≡ front) full (take-append_seam front (more ++ tail)) in
       let same : lines_read bytes ≡ lines = lines_read-long bytes long ∙ (ap ended_lines taken ∙ (ended_lines-CutsLines front rest lines cuts ∙ (ap (λ (xs : List (List ℕ)). lines ++ xs) (ended_lines-HasNoFeed rest free) ∙ append-nil lines))) in
-      (text, outputs.too_long refl long (subst (λ (xs : List (List ℕ)). Transcript xs text) (sym same) t) refl, appends)
+      outputs.too_long refl long (subst (λ (xs : List (List ℕ)). Transcript xs text) (sym same) t) refl

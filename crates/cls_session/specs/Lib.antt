@@ -10,5 +10,6 @@ pub mod Replies
 pub mod Repositories
 pub mod Sessions
 pub mod Standings
+pub mod Stops
 pub mod Transcripts
 pub mod Typings

@@ -1,0 +1,213 @@
+-- How the input is answered while it comes.
+use Rattle.std.proofs.Common.{◌≡◌, ℕ, zero, suc, Bool, true, false, length-take-le, ◌+◌, ◌-◌, ◌<◌, ◌≤◌, List, [], ◌∷◌, ◌++◌, length, take, drop, refl, sym, ap, ◌∙◌, subst, inl, inr, arith, append_assoc, append-nil, length-append, take-append-drop}
+use Rattle.std.specs.Prelude.{◌⊎◌, ◌==◌, Option, None, Some, Err}
+use Rattle.std.proofs.lemmas.Bool.Decides.{nat_tests}
+use Rattle.std.specs.Io.KnownBytes.{Consumes, IsAtEnd}
+use Rattle.std.proofs.KnownBytes.{Appends-nil, Appends-trans}
+use Rattle.cls_base.specs.Outside.{Holds}
+use Rattle.cls_syntax.specs.Lines.{HasNoFeed, lines_of}
+use Rattle.cls_session.specs.declared.driver.Stop.{Stop}
+use Rattle.cls_session.specs.declared.driver.Stop.TheVariants as stops
+use Rattle.cls_session.specs.declared.status.Status.{Status}
+use Rattle.cls_session.specs.declared.status.Status.TheVariants as status
+use Rattle.cls_session.specs.Driving.{CutsLines, Writes, IsWritten, FitsLines, FitsLast, AnswersLines, RefusesLines, RefusesLast, EndsOutput, Comes}
+use Rattle.cls_session.specs.Outputs.{Output, IsWhole, Answers, HasRoom}
+use Rattle.cls_session.specs.Standings.{Standing, Stands}
+use Rattle.cls_session.specs.Stops.{status_of}
+use Rattle.cls_session.specs.Transcripts.{Transcript, IsRefused, Ending, without_end, complete}
+use Rattle.cls_session.proofs.Driving.{CutsLines-trans}
+use Rattle.cls_session.proofs.Outputs.{Begins, IsWholly, CutsLines-append, told, room_left, output_goes_on, output_refused, output_refused_last, output_ended, output_too_long}
+use Rattle.cls_session.proofs.Standings.{Stands-transcript}
+use Rattle.cls_session.proofs.Writing.{Writes-none, Writes-trans}
+
+-- So many bytes were read: the lines that end in them were answered, and the reader holds the rest.
+pub record IsUnderWay (left left' held held' : Option (List ℕ)) (room room' : Option ℕ) (session : Standing) (reader : List ℕ) (taken : ℕ) : Type 0 where
+  pub bytes : List ℕ
+  pub lines : List (List ℕ)
+  pub written : List ℕ
+  pub count : length bytes ≡ taken
+  pub consumes : Consumes left left' bytes
+  pub cuts : CutsLines bytes lines reader
+  pub stands : Stands lines written session
+  pub writes : Writes held held' room room' written
+
+Consumes-none : (left : Option (List ℕ)) → Consumes left left []
+Consumes-none None = tt
+Consumes-none (Some bytes) = refl
+
+Consumes-trans : (a b c : Option (List ℕ)) (first rest : List ℕ) → Consumes a b first → Consumes b c rest → Consumes a c (first ++ rest)
+Consumes-trans None b c first rest p q = tt
+Consumes-trans (Some x) None c first rest p q = absurd p
+Consumes-trans (Some x) (Some y) None first rest p q = absurd q
+Consumes-trans (Some x) (Some y) (Some z) first rest p q = p ∙ (ap (λ (t : List ℕ). first ++ t) q ∙ sym (append_assoc first rest z))
+
+Consumes-begins : (a b : Option (List ℕ)) (front : List ℕ) → Consumes a b front → Begins a front
+Consumes-begins None b front p = tt
+Consumes-begins (Some x) None front p = absurd p
+Consumes-begins (Some x) (Some y) front p = (y, p)
+
+Consumes-wholly : (a b : Option (List ℕ)) (front : List ℕ) → Consumes a b front → IsAtEnd b → IsWholly a front
+Consumes-wholly None b front p e = tt
+Consumes-wholly (Some x) None front p e = absurd p
+Consumes-wholly (Some x) (Some y) front p e = p ∙ (ap (λ (t : List ℕ). front ++ t) e ∙ append-nil front)
+
+Begins-front : (a : Option (List ℕ)) (front more : List ℕ) → Begins a (front ++ more) → Begins a front
+Begins-front None front more b = tt
+Begins-front (Some x) front more (tail, e) = (more ++ tail, e ∙ append_assoc front more tail)
+
+-- nothing was read
+pub none_read : (left held : Option (List ℕ)) (room : Option ℕ) (session : Standing) (reader : List ℕ) → Stands [] [] session → reader ≡ [] → IsUnderWay left left held held room room session reader 0
+none_read left held room session reader s e = record { bytes = []; lines = []; written = []; count = refl; consumes = Consumes-none left; cuts = sym e; stands = s; writes = Writes-none held room }
+
+-- the end of the input was read
+pub none_more : (left left' left'' held held' : Option (List ℕ)) (room room' : Option ℕ) (session : Standing) (reader : List ℕ) (taken : ℕ) (count : ℕ) (buffer : List ℕ)
+    → IsUnderWay left left' held held' room room' session reader taken → count ≡ 0 → Consumes left' left'' (take count buffer) → IsUnderWay left left'' held held' room room' session reader taken
+none_more left left' left'' held held' room room' session reader taken count buffer u none consumes = record {
+  bytes = u.bytes; lines = u.lines; written = u.written; count = u.count;
+  consumes = subst (λ (x : List ℕ). Consumes left left'' x) (append-nil u.bytes)
+      (Consumes-trans left left' left'' u.bytes [] u.consumes (subst (λ k. Consumes left' left'' (take k buffer)) none consumes));
+  cuts = u.cuts; stands = u.stands; writes = u.writes;
+}
+
+-- What was read is cut into a piece and bytes that are too many.
+module _ (buffer piece over : List ℕ) (count place : ℕ) (front : piece ≡ take place (take count buffer)) (back : over ≡ drop place (take count buffer)) where
+  joined : piece ++ over ≡ take count buffer
+  joined = (λ i. front i ++ back i) ∙ take-append-drop place (take count buffer)
+
+  pub cut_consumes : (a b : Option (List ℕ)) → Consumes a b (take count buffer) → Consumes a b (piece ++ over)
+  cut_consumes a b h = subst (λ (x : List ℕ). Consumes a b x) (sym joined) h
+
+  pub cut_lengths : count ≤ length buffer → length piece + length over ≡ count
+  cut_lengths h = sym (length-append piece over) ∙ (ap length joined ∙ length-take-le count buffer h)
+
+pub some_over : (n : ℕ) → false ≡ (n == 0) → 0 < n
+some_over zero e = false_differs e
+  where
+    false_differs : false ≡ true → 0 < 0
+    false_differs e = cc
+some_over (suc n) e = omega arith
+
+is_none : (n : ℕ) → true ≡ (n == 0) → n ≡ 0
+is_none n e = grind (arith, nat_tests)
+
+pub none_over : (over : List ℕ) → true ≡ (length over == 0) → over ≡ []
+none_over [] e = refl
+none_over (x ∷ over) e = absurd (let n = is_none (length (x ∷ over)) e in omega arith)
+
+-- where a run stops early, only a refusal is whole
+pub stopped : (A : Type 0) (stop : Stop) (end : Status) (Well : A → Type 0) (Refuses : Type 0) (Claim : Status → Type 0)
+    → Comes {A = A} (Err stop) Well Refuses → end ≡ status_of stop → (Refuses → Claim status.Refused) → IsWhole end → Claim end
+stopped A stops.Refused end Well Refuses Claim c e f w = subst Claim (sym e) (f c)
+stopped A stops.WriteFault end Well Refuses Claim c e f w = absurd (subst IsWhole e w)
+stopped A stops.NoMemory end Well Refuses Claim c e f w = absurd (subst IsWhole e w)
+
+-- the statuses that the end of the input gives
+abbrev pub IsEndStatus : Status → Type 0
+IsEndStatus end = (end ≡ status.Done) ⊎ (end ≡ status.Refused)
+
+pub end_is_whole : (end : Status) → IsEndStatus end → IsWhole end
+end_is_whole end (inl e) = subst IsWhole (sym e) tt
+end_is_whole end (inr e) = subst IsWhole (sym e) tt
+
+done_differs : status.Done ≡ status.Usage → ⊥
+done_differs e = cc
+
+refused_differs : status.Refused ≡ status.Usage → ⊥
+refused_differs e = cc
+
+pub end_is_no_usage : (end : Status) → IsEndStatus end → end ≡ status.Usage → ⊥
+end_is_no_usage end (inl e) u = done_differs (sym e ∙ u)
+end_is_no_usage end (inr e) u = refused_differs (sym e ∙ u)
+
+Ending-status : (lines : List (List ℕ)) (text : List ℕ) (end : Status) → Ending lines text end → IsEndStatus end
+Ending-status lines text end (without_end ds r t s) = inr s
+Ending-status lines text end (complete ds a s) = inl s
+
+module _ (left left' held held' : Option (List ℕ)) (room room' : Option ℕ) (session : Standing) (reader : List ℕ) (taken : ℕ)
+  (u : IsUnderWay left left' held held' room room' session reader taken) where
+
+  -- The end of the input was reached.
+  module _ (short : taken ≤ 1048576) (at_end : IsAtEnd left') where
+    wholly : (bytes : List ℕ) → left ≡ Some bytes → IsWholly (Some bytes) u.bytes
+    wholly bytes e = subst (λ (x : Option (List ℕ)). IsWholly x u.bytes) e (Consumes-wholly left left' u.bytes u.consumes at_end)
+
+    few : length u.bytes ≤ 1048576
+    few = (let k = u.count in omega arith)
+
+    refused_output : (reply bytes : List ℕ) → left ≡ Some bytes → IsRefused (u.lines ++ lines_of reader) (u.written ++ reply) → Output [] bytes (u.written ++ reply) status.Refused
+    refused_output reply bytes e r = output_refused_last u.bytes reader (u.written ++ reply) u.lines u.cuts few bytes (wholly bytes e) r
+
+    ended_output : (reply : List ℕ) (end : Status) (bytes : List ℕ) → left ≡ Some bytes → Ending (u.lines ++ lines_of reader) (u.written ++ reply) end → Output [] bytes (u.written ++ reply) end
+    ended_output reply end bytes e r = output_ended u.bytes reader (u.written ++ reply) u.lines u.cuts few bytes end (wholly bytes e) r
+
+    without_more : (reply bytes : List ℕ) (end : Status) → Output [] bytes (u.written ++ reply) end → (more : List ℕ) × (end : Status) × Output [] bytes ((u.written ++ reply) ++ more) end
+    without_more reply bytes end o = ([], end, subst (λ (x : List ℕ). Output [] bytes x end) (sym (append-nil (u.written ++ reply))) o)
+
+    pub last_has_room : HasRoom [] left room → FitsLast room' session reader
+    last_has_room h = (u.lines, u.written, u.stands,
+        λ reply r. room_left left room room' u.written reply h u.writes.1 (λ bytes e. without_more reply bytes status.Refused (refused_output reply bytes e r)),
+        λ reply end r. room_left left room room' u.written reply h u.writes.1 (λ bytes e. without_more reply bytes end (ended_output reply end bytes e r)))
+
+    module _ (held'' : Option (List ℕ)) (room'' : Option ℕ) where
+      pub answers_end : (end : Status) → EndsOutput held' held'' room' room'' session reader end → Answers [] left held held'' end
+      answers_end end h =
+          let (reply, ends, writes) = h u.lines u.written u.stands in
+          told left held held'' (u.written ++ reply) end (Appends-trans held held' held'' u.written reply u.writes.0 writes.0) (λ bytes e. ended_output reply end bytes e ends)
+
+      pub answers_last_refused : RefusesLast held' held'' room' room'' session reader → Answers [] left held held'' status.Refused
+      answers_last_refused h =
+          let (reply, refused, writes) = h u.lines u.written u.stands in
+          told left held held'' (u.written ++ reply) status.Refused (Appends-trans held held' held'' u.written reply u.writes.0 writes.0) (λ bytes e. refused_output reply bytes e refused)
+
+  pub end_status : (held'' : Option (List ℕ)) (room'' : Option ℕ) (end : Status) → EndsOutput held' held'' room' room'' session reader end → IsEndStatus end
+  end_status held'' room'' end h =
+      let (reply, ends, writes) = h u.lines u.written u.stands in
+      Ending-status (u.lines ++ lines_of reader) (u.written ++ reply) end ends
+
+  -- A further piece was read, and bytes that are too many.
+  module _ (left'' : Option (List ℕ)) (piece over : List ℕ) (consumes : Consumes left' left'' (piece ++ over)) (short : taken + length piece ≤ 1048576) where
+    read : Consumes left left'' ((u.bytes ++ piece) ++ over)
+    read = subst (λ (x : List ℕ). Consumes left left'' x) (sym (append_assoc u.bytes piece over)) (Consumes-trans left left' left'' u.bytes (piece ++ over) u.consumes consumes)
+
+    begins_over : (bytes : List ℕ) → left ≡ Some bytes → Begins (Some bytes) ((u.bytes ++ piece) ++ over)
+    begins_over bytes e = subst (λ (x : Option (List ℕ)). Begins x ((u.bytes ++ piece) ++ over)) e (Consumes-begins left left'' ((u.bytes ++ piece) ++ over) read)
+
+    begins : (bytes : List ℕ) → left ≡ Some bytes → Begins (Some bytes) (u.bytes ++ piece)
+    begins bytes e = Begins-front (Some bytes) (u.bytes ++ piece) over (begins_over bytes e)
+
+    few_bytes : length (u.bytes ++ piece) ≤ 1048576
+    few_bytes = (let k = u.count in let a = length-append u.bytes piece in omega arith)
+
+    cuts_on : (more : List (List ℕ)) (rest : List ℕ) → CutsLines (reader ++ piece) more rest → CutsLines (u.bytes ++ piece) (u.lines ++ more) rest
+    cuts_on more rest cs = CutsLines-trans (u.bytes ++ piece) (reader ++ piece) rest u.lines more (CutsLines-append u.bytes reader piece u.lines u.cuts) cs
+
+    pub piece_has_room : HasRoom [] left room → FitsLines room' session (reader ++ piece)
+    piece_has_room h = (u.lines, u.written, u.stands, λ more rest reply cs w.
+        room_left left room room' u.written reply h u.writes.1 (λ bytes e. output_goes_on (u.bytes ++ piece) rest (u.written ++ reply) (u.lines ++ more) (cuts_on more rest cs) few_bytes bytes (begins bytes e) w))
+
+    module _ (held'' : Option (List ℕ)) (room'' : Option ℕ) where
+      pub answers_refused : RefusesLines held' held'' room' room'' session (reader ++ piece) → Answers [] left held held'' status.Refused
+      answers_refused h =
+          let (more, rest, reply, cs, refused, writes) = h u.lines u.written u.stands in
+          told left held held'' (u.written ++ reply) status.Refused (Appends-trans held held' held'' u.written reply u.writes.0 writes.0)
+              (λ bytes e. output_refused (u.bytes ++ piece) rest (u.written ++ reply) (u.lines ++ more) (cuts_on more rest cs) few_bytes bytes (begins bytes e) refused)
+
+      module _ (session' : Standing) (reader' : List ℕ) (answers : AnswersLines held' held'' room' room'' session session' (reader ++ piece) reader') where
+        pub answers_too_long : HasNoFeed reader' → taken + length piece ≡ 1048576 → 0 < length over → Answers [] left held held'' status.TooLong
+        answers_too_long free full some =
+            let (more, reply, cs, next, writes) = answers u.lines u.written u.stands in
+            let all : length (u.bytes ++ piece) ≡ 1048576 = (let k = u.count in let a = length-append u.bytes piece in omega arith) in
+            told left held held'' (u.written ++ reply) status.TooLong (Appends-trans held held' held'' u.written reply u.writes.0 writes.0)
+                (λ bytes e. output_too_long (u.bytes ++ piece) reader' (u.written ++ reply) (u.lines ++ more) (cuts_on more reader' cs) few_bytes bytes over (begins_over bytes e) all some free (Stands-transcript (u.lines ++ more) (u.written ++ reply) session' next))
+
+        pub piece_answered : over ≡ [] → IsUnderWay left left'' held held'' room room'' session' reader' (taken + length piece)
+        piece_answered none =
+            let (more, reply, cs, next, writes) = answers u.lines u.written u.stands in
+            record {
+              bytes = u.bytes ++ piece; lines = u.lines ++ more; written = u.written ++ reply;
+              count = (let k = u.count in let a = length-append u.bytes piece in omega arith);
+              consumes = subst (λ (x : List ℕ). Consumes left left'' x) (ap (λ (x : List ℕ). (u.bytes ++ piece) ++ x) none ∙ append-nil (u.bytes ++ piece)) read;
+              cuts = cuts_on more reader' cs;
+              stands = next;
+              writes = Writes-trans held held' held'' room room' room'' u.written reply u.writes writes;
+            }
