@@ -8,7 +8,8 @@ use Rattle.cls_base.specs.Outside.{Holds, Fills}
 use Rattle.cls_syntax.specs.Lines.{lines_of, ended_lines, HasNoFeed, CutsLine}
 use Rattle.cls_syntax.proofs.LinePieces.{lines_of-CutsLine, ended_lines-CutsLine, CutsLine-append, ended_lines-HasNoFeed}
 use Rattle.cls_session.specs.declared.status.Status.{Status}
-use Rattle.cls_session.specs.declared.status.Status.TheVariants.{Refused, TooLong}
+use Rattle.cls_session.specs.declared.status.Status.TheVariants.{Usage, Refused, TooLong}
+use Rattle.cls_session.specs.Commands.{AsksSession, usage}
 use Rattle.cls_session.specs.Driving.{CutsLines, IsWritten}
 use Rattle.cls_session.specs.Outputs.{lines_read, Output, Answers, HasRoom}
 use Rattle.cls_session.specs.Outputs as outputs
@@ -123,3 +124,9 @@ module _ (front rest text : List ℕ) (lines : List (List ℕ)) (cuts : CutsLine
       let taken : take 1048576 bytes ≡ front = ap (λ (x : List ℕ). take 1048576 x) whole ∙ subst (λ k. take k (front ++ (more ++ tail)) ≡ front) full (take-append_seam front (more ++ tail)) in
       let same : lines_read bytes ≡ lines = lines_read-long bytes long ∙ (ap ended_lines taken ∙ (ended_lines-CutsLines front rest lines cuts ∙ (ap (λ (xs : List (List ℕ)). lines ++ xs) (ended_lines-HasNoFeed rest free) ∙ append-nil lines))) in
       outputs.too_long refl long (subst (λ (xs : List (List ℕ)). Transcript xs text) (sym same) t) refl
+
+-- the usage line fits where the words ask for no session
+pub usage_fits : (words : List (List ℕ)) (left : Option (List ℕ)) (room : Option ℕ) → HasRoom words left room → (AsksSession words → ⊥) → Holds room (length usage)
+usage_fits words left None h n = tt
+usage_fits words None (Some m) h n = absurd h
+usage_fits words (Some bytes) (Some m) h n = h usage Usage (outputs.no_session n refl refl)
