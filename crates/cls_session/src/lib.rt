@@ -1,4 +1,13 @@
-//! The session.
+//! A run of clsynth: a repository and queries in, replies out.
+//!
+//! - [`run`] is the one call that the program makes, and its contract is the headline theorem: what is written is an
+//!   output that the language allows for the words and the bytes that came. The language is defined in `specs/`, with
+//!   `Outputs` at its top.
+//! - [`Status`] says how a run ended.
+//! - [`read_words`] reads the words of the command line.
+//!
+//! Inside, a `Session` takes one line after another and answers it; the driver feeds it the lines of the source while
+//! they come, and writes each answer before it reads on.
 #![tactic(auto)]
 
 mod driver;
@@ -9,9 +18,6 @@ mod session;
 mod status;
 mod words;
 
-pub use driver::{Stop, answer_last, answer_line, answer_lines, finish, write_all};
-pub use listing::{Page, list_omega, print_page};
 pub use program::run;
-pub use session::{MAX_COMPONENTS, Outcome, Reply, Session};
 pub use status::Status;
 pub use words::{Command, UsageFault, read_words};

@@ -5,14 +5,13 @@
 //! - [`lexemes`] cuts their texts from it. From a slice of [`Lexeme`]s a line form is read from the left by [`word_at`],
 //!   [`name_at`], [`number_at`], [`sign_at`] and [`end_at`].
 //! - [`Names`] numbers texts in the order in which they first came.
-//! - The functions without parameters, as [`cut_line_is_first`], do nothing: what each ensures is a law of the
-//!   definitions in `specs/`.
+//! - [`laws`] holds what is true of every text, line and token.
 #![tactic(auto)]
 
 mod characters;
 mod cursor;
 mod cut;
-mod laws;
+pub mod laws;
 mod lexeme;
 mod line;
 mod line_reader;
@@ -22,10 +21,6 @@ mod token;
 
 pub use cursor::{end_at, name_at, number_at, sign_at, word_at};
 pub use cut::lexemes;
-pub use laws::{
-    cut_line_is_first, ended_lines_come_first, fronts_are_exact, held_bytes_are_the_last_line,
-    tokens_are_longest, tokens_cover_the_line,
-};
 pub use lexeme::Lexeme;
 pub use line::{Line, MAX_LINE_BYTES, TextFault};
 pub use line_reader::LineReader;
