@@ -4,6 +4,10 @@
 //! standard streams as `run` asks for them, and the status of the run becomes that of the process.
 #![tactic(auto)]
 
+ghost use Rattle.std.specs.Prelude.{◌≡◌};
+ghost use Rattle.std.specs.Process.{exit_status};
+ghost use Rattle.clsynth.specs.Exits.{number_of};
+
 use cls_base::OpenGate;
 use cls_session::{Status, run};
 use std::env;
@@ -26,10 +30,17 @@ fn main(rt: HostRuntime) -> ExitCode {
         Err(error) if error.kind() == ErrorKind::OutOfMemory => Status::NoMemory,
         Err(_) => Status::Usage,
     };
-    ExitCode::from(status as u8)
+    exit_code(status)
 }
 
 /// The words of the command line, without the program's own name.
 fn words(rt: &HostRuntime) -> io::Result<Vec<String>> {
     Ok(env::args(rt)?.skip(1).collect(rt.alloc())?)
+}
+
+/// The status of the process at the end of a run.
+fn exit_code(status: Status) -> ExitCode
+    ensures { exit_status result ≡ number_of status }
+{
+    ExitCode::from(status as u8)
 }
