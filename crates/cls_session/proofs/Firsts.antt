@@ -3,23 +3,9 @@ use Rattle.std.proofs.Common.{◌≡◌, ℕ, zero, suc, ◌+◌, ◌-◌, ◌<�
 use Rattle.std.specs.Prelude.{◌⊎◌, Contains, ◌↔◌, IsTrue, nat_lt, slice_index_or}
 use Rattle.std.proofs.lemmas.Bool.Decides.{nat_tests}
 use Rattle.std.proofs.lemmas.Bool.{cases_lt}
-use Rattle.cls_base.specs.Terms.{Applicative, size_of, code_of, Precedes, Before}
+use Rattle.cls_base.specs.Terms.{Applicative, Before}
 use Rattle.cls_base.specs.Pages.{Request, IsDue, Rises, AfterLast, IsPage}
-
-Precedes-asym : (xs ys : List ℕ) → Precedes xs ys → Precedes ys xs → ⊥
-Precedes-asym [] [] p q = absurd p
-Precedes-asym (x ∷ xs) [] p q = absurd p
-Precedes-asym [] (y ∷ ys) p q = absurd q
-Precedes-asym (x ∷ xs) (y ∷ ys) (inl p) (inl q) = absurd (omega arith)
-Precedes-asym (x ∷ xs) (y ∷ ys) (inl p) (inr q) = let e = q.0 in absurd (omega arith)
-Precedes-asym (x ∷ xs) (y ∷ ys) (inr p) (inl q) = let e = p.0 in absurd (omega arith)
-Precedes-asym (x ∷ xs) (y ∷ ys) (inr p) (inr q) = Precedes-asym xs ys p.1 q.1
-
-pub Before-asym : (cost : ℕ → ℕ) (e f : Applicative) → Before cost e f → Before cost f e → ⊥
-Before-asym cost e f (inl p) (inl q) = absurd (omega arith)
-Before-asym cost e f (inl p) (inr q) = let s = q.0 in absurd (omega arith)
-Before-asym cost e f (inr p) (inl q) = let s = p.0 in absurd (omega arith)
-Before-asym cost e f (inr p) (inr q) = Precedes-asym (code_of e) (code_of f) p.1 q.1
+use Rattle.cls_term.proofs.Orders.{Before-irrefl, Before-asym}
 
 -- f i, f (i + 1) and so on, n of them
 abbrev pub firsts : (ℕ → Applicative) → ℕ → ℕ → List Applicative
@@ -98,7 +84,7 @@ module _ (Has : Applicative → Type 0) (r : Request) (f : ℕ → Applicative) 
         | inl l ↦ omega (arith, w.1)
         | inr g ↦ elim (cases_lt w.0 n) [
           | inl l ↦ absurd (Before-asym r.cost (f n) (f w.0) c (rise w.0 n l (omega arith)))
-          | inr m ↦ let same : w.0 ≡ n = omega arith in let s : Before r.cost (f n) (f n) = subst (λ (k : ℕ). Before r.cost (f n) (f k)) same c in absurd (Before-asym r.cost (f n) (f n) s s)
+          | inr m ↦ let same : w.0 ≡ n = omega arith in let s : Before r.cost (f n) (f n) = subst (λ (k : ℕ). Before r.cost (f n) (f k)) same c in absurd (Before-irrefl r.cost (f n) s)
         ]
       ]
 
