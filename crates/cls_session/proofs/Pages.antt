@@ -6,11 +6,10 @@ use Rattle.cls_base.specs.Terms.{Applicative, component, apply}
 use Rattle.cls_base.specs.Pages.{IsPage}
 use Rattle.cls_term.specs.Components.{greatest_of}
 use Rattle.cls_term.specs.Texts.{name_at}
-use Rattle.cls_session.specs.Declarations.{Declaration}
+use Rattle.cls_session.specs.Declarations.{Declaration, names_of}
 use Rattle.cls_session.specs.Forms.{IsListing}
 use Rattle.cls_session.specs.Listings.{IsOver, request}
 use Rattle.cls_session.specs.Replies.{page_text, Reply, listing}
-use Rattle.cls_session.specs.Standings.{names_of}
 use Rattle.cls_session.proofs.Repositories.{length-names_of}
 use Rattle.cls_session.proofs.Typing.{omega_page}
 

@@ -5,11 +5,11 @@ use Rattle.std.specs.List.{list_any}
 use Rattle.std.proofs.lemmas.Map.Views.{Contains-from_any}
 use Rattle.cls_syntax.specs.Skipped.{IsSkipped}
 use Rattle.cls_session.specs.declared.status.Status.TheVariants.{Done, Refused}
-use Rattle.cls_session.specs.Declarations.{Declaration}
+use Rattle.cls_session.specs.Declarations.{Declaration, names_of}
 use Rattle.cls_session.specs.Forms.{IsDeclaration, IsEnd, declaration_words, end_words}
 use Rattle.cls_session.specs.Replies.{Reply}
 use Rattle.cls_session.specs.Transcripts.{refusal, IsRefused, Ending}
-use Rattle.cls_session.specs.Standings.{Standing, names_of, Stands}
+use Rattle.cls_session.specs.Standings.{Standing, Stands}
 use Rattle.cls_syntax.specs.Names.{with_text}
 use Rattle.std.proofs.lemmas.Bool.{cases_lt}
 use Rattle.cls_session.proofs.Decisions.{same_bytes, contains_decided}

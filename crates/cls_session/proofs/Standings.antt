@@ -2,13 +2,13 @@
 use Rattle.std.proofs.Common.{◌≡◌, ℕ, zero, suc, ◌+◌, ◌<◌, ◌≤◌, List, [], ◌∷◌, ◌++◌, length, map, refl, sym, ap, ◌∙◌, subst, inl, inr, arith, append_assoc, append-nil, length-append, Bool, true, false}
 use Rattle.std.specs.Prelude.{◌⊎◌, Contains}
 use Rattle.cls_syntax.specs.Skipped.{IsSkipped}
-use Rattle.cls_session.specs.Declarations.{Declaration}
+use Rattle.cls_session.specs.Declarations.{Declaration, names_of}
 use Rattle.cls_session.specs.Forms.{IsDeclaration, IsEnd}
 use Rattle.cls_session.specs.Repositories.{Entry, skipped, declares, Declares, AreDifferent, IsRepository, IsFirstFault}
 use Rattle.cls_session.specs.Replies.{Reply, Replies}
 use Rattle.cls_session.specs.Transcripts.{IsAnswered, Transcript, opening, answering, refusal, IsRefused, Ending, without_end, complete}
 use Rattle.cls_session.specs.declared.status.Status.TheVariants.{Done, Refused}
-use Rattle.cls_session.specs.Standings.{Standing, names_of, Stands}
+use Rattle.cls_session.specs.Standings.{Standing, Stands}
 use Rattle.cls_session.specs.Standings as standings
 use Rattle.cls_session.proofs.Repositories.{same_declaration, Declares-unique, Declares-push, Declares-pop, names_of-append, length-names_of, AreDifferent-push, AreDifferent-last}
 

@@ -4,15 +4,15 @@ use Rattle.std.specs.Prelude.{◌⊎◌, Contains, nat_lt}
 use Rattle.std.proofs.lemmas.Bool.{cases_lt}
 use Rattle.std.proofs.lemmas.Bool.Decides.{nat_tests}
 use Rattle.cls_syntax.specs.Skipped.{IsSkipped}
+use Rattle.cls_term.specs.Texts.{name_at}
 use Rattle.cls_session.specs.declared.status.Status.{Status}
 use Rattle.cls_session.specs.declared.status.Status.TheVariants.{Done, Refused}
-use Rattle.cls_session.specs.Declarations.{Declaration}
+use Rattle.cls_session.specs.Declarations.{Declaration, names_of}
 use Rattle.cls_session.specs.Forms.{IsDeclaration, IsEnd, IsListing}
 use Rattle.cls_session.specs.Listings.{IsOver, term_at, terms_within, request}
 use Rattle.cls_session.specs.Repositories.{IsRepository, IsFirstFault}
-use Rattle.cls_session.specs.Replies.{name_in, page_text, ListsOmega, Reply, skipped, listing, unbuilt, reply_line, Replies}
+use Rattle.cls_session.specs.Replies.{page_text, ListsOmega, Reply, skipped, listing, unbuilt, reply_line, Replies}
 use Rattle.cls_session.specs.Transcripts.{IsAnswered, Transcript, opening, answering, refusal, IsRefused, Ending, without_end, complete}
-use Rattle.cls_session.specs.Standings.{names_of}
 use Rattle.cls_session.proofs.Firsts.{firsts}
 use Rattle.cls_session.proofs.Omega.{front}
 use Rattle.cls_session.proofs.Typing.{omega_page}
@@ -28,7 +28,7 @@ lists_omega ds max take m t =
     let k = min take all in
     let more = nat_lt k all in
     let terms = firsts (term_at n) 0 k in
-    (page_text (name_in ds) terms more, record {
+    (page_text (name_at (names_of ds)) terms more, record {
       terms = terms; more = more;
       page = omega_page ds (request max take) terms more (front n max take m.0 m.1 k more (omega arith) (omega arith) (λ l. omega arith) (let p = t.0 in omega arith) refl);
       written = refl;
