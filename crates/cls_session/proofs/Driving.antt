@@ -54,6 +54,12 @@ pub answers_none : (held : Option (List ℕ)) (room : Option ℕ) (s : Standing)
 answers_none held room s text = λ lines written stands.
     ([], [], refl, subst (λ (x : List ℕ). Stands (lines ++ []) x s) (sym (append-nil written)) (subst (λ (xs : List (List ℕ)). Stands xs written s) (sym (append-nil lines)) stands), Writes-none held room)
 
+-- at an error only the refusal says anything
+pub comes_refused : (A B : Type 0) (stop : Stop) (Well : A → Type 0) (Well' : B → Type 0) (Refused Refused' : Type 0) → Comes {A = A} (Err stop) Well Refused → (Refused → Refused') → Comes {A = B} (Err stop) Well' Refused'
+comes_refused A B stops.Refused Well Well' Refused Refused' c f = f c
+comes_refused A B stops.WriteFault Well Well' Refused Refused' c f = tt
+comes_refused A B stops.NoMemory Well Well' Refused Refused' c f = tt
+
 module _ (a b c : Option (List ℕ)) (r s t : Option ℕ) (first mid last : Standing) (text between line after : List ℕ)
   (so_far : AnswersLines a b r s first mid text between) (cut : CutsLine between line after) where
   pub answers_more : AnswersLine b c s t mid last line → AnswersLines a c r t first last text after
@@ -72,6 +78,11 @@ module _ (a b c : Option (List ℕ)) (r s t : Option ℕ) (first mid last : Stan
           subst (λ (x : List ℕ). IsRefused (lines ++ (more ++ line ∷ [])) x) (append_assoc written reply further) (subst (λ (xs : List (List ℕ)). IsRefused xs ((written ++ reply) ++ further)) (append_assoc lines more (line ∷ [])) end),
           Writes-trans a b c r s t reply further writes wrote)
 
+  -- where the line was not answered, the lines were not either
+  pub stops_more : (A : Type 0) (rest : List ℕ) (stop : Stop) → Comes {A = A} (Err stop) (λ _. AnswersLine b c s t mid last line) (RefusesLine b c s t mid line)
+      → Comes {A = A} (Err stop) (λ _. AnswersLines a c r t first last text rest) (RefusesLines a c r t first text)
+  stops_more A rest stop h = comes_refused A A stop (λ _. AnswersLine b c s t mid last line) (λ _. AnswersLines a c r t first last text rest) (RefusesLine b c s t mid line) (RefusesLines a c r t first text) h refuses_more
+
 -- The same where the reader holds nothing after the line.
 module _ (a b c : Option (List ℕ)) (r s t : Option ℕ) (first mid last : Standing) (text between line after held : List ℕ)
   (none : held ≡ []) (cut : CutsLine between line after) where
@@ -83,12 +94,6 @@ module _ (a b c : Option (List ℕ)) (r s t : Option ℕ) (first mid last : Stan
 
   pub shorter_next : length (held ++ after) + 1 ≤ length between
   shorter_next = subst (λ (x : List ℕ). length (x ++ after) + 1 ≤ length between) (sym none) (CutLine-shorter between line after cut)
-
--- at an error only the refusal says anything
-pub comes_refused : (A B : Type 0) (stop : Stop) (Well : A → Type 0) (Well' : B → Type 0) (Refused Refused' : Type 0) → Comes {A = A} (Err stop) Well Refused → (Refused → Refused') → Comes {A = B} (Err stop) Well' Refused'
-comes_refused A B stops.Refused Well Well' Refused Refused' c f = f c
-comes_refused A B stops.WriteFault Well Well' Refused Refused' c f = tt
-comes_refused A B stops.NoMemory Well Well' Refused Refused' c f = tt
 
 -- what is held back ends the answer to the piece
 pub answers_held : (a b : Option (List ℕ)) (r s : Option ℕ) (first last : Standing) (text between held : List ℕ) → held ≡ between
