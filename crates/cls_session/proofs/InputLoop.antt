@@ -95,7 +95,7 @@ none_over [] e = refl
 none_over (x ∷ over) e = absurd (let n = is_none (length (x ∷ over)) e in omega arith)
 
 -- where a run stops early, only a refusal is whole
-pub stopped : (A : Type 0) (stop : Stop) (end : Status) (Well : A → Type 0) (Refuses : Type 0) (Claim : Status → Type 0)
+stopped : (A : Type 0) (stop : Stop) (end : Status) (Well : A → Type 0) (Refuses : Type 0) (Claim : Status → Type 0)
     → Comes {A = A} (Err stop) Well Refuses → end ≡ status_of stop → (Refuses → Claim status.Refused) → IsWhole end → Claim end
 stopped A stops.Refused end Well Refuses Claim c e f w = subst Claim (sym e) (f c)
 stopped A stops.WriteFault end Well Refuses Claim c e f w = absurd (subst IsWhole e w)
@@ -154,10 +154,14 @@ module _ (left left' held held' : Option (List ℕ)) (room room' : Option ℕ) (
           let (reply, ends, writes) = h u.lines u.written u.stands in
           told left held held'' (u.written ++ reply) end (Appends-trans held held' held'' u.written reply u.writes.0 writes.0) (λ bytes e. ended_output reply end bytes e ends)
 
-      pub answers_last_refused : RefusesLast held' held'' room' room'' session reader → Answers [] left held held'' status.Refused
+      answers_last_refused : RefusesLast held' held'' room' room'' session reader → Answers [] left held held'' status.Refused
       answers_last_refused h =
           let (reply, refused, writes) = h u.lines u.written u.stands in
           told left held held'' (u.written ++ reply) status.Refused (Appends-trans held held' held'' u.written reply u.writes.0 writes.0) (λ bytes e. refused_output reply bytes e refused)
+
+      pub answers_last_stopped : (stop : Stop) (end : Status) → Comes {A = Status} (Err stop) (EndsOutput held' held'' room' room'' session reader) (RefusesLast held' held'' room' room'' session reader)
+          → end ≡ status_of stop → IsWhole end → Answers [] left held held'' end
+      answers_last_stopped stop end comes e = stopped Status stop end (EndsOutput held' held'' room' room'' session reader) (RefusesLast held' held'' room' room'' session reader) (λ x. Answers [] left held held'' x) comes e answers_last_refused
 
   pub end_status : (held'' : Option (List ℕ)) (room'' : Option ℕ) (end : Status) → EndsOutput held' held'' room' room'' session reader end → IsEndStatus end
   end_status held'' room'' end h =
@@ -186,11 +190,17 @@ module _ (left left' held held' : Option (List ℕ)) (room room' : Option ℕ) (
         room_left left room room' u.written reply h u.writes.1 (λ bytes e. output_goes_on (u.bytes ++ piece) rest (u.written ++ reply) (u.lines ++ more) (cuts_on more rest cs) few_bytes bytes (begins bytes e) w))
 
     module _ (held'' : Option (List ℕ)) (room'' : Option ℕ) where
-      pub answers_refused : RefusesLines held' held'' room' room'' session (reader ++ piece) → Answers [] left held held'' status.Refused
+      answers_refused : RefusesLines held' held'' room' room'' session (reader ++ piece) → Answers [] left held held'' status.Refused
       answers_refused h =
           let (more, rest, reply, cs, refused, writes) = h u.lines u.written u.stands in
           told left held held'' (u.written ++ reply) status.Refused (Appends-trans held held' held'' u.written reply u.writes.0 writes.0)
               (λ bytes e. output_refused (u.bytes ++ piece) rest (u.written ++ reply) (u.lines ++ more) (cuts_on more rest cs) few_bytes bytes (begins bytes e) refused)
+
+      pub answers_stopped : (A : Type 0) (session' : Standing) (reader' : List ℕ) (stop : Stop) (end : Status)
+          → Comes {A = A} (Err stop) (λ _. AnswersLines held' held'' room' room'' session session' (reader ++ piece) reader') (RefusesLines held' held'' room' room'' session (reader ++ piece))
+          → end ≡ status_of stop → IsWhole end → Answers [] left held held'' end
+      answers_stopped A session' reader' stop end comes e = stopped A stop end (λ _. AnswersLines held' held'' room' room'' session session' (reader ++ piece) reader') (RefusesLines held' held'' room' room'' session (reader ++ piece))
+          (λ x. Answers [] left held held'' x) comes e answers_refused
 
       module _ (session' : Standing) (reader' : List ℕ) (answers : AnswersLines held' held'' room' room'' session session' (reader ++ piece) reader') where
         pub answers_too_long : HasNoFeed reader' → taken + length piece ≡ 1048576 → 0 < length over → Answers [] left held held'' status.TooLong
