@@ -1,14 +1,13 @@
 -- How answers to single lines make the answer to the lines of a piece.
-use Rattle.std.proofs.Common.{◌≡◌, ℕ, zero, suc, ◌+◌, ◌-◌, ◌<◌, ◌≤◌, List, [], ◌∷◌, ◌++◌, length, take, drop, refl, sym, ap, ◌∙◌, subst, inl, inr, arith, append_assoc, append-nil, length-append}
-use Rattle.std.specs.Prelude.{◌⊎◌, Option, None, Some, Err}
+use Rattle.std.proofs.Common.{◌≡◌, ℕ, ◌+◌, ◌≤◌, List, [], ◌∷◌, ◌++◌, length, refl, sym, ap, subst, inl, inr, arith, append_assoc, append-nil, length-append}
+use Rattle.std.specs.Prelude.{Option, Err}
 use Rattle.cls_session.specs.declared.driver.Stop.{Stop}
 use Rattle.cls_session.specs.declared.driver.Stop.TheVariants as stops
-use Rattle.std.specs.Io.KnownBytes.{Appends}
-use Rattle.cls_base.specs.Outside.{HasRisen, Holds, Fills}
+use Rattle.cls_base.specs.Outside.{Holds}
 use Rattle.cls_syntax.specs.Lines.{CutsLine}
-use Rattle.cls_session.specs.Driving.{CutsLines, Writes, IsWritten, FitsLine, FitsLines, AnswersLine, RefusesLine, AnswersLines, RefusesLines, Comes}
+use Rattle.cls_session.specs.Driving.{CutsLines, IsWritten, FitsLine, FitsLines, AnswersLine, RefusesLine, AnswersLines, RefusesLines, Comes}
 use Rattle.cls_session.specs.Standings.{Standing, Stands}
-use Rattle.cls_session.specs.Transcripts.{Transcript, IsRefused}
+use Rattle.cls_session.specs.Transcripts.{IsRefused}
 use Rattle.cls_session.proofs.Standings.{Stands-transcript}
 use Rattle.cls_session.proofs.Writing.{Holds-rest, Writes-none, Writes-trans}
 

@@ -1,20 +1,19 @@
 -- How the input is answered while it comes.
-use Rattle.std.proofs.Common.{◌≡◌, ℕ, zero, suc, Bool, true, false, length-take-le, ◌+◌, ◌-◌, ◌<◌, ◌≤◌, List, [], ◌∷◌, ◌++◌, length, take, drop, refl, sym, ap, ◌∙◌, subst, inl, inr, arith, append_assoc, append-nil, length-append, take-append-drop}
+use Rattle.std.proofs.Common.{◌≡◌, ℕ, zero, suc, true, false, length-take-le, ◌+◌, ◌<◌, ◌≤◌, List, [], ◌∷◌, ◌++◌, length, take, drop, refl, sym, ap, ◌∙◌, subst, inl, inr, arith, append_assoc, append-nil, length-append, take-append-drop}
 use Rattle.std.specs.Prelude.{◌⊎◌, ◌==◌, Option, None, Some, Err}
 use Rattle.std.proofs.lemmas.Bool.Decides.{nat_tests}
 use Rattle.std.specs.Io.KnownBytes.{Consumes, IsAtEnd}
-use Rattle.std.proofs.KnownBytes.{Appends-nil, Appends-trans}
-use Rattle.cls_base.specs.Outside.{Holds}
+use Rattle.std.proofs.KnownBytes.{Appends-trans}
 use Rattle.cls_syntax.specs.Lines.{HasNoFeed, lines_of}
 use Rattle.cls_session.specs.declared.driver.Stop.{Stop}
 use Rattle.cls_session.specs.declared.driver.Stop.TheVariants as stops
 use Rattle.cls_session.specs.declared.status.Status.{Status}
 use Rattle.cls_session.specs.declared.status.Status.TheVariants as status
-use Rattle.cls_session.specs.Driving.{CutsLines, Writes, IsWritten, FitsLines, FitsLast, AnswersLines, RefusesLines, RefusesLast, EndsOutput, Comes}
+use Rattle.cls_session.specs.Driving.{CutsLines, Writes, FitsLines, FitsLast, AnswersLines, RefusesLines, RefusesLast, EndsOutput, Comes}
 use Rattle.cls_session.specs.Outputs.{Output, IsWhole, Answers, HasRoom}
 use Rattle.cls_session.specs.Standings.{Standing, Stands}
 use Rattle.cls_session.specs.Stops.{status_of}
-use Rattle.cls_session.specs.Transcripts.{Transcript, IsRefused, Ending, without_end, complete}
+use Rattle.cls_session.specs.Transcripts.{IsRefused, Ending, without_end, complete}
 use Rattle.cls_session.proofs.Driving.{CutsLines-trans}
 use Rattle.cls_session.proofs.Outputs.{Begins, IsWholly, CutsLines-append, told, room_left, output_goes_on, output_refused, output_refused_last, output_ended, output_too_long}
 use Rattle.cls_session.proofs.Standings.{Stands-transcript}

@@ -1,13 +1,13 @@
 -- How the answer to the line that is left at the end of the input ends the output.
-use Rattle.std.proofs.Common.{◌≡◌, ℕ, ◌+◌, ◌≤◌, List, [], ◌∷◌, ◌++◌, length, refl, sym, ap, ◌∙◌, subst, inl, inr, arith, append_assoc, append-nil, length-append}
-use Rattle.std.specs.Prelude.{◌⊎◌, Option, None, Some, Err}
+use Rattle.std.proofs.Common.{◌≡◌, ℕ, List, [], ◌∷◌, ◌++◌, length, sym, subst, inl, inr, arith, append_assoc, append-nil, length-append}
+use Rattle.std.specs.Prelude.{Option, None, Some, Err}
 use Rattle.cls_base.specs.Outside.{Holds}
 use Rattle.cls_syntax.specs.Lines.{lines_of}
 use Rattle.cls_session.specs.declared.status.Status.{Status}
 use Rattle.cls_session.specs.declared.driver.Stop.{Stop}
-use Rattle.cls_session.specs.Driving.{Writes, IsWritten, FitsLine, FitsLast, AnswersLine, RefusesLine, AnswersLast, RefusesLast, EndsOutput, Comes}
+use Rattle.cls_session.specs.Driving.{Writes, FitsLine, FitsLast, AnswersLine, RefusesLine, AnswersLast, RefusesLast, EndsOutput, Comes}
 use Rattle.cls_session.specs.Standings.{Standing, Stands}
-use Rattle.cls_session.specs.Transcripts.{Transcript, IsRefused, Ending}
+use Rattle.cls_session.specs.Transcripts.{IsRefused, Ending}
 use Rattle.cls_session.proofs.Driving.{comes_refused}
 use Rattle.cls_session.proofs.Totality.{ends_by}
 use Rattle.cls_session.proofs.Writing.{Holds-rest, Writes-none, Writes-trans}

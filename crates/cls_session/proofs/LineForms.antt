@@ -1,6 +1,6 @@
 -- What a line is, from what its words are.
-use Rattle.std.proofs.Common.{◌≡◌, ◌≢◌, ℕ, ◌≤◌, List, [], ◌∷◌, refl, sym, ap, ◌∙◌, subst, inl, inr, arith, Bool, true, false}
-use Rattle.std.specs.Prelude.{◌⊎◌, Option, Some, None, codes, bytes_eq, not, is_some, unwrap_or, IsTrue, ◌↔◌, Result, Ok, IsOk}
+use Rattle.std.proofs.Common.{◌≡◌, ◌≢◌, ℕ, ◌≤◌, List, refl, sym, ap, ◌∙◌, subst, arith, Bool, true, false}
+use Rattle.std.specs.Prelude.{Option, Some, None, codes, bytes_eq, not, is_some, unwrap_or, IsTrue, ◌↔◌}
 use Rattle.std.specs.Option.{SomeIff}
 use Rattle.cls_syntax.specs.Numerals.{number_value}
 use Rattle.cls_syntax.specs.Skipped.{IsText, IsSkipped}
@@ -10,11 +10,11 @@ use Rattle.cls_session.specs.declared.forms.RepositoryLine.TheVariants as reposi
 use Rattle.cls_session.specs.declared.forms.QueryLine.{QueryLine}
 use Rattle.cls_session.specs.declared.forms.QueryLine.TheVariants as query
 use Rattle.cls_session.specs.Declarations.{Declaration}
-use Rattle.cls_session.specs.Forms.{declaration_words, end_words, listing_words, IsDeclaration, IsEnd, IsListing, IsRead}
+use Rattle.cls_session.specs.Forms.{declaration_words, end_words, listing_words, IsRead}
 use Rattle.cls_session.specs.Lines.{IsFree, IsWithin, IsRepositoryForm, IsQueryForm, IsRepositoryLine, IsQueryLine}
 use Rattle.cls_session.specs.Readings.{declaration_at, listing_at}
 use Rattle.cls_session.proofs.Decisions.{same_bytes, bytes_eq-refl}
-use Rattle.cls_session.proofs.Readings.{declaration_read, declaration_reads, listing_read, listing_reads}
+use Rattle.cls_session.proofs.Readings.{declaration_reads, listing_read, listing_reads}
 
 none_some : {A : Type 0} (x : A) → ◌≡◌ {A = Option A} None (Some x) → ⊥
 none_some x e = let p = ap is_some e in absurd (cc)

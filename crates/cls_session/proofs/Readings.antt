@@ -1,9 +1,9 @@
 -- What is read from the left is the form, and the whole of it.
-use Rattle.std.proofs.Common.{◌≡◌, ℕ, List, [], ◌∷◌, refl, sym, ap, ◌∙◌, subst}
+use Rattle.std.proofs.Common.{◌≡◌, ℕ, List, [], ◌∷◌, refl, ap, ◌∙◌, subst}
 use Rattle.std.specs.Prelude.{Option, Some, None, codes, IsSome, ◌↔◌}
 use Rattle.cls_syntax.specs.declared.token.TokenKind.TheVariants.{Colon}
 use Rattle.cls_syntax.specs.Words.{Word, name, number, sign}
-use Rattle.cls_syntax.specs.Fronts.{first_name, first_number, after_word, after_sign, FrontsAreExact}
+use Rattle.cls_syntax.specs.Fronts.{first_name, first_number, after_word, after_sign}
 use Rattle.cls_syntax.proofs.WordFronts.{fronts_exact}
 use Rattle.cls_session.specs.Declarations.{Declaration}
 use Rattle.cls_session.specs.Forms.{declaration_words, listing_words}

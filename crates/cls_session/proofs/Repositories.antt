@@ -1,11 +1,10 @@
 -- How a repository grows by a line, and that its lines determine it.
-use Rattle.std.proofs.Common.{◌≡◌, ℕ, zero, suc, ◌+◌, ◌<◌, ◌≤◌, List, [], ◌∷◌, ◌++◌, length, map, refl, sym, ap, ◌∙◌, subst, inl, inr, arith, append_assoc, append-nil, length-append}
-use Rattle.std.specs.Prelude.{◌⊎◌, Contains}
-use Rattle.std.proofs.lemmas.List.Elements.{Contains-append_cases, Contains-append_left, Contains-append_right}
-use Rattle.cls_syntax.specs.Skipped.{IsSkipped}
+use Rattle.std.proofs.Common.{◌≡◌, ℕ, zero, suc, List, [], ◌∷◌, ◌++◌, length, refl, sym, ap, ◌∙◌, subst, inl, inr, arith, append_assoc, append-nil}
+use Rattle.std.specs.Prelude.{Contains}
+use Rattle.std.proofs.lemmas.List.Elements.{Contains-append_cases, Contains-append_right}
 use Rattle.cls_session.specs.Declarations.{Declaration, names_of}
-use Rattle.cls_session.specs.Forms.{IsDeclaration, IsEnd, declaration_words}
-use Rattle.cls_session.specs.Repositories.{Entry, skipped, declares, Declares, AreDifferent, IsRepository}
+use Rattle.cls_session.specs.Forms.{IsDeclaration, declaration_words}
+use Rattle.cls_session.specs.Repositories.{Entry, skipped, declares, Declares, AreDifferent}
 
 pub same_declaration : (line : List ℕ) (c d : Declaration) → IsDeclaration line c → IsDeclaration line d → c ≡ d
 same_declaration line c d p q =

@@ -1,10 +1,10 @@
 -- What one line more does to a session.
-use Rattle.std.proofs.Common.{◌≡◌, ℕ, zero, suc, ◌+◌, ◌<◌, ◌≤◌, List, [], ◌∷◌, ◌++◌, length, map, refl, sym, ap, ◌∙◌, subst, inl, inr, arith, append_assoc, append-nil, length-append, Bool, true, false}
-use Rattle.std.specs.Prelude.{◌⊎◌, Contains}
+use Rattle.std.proofs.Common.{◌≡◌, ℕ, ◌+◌, ◌<◌, ◌≤◌, List, [], ◌∷◌, ◌++◌, length, refl, sym, ap, ◌∙◌, subst, arith, append_assoc, append-nil, length-append, true, false}
+use Rattle.std.specs.Prelude.{Contains}
 use Rattle.cls_syntax.specs.Skipped.{IsSkipped}
 use Rattle.cls_session.specs.Declarations.{Declaration, names_of}
 use Rattle.cls_session.specs.Forms.{IsDeclaration, IsEnd}
-use Rattle.cls_session.specs.Repositories.{Entry, skipped, declares, Declares, AreDifferent, IsRepository, IsFirstFault}
+use Rattle.cls_session.specs.Repositories.{Entry, skipped, declares, AreDifferent, IsRepository}
 use Rattle.cls_session.specs.Replies.{Reply, Replies}
 use Rattle.cls_session.specs.Transcripts.{IsAnswered, Transcript, opening, answering, refusal, IsRefused, Ending, without_end, complete}
 use Rattle.cls_session.specs.declared.status.Status.TheVariants.{Done, Refused}

@@ -1,17 +1,15 @@
 -- Whatever lines follow, there is something to be written for them: a prefix of the lines has a prefix of an output.
-use Rattle.std.proofs.Common.{◌≡◌, ℕ, zero, suc, ◌+◌, ◌-◌, ◌<◌, ◌≤◌, List, [], ◌∷◌, ◌++◌, length, map, refl, sym, ap, ◌∙◌, subst, inl, inr, arith, append_assoc, append-nil, Bool, true, false, min}
-use Rattle.std.specs.Prelude.{◌⊎◌, Contains, nat_lt}
+use Rattle.std.proofs.Common.{◌≡◌, ℕ, ◌+◌, ◌≤◌, List, [], ◌∷◌, ◌++◌, length, refl, sym, ap, ◌∙◌, subst, inl, inr, arith, append_assoc, append-nil, min}
+use Rattle.std.specs.Prelude.{nat_lt}
 use Rattle.std.proofs.lemmas.Bool.{cases_lt}
-use Rattle.std.proofs.lemmas.Bool.Decides.{nat_tests}
-use Rattle.cls_syntax.specs.Skipped.{IsSkipped}
 use Rattle.cls_term.specs.Texts.{name_at}
 use Rattle.cls_session.specs.declared.status.Status.{Status}
 use Rattle.cls_session.specs.declared.status.Status.TheVariants.{Done, Refused}
 use Rattle.cls_session.specs.Declarations.{Declaration, names_of}
-use Rattle.cls_session.specs.Forms.{IsDeclaration, IsEnd, IsListing}
-use Rattle.cls_session.specs.Listings.{IsOver, term_at, terms_within, request}
-use Rattle.cls_session.specs.Repositories.{IsRepository, IsFirstFault}
-use Rattle.cls_session.specs.Replies.{page_text, ListsOmega, Reply, skipped, listing, unbuilt, reply_line, Replies}
+use Rattle.cls_session.specs.Forms.{IsEnd}
+use Rattle.cls_session.specs.Listings.{term_at, terms_within, request}
+use Rattle.cls_session.specs.Repositories.{IsRepository}
+use Rattle.cls_session.specs.Replies.{page_text, ListsOmega, Reply, skipped, listing, unbuilt}
 use Rattle.cls_session.specs.Transcripts.{IsAnswered, Transcript, opening, answering, refusal, IsRefused, Ending, without_end, complete}
 use Rattle.cls_session.proofs.Firsts.{firsts}
 use Rattle.cls_session.proofs.Omega.{front}

@@ -1,17 +1,17 @@
 -- A term has type omega exactly where its components are declared.
-use Rattle.std.proofs.Common.{◌≡◌, ℕ, zero, suc, ◌+◌, ◌<◌, ◌≤◌, Bool, true, false, List, [], ◌∷◌, ◌++◌, length, refl, sym, ap, ◌∙◌, subst, inl, inr, arith}
-use Rattle.std.specs.Prelude.{◌⊎◌, Some, None, slice_get, bytes_eq, if◌then◌else◌, ◌↔◌, IsTrue, Contains, Option, IfSome}
+use Rattle.std.proofs.Common.{◌≡◌, ℕ, zero, suc, ◌<◌, Bool, true, false, List, [], ◌∷◌, ◌++◌, length, refl, sym, ap, subst, inl, inr, arith}
+use Rattle.std.specs.Prelude.{Some, slice_get, bytes_eq, if◌then◌else◌}
 use Rattle.std.specs.List.{list_any}
 use Rattle.std.proofs.lemmas.Option.{slice_get_within}
 use Rattle.cls_base.specs.Types as types
 use Rattle.cls_base.specs.Types.{ClosedType, arrow}
-use Rattle.cls_base.specs.Subtyping.{Subtype, to_omega, omega_arrow, transitivity}
+use Rattle.cls_base.specs.Subtyping.{to_omega, omega_arrow}
 use Rattle.cls_base.specs.Terms.{Applicative, component, apply}
-use Rattle.cls_base.specs.Typing.{HasType, by_instance, by_application, by_intersection, by_subsumption}
+use Rattle.cls_base.specs.Typing.{by_instance, by_application, by_intersection, by_subsumption}
 use Rattle.cls_base.specs.Pages.{Request, IsDue, IsPage}
 use Rattle.cls_session.specs.Listings.{IsOver}
 use Rattle.cls_session.specs.Declarations.{Declaration}
-use Rattle.cls_session.specs.Typings.{numbered, constructors_from, IsInstance, Has}
+use Rattle.cls_session.specs.Typings.{numbered, constructors_from, Has}
 use Rattle.cls_session.proofs.Decisions.{same_bytes}
 
 get_append : {A : Type 0} (xs ys : List A) (i : ℕ) (x : A) → slice_get xs i ≡ Some x → slice_get (xs ++ ys) i ≡ Some x

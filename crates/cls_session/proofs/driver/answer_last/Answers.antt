@@ -1,4 +1,3 @@
-use Rattle.std.proofs.Common.{◌≡◌}
 use Rattle.std.proofs.lemmas.Result.{err_from_is_err_and}
 use Rattle.cls_session.proofs.LastLines.{last_fits, answers_last, stops_last, none_last}
 use Rattle.cls_session.proofs.driver.answer_last.Goals as goal

@@ -1,6 +1,5 @@
-use Rattle.std.proofs.Common.{◌≡◌, ◌++◌, List, ℕ, arith, refl, sym, ◌∙◌, subst}
+use Rattle.std.proofs.Common.{◌++◌, arith, refl, ◌∙◌}
 use Rattle.std.proofs.lemmas.Result.{err_from_is_err_and}
-use Rattle.cls_session.specs.Driving.{AnswersLines}
 use Rattle.cls_session.proofs.Driving.{answers_none, answers_next, fits_next, shorter_next, line_fits, stops_more, answers_held}
 use Rattle.cls_session.proofs.driver.answer_lines.Goals as goal
 

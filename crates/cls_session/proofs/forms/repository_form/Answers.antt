@@ -1,4 +1,4 @@
-use Rattle.std.proofs.Common.{◌≡◌, refl, sym}
+use Rattle.std.proofs.Common.{refl}
 use Rattle.cls_session.proofs.Readings.{declaration_read}
 use Rattle.cls_session.proofs.LineForms.{differs, agrees, reserved_component, reserved_type, no_declaration, no_end}
 use Rattle.cls_session.proofs.forms.repository_form.Goals as goal

@@ -1,5 +1,5 @@
-use Rattle.std.proofs.Common.{◌≡◌, ◌+◌, ◌≤◌, length-append, ◌++◌, List, [], ℕ, length, arith, refl, sym, ap, ◌∙◌, subst, take-append-drop}
-use Rattle.cls_session.specs.Outputs.{IsWhole, Answers}
+use Rattle.std.proofs.Common.{◌≡◌, ◌+◌, ◌≤◌, length-append, [], length, arith, refl, ap, ◌∙◌, subst}
+use Rattle.cls_session.specs.Outputs.{IsWhole}
 use Rattle.cls_session.proofs.InputLoop.{IsUnderWay, cut_consumes, cut_lengths, some_over, none_over, none_read, none_more, last_has_room, answers_end, answers_last_stopped, end_status, end_is_whole, end_is_no_usage, piece_has_room, answers_stopped, answers_too_long, piece_answered}
 use Rattle.cls_session.proofs.Standings.{Stands-counted}
 use Rattle.cls_session.proofs.program.answer_input.Goals as goal
@@ -53,7 +53,6 @@ returns-in-Err-clause-output g c =
 pub answer_lines-requires-clause-room : goal.answer_lines-requires-clause-room
 answer_lines-requires-clause-room g c =
     let consumes = cut_consumes c.read.new.into c.split_at.result.0.now c.split_at.result.1.now c.in-Ok.count c.min.result c.split_at.ensures.front c.split_at.ensures.back (g.S.Source.left c.pieces.source) (g.S.Source.left c.read.new.self) c.in-Ok.ensures.bytes in
-    let lengths = cut_lengths c.read.new.into c.split_at.result.0.now c.split_at.result.1.now c.in-Ok.count c.min.result c.split_at.ensures.front c.split_at.ensures.back c.in-Ok.ensures.within in
     let short : c.pieces.taken + length c.split_at.result.0.now ≤ 1048576 = omega (arith, c.split_at.ensures.front_len, c.min.ensures, c.pieces.invariant.short) in
     piece_has_room (g.S.Source.left c.args.source.now) (g.S.Source.left c.pieces.source) (g.K.Sink.held c.args.sink.now) (g.K.Sink.held c.pieces.sink) (g.K.Sink.room c.args.sink.now) (g.K.Sink.room c.pieces.sink) c.pieces.session c.pieces.reader c.pieces.taken c.pieces.invariant.under_way
         (g.S.Source.left c.read.new.self) c.split_at.result.0.now c.split_at.result.1.now consumes short c.requires.room
@@ -61,7 +60,6 @@ answer_lines-requires-clause-room g c =
 pub returns-in-Err-answer_lines-clause-output : goal.returns-in-Err-answer_lines-clause-output
 returns-in-Err-answer_lines-clause-output g c =
     let consumes = cut_consumes c.read.new.into c.split_at.result.0.now c.split_at.result.1.now c.in-Ok.count c.min.result c.split_at.ensures.front c.split_at.ensures.back (g.S.Source.left c.pieces.source) (g.S.Source.left c.read.new.self) c.in-Ok.ensures.bytes in
-    let lengths = cut_lengths c.read.new.into c.split_at.result.0.now c.split_at.result.1.now c.in-Ok.count c.min.result c.split_at.ensures.front c.split_at.ensures.back c.in-Ok.ensures.within in
     let short : c.pieces.taken + length c.split_at.result.0.now ≤ 1048576 = omega (arith, c.split_at.ensures.front_len, c.min.ensures, c.pieces.invariant.short) in
     answers_stopped (g.S.Source.left c.args.source.now) (g.S.Source.left c.pieces.source) (g.K.Sink.held c.args.sink.now) (g.K.Sink.held c.pieces.sink) (g.K.Sink.room c.args.sink.now) (g.K.Sink.room c.pieces.sink) c.pieces.session c.pieces.reader c.pieces.taken c.pieces.invariant.under_way
         (g.S.Source.left c.read.new.self) c.split_at.result.0.now c.split_at.result.1.now consumes short (g.K.Sink.held c.answer_lines.new.sink) (g.K.Sink.room c.answer_lines.new.sink)
