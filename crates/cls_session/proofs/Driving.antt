@@ -29,6 +29,7 @@ pub CutsLines-trans : (text mid rest : List ℕ) (first more : List (List ℕ)) 
 CutsLines-trans text mid rest [] more e cs = subst (λ (x : List ℕ). CutsLines x more rest) (sym e) cs
 CutsLines-trans text mid rest (l ∷ first) more (next, c, cs) ds = (next, c, CutsLines-trans next mid rest first more cs ds)
 
+-- what follows a line is shorter by its line feed at least
 pub CutLine-shorter : (text line rest : List ℕ) → CutsLine text line rest → length rest + 1 ≤ length text
 CutLine-shorter text line rest c = (let w = ap length c.whole in let a = length-append c.raw (10 ∷ rest) in omega arith)
 
@@ -49,6 +50,7 @@ rest_fits held held' room room' old new mid line after (lines, written, stands, 
         let whole = fits (line ∷ more) rest (reply ++ further) (after, cut, cuts) (written_on lines more line written reply further w) in
         Holds-rest room room' (length reply) (length further) (subst (λ n. Holds room n) (length-append reply further) whole) writes.1)
 
+-- no line was answered yet
 pub answers_none : (held : Option (List ℕ)) (room : Option ℕ) (s : Standing) (text : List ℕ) → AnswersLines held held room room s s text text
 answers_none held room s text = λ lines written stands.
     ([], [], refl, subst (λ (x : List ℕ). Stands (lines ++ []) x s) (sym (append-nil written)) (subst (λ (xs : List (List ℕ)). Stands xs written s) (sym (append-nil lines)) stands), Writes-none held room)
@@ -61,6 +63,7 @@ comes_refused A B stops.NoMemory Well Well' Refused Refused' c f = tt
 
 module _ (a b c : Option (List ℕ)) (r s t : Option ℕ) (first mid last : Standing) (text between line after : List ℕ)
   (so_far : AnswersLines a b r s first mid text between) (cut : CutsLine between line after) where
+  -- one more line is answered
   pub answers_more : AnswersLine b c s t mid last line → AnswersLines a c r t first last text after
   answers_more h = λ lines written stands.
       let (more, reply, cuts, next, writes) = so_far lines written stands in
@@ -69,6 +72,7 @@ module _ (a b c : Option (List ℕ)) (r s t : Option ℕ) (first mid last : Stan
           subst (λ (x : List ℕ). Stands (lines ++ (more ++ line ∷ [])) x last) (append_assoc written reply further) (subst (λ (xs : List (List ℕ)). Stands xs ((written ++ reply) ++ further) last) (append_assoc lines more (line ∷ [])) end),
           Writes-trans a b c r s t reply further writes wrote)
 
+  -- the next line is refused
   pub refuses_more : RefusesLine b c s t mid line → RefusesLines a c r t first text
   refuses_more h = λ lines written stands.
       let (more, reply, cuts, next, writes) = so_far lines written stands in
@@ -88,9 +92,11 @@ module _ (a b c : Option (List ℕ)) (r s t : Option ℕ) (first mid last : Stan
   pub answers_next : AnswersLines a b r s first mid text between → AnswersLine b c s t mid last line → AnswersLines a c r t first last text (held ++ after)
   answers_next so_far h = subst (λ (x : List ℕ). AnswersLines a c r t first last text (x ++ after)) (sym none) (answers_more a b c r s t first mid last text between line after so_far cut h)
 
+  -- what follows fits the room that is left
   pub fits_next : FitsLines s mid between → AnswersLine b c s t mid last line → FitsLines t last (held ++ after)
   fits_next f h = subst (λ (x : List ℕ). FitsLines t last (x ++ after)) (sym none) (rest_fits b c s t mid last between line after f cut h)
 
+  -- what follows is shorter
   pub shorter_next : length (held ++ after) + 1 ≤ length between
   shorter_next = subst (λ (x : List ℕ). length (x ++ after) + 1 ≤ length between) (sym none) (CutLine-shorter between line after cut)
 

@@ -16,6 +16,7 @@ pub length-firsts : (f : ℕ → Applicative) (i n : ℕ) → length (firsts f i
 length-firsts f i zero = refl
 length-firsts f i (suc n) = ap suc (length-firsts f (i + 1) n)
 
+-- the element at a place
 pub at-firsts : (f : ℕ → Applicative) (i n k : ℕ) (d : Applicative) → k < n → slice_index_or (firsts f i n) k d ≡ f (i + k)
 at-firsts f i zero k d h = absurd (omega arith)
 at-firsts f i (suc n) zero d h = ap f (omega arith)
@@ -30,6 +31,7 @@ firsts-step f es fs e i n all l is grown h =
     let begun : es ++ (f i ∷ firsts f (i + 1) k) ≡ all = subst (λ m. es ++ firsts f i m ≡ all) one h in
     ap (λ (x : List Applicative). x ++ firsts f (i + 1) k) (grown ∙ ap (λ (x : Applicative). es ++ x ∷ []) is) ∙ (append_assoc es (f i ∷ []) (firsts f (i + 1) k) ∙ begun)
 
+-- a list that holds all of them
 pub firsts-none : (f : ℕ → Applicative) (es : List Applicative) (i n : ℕ) (all : List Applicative) → n ≤ i → es ++ firsts f i (n - i) ≡ all → es ≡ all
 firsts-none f es i n all l h =
     let none : n - i ≡ 0 = omega arith in

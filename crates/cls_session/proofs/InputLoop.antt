@@ -73,12 +73,14 @@ module _ (buffer piece over : List ℕ) (count place : ℕ) (front : piece ≡ t
   joined : piece ++ over ≡ take count buffer
   joined = (λ i. front i ++ back i) ∙ take-append-drop place (take count buffer)
 
+  -- the piece and what is over are the bytes that were taken from the source
   pub cut_consumes : (a b : Option (List ℕ)) → Consumes a b (take count buffer) → Consumes a b (piece ++ over)
   cut_consumes a b h = subst (λ (x : List ℕ). Consumes a b x) (sym joined) h
 
   pub cut_lengths : count ≤ length buffer → length piece + length over ≡ count
   cut_lengths h = sym (length-append piece over) ∙ (ap length joined ∙ length-take-le count buffer h)
 
+-- a length that isn't 0
 pub some_over : (n : ℕ) → false ≡ (n == 0) → 0 < n
 some_over zero e = false_differs e
   where
@@ -89,6 +91,7 @@ some_over (suc n) e = omega arith
 is_none : (n : ℕ) → true ≡ (n == 0) → n ≡ 0
 is_none n e = grind (arith, nat_tests)
 
+-- a text of length 0 is empty
 pub none_over : (over : List ℕ) → true ≡ (length over == 0) → over ≡ []
 none_over [] e = refl
 none_over (x ∷ over) e = absurd (let n = is_none (length (x ∷ over)) e in omega arith)
@@ -142,12 +145,14 @@ module _ (left left' held held' : Option (List ℕ)) (room room' : Option ℕ) (
     without_more : (reply bytes : List ℕ) (end : Status) → Output [] bytes (u.written ++ reply) end → (more : List ℕ) × (end : Status) × Output [] bytes ((u.written ++ reply) ++ more) end
     without_more reply bytes end o = ([], end, subst (λ (x : List ℕ). Output [] bytes x end) (sym (append-nil (u.written ++ reply))) o)
 
+    -- the room is enough for what ends the output
     pub last_has_room : HasRoom [] left room → FitsLast room' session reader
     last_has_room h = (u.lines, u.written, u.stands,
         λ reply r. room_left left room room' u.written reply h u.writes.1 (λ bytes e. without_more reply bytes status.Refused (refused_output reply bytes e r)),
         λ reply end r. room_left left room room' u.written reply h u.writes.1 (λ bytes e. without_more reply bytes end (ended_output reply end bytes e r)))
 
     module _ (held'' : Option (List ℕ)) (room'' : Option ℕ) where
+      -- where the last line is answered the output is complete
       pub answers_end : (end : Status) → EndsOutput held' held'' room' room'' session reader end → Answers [] left held held'' end
       answers_end end h =
           let (reply, ends, writes) = h u.lines u.written u.stands in
@@ -158,6 +163,7 @@ module _ (left left' held held' : Option (List ℕ)) (room room' : Option ℕ) (
           let (reply, refused, writes) = h u.lines u.written u.stands in
           told left held held'' (u.written ++ reply) status.Refused (Appends-trans held held' held'' u.written reply u.writes.0 writes.0) (λ bytes e. refused_output reply bytes e refused)
 
+      -- where the last line stops the run, what was written is an output if anything was refused
       pub answers_last_stopped : (stop : Stop) (end : Status) → Comes {A = Status} (Err stop) (EndsOutput held' held'' room' room'' session reader) (RefusesLast held' held'' room' room'' session reader)
           → end ≡ status_of stop → IsWhole end → Answers [] left held held'' end
       answers_last_stopped stop end comes e = stopped Status stop end (EndsOutput held' held'' room' room'' session reader) (RefusesLast held' held'' room' room'' session reader) (λ x. Answers [] left held held'' x) comes e answers_last_refused
@@ -184,6 +190,7 @@ module _ (left left' held held' : Option (List ℕ)) (room room' : Option ℕ) (
     cuts_on : (more : List (List ℕ)) (rest : List ℕ) → CutsLines (reader ++ piece) more rest → CutsLines (u.bytes ++ piece) (u.lines ++ more) rest
     cuts_on more rest cs = CutsLines-trans (u.bytes ++ piece) (reader ++ piece) rest u.lines more (CutsLines-append u.bytes reader piece u.lines u.cuts) cs
 
+    -- the room is enough for the replies to the lines of the piece
     pub piece_has_room : HasRoom [] left room → FitsLines room' session (reader ++ piece)
     piece_has_room h = (u.lines, u.written, u.stands, λ more rest reply cs w.
         room_left left room room' u.written reply h u.writes.1 (λ bytes e. output_goes_on (u.bytes ++ piece) rest (u.written ++ reply) (u.lines ++ more) (cuts_on more rest cs) few_bytes bytes (begins bytes e) w))
@@ -195,6 +202,7 @@ module _ (left left' held held' : Option (List ℕ)) (room room' : Option ℕ) (
           told left held held'' (u.written ++ reply) status.Refused (Appends-trans held held' held'' u.written reply u.writes.0 writes.0)
               (λ bytes e. output_refused (u.bytes ++ piece) rest (u.written ++ reply) (u.lines ++ more) (cuts_on more rest cs) few_bytes bytes (begins bytes e) refused)
 
+      -- where a line of the piece stops the run, what was written is an output if anything was refused
       pub answers_stopped : (A : Type 0) (session' : Standing) (reader' : List ℕ) (stop : Stop) (end : Status)
           → Comes {A = A} (Err stop) (λ _. AnswersLines held' held'' room' room'' session session' (reader ++ piece) reader') (RefusesLines held' held'' room' room'' session (reader ++ piece))
           → end ≡ status_of stop → IsWhole end → Answers [] left held held'' end
@@ -202,6 +210,7 @@ module _ (left left' held held' : Option (List ℕ)) (room room' : Option ℕ) (
           (λ x. Answers [] left held held'' x) comes e answers_refused
 
       module _ (session' : Standing) (reader' : List ℕ) (answers : AnswersLines held' held'' room' room'' session session' (reader ++ piece) reader') where
+        -- where bytes are too many, the replies to the lines that count are an output
         pub answers_too_long : HasNoFeed reader' → taken + length piece ≡ 1048576 → 0 < length over → Answers [] left held held'' status.TooLong
         answers_too_long free full some =
             let (more, reply, cs, next, writes) = answers u.lines u.written u.stands in
@@ -209,6 +218,7 @@ module _ (left left' held held' : Option (List ℕ)) (room room' : Option ℕ) (
             told left held held'' (u.written ++ reply) status.TooLong (Appends-trans held held' held'' u.written reply u.writes.0 writes.0)
                 (λ bytes e. output_too_long (u.bytes ++ piece) reader' (u.written ++ reply) (u.lines ++ more) (cuts_on more reader' cs) few_bytes bytes over (begins_over bytes e) all some free (Stands-transcript (u.lines ++ more) (u.written ++ reply) session' next))
 
+        -- where none is too many, the run goes on
         pub piece_answered : over ≡ [] → IsUnderWay left left'' held held'' room room'' session' reader' (taken + length piece)
         piece_answered none =
             let (more, reply, cs, next, writes) = answers u.lines u.written u.stands in

@@ -18,6 +18,7 @@ Holds-front (Some n) text more h = omega (arith, length-append text more)
 
 -- The line is what is left.
 module _ (line text : List ℕ) (left : line ∷ [] ≡ lines_of text) where
+  -- the reply to the line fits the room
   pub last_fits : (room : Option ℕ) (s : Standing) → FitsLast room s text → FitsLine room s line
   last_fits room s (lines, written, stands, refused, ended) = (lines, written, stands, λ reply w.
       elim w [
@@ -28,10 +29,12 @@ module _ (line text : List ℕ) (left : line ∷ [] ≡ lines_of text) where
       ])
 
   module _ (held held' : Option (List ℕ)) (room room' : Option ℕ) (old : Standing) where
+    -- what is left was answered with the line
     pub answers_last : (new : Standing) → AnswersLine held held' room room' old new line → AnswersLast held held' room room' old new text
     answers_last new h = λ lines written stands. let (reply, next, writes) = h lines written stands in
         (reply, subst (λ (xs : List (List ℕ)). Stands (lines ++ xs) (written ++ reply) new) left next, writes)
 
+    -- and refused with it
     pub refuses_last : RefusesLine held held' room room' old line → RefusesLast held held' room room' old text
     refuses_last h = λ lines written stands. let (reply, next, writes) = h lines written stands in
         (reply, subst (λ (xs : List (List ℕ)). IsRefused (lines ++ xs) (written ++ reply)) left next, writes)
@@ -56,11 +59,13 @@ module _ (a b : Option (List ℕ)) (r s : Option ℕ) (old new : Standing) (text
   ending : (lines : List (List ℕ)) (written reply : List ℕ) → Stands (lines ++ lines_of text) (written ++ reply) new → Ending (lines ++ lines_of text) (written ++ (reply ++ last)) status
   ending lines written reply next = subst (λ (x : List ℕ). Ending (lines ++ lines_of text) x status) (append_assoc written reply last) (says (lines ++ lines_of text) (written ++ reply) next)
 
+  -- what is written at the end fits the room
   pub outcome_fits : FitsLast r old text → Holds s (length last)
   outcome_fits (lines, written, stands, refused, ended) =
       let (reply, next, writes) = answers lines written stands in
       Holds-rest r s (length reply) (length last) (subst (λ n. Holds r n) (length-append reply last) (ended (reply ++ last) status (ending lines written reply next))) writes.1
 
+  -- and with it the output is ended
   pub ends_output : (c : Option (List ℕ)) (t : Option ℕ) → Writes b c s t last → EndsOutput a c r t old text status
   ends_output c t wrote = λ lines written stands.
       let (reply, next, writes) = answers lines written stands in

@@ -37,6 +37,7 @@ not_false : (b : Bool) → not b ≡ false → b ≡ true
 not_false true e = refl
 not_false false e = cc
 
+-- what comparing two texts for being different says
 pub differs : (answer : Bool) (xs word : List ℕ) → answer ≡ not (bytes_eq xs word) → answer ≡ true → xs ≢ word
 differs answer xs word e t = λ p.
     let f : bytes_eq xs word ≡ false = not_true (bytes_eq xs word) (sym e ∙ t) in
@@ -57,6 +58,7 @@ module _ (ws : List Word) (component type : List ℕ) (read : declaration_at ws 
   pub reserved_type : type ≡ codes "omega" → (d : Declaration) → ws ≡ declaration_words d → IsFree d → ⊥
   reserved_type p d e f = f.1 (sym (other_declaration d e).1 ∙ p)
 
+-- what wasn't read isn't there
 pub no_declaration : (ws : List Word) → declaration_at ws ≡ None → (d : Declaration) → ws ≡ declaration_words d → IsFree d → ⊥
 no_declaration ws n d e f = none_some (d.component, d.type) (sym n ∙ declaration_reads ws d e)
 
@@ -67,15 +69,18 @@ pub no_listing : (ws : List Word) → listing_at ws ≡ None → (m k : List ℕ
 no_listing ws n m k e = none_some (m, k) (sym n ∙ listing_reads ws m k e)
 
 module _ (ws : List Word) (max take : List ℕ) (read : listing_at ws ≡ Some (max, take)) where
+  -- the numbers of a listing are those that were read
   pub other_listing : (m k : List ℕ) → ws ≡ listing_words m k → (max ≡ m) × (take ≡ k)
   other_listing m k e = pair_same max take m k (sym read ∙ listing_reads ws m k e)
 
+  -- a number that isn't within its limits makes no listing
   pub wide_max : ((1 ≤ number_value max) × (number_value max ≤ 2) → ⊥) → (m k : List ℕ) → ws ≡ listing_words m k → IsWithin (number_value m) (number_value k) → ⊥
   wide_max n m k e w = n (subst (λ (x : List ℕ). (1 ≤ number_value x) × (number_value x ≤ 2)) (sym (other_listing m k e).0) w.0)
 
   pub wide_take : ((1 ≤ number_value take) × (number_value take ≤ 10000) → ⊥) → (m k : List ℕ) → ws ≡ listing_words m k → IsWithin (number_value m) (number_value k) → ⊥
   wide_take n m k e w = n (subst (λ (x : List ℕ). (1 ≤ number_value x) × (number_value x ≤ 10000)) (sym (other_listing m k e).1) w.1)
 
+  -- two numbers within their limits make one
   pub within_both : (m k : ℕ) → ((1 ≤ number_value max) × (number_value max ≤ 2)) × (number_value max ≡ m) → ((1 ≤ number_value take) × (number_value take ≤ 10000)) × (number_value take ≡ k)
       → (a b : List ℕ) × (ws ≡ listing_words a b) × (number_value a ≡ m) × (number_value b ≡ k) × IsWithin m k
   within_both m k p q = (max, take, listing_read ws max take read, p.1, q.1, (let a = p.0 in let b = q.0 in let e = p.1 in let f = q.1 in ((omega arith, omega arith), (omega arith, omega arith))))
@@ -98,6 +103,7 @@ module _ (line : List ℕ) (ws : List Word) (is : ws ≡ words_of line) (text : 
   query_line query.Unbuilt n = (unskipped, λ max take q. n q.max_digits q.take_digits (is ∙ q.words)
       (let a = q.max_within in let b = q.take_within in let c = q.max_value in let d = q.take_value in ((omega arith, omega arith), (omega arith, omega arith))))
 
+-- the answer that the line isn't skipped
 pub unskipped : (answer : Bool) (line : List ℕ) → IsTrue answer ↔ IsSkipped line → answer ≡ false → IsSkipped line → ⊥
 unskipped answer line h f s = let t = h.1 s in absurd (cc)
 
@@ -106,6 +112,7 @@ pub within : (r : Option ℕ) (n value low high : ℕ) → SomeIff r ((low ≤ v
 within None n value low high s e = absurd (none_some n e)
 within (Some m) n value low high s e = (s.0, sym s.1 ∙ some_same m n e)
 
+-- no number came, so it isn't within its limits
 pub not_within : (r : Option ℕ) (value low high : ℕ) → SomeIff r ((low ≤ value) × (value ≤ high)) value → r ≡ None → (low ≤ value) × (value ≤ high) → ⊥
 not_within None value low high s e w = s w
 not_within (Some m) value low high s e w = none_some m (sym e)

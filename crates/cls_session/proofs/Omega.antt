@@ -13,6 +13,7 @@ use Rattle.cls_session.proofs.Firsts.{firsts, page}
 abbrev one : ℕ → ℕ
 one x = 1
 
+-- each term has a component
 pub positive : (e : Applicative) → 1 ≤ length_of e
 positive (component x) = omega arith
 positive (apply f a) = omega (arith, positive f)

@@ -111,6 +111,7 @@ module _ (front rest text : List ℕ) (lines : List (List ℕ)) (cuts : CutsLine
       let same : lines_read bytes ≡ lines ++ lines_of rest = ap lines_read e ∙ (lines_read-short front short ∙ lines_of-CutsLines front rest lines cuts) in
       outputs.refused refl (subst (λ (xs : List (List ℕ)). IsRefused xs text) (sym same) r) refl
 
+  -- the same where the output is ended with the input
   pub output_ended : (end : Status) → IsWholly (Some bytes) front → Ending (lines ++ lines_of rest) text end → Output [] bytes text end
   output_ended end e r =
       let same : lines_of bytes ≡ lines ++ lines_of rest = ap lines_of e ∙ lines_of-CutsLines front rest lines cuts in

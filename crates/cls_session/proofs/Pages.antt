@@ -13,6 +13,7 @@ use Rattle.cls_session.specs.Replies.{page_text, Reply, listing}
 use Rattle.cls_session.proofs.Repositories.{length-names_of}
 use Rattle.cls_session.proofs.Typing.{omega_page}
 
+-- the greatest component of a term is among the components
 pub greatest_within : (n : ℕ) (e : Applicative) → IsOver n e → greatest_of e < n
 greatest_within n (component x) o = o
 greatest_within n (apply f a) o = omega (arith, greatest_within n f o.0, greatest_within n a o.1)

@@ -57,6 +57,7 @@ listing_made : (ws a b c d f g : List Word) (m k max take : List ℕ) → ws ≡
     → d ≡ name (codes "take") ∷ f → f ≡ number k ∷ g → g ≡ [] → m ≡ max → k ≡ take → ws ≡ listing_words max take
 listing_made ws a b c d f g m k max take p q r s t u e is was = cc
 
+-- what is read as a declaration has its words
 pub declaration_read : (ws : List Word) (component type : List ℕ) → declaration_at ws ≡ Some (component, type) → ws ≡ declaration_words record { component = component; type = type }
 unfolding declaration_at
 declaration_read ws component type e =
@@ -68,6 +69,7 @@ declaration_read ws component type e =
     let z = both_at_end b.0 d.0 component type d.1 d.3 in
     declaration_made ws a.0 b.1 c.0 d.1 b.0 d.0 component type a.1 b.2 c.1 d.2 z.0 z.1 z.2
 
+-- what is read as a listing has its words
 pub listing_read : (ws : List Word) (max take : List ℕ) → listing_at ws ≡ Some (max, take) → ws ≡ listing_words max take
 unfolding listing_at
 listing_read ws max take e =
@@ -81,10 +83,12 @@ listing_read ws max take e =
     let z = both_at_end d.0 g.0 max take g.1 g.3 in
     listing_made ws a.0 b.0 c.0 d.1 f.0 g.1 d.0 g.0 max take a.1 b.1 c.1 d.2 f.1 g.2 z.0 z.1 z.2
 
+-- the words of a declaration are read as one
 pub declaration_reads : (ws : List Word) (d : Declaration) → ws ≡ declaration_words d → declaration_at ws ≡ Some (d.component, d.type)
 unfolding declaration_at
 declaration_reads ws d e = ap declaration_at e ∙ refl
 
+-- the words of a listing are read as one
 pub listing_reads : (ws : List Word) (max take : List ℕ) → ws ≡ listing_words max take → listing_at ws ≡ Some (max, take)
 unfolding listing_at
 listing_reads ws max take e = ap listing_at e ∙ refl

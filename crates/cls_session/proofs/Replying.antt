@@ -33,12 +33,15 @@ module _ (names : List (List ℕ)) (count : ℕ) (ended : Bool) (s : Standing) (
   still : (ls : List (List ℕ)) (reply : List ℕ) (more : List (List ℕ)) (n : ℕ) → ended ≡ false → Stands ls (written ++ reply) (reading more n) → Stands ls (written ++ reply) record { components = more; lines = n; ended = ended }
   still ls reply more n e h = subst (λ (b : Bool). Stands ls (written ++ reply) record { components = more; lines = n; ended = b }) (sym e) h
 
+  -- a line of the repository that is skipped
   pub skips : (line reply : List ℕ) → s.ended ≡ false → reply ≡ [] → IsSkipped line → Stands (lines ++ line ∷ []) (written ++ reply) record { components = names; lines = count + 1; ended = ended }
   skips line reply r e q = still (lines ++ line ∷ []) reply names (count + 1) (reads r) (silent (lines ++ line ∷ []) reply _ e (Stands-skip lines written line names count (is_reading (reads r)) q))
 
+  -- the line that ends the repository
   pub ends : (line reply : List ℕ) → s.ended ≡ false → reply ≡ [] → IsEnd line → Stands (lines ++ line ∷ []) (written ++ reply) (querying names (count + 1))
   ends line reply r e q = silent (lines ++ line ∷ []) reply (querying names (count + 1)) e (Stands-end lines written line names count (is_reading (reads r)) q)
 
+  -- a line that declares a component
   pub declares : (line reply name type : List ℕ) (grown : List (List ℕ)) → s.ended ≡ false → reply ≡ [] → IsDeclaration line record { component = name; type = type }
       → (Contains names name → ⊥) → length names < 1000 → grown ≡ names ++ name ∷ [] → Stands (lines ++ line ∷ []) (written ++ reply) record { components = grown; lines = count + 1; ended = ended }
   declares line reply name type grown r e q new few g =
@@ -46,16 +49,20 @@ module _ (names : List (List ℕ)) (count : ℕ) (ended : Bool) (s : Standing) (
       let h = Stands-declare lines written line names count d (is_reading (reads r)) q new few in
       still (lines ++ line ∷ []) reply grown (count + 1) (reads r) (subst (λ (xs : List (List ℕ)). Stands (lines ++ line ∷ []) (written ++ reply) (reading xs (count + 1))) (sym g) (silent (lines ++ line ∷ []) reply _ e h))
 
+  -- a line that is the first fault
   pub refuses : (line reply : List ℕ) → s.ended ≡ false → reply ≡ refusal (count + 1) → IsFaulty names line → (IsEnd line → ⊥) → IsRefused (lines ++ line ∷ []) (written ++ reply)
   refuses line reply r e f n = subst (λ (t : List ℕ). IsRefused (lines ++ line ∷ []) (written ++ t)) (sym e) (Stands-refused lines written line names count (is_reading (reads r)) f n)
 
+  -- a line after the repository
   pub answers : (line reply : List ℕ) → ended ≡ true → ((ds : List Declaration) → names ≡ names_of ds → Reply ds line reply) → Stands (lines ++ line ∷ []) (written ++ reply) record { components = names; lines = count + 1; ended = ended }
   answers line reply e q =
       subst (λ (b : Bool). Stands (lines ++ line ∷ []) (written ++ reply) record { components = names; lines = count + 1; ended = b }) (sym e) (Stands-reply lines written line names count reply (is_querying e) q)
 
+  -- the end of the input within the repository
   pub ends_reading : (last : List ℕ) → ended ≡ false → last ≡ refusal count → Ending lines (written ++ last) Refused
   ends_reading last e l = Ending-reading names count lines written last l (is_reading e)
 
+  -- the end of the input after it
   pub ends_querying : (last : List ℕ) → ended ≡ true → last ≡ [] → Ending lines (written ++ last) Done
   ends_querying last e l = Ending-querying names count lines written last l (is_querying e)
 

@@ -6,6 +6,7 @@ use Rattle.cls_session.specs.Declarations.{Declaration, names_of}
 use Rattle.cls_session.specs.Forms.{IsDeclaration, declaration_words}
 use Rattle.cls_session.specs.Repositories.{Entry, skipped, declares, Declares, AreDifferent}
 
+-- a line declares one component at most
 pub same_declaration : (line : List ℕ) (c d : Declaration) → IsDeclaration line c → IsDeclaration line d → c ≡ d
 same_declaration line c d p q =
     let words : declaration_words c ≡ declaration_words d = sym p.words ∙ q.words in
@@ -26,10 +27,12 @@ Declares-unique (line ∷ lines) a b (x, xs, p, ps, e) (y, ys, q, qs, f) =
     let rest : xs ≡ ys = Declares-unique lines xs ys ps qs in
     cc
 
+-- a further line goes on with what it declares
 pub Declares-push : (lines : List (List ℕ)) (line : List ℕ) (a b : List Declaration) → Declares lines a → Entry line b → Declares (lines ++ line ∷ []) (a ++ b)
 Declares-push [] line a b e q = (b, [], q, refl, rw e (sym (append-nil b)))
 Declares-push (l ∷ lines) line a b (x, xs, p, ps, e) q = (x, xs ++ b, p, Declares-push lines line xs b ps q, rw e (append_assoc x xs b))
 
+-- and what it declares comes last
 pub Declares-pop : (lines : List (List ℕ)) (line : List ℕ) (c : List Declaration) → Declares (lines ++ line ∷ []) c → (a b : List Declaration) × Declares lines a × Entry line b × (c ≡ a ++ b)
 Declares-pop [] line c (x, xs, p, e, f) = ([], x, refl, p, f ∙ (ap (λ (y : List Declaration). x ++ y) e ∙ append-nil x))
 Declares-pop (l ∷ lines) line c (x, xs, p, ps, f) =

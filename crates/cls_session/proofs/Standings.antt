@@ -48,6 +48,7 @@ entry_of ds line b (full d p c) (skipped s e) different few = p.read.unskipped s
 entry_of ds line b (full d p c) (declares f q e) different few =
     let n = length-names_of ds in let m = ap (λ (xs : List Declaration). length (ds ++ xs)) e in let k = length-push ds f in absurd (omega arith)
 
+-- after a faulty line there is no repository
 pub IsRepository-none : (lines : List (List ℕ)) (line : List ℕ) (ds : List Declaration) → IsRepository lines ds → IsFaulty (names_of ds) line → (cs : List Declaration) → IsRepository (lines ++ line ∷ []) cs → ⊥
 IsRepository-none lines line ds r f cs q =
     let p = Declares-pop lines line cs q.declared in
@@ -145,6 +146,7 @@ Ending-reading names count lines text last e h =
     let (ds, r, t, n, c) = Stands-reading lines text names count h in
     without_end ds r (ap (λ (x : List ℕ). x ++ last) t ∙ (e ∙ ap refusal c)) refl
 
+-- what ends the output of a session that answers queries
 pub Ending-querying : (names : List (List ℕ)) (count : ℕ) (lines : List (List ℕ)) (text last : List ℕ) → last ≡ [] → Stands lines text (querying names count) → Ending lines (text ++ last) Done
 Ending-querying names count lines text last e h =
     let (ds, a, n, c) = Stands-querying lines text names count h in

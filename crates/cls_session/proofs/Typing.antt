@@ -66,12 +66,14 @@ declared_at (d ∷ ds) zero h = (d, refl)
 declared_at (d ∷ ds) (suc x) h = declared_at ds x (omega arith)
 
 module _ (ds : List Declaration) where
+  -- a term with a type has declared components alone
   pub over_from_typed : (e : Applicative) (s : ClosedType) → Has ds e s → IsOver (length ds) e
   over_from_typed (component x) s (by_instance i) = slice_get_within ds x i.declaration i.place
   over_from_typed (apply f a) s (by_application {s = r} p q) = (over_from_typed f (arrow r s) p, over_from_typed a r q)
   over_from_typed e s (by_intersection {s = r} p q) = over_from_typed e r p
   over_from_typed e s (by_subsumption {s = r} p q) = over_from_typed e r p
 
+  -- and with those it has type omega
   pub typed_from_over : (e : Applicative) → IsOver (length ds) e → Has ds e types.omega
   typed_from_over (component x) o =
       let d = declared_at ds x o in
