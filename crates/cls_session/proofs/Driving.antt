@@ -45,10 +45,14 @@ written_on lines more line written reply rest w =
 pub rest_fits : (held held' : Option (List ℕ)) (room room' : Option ℕ) (old new : Standing) (mid line after : List ℕ)
     → FitsLines room old mid → CutsLine mid line after → AnswersLine held held' room room' old new line → FitsLines room' new after
 rest_fits held held' room room' old new mid line after (lines, written, stands, fits) cut a =
-    let (reply, next, writes) = a lines written stands in
-    (lines ++ line ∷ [], written ++ reply, next, λ more rest further cuts w.
-        let whole = fits (line ∷ more) rest (reply ++ further) (after, cut, cuts) (written_on lines more line written reply further w) in
-        Holds-rest room room' (length reply) (length further) (subst (λ n. Holds room n) (length-append reply further) whole) writes.1)
+    let (reply, next, writes) = a lines written stands in (
+      lines ++ line ∷ [],
+      written ++ reply,
+      next,
+      λ more rest further cuts w.
+          let whole = fits (line ∷ more) rest (reply ++ further) (after, cut, cuts) (written_on lines more line written reply further w) in
+          Holds-rest room room' (length reply) (length further) (subst (λ n. Holds room n) (length-append reply further) whole) writes.1,
+    )
 
 -- no line was answered yet
 pub answers_none : (held : Option (List ℕ)) (room : Option ℕ) (s : Standing) (text : List ℕ) → AnswersLines held held room room s s text text
@@ -62,24 +66,31 @@ comes_refused A B stops.WriteFault Well Well' Refused Refused' c f = tt
 comes_refused A B stops.NoMemory Well Well' Refused Refused' c f = tt
 
 module _ (a b c : Option (List ℕ)) (r s t : Option ℕ) (first mid last : Standing) (text between line after : List ℕ)
-  (so_far : AnswersLines a b r s first mid text between) (cut : CutsLine between line after) where
+    (so_far : AnswersLines a b r s first mid text between) (cut : CutsLine between line after) where
   -- one more line is answered
   pub answers_more : AnswersLine b c s t mid last line → AnswersLines a c r t first last text after
   answers_more h = λ lines written stands.
       let (more, reply, cuts, next, writes) = so_far lines written stands in
-      let (further, end, wrote) = h (lines ++ more) (written ++ reply) next in
-      (more ++ line ∷ [], reply ++ further, CutsLines-push text between after line more cuts cut,
-          subst (λ (x : List ℕ). Stands (lines ++ (more ++ line ∷ [])) x last) (append_assoc written reply further) (subst (λ (xs : List (List ℕ)). Stands xs ((written ++ reply) ++ further) last) (append_assoc lines more (line ∷ [])) end),
-          Writes-trans a b c r s t reply further writes wrote)
+      let (further, end, wrote) = h (lines ++ more) (written ++ reply) next in (
+        more ++ line ∷ [],
+        reply ++ further,
+        CutsLines-push text between after line more cuts cut,
+        subst (λ (x : List ℕ). Stands (lines ++ (more ++ line ∷ [])) x last) (append_assoc written reply further) (subst (λ (xs : List (List ℕ)). Stands xs ((written ++ reply) ++ further) last) (append_assoc lines more (line ∷ [])) end),
+        Writes-trans a b c r s t reply further writes wrote,
+      )
 
   -- the next line is refused
   pub refuses_more : RefusesLine b c s t mid line → RefusesLines a c r t first text
   refuses_more h = λ lines written stands.
       let (more, reply, cuts, next, writes) = so_far lines written stands in
-      let (further, end, wrote) = h (lines ++ more) (written ++ reply) next in
-      (more ++ line ∷ [], after, reply ++ further, CutsLines-push text between after line more cuts cut,
-          subst (λ (x : List ℕ). IsRefused (lines ++ (more ++ line ∷ [])) x) (append_assoc written reply further) (subst (λ (xs : List (List ℕ)). IsRefused xs ((written ++ reply) ++ further)) (append_assoc lines more (line ∷ [])) end),
-          Writes-trans a b c r s t reply further writes wrote)
+      let (further, end, wrote) = h (lines ++ more) (written ++ reply) next in (
+        more ++ line ∷ [],
+        after,
+        reply ++ further,
+        CutsLines-push text between after line more cuts cut,
+        subst (λ (x : List ℕ). IsRefused (lines ++ (more ++ line ∷ [])) x) (append_assoc written reply further) (subst (λ (xs : List (List ℕ)). IsRefused xs ((written ++ reply) ++ further)) (append_assoc lines more (line ∷ [])) end),
+        Writes-trans a b c r s t reply further writes wrote,
+      )
 
   -- where the line was not answered, the lines were not either
   pub stops_more : (A : Type 0) (rest : List ℕ) (stop : Stop) → Comes {A = A} (Err stop) (λ _. AnswersLine b c s t mid last line) (RefusesLine b c s t mid line)
@@ -88,7 +99,7 @@ module _ (a b c : Option (List ℕ)) (r s t : Option ℕ) (first mid last : Stan
 
 -- The same where the reader holds nothing after the line.
 module _ (a b c : Option (List ℕ)) (r s t : Option ℕ) (first mid last : Standing) (text between line after held : List ℕ)
-  (none : held ≡ []) (cut : CutsLine between line after) where
+    (none : held ≡ []) (cut : CutsLine between line after) where
   pub answers_next : AnswersLines a b r s first mid text between → AnswersLine b c s t mid last line → AnswersLines a c r t first last text (held ++ after)
   answers_next so_far h = subst (λ (x : List ℕ). AnswersLines a c r t first last text (x ++ after)) (sym none) (answers_more a b c r s t first mid last text between line after so_far cut h)
 

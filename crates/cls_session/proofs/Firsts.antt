@@ -38,9 +38,9 @@ firsts-none f es i n all l h =
     sym (append-nil es) ∙ subst (λ m. es ++ firsts f i m ≡ all) none h
 
 module _ (Has : Applicative → Type 0) (r : Request) (f : ℕ → Applicative) (all : ℕ)
-  (rise : (i j : ℕ) → i < j → j < all → Before r.cost (f i) (f j))
-  (due : (i : ℕ) → i < all → IsDue Has r (f i))
-  (whole : (e : Applicative) → IsDue Has r e → (i : ℕ) × (i < all) × (f i ≡ e)) where
+    (rise : (i j : ℕ) → i < j → j < all → Before r.cost (f i) (f j))
+    (due : (i : ℕ) → i < all → IsDue Has r (f i))
+    (whole : (e : Applicative) → IsDue Has r e → (i : ℕ) × (i < all) × (f i ≡ e)) where
   rises : (i n : ℕ) → i + n ≤ all → Rises r.cost (firsts f i n)
   rises i zero h = tt
   rises i (suc zero) h = tt
@@ -102,4 +102,3 @@ module _ (Has : Applicative → Type 0) (r : Request) (f : ℕ → Applicative) 
         at_most = (let l = length-firsts f 0 n in omega arith);
         full = λ m. length-firsts f 0 n ∙ full (let m' = m in grind (arith, nat_tests));
       }
-

@@ -62,10 +62,15 @@ none_read left held room session reader s e = record { bytes = []; lines = []; w
 pub none_more : (left left' left'' held held' : Option (List ℕ)) (room room' : Option ℕ) (session : Standing) (reader : List ℕ) (taken : ℕ) (count : ℕ) (buffer : List ℕ)
     → IsUnderWay left left' held held' room room' session reader taken → count ≡ 0 → Consumes left' left'' (take count buffer) → IsUnderWay left left'' held held' room room' session reader taken
 none_more left left' left'' held held' room room' session reader taken count buffer u none consumes = record {
-  bytes = u.bytes; lines = u.lines; written = u.written; count = u.count;
+  bytes = u.bytes;
+  lines = u.lines;
+  written = u.written;
+  count = u.count;
   consumes = subst (λ (x : List ℕ). Consumes left left'' x) (append-nil u.bytes)
       (Consumes-trans left left' left'' u.bytes [] u.consumes (subst (λ k. Consumes left' left'' (take k buffer)) none consumes));
-  cuts = u.cuts; stands = u.stands; writes = u.writes;
+  cuts = u.cuts;
+  stands = u.stands;
+  writes = u.writes;
 }
 
 -- What was read is cut into a piece and bytes that are too many.
@@ -126,8 +131,7 @@ Ending-status lines text end (without_end ds r t s) = inr s
 Ending-status lines text end (complete ds a s) = inl s
 
 module _ (left left' held held' : Option (List ℕ)) (room room' : Option ℕ) (session : Standing) (reader : List ℕ) (taken : ℕ)
-  (u : IsUnderWay left left' held held' room room' session reader taken) where
-
+    (u : IsUnderWay left left' held held' room room' session reader taken) where
   -- The end of the input was reached.
   module _ (short : taken ≤ 1048576) (at_end : IsAtEnd left') where
     wholly : (bytes : List ℕ) → left ≡ Some bytes → IsWholly (Some bytes) u.bytes
@@ -147,9 +151,13 @@ module _ (left left' held held' : Option (List ℕ)) (room room' : Option ℕ) (
 
     -- the room is enough for what ends the output
     pub last_has_room : HasRoom [] left room → FitsLast room' session reader
-    last_has_room h = (u.lines, u.written, u.stands,
-        λ reply r. room_left left room room' u.written reply h u.writes.1 (λ bytes e. without_more reply bytes status.Refused (refused_output reply bytes e r)),
-        λ reply end r. room_left left room room' u.written reply h u.writes.1 (λ bytes e. without_more reply bytes end (ended_output reply end bytes e r)))
+    last_has_room h = (
+      u.lines,
+      u.written,
+      u.stands,
+      λ reply r. room_left left room room' u.written reply h u.writes.1 (λ bytes e. without_more reply bytes status.Refused (refused_output reply bytes e r)),
+      λ reply end r. room_left left room room' u.written reply h u.writes.1 (λ bytes e. without_more reply bytes end (ended_output reply end bytes e r)),
+    )
 
     module _ (held'' : Option (List ℕ)) (room'' : Option ℕ) where
       -- where the last line is answered the output is complete
@@ -192,15 +200,20 @@ module _ (left left' held held' : Option (List ℕ)) (room room' : Option ℕ) (
 
     -- the room is enough for the replies to the lines of the piece
     pub piece_has_room : HasRoom [] left room → FitsLines room' session (reader ++ piece)
-    piece_has_room h = (u.lines, u.written, u.stands, λ more rest reply cs w.
-        room_left left room room' u.written reply h u.writes.1 (λ bytes e. output_goes_on (u.bytes ++ piece) rest (u.written ++ reply) (u.lines ++ more) (cuts_on more rest cs) few_bytes bytes (begins bytes e) w))
+    piece_has_room h = (
+      u.lines,
+      u.written,
+      u.stands,
+      λ more rest reply cs w.
+          room_left left room room' u.written reply h u.writes.1 (λ bytes e. output_goes_on (u.bytes ++ piece) rest (u.written ++ reply) (u.lines ++ more) (cuts_on more rest cs) few_bytes bytes (begins bytes e) w),
+    )
 
     module _ (held'' : Option (List ℕ)) (room'' : Option ℕ) where
       answers_refused : RefusesLines held' held'' room' room'' session (reader ++ piece) → Answers [] left held held'' status.Refused
       answers_refused h =
           let (more, rest, reply, cs, refused, writes) = h u.lines u.written u.stands in
           told left held held'' (u.written ++ reply) status.Refused (Appends-trans held held' held'' u.written reply u.writes.0 writes.0)
-              (λ bytes e. output_refused (u.bytes ++ piece) rest (u.written ++ reply) (u.lines ++ more) (cuts_on more rest cs) few_bytes bytes (begins bytes e) refused)
+          (λ bytes e. output_refused (u.bytes ++ piece) rest (u.written ++ reply) (u.lines ++ more) (cuts_on more rest cs) few_bytes bytes (begins bytes e) refused)
 
       -- where a line of the piece stops the run, what was written is an output if anything was refused
       pub answers_stopped : (A : Type 0) (session' : Standing) (reader' : List ℕ) (stop : Stop) (end : Status)
@@ -216,14 +229,16 @@ module _ (left left' held held' : Option (List ℕ)) (room room' : Option ℕ) (
             let (more, reply, cs, next, writes) = answers u.lines u.written u.stands in
             let all : length (u.bytes ++ piece) ≡ 1048576 = (let k = u.count in let a = length-append u.bytes piece in omega arith) in
             told left held held'' (u.written ++ reply) status.TooLong (Appends-trans held held' held'' u.written reply u.writes.0 writes.0)
-                (λ bytes e. output_too_long (u.bytes ++ piece) reader' (u.written ++ reply) (u.lines ++ more) (cuts_on more reader' cs) few_bytes bytes over (begins_over bytes e) all some free (Stands-transcript (u.lines ++ more) (u.written ++ reply) session' next))
+            (λ bytes e. output_too_long (u.bytes ++ piece) reader' (u.written ++ reply) (u.lines ++ more) (cuts_on more reader' cs) few_bytes bytes over (begins_over bytes e) all some free (Stands-transcript (u.lines ++ more) (u.written ++ reply) session' next))
 
         -- where none is too many, the run goes on
         pub piece_answered : over ≡ [] → IsUnderWay left left'' held held'' room room'' session' reader' (taken + length piece)
         piece_answered none =
             let (more, reply, cs, next, writes) = answers u.lines u.written u.stands in
             record {
-              bytes = u.bytes ++ piece; lines = u.lines ++ more; written = u.written ++ reply;
+              bytes = u.bytes ++ piece;
+              lines = u.lines ++ more;
+              written = u.written ++ reply;
               count = (let k = u.count in let a = length-append u.bytes piece in omega arith);
               consumes = subst (λ (x : List ℕ). Consumes left left'' x) (ap (λ (x : List ℕ). (u.bytes ++ piece) ++ x) none ∙ append-nil (u.bytes ++ piece)) read;
               cuts = cuts_on more reader' cs;

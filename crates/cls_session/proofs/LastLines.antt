@@ -20,13 +20,18 @@ Holds-front (Some n) text more h = omega (arith, length-append text more)
 module _ (line text : List ℕ) (left : line ∷ [] ≡ lines_of text) where
   -- the reply to the line fits the room
   pub last_fits : (room : Option ℕ) (s : Standing) → FitsLast room s text → FitsLine room s line
-  last_fits room s (lines, written, stands, refused, ended) = (lines, written, stands, λ reply w.
-      elim w [
-        | inr r ↦ refused reply (subst (λ (xs : List (List ℕ)). IsRefused (lines ++ xs) (written ++ reply)) left r)
-        | inl t ↦ (let (more, status, e) = ends_by (lines ++ line ∷ []) (written ++ reply) t in
-            let whole = subst (λ (x : List ℕ). Ending (lines ++ line ∷ []) x status) (append_assoc written reply more) e in
-            Holds-front room reply more (ended (reply ++ more) status (subst (λ (xs : List (List ℕ)). Ending (lines ++ xs) (written ++ (reply ++ more)) status) left whole)))
-      ])
+  last_fits room s (lines, written, stands, refused, ended) = (
+    lines,
+    written,
+    stands,
+    λ reply w.
+        elim w [
+          | inr r ↦ refused reply (subst (λ (xs : List (List ℕ)). IsRefused (lines ++ xs) (written ++ reply)) left r)
+          | inl t ↦ (let (more, status, e) = ends_by (lines ++ line ∷ []) (written ++ reply) t in
+              let whole = subst (λ (x : List ℕ). Ending (lines ++ line ∷ []) x status) (append_assoc written reply more) e in
+              Holds-front room reply more (ended (reply ++ more) status (subst (λ (xs : List (List ℕ)). Ending (lines ++ xs) (written ++ (reply ++ more)) status) left whole)))
+        ],
+  )
 
   module _ (held held' : Option (List ℕ)) (room room' : Option ℕ) (old : Standing) where
     -- what is left was answered with the line
@@ -46,16 +51,19 @@ module _ (line text : List ℕ) (left : line ∷ [] ≡ lines_of text) where
 
 -- no line is left
 pub none_last : (held : Option (List ℕ)) (room : Option ℕ) (s : Standing) (text : List ℕ) → [] ≡ lines_of text → AnswersLast held held room room s s text
-none_last held room s text left = λ lines written stands.
-    ([], subst (λ (x : List ℕ). Stands (lines ++ lines_of text) x s) (sym (append-nil written))
-        (subst (λ (xs : List (List ℕ)). Stands (lines ++ xs) written s) left (subst (λ (xs : List (List ℕ)). Stands xs written s) (sym (append-nil lines)) stands)), Writes-none held room)
+none_last held room s text left = λ lines written stands. (
+  [],
+  subst (λ (x : List ℕ). Stands (lines ++ lines_of text) x s) (sym (append-nil written))
+      (subst (λ (xs : List (List ℕ)). Stands (lines ++ xs) written s) left (subst (λ (xs : List (List ℕ)). Stands xs written s) (sym (append-nil lines)) stands)),
+  Writes-none held room,
+)
 
 -- what the session says at the end
 abbrev pub SaysLast : Standing → List ℕ → Status → Type 0
 SaysLast s last status = (lines : List (List ℕ)) (written : List ℕ) → Stands lines written s → Ending lines (written ++ last) status
 
 module _ (a b : Option (List ℕ)) (r s : Option ℕ) (old new : Standing) (text last : List ℕ) (status : Status)
-  (answers : AnswersLast a b r s old new text) (says : SaysLast new last status) where
+    (answers : AnswersLast a b r s old new text) (says : SaysLast new last status) where
   ending : (lines : List (List ℕ)) (written reply : List ℕ) → Stands (lines ++ lines_of text) (written ++ reply) new → Ending (lines ++ lines_of text) (written ++ (reply ++ last)) status
   ending lines written reply next = subst (λ (x : List ℕ). Ending (lines ++ lines_of text) x status) (append_assoc written reply last) (says (lines ++ lines_of text) (written ++ reply) next)
 

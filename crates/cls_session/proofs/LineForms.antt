@@ -100,8 +100,11 @@ module _ (line : List ℕ) (ws : List Word) (is : ws ≡ words_of line) (text : 
   pub query_line : (q : QueryLine) → IsQueryForm ws q → IsQueryLine line q
   query_line query.Skipped f = absurd f
   query_line (query.Listing max take) (m, k, w, a, b, within) = record { max_digits = m; take_digits = k; read = read; words = sym is ∙ w; max_value = a; take_value = b; max_within = within.0; take_within = within.1 }
-  query_line query.Unbuilt n = (unskipped, λ max take q. n q.max_digits q.take_digits (is ∙ q.words)
-      (let a = q.max_within in let b = q.take_within in let c = q.max_value in let d = q.take_value in ((omega arith, omega arith), (omega arith, omega arith))))
+  query_line query.Unbuilt n = (
+    unskipped,
+    λ max take q. n q.max_digits q.take_digits (is ∙ q.words)
+        (let a = q.max_within in let b = q.take_within in let c = q.max_value in let d = q.take_value in ((omega arith, omega arith), (omega arith, omega arith))),
+  )
 
 -- the answer that the line isn't skipped
 pub unskipped : (answer : Bool) (line : List ℕ) → IsTrue answer ↔ IsSkipped line → answer ≡ false → IsSkipped line → ⊥

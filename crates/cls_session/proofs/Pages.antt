@@ -33,7 +33,8 @@ lists_page names line text max take es more q p e declared n =
     let count : length names ≡ length declared = ap length n ∙ length-names_of declared in
     let over : IsPage (IsOver (length declared)) (request max take) es more = subst (λ k. IsPage (IsOver k) (request max take) es more) count p in
     listing max take q record {
-      terms = es; more = more;
+      terms = es;
+      more = more;
       page = omega_page declared (request max take) es more over;
       written = e ∙ ap (λ (table : List (List ℕ)). page_text (name_at table) es more) n;
     }

@@ -17,7 +17,7 @@ use Rattle.cls_session.proofs.Standings.{reading, querying, IsFaulty, repeated, 
 
 -- The session s keeps these names, this count and this mark.
 module _ (names : List (List ℕ)) (count : ℕ) (ended : Bool) (s : Standing) (is : record { components = names; lines = count; ended = ended } ≡ s)
-  (lines : List (List ℕ)) (written : List ℕ) (stands : Stands lines written s) where
+    (lines : List (List ℕ)) (written : List ℕ) (stands : Stands lines written s) where
   is_reading : ended ≡ false → Stands lines written (reading names count)
   is_reading e = subst (λ (x : Standing). Stands lines written x) (sym is ∙ (λ i. record { components = names; lines = count; ended = e i })) stands
 

@@ -59,11 +59,13 @@ contains_later x y xs c = (suc c.0, (let l = c.1 in omega arith), c.2)
 
 pub AreDifferent-push : (xs : List (List ℕ)) (y : List ℕ) → AreDifferent xs → (Contains xs y → ⊥) → AreDifferent (xs ++ y ∷ [])
 AreDifferent-push [] y d n = ((λ c. let l = c.1 in absurd (omega arith)), tt)
-AreDifferent-push (x ∷ xs) y d n =
-    ((λ c. elim (Contains-append_cases xs (y ∷ []) x c) [
-      | inl a ↦ d.0 a
-      | inr b ↦ n (subst (λ (z : List ℕ). Contains (x ∷ xs) z) (sym (contains_one y x b)) (contains_first x xs))
-    ]), AreDifferent-push xs y d.1 (λ c. n (contains_later y x xs c)))
+AreDifferent-push (x ∷ xs) y d n = (
+  (λ c. elim (Contains-append_cases xs (y ∷ []) x c) [
+    | inl a ↦ d.0 a
+    | inr b ↦ n (subst (λ (z : List ℕ). Contains (x ∷ xs) z) (sym (contains_one y x b)) (contains_first x xs))
+  ]),
+  AreDifferent-push xs y d.1 (λ c. n (contains_later y x xs c)),
+)
 
 pub AreDifferent-last : (xs : List (List ℕ)) (y : List ℕ) → AreDifferent (xs ++ y ∷ []) → Contains xs y → ⊥
 AreDifferent-last [] y d c = let l = c.1 in absurd (omega arith)

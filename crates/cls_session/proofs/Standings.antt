@@ -62,9 +62,12 @@ Replies-push ds (l ∷ lines) line text reply (a, b, p, ps, e) q = (a, b ++ repl
 
 pub IsAnswered-push : (lines : List (List ℕ)) (line text reply : List ℕ) (ds : List Declaration) → IsAnswered lines ds text → Reply ds line reply → IsAnswered (lines ++ line ∷ []) ds (text ++ reply)
 IsAnswered-push lines line text reply ds a q = record {
-  repository = a.repository; end = a.end; queries = a.queries ++ line ∷ [];
+  repository = a.repository;
+  end = a.end;
+  queries = a.queries ++ line ∷ [];
   split = ap (λ (xs : List (List ℕ)). xs ++ line ∷ []) a.split ∙ append_assoc a.repository (a.end ∷ a.queries) (line ∷ []);
-  ends = a.ends; reads = a.reads;
+  ends = a.ends;
+  reads = a.reads;
   replies = Replies-push ds a.queries line text reply a.replies q;
 }
 

@@ -25,12 +25,15 @@ lists_omega ds max take m t =
     let all = terms_within n max in
     let k = min take all in
     let more = nat_lt k all in
-    let terms = firsts (term_at n) 0 k in
-    (page_text (name_at (names_of ds)) terms more, record {
-      terms = terms; more = more;
-      page = omega_page ds (request max take) terms more (front n max take m.0 m.1 k more (omega arith) (omega arith) (λ l. omega arith) (let p = t.0 in omega arith) refl);
-      written = refl;
-    })
+    let terms = firsts (term_at n) 0 k in (
+      page_text (name_at (names_of ds)) terms more,
+      record {
+        terms = terms;
+        more = more;
+        page = omega_page ds (request max take) terms more (front n max take m.0 m.1 k more (omega arith) (omega arith) (λ l. omega arith) (let p = t.0 in omega arith) refl);
+        written = refl;
+      },
+    )
 
 -- each line after the repository has a reply
 pub reply_exists : (ds : List Declaration) (line : List ℕ) → (text : List ℕ) × Reply ds line text
@@ -78,9 +81,14 @@ pub IsRefused-append : (lines more : List (List ℕ)) (text : List ℕ) → IsRe
 IsRefused-append lines more text r = record {
   place = r.place;
   fault = (let f = r.fault in record {
-    before = f.before; line = f.line; after = f.after ++ more;
+    before = f.before;
+    line = f.line;
+    after = f.after ++ more;
     split = ap (λ (xs : List (List ℕ)). xs ++ more) f.split ∙ append_assoc f.before (f.line ∷ f.after) more;
-    number = f.number; so_far = f.so_far; no_end = f.no_end; no_entry = f.no_entry;
+    number = f.number;
+    so_far = f.so_far;
+    no_end = f.no_end;
+    no_entry = f.no_entry;
   });
   written = r.written;
 }
@@ -100,10 +108,10 @@ reads_on ds lines (line ∷ more) r =
       | grows cs q ↦ subst (λ (xs : List (List ℕ)). Goes xs []) joined (reads_on cs (lines ++ line ∷ []) more q)
       | ends e ↦ (let on = answers_on ds (lines ++ line ∷ []) more [] (IsAnswered-end lines line ds r e) in subst (λ (xs : List (List ℕ)). Goes xs []) joined (stands on.0 (answering ds on.1)))
       | fails f n ↦ refused (refusal (length lines + 1)) record {
-          place = length lines + 1;
-          fault = record { before = lines; line = line; after = more; split = refl; number = refl; so_far = (ds, r); no_end = n; no_entry = IsRepository-none lines line ds r f };
-          written = refl;
-        }
+        place = length lines + 1;
+        fault = record { before = lines; line = line; after = more; split = refl; number = refl; so_far = (ds, r); no_end = n; no_entry = IsRepository-none lines line ds r f };
+        written = refl;
+      }
     ]
 
 -- what was written goes on to what is written for all lines

@@ -16,4 +16,4 @@ pub returns-in_err-answer_line-in-Some-clause-comes : goal.returns-in_err-answer
 returns-in_err-answer_line-in-Some-clause-comes g c =
     let p = err_from_is_err_and c.from_residual.result c.from_residual.ensures.1 in
     rw (p.1, p.2) (stops_last c.in-Some.line c.args.reader c.in-Some.ensures.lines (g.K.Sink.held c.args.sink.now) (g.K.Sink.held c.answer_line.new.sink) (g.K.Sink.room c.args.sink.now) (g.K.Sink.room c.answer_line.new.sink) c.args.session.now
-        _ c.answer_line.new.session _ c.in_err-answer_line-in-Some.ensures.comes)
+    _ c.answer_line.new.session _ c.in_err-answer_line-in-Some.ensures.comes)

@@ -26,8 +26,8 @@ returns-in_err-answer_line-clause-comes g c =
     let cut = rw c.in-Some.is at c.in_ok-line.ensures.line in
     let p = err_from_is_err_and c.from_residual-in_err-answer_line.result c.from_residual-in_err-answer_line.ensures.1 in
     rw (p.1, p.2) (stops_more (g.K.Sink.held c.args.sink.now) (g.K.Sink.held c.lines.sink) (g.K.Sink.held c.answer_line.new.sink) (g.K.Sink.room c.args.sink.now) (g.K.Sink.room c.lines.sink) (g.K.Sink.room c.answer_line.new.sink)
-        c.args.session.now c.lines.session c.answer_line.new.session (c.args.reader.now ++ c.args.piece.now) (c.lines.reader ++ c.lines.rest.now) c.in-Some.line c.in_ok-line.after.now c.lines.invariant.answered cut
-        _ c.take.new.self _ c.in_err-answer_line.ensures.comes)
+    c.args.session.now c.lines.session c.answer_line.new.session (c.args.reader.now ++ c.args.piece.now) (c.lines.reader ++ c.lines.rest.now) c.in-Some.line c.in_ok-line.after.now c.lines.invariant.answered cut
+    _ c.take.new.self _ c.in_err-answer_line.ensures.comes)
 
 pub lines-preserved : goal.lines-preserved
 lines-preserved g c =
