@@ -1,5 +1,5 @@
 -- What a line is can be told.
-use Rattle.std.proofs.Common.{◌≡◌, ◌≢◌, ℕ, zero, suc, ◌+◌, ◌<◌, ◌≤◌, List, [], ◌∷◌, ◌++◌, length, map, refl, sym, ap, ◌∙◌, subst, inl, inr, arith, Bool, true, false}
+use Rattle.std.proofs.Common.{◌≡◌, ℕ, zero, suc, ◌≤◌, List, [], ◌∷◌, length, refl, sym, ap, ◌∙◌, subst, inl, inr, arith, Bool, true, false}
 use Rattle.std.specs.Prelude.{◌⊎◌, Contains, codes, bytes_eq, IsTrue, IsUtf8}
 use Rattle.std.specs.Cmp.Lexicographic.{same_text}
 use Rattle.std.specs.Str.{is_utf8}
@@ -17,6 +17,7 @@ use Rattle.cls_session.specs.Forms.{IsRead, IsDeclaration, IsEnd, IsListing, dec
 abbrev pub Decided : Type 0 → Type 0
 Decided P = P ⊎ (P → ⊥)
 
+-- texts that are found equal are the same
 pub same_bytes : (xs ys : List ℕ) → bytes_eq xs ys ≡ true → xs ≡ ys
 same_bytes xs ys e = same_text xs ys (sym e)
 
@@ -24,6 +25,7 @@ pub bytes_eq-refl : (xs : List ℕ) → bytes_eq xs xs ≡ true
 bytes_eq-refl [] = refl
 bytes_eq-refl (x ∷ xs) = let h = bytes_eq-refl xs in grind (arith, nat_tests)
 
+-- whether two texts are the same
 pub text_decided : (xs ys : List ℕ) → Decided (xs ≡ ys)
 text_decided xs ys =
     elim (bytes_eq xs ys) as (λ v. bytes_eq xs ys ≡ v → Decided (xs ≡ ys)) [
@@ -90,6 +92,7 @@ true_decided false = inr (λ h. cc)
 is_text_decided : (line : List ℕ) → Decided (IsText line)
 is_text_decided line = both_decided (at_most_decided (length line) 65536) (utf8_decided line)
 
+-- whether a line is skipped
 pub skipped_decided : (line : List ℕ) → Decided (IsSkipped line)
 skipped_decided line = both_decided (is_text_decided line) (true_decided (says_nothing line))
 
@@ -100,6 +103,7 @@ read_decided line =
       | inl t ↦ elim (skipped_decided line) [ inl s ↦ inr (λ r. r.unskipped s) | inr n ↦ inl record { text = t; unskipped = n } ]
     ]
 
+-- whether a line ends the repository
 pub is_end_decided : (line : List ℕ) → Decided (IsEnd line)
 is_end_decided line =
     elim (read_decided line) [
@@ -107,6 +111,7 @@ is_end_decided line =
       | inl r ↦ elim (end_decided (words_of line)) [ inr n ↦ inr (λ e. n e.words) | inl w ↦ inl record { read = r; words = w } ]
     ]
 
+-- whether a line declares a component
 pub is_declaration_decided : (line : List ℕ) → Decided ((d : Declaration) × IsDeclaration line d)
 is_declaration_decided line =
     elim (read_decided line) [
@@ -122,6 +127,7 @@ is_declaration_decided line =
       ]
     ]
 
+-- whether a line asks for a listing
 pub is_listing_decided : (line : List ℕ) → Decided ((max take : ℕ) × IsListing line max take)
 is_listing_decided line =
     elim (read_decided line) [
@@ -132,9 +138,9 @@ is_listing_decided line =
             let max = number_value w.0 in
             let take = number_value w.1 in
             let same : (m k : ℕ) → IsListing line m k → (m ≡ max) × (k ≡ take) = λ m k q. (let e = sym q.words ∙ w.2 in
-                let a : q.max_digits ≡ w.0 = cc in
-                let b : q.take_digits ≡ w.1 = cc in
-                (sym q.max_value ∙ ap number_value a, sym q.take_value ∙ ap number_value b)) in
+            let a : q.max_digits ≡ w.0 = cc in
+            let b : q.take_digits ≡ w.1 = cc in
+            (sym q.max_value ∙ ap number_value a, sym q.take_value ∙ ap number_value b)) in
             elim (both_decided (both_decided (at_most_decided 1 max) (at_most_decided max 2)) (both_decided (at_most_decided 1 take) (at_most_decided take 10000))) [
               | inl b ↦ inl (max, take, record { max_digits = w.0; take_digits = w.1; read = r; words = w.2; max_value = refl; take_value = refl; max_within = b.0; take_within = b.1 })
               | inr n ↦ inr (λ p. n (let e = same p.0 p.1 p.2 in let a = p.2.max_within in let b = p.2.take_within in ((omega arith, omega arith), (omega arith, omega arith))))
@@ -146,6 +152,7 @@ contains_cases : (x y : List ℕ) (xs : List (List ℕ)) → Contains (x ∷ xs)
 contains_cases x y xs (zero, l, e) = inl e
 contains_cases x y xs (suc k, l, e) = inr (k, omega arith, e)
 
+-- whether a text stands in a list
 pub contains_decided : (xs : List (List ℕ)) (y : List ℕ) → Decided (Contains xs y)
 contains_decided [] y = inr (λ c. let l = c.1 in absurd (omega arith))
 contains_decided (x ∷ xs) y =

@@ -1,25 +1,11 @@
 -- A page is the front of all due terms in their order.
-use Rattle.std.proofs.Common.{◌≡◌, ℕ, zero, suc, ◌+◌, ◌-◌, ◌<◌, ◌≤◌, Bool, true, false, List, [], ◌∷◌, ◌++◌, length, refl, sym, ap, ◌∙◌, subst, inl, inr, arith, append_assoc, append-nil}
-use Rattle.std.specs.Prelude.{◌⊎◌, Contains, ◌↔◌, IsTrue, nat_lt, slice_index_or}
+use Rattle.std.proofs.Common.{◌≡◌, ℕ, zero, suc, ◌+◌, ◌-◌, ◌<◌, ◌≤◌, Bool, List, [], ◌∷◌, ◌++◌, length, refl, sym, ap, ◌∙◌, subst, inl, inr, arith, append_assoc, append-nil}
+use Rattle.std.specs.Prelude.{◌⊎◌, Contains, nat_lt, slice_index_or}
 use Rattle.std.proofs.lemmas.Bool.Decides.{nat_tests}
 use Rattle.std.proofs.lemmas.Bool.{cases_lt}
-use Rattle.cls_base.specs.Terms.{Applicative, size_of, code_of, Precedes, Before}
+use Rattle.cls_base.specs.Terms.{Applicative, Before}
 use Rattle.cls_base.specs.Pages.{Request, IsDue, Rises, AfterLast, IsPage}
-
-Precedes-asym : (xs ys : List ℕ) → Precedes xs ys → Precedes ys xs → ⊥
-Precedes-asym [] [] p q = absurd p
-Precedes-asym (x ∷ xs) [] p q = absurd p
-Precedes-asym [] (y ∷ ys) p q = absurd q
-Precedes-asym (x ∷ xs) (y ∷ ys) (inl p) (inl q) = absurd (omega arith)
-Precedes-asym (x ∷ xs) (y ∷ ys) (inl p) (inr q) = let e = q.0 in absurd (omega arith)
-Precedes-asym (x ∷ xs) (y ∷ ys) (inr p) (inl q) = let e = p.0 in absurd (omega arith)
-Precedes-asym (x ∷ xs) (y ∷ ys) (inr p) (inr q) = Precedes-asym xs ys p.1 q.1
-
-pub Before-asym : (cost : ℕ → ℕ) (e f : Applicative) → Before cost e f → Before cost f e → ⊥
-Before-asym cost e f (inl p) (inl q) = absurd (omega arith)
-Before-asym cost e f (inl p) (inr q) = let s = q.0 in absurd (omega arith)
-Before-asym cost e f (inr p) (inl q) = let s = p.0 in absurd (omega arith)
-Before-asym cost e f (inr p) (inr q) = Precedes-asym (code_of e) (code_of f) p.1 q.1
+use Rattle.cls_term.proofs.Orders.{Before-irrefl, Before-asym}
 
 -- f i, f (i + 1) and so on, n of them
 abbrev pub firsts : (ℕ → Applicative) → ℕ → ℕ → List Applicative
@@ -30,6 +16,7 @@ pub length-firsts : (f : ℕ → Applicative) (i n : ℕ) → length (firsts f i
 length-firsts f i zero = refl
 length-firsts f i (suc n) = ap suc (length-firsts f (i + 1) n)
 
+-- the element at a place
 pub at-firsts : (f : ℕ → Applicative) (i n k : ℕ) (d : Applicative) → k < n → slice_index_or (firsts f i n) k d ≡ f (i + k)
 at-firsts f i zero k d h = absurd (omega arith)
 at-firsts f i (suc n) zero d h = ap f (omega arith)
@@ -44,15 +31,16 @@ firsts-step f es fs e i n all l is grown h =
     let begun : es ++ (f i ∷ firsts f (i + 1) k) ≡ all = subst (λ m. es ++ firsts f i m ≡ all) one h in
     ap (λ (x : List Applicative). x ++ firsts f (i + 1) k) (grown ∙ ap (λ (x : Applicative). es ++ x ∷ []) is) ∙ (append_assoc es (f i ∷ []) (firsts f (i + 1) k) ∙ begun)
 
+-- a list that holds all of them
 pub firsts-none : (f : ℕ → Applicative) (es : List Applicative) (i n : ℕ) (all : List Applicative) → n ≤ i → es ++ firsts f i (n - i) ≡ all → es ≡ all
 firsts-none f es i n all l h =
     let none : n - i ≡ 0 = omega arith in
     sym (append-nil es) ∙ subst (λ m. es ++ firsts f i m ≡ all) none h
 
 module _ (Has : Applicative → Type 0) (r : Request) (f : ℕ → Applicative) (all : ℕ)
-  (rise : (i j : ℕ) → i < j → j < all → Before r.cost (f i) (f j))
-  (due : (i : ℕ) → i < all → IsDue Has r (f i))
-  (whole : (e : Applicative) → IsDue Has r e → (i : ℕ) × (i < all) × (f i ≡ e)) where
+    (rise : (i j : ℕ) → i < j → j < all → Before r.cost (f i) (f j))
+    (due : (i : ℕ) → i < all → IsDue Has r (f i))
+    (whole : (e : Applicative) → IsDue Has r e → (i : ℕ) × (i < all) × (f i ≡ e)) where
   rises : (i n : ℕ) → i + n ≤ all → Rises r.cost (firsts f i n)
   rises i zero h = tt
   rises i (suc zero) h = tt
@@ -98,7 +86,7 @@ module _ (Has : Applicative → Type 0) (r : Request) (f : ℕ → Applicative) 
         | inl l ↦ omega (arith, w.1)
         | inr g ↦ elim (cases_lt w.0 n) [
           | inl l ↦ absurd (Before-asym r.cost (f n) (f w.0) c (rise w.0 n l (omega arith)))
-          | inr m ↦ let same : w.0 ≡ n = omega arith in let s : Before r.cost (f n) (f n) = subst (λ (k : ℕ). Before r.cost (f n) (f k)) same c in absurd (Before-asym r.cost (f n) (f n) s s)
+          | inr m ↦ let same : w.0 ≡ n = omega arith in let s : Before r.cost (f n) (f n) = subst (λ (k : ℕ). Before r.cost (f n) (f k)) same c in absurd (Before-irrefl r.cost (f n) s)
         ]
       ]
 
@@ -114,4 +102,3 @@ module _ (Has : Applicative → Type 0) (r : Request) (f : ℕ → Applicative) 
         at_most = (let l = length-firsts f 0 n in omega arith);
         full = λ m. length-firsts f 0 n ∙ full (let m' = m in grind (arith, nat_tests));
       }
-

@@ -1,20 +1,19 @@
 -- How the input is answered while it comes.
-use Rattle.std.proofs.Common.{◌≡◌, ℕ, zero, suc, Bool, true, false, length-take-le, ◌+◌, ◌-◌, ◌<◌, ◌≤◌, List, [], ◌∷◌, ◌++◌, length, take, drop, refl, sym, ap, ◌∙◌, subst, inl, inr, arith, append_assoc, append-nil, length-append, take-append-drop}
+use Rattle.std.proofs.Common.{◌≡◌, ℕ, zero, suc, true, false, length-take-le, ◌+◌, ◌<◌, ◌≤◌, List, [], ◌∷◌, ◌++◌, length, take, drop, refl, sym, ap, ◌∙◌, subst, inl, inr, arith, append_assoc, append-nil, length-append, take-append-drop}
 use Rattle.std.specs.Prelude.{◌⊎◌, ◌==◌, Option, None, Some, Err}
 use Rattle.std.proofs.lemmas.Bool.Decides.{nat_tests}
 use Rattle.std.specs.Io.KnownBytes.{Consumes, IsAtEnd}
-use Rattle.std.proofs.KnownBytes.{Appends-nil, Appends-trans}
-use Rattle.cls_base.specs.Outside.{Holds}
+use Rattle.std.proofs.KnownBytes.{Appends-trans}
 use Rattle.cls_syntax.specs.Lines.{HasNoFeed, lines_of}
 use Rattle.cls_session.specs.declared.driver.Stop.{Stop}
 use Rattle.cls_session.specs.declared.driver.Stop.TheVariants as stops
 use Rattle.cls_session.specs.declared.status.Status.{Status}
 use Rattle.cls_session.specs.declared.status.Status.TheVariants as status
-use Rattle.cls_session.specs.Driving.{CutsLines, Writes, IsWritten, FitsLines, FitsLast, AnswersLines, RefusesLines, RefusesLast, EndsOutput, Comes}
+use Rattle.cls_session.specs.Driving.{CutsLines, Writes, FitsLines, FitsLast, AnswersLines, RefusesLines, RefusesLast, EndsOutput, Comes}
 use Rattle.cls_session.specs.Outputs.{Output, IsWhole, Answers, HasRoom}
 use Rattle.cls_session.specs.Standings.{Standing, Stands}
 use Rattle.cls_session.specs.Stops.{status_of}
-use Rattle.cls_session.specs.Transcripts.{Transcript, IsRefused, Ending, without_end, complete}
+use Rattle.cls_session.specs.Transcripts.{IsRefused, Ending, without_end, complete}
 use Rattle.cls_session.proofs.Driving.{CutsLines-trans}
 use Rattle.cls_session.proofs.Outputs.{Begins, IsWholly, CutsLines-append, told, room_left, output_goes_on, output_refused, output_refused_last, output_ended, output_too_long}
 use Rattle.cls_session.proofs.Standings.{Stands-transcript}
@@ -63,10 +62,15 @@ none_read left held room session reader s e = record { bytes = []; lines = []; w
 pub none_more : (left left' left'' held held' : Option (List ℕ)) (room room' : Option ℕ) (session : Standing) (reader : List ℕ) (taken : ℕ) (count : ℕ) (buffer : List ℕ)
     → IsUnderWay left left' held held' room room' session reader taken → count ≡ 0 → Consumes left' left'' (take count buffer) → IsUnderWay left left'' held held' room room' session reader taken
 none_more left left' left'' held held' room room' session reader taken count buffer u none consumes = record {
-  bytes = u.bytes; lines = u.lines; written = u.written; count = u.count;
+  bytes = u.bytes;
+  lines = u.lines;
+  written = u.written;
+  count = u.count;
   consumes = subst (λ (x : List ℕ). Consumes left left'' x) (append-nil u.bytes)
       (Consumes-trans left left' left'' u.bytes [] u.consumes (subst (λ k. Consumes left' left'' (take k buffer)) none consumes));
-  cuts = u.cuts; stands = u.stands; writes = u.writes;
+  cuts = u.cuts;
+  stands = u.stands;
+  writes = u.writes;
 }
 
 -- What was read is cut into a piece and bytes that are too many.
@@ -74,12 +78,14 @@ module _ (buffer piece over : List ℕ) (count place : ℕ) (front : piece ≡ t
   joined : piece ++ over ≡ take count buffer
   joined = (λ i. front i ++ back i) ∙ take-append-drop place (take count buffer)
 
+  -- the piece and what is over are the bytes that were taken from the source
   pub cut_consumes : (a b : Option (List ℕ)) → Consumes a b (take count buffer) → Consumes a b (piece ++ over)
   cut_consumes a b h = subst (λ (x : List ℕ). Consumes a b x) (sym joined) h
 
   pub cut_lengths : count ≤ length buffer → length piece + length over ≡ count
   cut_lengths h = sym (length-append piece over) ∙ (ap length joined ∙ length-take-le count buffer h)
 
+-- a length that isn't 0
 pub some_over : (n : ℕ) → false ≡ (n == 0) → 0 < n
 some_over zero e = false_differs e
   where
@@ -90,12 +96,13 @@ some_over (suc n) e = omega arith
 is_none : (n : ℕ) → true ≡ (n == 0) → n ≡ 0
 is_none n e = grind (arith, nat_tests)
 
+-- a text of length 0 is empty
 pub none_over : (over : List ℕ) → true ≡ (length over == 0) → over ≡ []
 none_over [] e = refl
 none_over (x ∷ over) e = absurd (let n = is_none (length (x ∷ over)) e in omega arith)
 
 -- where a run stops early, only a refusal is whole
-pub stopped : (A : Type 0) (stop : Stop) (end : Status) (Well : A → Type 0) (Refuses : Type 0) (Claim : Status → Type 0)
+stopped : (A : Type 0) (stop : Stop) (end : Status) (Well : A → Type 0) (Refuses : Type 0) (Claim : Status → Type 0)
     → Comes {A = A} (Err stop) Well Refuses → end ≡ status_of stop → (Refuses → Claim status.Refused) → IsWhole end → Claim end
 stopped A stops.Refused end Well Refuses Claim c e f w = subst Claim (sym e) (f c)
 stopped A stops.WriteFault end Well Refuses Claim c e f w = absurd (subst IsWhole e w)
@@ -124,8 +131,7 @@ Ending-status lines text end (without_end ds r t s) = inr s
 Ending-status lines text end (complete ds a s) = inl s
 
 module _ (left left' held held' : Option (List ℕ)) (room room' : Option ℕ) (session : Standing) (reader : List ℕ) (taken : ℕ)
-  (u : IsUnderWay left left' held held' room room' session reader taken) where
-
+    (u : IsUnderWay left left' held held' room room' session reader taken) where
   -- The end of the input was reached.
   module _ (short : taken ≤ 1048576) (at_end : IsAtEnd left') where
     wholly : (bytes : List ℕ) → left ≡ Some bytes → IsWholly (Some bytes) u.bytes
@@ -143,21 +149,32 @@ module _ (left left' held held' : Option (List ℕ)) (room room' : Option ℕ) (
     without_more : (reply bytes : List ℕ) (end : Status) → Output [] bytes (u.written ++ reply) end → (more : List ℕ) × (end : Status) × Output [] bytes ((u.written ++ reply) ++ more) end
     without_more reply bytes end o = ([], end, subst (λ (x : List ℕ). Output [] bytes x end) (sym (append-nil (u.written ++ reply))) o)
 
+    -- the room is enough for what ends the output
     pub last_has_room : HasRoom [] left room → FitsLast room' session reader
-    last_has_room h = (u.lines, u.written, u.stands,
-        λ reply r. room_left left room room' u.written reply h u.writes.1 (λ bytes e. without_more reply bytes status.Refused (refused_output reply bytes e r)),
-        λ reply end r. room_left left room room' u.written reply h u.writes.1 (λ bytes e. without_more reply bytes end (ended_output reply end bytes e r)))
+    last_has_room h = (
+      u.lines,
+      u.written,
+      u.stands,
+      λ reply r. room_left left room room' u.written reply h u.writes.1 (λ bytes e. without_more reply bytes status.Refused (refused_output reply bytes e r)),
+      λ reply end r. room_left left room room' u.written reply h u.writes.1 (λ bytes e. without_more reply bytes end (ended_output reply end bytes e r)),
+    )
 
     module _ (held'' : Option (List ℕ)) (room'' : Option ℕ) where
+      -- where the last line is answered the output is complete
       pub answers_end : (end : Status) → EndsOutput held' held'' room' room'' session reader end → Answers [] left held held'' end
       answers_end end h =
           let (reply, ends, writes) = h u.lines u.written u.stands in
           told left held held'' (u.written ++ reply) end (Appends-trans held held' held'' u.written reply u.writes.0 writes.0) (λ bytes e. ended_output reply end bytes e ends)
 
-      pub answers_last_refused : RefusesLast held' held'' room' room'' session reader → Answers [] left held held'' status.Refused
+      answers_last_refused : RefusesLast held' held'' room' room'' session reader → Answers [] left held held'' status.Refused
       answers_last_refused h =
           let (reply, refused, writes) = h u.lines u.written u.stands in
           told left held held'' (u.written ++ reply) status.Refused (Appends-trans held held' held'' u.written reply u.writes.0 writes.0) (λ bytes e. refused_output reply bytes e refused)
+
+      -- where the last line stops the run, what was written is an output if anything was refused
+      pub answers_last_stopped : (stop : Stop) (end : Status) → Comes {A = Status} (Err stop) (EndsOutput held' held'' room' room'' session reader) (RefusesLast held' held'' room' room'' session reader)
+          → end ≡ status_of stop → IsWhole end → Answers [] left held held'' end
+      answers_last_stopped stop end comes e = stopped Status stop end (EndsOutput held' held'' room' room'' session reader) (RefusesLast held' held'' room' room'' session reader) (λ x. Answers [] left held held'' x) comes e answers_last_refused
 
   pub end_status : (held'' : Option (List ℕ)) (room'' : Option ℕ) (end : Status) → EndsOutput held' held'' room' room'' session reader end → IsEndStatus end
   end_status held'' room'' end h =
@@ -181,30 +198,47 @@ module _ (left left' held held' : Option (List ℕ)) (room room' : Option ℕ) (
     cuts_on : (more : List (List ℕ)) (rest : List ℕ) → CutsLines (reader ++ piece) more rest → CutsLines (u.bytes ++ piece) (u.lines ++ more) rest
     cuts_on more rest cs = CutsLines-trans (u.bytes ++ piece) (reader ++ piece) rest u.lines more (CutsLines-append u.bytes reader piece u.lines u.cuts) cs
 
+    -- the room is enough for the replies to the lines of the piece
     pub piece_has_room : HasRoom [] left room → FitsLines room' session (reader ++ piece)
-    piece_has_room h = (u.lines, u.written, u.stands, λ more rest reply cs w.
-        room_left left room room' u.written reply h u.writes.1 (λ bytes e. output_goes_on (u.bytes ++ piece) rest (u.written ++ reply) (u.lines ++ more) (cuts_on more rest cs) few_bytes bytes (begins bytes e) w))
+    piece_has_room h = (
+      u.lines,
+      u.written,
+      u.stands,
+      λ more rest reply cs w.
+          room_left left room room' u.written reply h u.writes.1 (λ bytes e. output_goes_on (u.bytes ++ piece) rest (u.written ++ reply) (u.lines ++ more) (cuts_on more rest cs) few_bytes bytes (begins bytes e) w),
+    )
 
     module _ (held'' : Option (List ℕ)) (room'' : Option ℕ) where
-      pub answers_refused : RefusesLines held' held'' room' room'' session (reader ++ piece) → Answers [] left held held'' status.Refused
+      answers_refused : RefusesLines held' held'' room' room'' session (reader ++ piece) → Answers [] left held held'' status.Refused
       answers_refused h =
           let (more, rest, reply, cs, refused, writes) = h u.lines u.written u.stands in
           told left held held'' (u.written ++ reply) status.Refused (Appends-trans held held' held'' u.written reply u.writes.0 writes.0)
-              (λ bytes e. output_refused (u.bytes ++ piece) rest (u.written ++ reply) (u.lines ++ more) (cuts_on more rest cs) few_bytes bytes (begins bytes e) refused)
+          (λ bytes e. output_refused (u.bytes ++ piece) rest (u.written ++ reply) (u.lines ++ more) (cuts_on more rest cs) few_bytes bytes (begins bytes e) refused)
+
+      -- where a line of the piece stops the run, what was written is an output if anything was refused
+      pub answers_stopped : (A : Type 0) (session' : Standing) (reader' : List ℕ) (stop : Stop) (end : Status)
+          → Comes {A = A} (Err stop) (λ _. AnswersLines held' held'' room' room'' session session' (reader ++ piece) reader') (RefusesLines held' held'' room' room'' session (reader ++ piece))
+          → end ≡ status_of stop → IsWhole end → Answers [] left held held'' end
+      answers_stopped A session' reader' stop end comes e = stopped A stop end (λ _. AnswersLines held' held'' room' room'' session session' (reader ++ piece) reader') (RefusesLines held' held'' room' room'' session (reader ++ piece))
+          (λ x. Answers [] left held held'' x) comes e answers_refused
 
       module _ (session' : Standing) (reader' : List ℕ) (answers : AnswersLines held' held'' room' room'' session session' (reader ++ piece) reader') where
+        -- where bytes are too many, the replies to the lines that count are an output
         pub answers_too_long : HasNoFeed reader' → taken + length piece ≡ 1048576 → 0 < length over → Answers [] left held held'' status.TooLong
         answers_too_long free full some =
             let (more, reply, cs, next, writes) = answers u.lines u.written u.stands in
             let all : length (u.bytes ++ piece) ≡ 1048576 = (let k = u.count in let a = length-append u.bytes piece in omega arith) in
             told left held held'' (u.written ++ reply) status.TooLong (Appends-trans held held' held'' u.written reply u.writes.0 writes.0)
-                (λ bytes e. output_too_long (u.bytes ++ piece) reader' (u.written ++ reply) (u.lines ++ more) (cuts_on more reader' cs) few_bytes bytes over (begins_over bytes e) all some free (Stands-transcript (u.lines ++ more) (u.written ++ reply) session' next))
+            (λ bytes e. output_too_long (u.bytes ++ piece) reader' (u.written ++ reply) (u.lines ++ more) (cuts_on more reader' cs) few_bytes bytes over (begins_over bytes e) all some free (Stands-transcript (u.lines ++ more) (u.written ++ reply) session' next))
 
+        -- where none is too many, the run goes on
         pub piece_answered : over ≡ [] → IsUnderWay left left'' held held'' room room'' session' reader' (taken + length piece)
         piece_answered none =
             let (more, reply, cs, next, writes) = answers u.lines u.written u.stands in
             record {
-              bytes = u.bytes ++ piece; lines = u.lines ++ more; written = u.written ++ reply;
+              bytes = u.bytes ++ piece;
+              lines = u.lines ++ more;
+              written = u.written ++ reply;
               count = (let k = u.count in let a = length-append u.bytes piece in omega arith);
               consumes = subst (λ (x : List ℕ). Consumes left left'' x) (ap (λ (x : List ℕ). (u.bytes ++ piece) ++ x) none ∙ append-nil (u.bytes ++ piece)) read;
               cuts = cuts_on more reader' cs;

@@ -1,6 +1,6 @@
 -- What a line is, from what its words are.
-use Rattle.std.proofs.Common.{◌≡◌, ◌≢◌, ℕ, ◌≤◌, List, [], ◌∷◌, refl, sym, ap, ◌∙◌, subst, inl, inr, arith, Bool, true, false}
-use Rattle.std.specs.Prelude.{◌⊎◌, Option, Some, None, codes, bytes_eq, not, is_some, unwrap_or, IsTrue, ◌↔◌, Result, Ok, IsOk}
+use Rattle.std.proofs.Common.{◌≡◌, ◌≢◌, ℕ, ◌≤◌, List, refl, sym, ap, ◌∙◌, subst, arith, Bool, true, false}
+use Rattle.std.specs.Prelude.{Option, Some, None, codes, bytes_eq, not, is_some, unwrap_or, IsTrue, ◌↔◌}
 use Rattle.std.specs.Option.{SomeIff}
 use Rattle.cls_syntax.specs.Numerals.{number_value}
 use Rattle.cls_syntax.specs.Skipped.{IsText, IsSkipped}
@@ -10,11 +10,11 @@ use Rattle.cls_session.specs.declared.forms.RepositoryLine.TheVariants as reposi
 use Rattle.cls_session.specs.declared.forms.QueryLine.{QueryLine}
 use Rattle.cls_session.specs.declared.forms.QueryLine.TheVariants as query
 use Rattle.cls_session.specs.Declarations.{Declaration}
-use Rattle.cls_session.specs.Forms.{declaration_words, end_words, listing_words, IsDeclaration, IsEnd, IsListing, IsRead}
+use Rattle.cls_session.specs.Forms.{declaration_words, end_words, listing_words, IsRead}
 use Rattle.cls_session.specs.Lines.{IsFree, IsWithin, IsRepositoryForm, IsQueryForm, IsRepositoryLine, IsQueryLine}
 use Rattle.cls_session.specs.Readings.{declaration_at, listing_at}
 use Rattle.cls_session.proofs.Decisions.{same_bytes, bytes_eq-refl}
-use Rattle.cls_session.proofs.Readings.{declaration_read, declaration_reads, listing_read, listing_reads}
+use Rattle.cls_session.proofs.Readings.{declaration_reads, listing_read, listing_reads}
 
 none_some : {A : Type 0} (x : A) → ◌≡◌ {A = Option A} None (Some x) → ⊥
 none_some x e = let p = ap is_some e in absurd (cc)
@@ -37,6 +37,7 @@ not_false : (b : Bool) → not b ≡ false → b ≡ true
 not_false true e = refl
 not_false false e = cc
 
+-- what comparing two texts for being different says
 pub differs : (answer : Bool) (xs word : List ℕ) → answer ≡ not (bytes_eq xs word) → answer ≡ true → xs ≢ word
 differs answer xs word e t = λ p.
     let f : bytes_eq xs word ≡ false = not_true (bytes_eq xs word) (sym e ∙ t) in
@@ -57,6 +58,7 @@ module _ (ws : List Word) (component type : List ℕ) (read : declaration_at ws 
   pub reserved_type : type ≡ codes "omega" → (d : Declaration) → ws ≡ declaration_words d → IsFree d → ⊥
   reserved_type p d e f = f.1 (sym (other_declaration d e).1 ∙ p)
 
+-- what wasn't read isn't there
 pub no_declaration : (ws : List Word) → declaration_at ws ≡ None → (d : Declaration) → ws ≡ declaration_words d → IsFree d → ⊥
 no_declaration ws n d e f = none_some (d.component, d.type) (sym n ∙ declaration_reads ws d e)
 
@@ -67,15 +69,18 @@ pub no_listing : (ws : List Word) → listing_at ws ≡ None → (m k : List ℕ
 no_listing ws n m k e = none_some (m, k) (sym n ∙ listing_reads ws m k e)
 
 module _ (ws : List Word) (max take : List ℕ) (read : listing_at ws ≡ Some (max, take)) where
+  -- the numbers of a listing are those that were read
   pub other_listing : (m k : List ℕ) → ws ≡ listing_words m k → (max ≡ m) × (take ≡ k)
   other_listing m k e = pair_same max take m k (sym read ∙ listing_reads ws m k e)
 
+  -- a number that isn't within its limits makes no listing
   pub wide_max : ((1 ≤ number_value max) × (number_value max ≤ 2) → ⊥) → (m k : List ℕ) → ws ≡ listing_words m k → IsWithin (number_value m) (number_value k) → ⊥
   wide_max n m k e w = n (subst (λ (x : List ℕ). (1 ≤ number_value x) × (number_value x ≤ 2)) (sym (other_listing m k e).0) w.0)
 
   pub wide_take : ((1 ≤ number_value take) × (number_value take ≤ 10000) → ⊥) → (m k : List ℕ) → ws ≡ listing_words m k → IsWithin (number_value m) (number_value k) → ⊥
   wide_take n m k e w = n (subst (λ (x : List ℕ). (1 ≤ number_value x) × (number_value x ≤ 10000)) (sym (other_listing m k e).1) w.1)
 
+  -- two numbers within their limits make one
   pub within_both : (m k : ℕ) → ((1 ≤ number_value max) × (number_value max ≤ 2)) × (number_value max ≡ m) → ((1 ≤ number_value take) × (number_value take ≤ 10000)) × (number_value take ≡ k)
       → (a b : List ℕ) × (ws ≡ listing_words a b) × (number_value a ≡ m) × (number_value b ≡ k) × IsWithin m k
   within_both m k p q = (max, take, listing_read ws max take read, p.1, q.1, (let a = p.0 in let b = q.0 in let e = p.1 in let f = q.1 in ((omega arith, omega arith), (omega arith, omega arith))))
@@ -95,9 +100,13 @@ module _ (line : List ℕ) (ws : List Word) (is : ws ≡ words_of line) (text : 
   pub query_line : (q : QueryLine) → IsQueryForm ws q → IsQueryLine line q
   query_line query.Skipped f = absurd f
   query_line (query.Listing max take) (m, k, w, a, b, within) = record { max_digits = m; take_digits = k; read = read; words = sym is ∙ w; max_value = a; take_value = b; max_within = within.0; take_within = within.1 }
-  query_line query.Unbuilt n = (unskipped, λ max take q. n q.max_digits q.take_digits (is ∙ q.words)
-      (let a = q.max_within in let b = q.take_within in let c = q.max_value in let d = q.take_value in ((omega arith, omega arith), (omega arith, omega arith))))
+  query_line query.Unbuilt n = (
+    unskipped,
+    λ max take q. n q.max_digits q.take_digits (is ∙ q.words)
+        (let a = q.max_within in let b = q.take_within in let c = q.max_value in let d = q.take_value in ((omega arith, omega arith), (omega arith, omega arith))),
+  )
 
+-- the answer that the line isn't skipped
 pub unskipped : (answer : Bool) (line : List ℕ) → IsTrue answer ↔ IsSkipped line → answer ≡ false → IsSkipped line → ⊥
 unskipped answer line h f s = let t = h.1 s in absurd (cc)
 
@@ -106,6 +115,7 @@ pub within : (r : Option ℕ) (n value low high : ℕ) → SomeIff r ((low ≤ v
 within None n value low high s e = absurd (none_some n e)
 within (Some m) n value low high s e = (s.0, sym s.1 ∙ some_same m n e)
 
+-- no number came, so it isn't within its limits
 pub not_within : (r : Option ℕ) (value low high : ℕ) → SomeIff r ((low ≤ value) × (value ≤ high)) value → r ≡ None → (low ≤ value) × (value ≤ high) → ⊥
 not_within None value low high s e w = s w
 not_within (Some m) value low high s e w = none_some m (sym e)

@@ -1,25 +1,18 @@
 -- The terms of size 1 and 2 in their order.
-use Rattle.std.proofs.Common.{◌≡◌, ℕ, zero, suc, ◌+◌, ◌-◌, ◌*◌, ◌/◌, ◌%◌, ◌<◌, ◌≤◌, Bool, true, false, List, [], ◌∷◌, refl, sym, ap, ◌∙◌, subst, inl, inr, arith}
-use Rattle.std.specs.Prelude.{◌⊎◌, nat_lt, None, if◌then◌else◌}
+use Rattle.std.proofs.Common.{◌≡◌, ℕ, zero, suc, ◌+◌, ◌-◌, ◌*◌, ◌/◌, ◌%◌, ◌<◌, ◌≤◌, Bool, refl, ap, ◌∙◌, inl, inr, arith}
+use Rattle.std.specs.Prelude.{◌⊎◌, nat_lt}
 use Rattle.std.proofs.Math.Nat.{div-add-mod}
 use Rattle.std.proofs.lemmas.Nat.{mul-le}
 use Rattle.std.proofs.lemmas.Bool.Decides.{nat_tests}
 use Rattle.std.proofs.lemmas.Bool.{cases_lt}
 use Rattle.cls_base.specs.Terms.{Applicative, component, apply, length_of, size_of, code_of, Precedes, Before}
-use Rattle.cls_base.specs.Pages.{Request, IsDue, IsPage}
+use Rattle.cls_base.specs.Pages.{IsDue, IsPage}
+use Rattle.cls_term.proofs.Spines.{length_at_least_one, size_of-ones}
 use Rattle.cls_session.specs.Listings.{IsOver, term_at, terms_within, request}
 use Rattle.cls_session.proofs.Firsts.{firsts, page}
 
 abbrev one : ℕ → ℕ
 one x = 1
-
-pub positive : (e : Applicative) → 1 ≤ length_of e
-positive (component x) = omega arith
-positive (apply f a) = omega (arith, positive f)
-
-pub size_is_length : (e : Applicative) → size_of one e ≡ length_of e
-size_is_length (component x) = refl
-size_is_length (apply f a) = omega (arith, size_is_length f, size_is_length a)
 
 -- a term of size at most 2 is a component or one applied to one
 pub data IsSmall : Applicative → Type 0 where
@@ -29,8 +22,8 @@ pub data IsSmall : Applicative → Type 0 where
 pub small : (e : Applicative) → length_of e ≤ 2 → IsSmall e
 small (component x) h = single
 small (apply (component x) (component y)) h = pair
-small (apply (component x) (apply g b)) h = absurd (omega (arith, positive g, positive b))
-small (apply (apply g b) a) h = absurd (omega (arith, positive g, positive b, positive a))
+small (apply (component x) (apply g b)) h = absurd (omega (arith, length_at_least_one g, length_at_least_one b))
+small (apply (apply g b) a) h = absurd (omega (arith, length_at_least_one g, length_at_least_one b, length_at_least_one a))
 
 low_at : (n i : ℕ) → i < n → term_at n i ≡ component i
 low_at n i h = grind (arith, nat_tests)
@@ -148,17 +141,17 @@ module _ (n max take : ℕ) (low : 1 ≤ max) (high : max ≤ 2) where
   due_at i h = record {
     typed = over_at n i (omega (arith, all_small));
     small = fits_at i h;
-    short = omega (arith, fits_at i h, size_is_length (term_at n i));
+    short = omega (arith, fits_at i h, size_of-ones one (λ x. refl) (term_at n i));
     later = tt;
   }
 
   placed_due : (e : Applicative) → IsDue (IsOver n) (request max take) e → (i : ℕ) × (i < terms_within n max) × (term_at n i ≡ e)
   placed_due e d =
-      let s = size_is_length e in
+      let s = size_of-ones one (λ x. refl) e in
       let fits : size_of one e ≤ max = d.small in
       let p = placed n e (small e (omega arith)) d.typed in
       let below : p.0 < terms_within n max = elim (within_cases n max low high) [
-        | inl w ↦ (let a = w.0 in let b = w.1 in let q = positive e in let l = p.3 (omega arith) in omega arith)
+        | inl w ↦ (let a = w.0 in let b = w.1 in let q = length_at_least_one e in let l = p.3 (omega arith) in omega arith)
         | inr w ↦ (let b = w.1 in let l = p.1 in omega arith)
       ] in
       (p.0, below, p.2)

@@ -1,11 +1,11 @@
 -- How lines that were answered one after another make an output.
-use Rattle.std.proofs.Common.{◌≡◌, ℕ, zero, suc, ◌+◌, ◌-◌, ◌<◌, ◌≤◌, List, [], ◌∷◌, ◌++◌, length, take, drop, refl, sym, ap, ◌∙◌, subst, inl, inr, arith, append_assoc, append-nil, length-append, Bool, true, false}
-use Rattle.std.specs.Prelude.{◌⊎◌, Option, None, Some, nat_lt, if◌then◌else◌}
+use Rattle.std.proofs.Common.{◌≡◌, ℕ, ◌-◌, ◌<◌, ◌≤◌, List, [], ◌∷◌, ◌++◌, length, take, refl, sym, ap, ◌∙◌, subst, inl, inr, arith, append_assoc, append-nil, length-append, Bool}
+use Rattle.std.specs.Prelude.{Option, None, Some, if◌then◌else◌}
 use Rattle.std.proofs.Math.Seq.{take-append-add, take-append_seam}
 use Rattle.std.proofs.lemmas.Bool.{cases_lt, le-ltb, lt-ltb}
-use Rattle.std.specs.Io.KnownBytes.{Appends, Consumes, IsAtEnd}
+use Rattle.std.specs.Io.KnownBytes.{Appends}
 use Rattle.cls_base.specs.Outside.{Holds, Fills}
-use Rattle.cls_syntax.specs.Lines.{lines_of, ended_lines, HasNoFeed, CutsLine}
+use Rattle.cls_syntax.specs.Lines.{lines_of, ended_lines, HasNoFeed}
 use Rattle.cls_syntax.proofs.LinePieces.{lines_of-CutsLine, ended_lines-CutsLine, CutsLine-append, ended_lines-HasNoFeed}
 use Rattle.cls_session.specs.declared.status.Status.{Status}
 use Rattle.cls_session.specs.declared.status.Status.TheVariants.{Usage, Refused, TooLong}
@@ -14,7 +14,7 @@ use Rattle.cls_session.specs.Driving.{CutsLines, IsWritten}
 use Rattle.cls_session.specs.Outputs.{lines_read, Output, Answers, HasRoom}
 use Rattle.cls_session.specs.Outputs as outputs
 use Rattle.cls_session.specs.Transcripts.{Transcript, IsRefused, Ending}
-use Rattle.cls_session.proofs.Totality.{Goes, refused, stands, goes_on, ends_by, IsRefused-append}
+use Rattle.cls_session.proofs.Totality.{refused, stands, goes_on, ends_by, IsRefused-append}
 
 pub CutsLines-append : (text rest more : List ℕ) (lines : List (List ℕ)) → CutsLines text lines rest → CutsLines (text ++ more) lines (rest ++ more)
 CutsLines-append text rest more [] e = ap (λ (x : List ℕ). x ++ more) e
@@ -111,6 +111,7 @@ module _ (front rest text : List ℕ) (lines : List (List ℕ)) (cuts : CutsLine
       let same : lines_read bytes ≡ lines ++ lines_of rest = ap lines_read e ∙ (lines_read-short front short ∙ lines_of-CutsLines front rest lines cuts) in
       outputs.refused refl (subst (λ (xs : List (List ℕ)). IsRefused xs text) (sym same) r) refl
 
+  -- the same where the output is ended with the input
   pub output_ended : (end : Status) → IsWholly (Some bytes) front → Ending (lines ++ lines_of rest) text end → Output [] bytes text end
   output_ended end e r =
       let same : lines_of bytes ≡ lines ++ lines_of rest = ap lines_of e ∙ lines_of-CutsLines front rest lines cuts in

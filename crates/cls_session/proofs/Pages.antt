@@ -1,19 +1,19 @@
 -- The terms of a page of omega, as their texts are made.
-use Rattle.std.proofs.Common.{◌≡◌, ℕ, zero, suc, ◌+◌, ◌<◌, ◌≤◌, List, [], ◌∷◌, ◌++◌, length, map, refl, sym, ap, ◌∙◌, subst, inl, inr, arith, Bool, true, false, max, get_or}
-use Rattle.std.specs.Prelude.{Contains, All}
+use Rattle.std.proofs.Common.{◌≡◌, ℕ, ◌<◌, List, length, sym, ap, ◌∙◌, subst, arith, Bool, max, get_or}
+use Rattle.std.specs.Prelude.{All}
 use Rattle.std.proofs.lemmas.List.Elements.{All-contains_itself}
 use Rattle.cls_base.specs.Terms.{Applicative, component, apply}
 use Rattle.cls_base.specs.Pages.{IsPage}
 use Rattle.cls_term.specs.Components.{greatest_of}
 use Rattle.cls_term.specs.Texts.{name_at}
-use Rattle.cls_session.specs.Declarations.{Declaration}
+use Rattle.cls_session.specs.Declarations.{Declaration, names_of}
 use Rattle.cls_session.specs.Forms.{IsListing}
 use Rattle.cls_session.specs.Listings.{IsOver, request}
 use Rattle.cls_session.specs.Replies.{page_text, Reply, listing}
-use Rattle.cls_session.specs.Standings.{names_of}
 use Rattle.cls_session.proofs.Repositories.{length-names_of}
 use Rattle.cls_session.proofs.Typing.{omega_page}
 
+-- the greatest component of a term is among the components
 pub greatest_within : (n : ℕ) (e : Applicative) → IsOver n e → greatest_of e < n
 greatest_within n (component x) o = o
 greatest_within n (apply f a) o = omega (arith, greatest_within n f o.0, greatest_within n a o.1)
@@ -33,7 +33,8 @@ lists_page names line text max take es more q p e declared n =
     let count : length names ≡ length declared = ap length n ∙ length-names_of declared in
     let over : IsPage (IsOver (length declared)) (request max take) es more = subst (λ k. IsPage (IsOver k) (request max take) es more) count p in
     listing max take q record {
-      terms = es; more = more;
+      terms = es;
+      more = more;
       page = omega_page declared (request max take) es more over;
       written = e ∙ ap (λ (table : List (List ℕ)). page_text (name_at table) es more) n;
     }

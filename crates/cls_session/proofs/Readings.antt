@@ -1,9 +1,9 @@
 -- What is read from the left is the form, and the whole of it.
-use Rattle.std.proofs.Common.{◌≡◌, ℕ, List, [], ◌∷◌, refl, sym, ap, ◌∙◌, subst}
+use Rattle.std.proofs.Common.{◌≡◌, ℕ, List, [], ◌∷◌, refl, ap, ◌∙◌, subst}
 use Rattle.std.specs.Prelude.{Option, Some, None, codes, IsSome, ◌↔◌}
 use Rattle.cls_syntax.specs.declared.token.TokenKind.TheVariants.{Colon}
 use Rattle.cls_syntax.specs.Words.{Word, name, number, sign}
-use Rattle.cls_syntax.specs.Fronts.{first_name, first_number, after_word, after_sign, FrontsAreExact}
+use Rattle.cls_syntax.specs.Fronts.{first_name, first_number, after_word, after_sign}
 use Rattle.cls_syntax.proofs.WordFronts.{fronts_exact}
 use Rattle.cls_session.specs.Declarations.{Declaration}
 use Rattle.cls_session.specs.Forms.{declaration_words, listing_words}
@@ -39,6 +39,25 @@ at_end : {A : Type 0} (x y : A) (ws : List Word) → whole x ws ≡ Some y → (
 at_end x y [] e = (refl, cc)
 at_end x y (w ∷ ws) e = cc
 
+-- where the whole is two texts, nothing is left, and they are those that were read
+both_at_end : (x y m n : List ℕ) (ws : List Word) → whole {A = List ℕ × List ℕ} (x, y) ws ≡ Some (m, n) → (ws ≡ []) × (x ≡ m) × (y ≡ n)
+both_at_end x y m n ws e =
+    let read : List ℕ × List ℕ = (x, y) in
+    let given : List ℕ × List ℕ = (m, n) in
+    let z = at_end read given ws e in
+    (z.0, ap (λ (p : List ℕ × List ℕ). p.0) z.1, ap (λ (p : List ℕ × List ℕ). p.1) z.1)
+
+-- the words of a declaration, put together from their parts
+declaration_made : (ws a b c d : List Word) (x t component type : List ℕ) → ws ≡ name (codes "comp") ∷ a → a ≡ name x ∷ b → b ≡ sign Colon ∷ c → c ≡ name t ∷ d → d ≡ [] → x ≡ component → t ≡ type
+    → ws ≡ declaration_words record { component = component; type = type }
+declaration_made ws a b c d x t component type p q r s e is was = cc
+
+-- the words of a listing, put together from their parts
+listing_made : (ws a b c d f g : List Word) (m k max take : List ℕ) → ws ≡ name (codes "list") ∷ a → a ≡ name (codes "omega") ∷ b → b ≡ name (codes "max") ∷ c → c ≡ number m ∷ d
+    → d ≡ name (codes "take") ∷ f → f ≡ number k ∷ g → g ≡ [] → m ≡ max → k ≡ take → ws ≡ listing_words max take
+listing_made ws a b c d f g m k max take p q r s t u e is was = cc
+
+-- what is read as a declaration has its words
 pub declaration_read : (ws : List Word) (component type : List ℕ) → declaration_at ws ≡ Some (component, type) → ws ≡ declaration_words record { component = component; type = type }
 unfolding declaration_at
 declaration_read ws component type e =
@@ -47,16 +66,10 @@ declaration_read ws component type e =
     let b = after_name a.0 y _ a.2 in
     let c = after_colon b.1 y _ b.3 in
     let d = after_name c.0 y _ c.2 in
-    let z = at_end (b.0, d.0) y d.1 d.3 in
-    let one : b.0 ≡ component = ap (λ (p : List ℕ × List ℕ). p.0) z.1 in
-    let two : d.0 ≡ type = ap (λ (p : List ℕ × List ℕ). p.1) z.1 in
-    let p : ws ≡ name (codes "comp") ∷ a.0 = a.1 in
-    let q : a.0 ≡ name b.0 ∷ b.1 = b.2 in
-    let r : b.1 ≡ sign Colon ∷ c.0 = c.1 in
-    let s : c.0 ≡ name d.0 ∷ d.1 = d.2 in
-    let t : d.1 ≡ [] = z.0 in
-    p ∙ ap (λ (v : List Word). name (codes "comp") ∷ v) (q ∙ (λ i. name (one i) ∷ (r ∙ ap (λ (v : List Word). sign Colon ∷ v) (s ∙ (λ j. name (two j) ∷ t j))) i))
+    let z = both_at_end b.0 d.0 component type d.1 d.3 in
+    declaration_made ws a.0 b.1 c.0 d.1 b.0 d.0 component type a.1 b.2 c.1 d.2 z.0 z.1 z.2
 
+-- what is read as a listing has its words
 pub listing_read : (ws : List Word) (max take : List ℕ) → listing_at ws ≡ Some (max, take) → ws ≡ listing_words max take
 unfolding listing_at
 listing_read ws max take e =
@@ -67,18 +80,15 @@ listing_read ws max take e =
     let d = after_number c.0 y _ c.2 in
     let f = after_this d.1 y (codes "take") _ d.3 in
     let g = after_number f.0 y _ f.2 in
-    let z = at_end (d.0, g.0) y g.1 g.3 in
-    let one : d.0 ≡ max = ap (λ (p : List ℕ × List ℕ). p.0) z.1 in
-    let two : g.0 ≡ take = ap (λ (p : List ℕ × List ℕ). p.1) z.1 in
-    let last : f.0 ≡ number take ∷ [] = g.2 ∙ (λ i. number (two i) ∷ z.0 i) in
-    let behind : d.1 ≡ name (codes "take") ∷ number take ∷ [] = f.1 ∙ ap (λ (v : List Word). name (codes "take") ∷ v) last in
-    let middle : c.0 ≡ number max ∷ name (codes "take") ∷ number take ∷ [] = d.2 ∙ (λ i. number (one i) ∷ behind i) in
-    a.1 ∙ ap (λ (v : List Word). name (codes "list") ∷ v) (b.1 ∙ ap (λ (v : List Word). name (codes "omega") ∷ v) (c.1 ∙ ap (λ (v : List Word). name (codes "max") ∷ v) middle))
+    let z = both_at_end d.0 g.0 max take g.1 g.3 in
+    listing_made ws a.0 b.0 c.0 d.1 f.0 g.1 d.0 g.0 max take a.1 b.1 c.1 d.2 f.1 g.2 z.0 z.1 z.2
 
+-- the words of a declaration are read as one
 pub declaration_reads : (ws : List Word) (d : Declaration) → ws ≡ declaration_words d → declaration_at ws ≡ Some (d.component, d.type)
 unfolding declaration_at
 declaration_reads ws d e = ap declaration_at e ∙ refl
 
+-- the words of a listing are read as one
 pub listing_reads : (ws : List Word) (max take : List ℕ) → ws ≡ listing_words max take → listing_at ws ≡ Some (max, take)
 unfolding listing_at
 listing_reads ws max take e = ap listing_at e ∙ refl

@@ -1,15 +1,15 @@
 -- What the session's calls have done, at the values that they have.
-use Rattle.std.proofs.Common.{◌≡◌, ℕ, zero, suc, ◌+◌, ◌<◌, ◌≤◌, List, [], ◌∷◌, ◌++◌, length, map, refl, sym, ap, ◌∙◌, subst, inl, inr, arith, Bool, true, false}
+use Rattle.std.proofs.Common.{◌≡◌, ℕ, ◌+◌, ◌<◌, List, [], ◌∷◌, ◌++◌, length, refl, sym, ap, ◌∙◌, subst, inl, inr, Bool, true, false}
 use Rattle.std.specs.Prelude.{Contains, IsTrue, ◌↔◌, bytes_eq, if◌then◌else◌}
 use Rattle.std.specs.List.{list_any}
 use Rattle.std.proofs.lemmas.Map.Views.{Contains-from_any}
 use Rattle.cls_syntax.specs.Skipped.{IsSkipped}
 use Rattle.cls_session.specs.declared.status.Status.TheVariants.{Done, Refused}
-use Rattle.cls_session.specs.Declarations.{Declaration}
+use Rattle.cls_session.specs.Declarations.{Declaration, names_of}
 use Rattle.cls_session.specs.Forms.{IsDeclaration, IsEnd, declaration_words, end_words}
 use Rattle.cls_session.specs.Replies.{Reply}
 use Rattle.cls_session.specs.Transcripts.{refusal, IsRefused, Ending}
-use Rattle.cls_session.specs.Standings.{Standing, names_of, Stands}
+use Rattle.cls_session.specs.Standings.{Standing, Stands}
 use Rattle.cls_syntax.specs.Names.{with_text}
 use Rattle.std.proofs.lemmas.Bool.{cases_lt}
 use Rattle.cls_session.proofs.Decisions.{same_bytes, contains_decided}
@@ -17,7 +17,7 @@ use Rattle.cls_session.proofs.Standings.{reading, querying, IsFaulty, repeated, 
 
 -- The session s keeps these names, this count and this mark.
 module _ (names : List (List ℕ)) (count : ℕ) (ended : Bool) (s : Standing) (is : record { components = names; lines = count; ended = ended } ≡ s)
-  (lines : List (List ℕ)) (written : List ℕ) (stands : Stands lines written s) where
+    (lines : List (List ℕ)) (written : List ℕ) (stands : Stands lines written s) where
   is_reading : ended ≡ false → Stands lines written (reading names count)
   is_reading e = subst (λ (x : Standing). Stands lines written x) (sym is ∙ (λ i. record { components = names; lines = count; ended = e i })) stands
 
@@ -33,12 +33,15 @@ module _ (names : List (List ℕ)) (count : ℕ) (ended : Bool) (s : Standing) (
   still : (ls : List (List ℕ)) (reply : List ℕ) (more : List (List ℕ)) (n : ℕ) → ended ≡ false → Stands ls (written ++ reply) (reading more n) → Stands ls (written ++ reply) record { components = more; lines = n; ended = ended }
   still ls reply more n e h = subst (λ (b : Bool). Stands ls (written ++ reply) record { components = more; lines = n; ended = b }) (sym e) h
 
+  -- a line of the repository that is skipped
   pub skips : (line reply : List ℕ) → s.ended ≡ false → reply ≡ [] → IsSkipped line → Stands (lines ++ line ∷ []) (written ++ reply) record { components = names; lines = count + 1; ended = ended }
   skips line reply r e q = still (lines ++ line ∷ []) reply names (count + 1) (reads r) (silent (lines ++ line ∷ []) reply _ e (Stands-skip lines written line names count (is_reading (reads r)) q))
 
+  -- the line that ends the repository
   pub ends : (line reply : List ℕ) → s.ended ≡ false → reply ≡ [] → IsEnd line → Stands (lines ++ line ∷ []) (written ++ reply) (querying names (count + 1))
   ends line reply r e q = silent (lines ++ line ∷ []) reply (querying names (count + 1)) e (Stands-end lines written line names count (is_reading (reads r)) q)
 
+  -- a line that declares a component
   pub declares : (line reply name type : List ℕ) (grown : List (List ℕ)) → s.ended ≡ false → reply ≡ [] → IsDeclaration line record { component = name; type = type }
       → (Contains names name → ⊥) → length names < 1000 → grown ≡ names ++ name ∷ [] → Stands (lines ++ line ∷ []) (written ++ reply) record { components = grown; lines = count + 1; ended = ended }
   declares line reply name type grown r e q new few g =
@@ -46,16 +49,20 @@ module _ (names : List (List ℕ)) (count : ℕ) (ended : Bool) (s : Standing) (
       let h = Stands-declare lines written line names count d (is_reading (reads r)) q new few in
       still (lines ++ line ∷ []) reply grown (count + 1) (reads r) (subst (λ (xs : List (List ℕ)). Stands (lines ++ line ∷ []) (written ++ reply) (reading xs (count + 1))) (sym g) (silent (lines ++ line ∷ []) reply _ e h))
 
+  -- a line that is the first fault
   pub refuses : (line reply : List ℕ) → s.ended ≡ false → reply ≡ refusal (count + 1) → IsFaulty names line → (IsEnd line → ⊥) → IsRefused (lines ++ line ∷ []) (written ++ reply)
   refuses line reply r e f n = subst (λ (t : List ℕ). IsRefused (lines ++ line ∷ []) (written ++ t)) (sym e) (Stands-refused lines written line names count (is_reading (reads r)) f n)
 
+  -- a line after the repository
   pub answers : (line reply : List ℕ) → ended ≡ true → ((ds : List Declaration) → names ≡ names_of ds → Reply ds line reply) → Stands (lines ++ line ∷ []) (written ++ reply) record { components = names; lines = count + 1; ended = ended }
   answers line reply e q =
       subst (λ (b : Bool). Stands (lines ++ line ∷ []) (written ++ reply) record { components = names; lines = count + 1; ended = b }) (sym e) (Stands-reply lines written line names count reply (is_querying e) q)
 
+  -- the end of the input within the repository
   pub ends_reading : (last : List ℕ) → ended ≡ false → last ≡ refusal count → Ending lines (written ++ last) Refused
   ends_reading last e l = Ending-reading names count lines written last l (is_reading e)
 
+  -- the end of the input after it
   pub ends_querying : (last : List ℕ) → ended ≡ true → last ≡ [] → Ending lines (written ++ last) Done
   ends_querying last e l = Ending-querying names count lines written last l (is_querying e)
 

@@ -1,13 +1,12 @@
 -- How a repository grows by a line, and that its lines determine it.
-use Rattle.std.proofs.Common.{◌≡◌, ℕ, zero, suc, ◌+◌, ◌<◌, ◌≤◌, List, [], ◌∷◌, ◌++◌, length, map, refl, sym, ap, ◌∙◌, subst, inl, inr, arith, append_assoc, append-nil, length-append}
-use Rattle.std.specs.Prelude.{◌⊎◌, Contains}
-use Rattle.std.proofs.lemmas.List.Elements.{Contains-append_cases, Contains-append_left, Contains-append_right}
-use Rattle.cls_syntax.specs.Skipped.{IsSkipped}
-use Rattle.cls_session.specs.Declarations.{Declaration}
-use Rattle.cls_session.specs.Forms.{IsDeclaration, IsEnd, declaration_words}
-use Rattle.cls_session.specs.Repositories.{Entry, skipped, declares, Declares, AreDifferent, IsRepository}
-use Rattle.cls_session.specs.Standings.{names_of}
+use Rattle.std.proofs.Common.{◌≡◌, ℕ, zero, suc, List, [], ◌∷◌, ◌++◌, length, refl, sym, ap, ◌∙◌, subst, inl, inr, arith, append_assoc, append-nil}
+use Rattle.std.specs.Prelude.{Contains}
+use Rattle.std.proofs.lemmas.List.Elements.{Contains-append_cases, Contains-append_right}
+use Rattle.cls_session.specs.Declarations.{Declaration, names_of}
+use Rattle.cls_session.specs.Forms.{IsDeclaration, declaration_words}
+use Rattle.cls_session.specs.Repositories.{Entry, skipped, declares, Declares, AreDifferent}
 
+-- a line declares one component at most
 pub same_declaration : (line : List ℕ) (c d : Declaration) → IsDeclaration line c → IsDeclaration line d → c ≡ d
 same_declaration line c d p q =
     let words : declaration_words c ≡ declaration_words d = sym p.words ∙ q.words in
@@ -28,10 +27,12 @@ Declares-unique (line ∷ lines) a b (x, xs, p, ps, e) (y, ys, q, qs, f) =
     let rest : xs ≡ ys = Declares-unique lines xs ys ps qs in
     cc
 
+-- a further line goes on with what it declares
 pub Declares-push : (lines : List (List ℕ)) (line : List ℕ) (a b : List Declaration) → Declares lines a → Entry line b → Declares (lines ++ line ∷ []) (a ++ b)
 Declares-push [] line a b e q = (b, [], q, refl, rw e (sym (append-nil b)))
 Declares-push (l ∷ lines) line a b (x, xs, p, ps, e) q = (x, xs ++ b, p, Declares-push lines line xs b ps q, rw e (append_assoc x xs b))
 
+-- and what it declares comes last
 pub Declares-pop : (lines : List (List ℕ)) (line : List ℕ) (c : List Declaration) → Declares (lines ++ line ∷ []) c → (a b : List Declaration) × Declares lines a × Entry line b × (c ≡ a ++ b)
 Declares-pop [] line c (x, xs, p, e, f) = ([], x, refl, p, f ∙ (ap (λ (y : List Declaration). x ++ y) e ∙ append-nil x))
 Declares-pop (l ∷ lines) line c (x, xs, p, ps, f) =
@@ -58,11 +59,13 @@ contains_later x y xs c = (suc c.0, (let l = c.1 in omega arith), c.2)
 
 pub AreDifferent-push : (xs : List (List ℕ)) (y : List ℕ) → AreDifferent xs → (Contains xs y → ⊥) → AreDifferent (xs ++ y ∷ [])
 AreDifferent-push [] y d n = ((λ c. let l = c.1 in absurd (omega arith)), tt)
-AreDifferent-push (x ∷ xs) y d n =
-    ((λ c. elim (Contains-append_cases xs (y ∷ []) x c) [
-      | inl a ↦ d.0 a
-      | inr b ↦ n (subst (λ (z : List ℕ). Contains (x ∷ xs) z) (sym (contains_one y x b)) (contains_first x xs))
-    ]), AreDifferent-push xs y d.1 (λ c. n (contains_later y x xs c)))
+AreDifferent-push (x ∷ xs) y d n = (
+  (λ c. elim (Contains-append_cases xs (y ∷ []) x c) [
+    | inl a ↦ d.0 a
+    | inr b ↦ n (subst (λ (z : List ℕ). Contains (x ∷ xs) z) (sym (contains_one y x b)) (contains_first x xs))
+  ]),
+  AreDifferent-push xs y d.1 (λ c. n (contains_later y x xs c)),
+)
 
 pub AreDifferent-last : (xs : List (List ℕ)) (y : List ℕ) → AreDifferent (xs ++ y ∷ []) → Contains xs y → ⊥
 AreDifferent-last [] y d c = let l = c.1 in absurd (omega arith)

@@ -1,14 +1,14 @@
 -- What one line more does to a session.
-use Rattle.std.proofs.Common.{◌≡◌, ℕ, zero, suc, ◌+◌, ◌<◌, ◌≤◌, List, [], ◌∷◌, ◌++◌, length, map, refl, sym, ap, ◌∙◌, subst, inl, inr, arith, append_assoc, append-nil, length-append, Bool, true, false}
-use Rattle.std.specs.Prelude.{◌⊎◌, Contains}
+use Rattle.std.proofs.Common.{◌≡◌, ℕ, ◌+◌, ◌<◌, ◌≤◌, List, [], ◌∷◌, ◌++◌, length, refl, sym, ap, ◌∙◌, subst, arith, append_assoc, append-nil, length-append, true, false}
+use Rattle.std.specs.Prelude.{Contains}
 use Rattle.cls_syntax.specs.Skipped.{IsSkipped}
-use Rattle.cls_session.specs.Declarations.{Declaration}
+use Rattle.cls_session.specs.Declarations.{Declaration, names_of}
 use Rattle.cls_session.specs.Forms.{IsDeclaration, IsEnd}
-use Rattle.cls_session.specs.Repositories.{Entry, skipped, declares, Declares, AreDifferent, IsRepository, IsFirstFault}
+use Rattle.cls_session.specs.Repositories.{Entry, skipped, declares, AreDifferent, IsRepository}
 use Rattle.cls_session.specs.Replies.{Reply, Replies}
 use Rattle.cls_session.specs.Transcripts.{IsAnswered, Transcript, opening, answering, refusal, IsRefused, Ending, without_end, complete}
 use Rattle.cls_session.specs.declared.status.Status.TheVariants.{Done, Refused}
-use Rattle.cls_session.specs.Standings.{Standing, names_of, Stands}
+use Rattle.cls_session.specs.Standings.{Standing, Stands}
 use Rattle.cls_session.specs.Standings as standings
 use Rattle.cls_session.proofs.Repositories.{same_declaration, Declares-unique, Declares-push, Declares-pop, names_of-append, length-names_of, AreDifferent-push, AreDifferent-last}
 
@@ -48,6 +48,7 @@ entry_of ds line b (full d p c) (skipped s e) different few = p.read.unskipped s
 entry_of ds line b (full d p c) (declares f q e) different few =
     let n = length-names_of ds in let m = ap (λ (xs : List Declaration). length (ds ++ xs)) e in let k = length-push ds f in absurd (omega arith)
 
+-- after a faulty line there is no repository
 pub IsRepository-none : (lines : List (List ℕ)) (line : List ℕ) (ds : List Declaration) → IsRepository lines ds → IsFaulty (names_of ds) line → (cs : List Declaration) → IsRepository (lines ++ line ∷ []) cs → ⊥
 IsRepository-none lines line ds r f cs q =
     let p = Declares-pop lines line cs q.declared in
@@ -61,9 +62,12 @@ Replies-push ds (l ∷ lines) line text reply (a, b, p, ps, e) q = (a, b ++ repl
 
 pub IsAnswered-push : (lines : List (List ℕ)) (line text reply : List ℕ) (ds : List Declaration) → IsAnswered lines ds text → Reply ds line reply → IsAnswered (lines ++ line ∷ []) ds (text ++ reply)
 IsAnswered-push lines line text reply ds a q = record {
-  repository = a.repository; end = a.end; queries = a.queries ++ line ∷ [];
+  repository = a.repository;
+  end = a.end;
+  queries = a.queries ++ line ∷ [];
   split = ap (λ (xs : List (List ℕ)). xs ++ line ∷ []) a.split ∙ append_assoc a.repository (a.end ∷ a.queries) (line ∷ []);
-  ends = a.ends; reads = a.reads;
+  ends = a.ends;
+  reads = a.reads;
   replies = Replies-push ds a.queries line text reply a.replies q;
 }
 
@@ -145,6 +149,7 @@ Ending-reading names count lines text last e h =
     let (ds, r, t, n, c) = Stands-reading lines text names count h in
     without_end ds r (ap (λ (x : List ℕ). x ++ last) t ∙ (e ∙ ap refusal c)) refl
 
+-- what ends the output of a session that answers queries
 pub Ending-querying : (names : List (List ℕ)) (count : ℕ) (lines : List (List ℕ)) (text last : List ℕ) → last ≡ [] → Stands lines text (querying names count) → Ending lines (text ++ last) Done
 Ending-querying names count lines text last e h =
     let (ds, a, n, c) = Stands-querying lines text names count h in

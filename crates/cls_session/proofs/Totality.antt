@@ -1,18 +1,16 @@
 -- Whatever lines follow, there is something to be written for them: a prefix of the lines has a prefix of an output.
-use Rattle.std.proofs.Common.{◌≡◌, ℕ, zero, suc, ◌+◌, ◌-◌, ◌<◌, ◌≤◌, List, [], ◌∷◌, ◌++◌, length, map, refl, sym, ap, ◌∙◌, subst, inl, inr, arith, append_assoc, append-nil, Bool, true, false, min}
-use Rattle.std.specs.Prelude.{◌⊎◌, Contains, nat_lt}
+use Rattle.std.proofs.Common.{◌≡◌, ℕ, ◌+◌, ◌≤◌, List, [], ◌∷◌, ◌++◌, length, refl, sym, ap, ◌∙◌, subst, inl, inr, arith, append_assoc, append-nil, min}
+use Rattle.std.specs.Prelude.{nat_lt}
 use Rattle.std.proofs.lemmas.Bool.{cases_lt}
-use Rattle.std.proofs.lemmas.Bool.Decides.{nat_tests}
-use Rattle.cls_syntax.specs.Skipped.{IsSkipped}
+use Rattle.cls_term.specs.Texts.{name_at}
 use Rattle.cls_session.specs.declared.status.Status.{Status}
 use Rattle.cls_session.specs.declared.status.Status.TheVariants.{Done, Refused}
-use Rattle.cls_session.specs.Declarations.{Declaration}
-use Rattle.cls_session.specs.Forms.{IsDeclaration, IsEnd, IsListing}
-use Rattle.cls_session.specs.Listings.{IsOver, term_at, terms_within, request}
-use Rattle.cls_session.specs.Repositories.{IsRepository, IsFirstFault}
-use Rattle.cls_session.specs.Replies.{name_in, page_text, ListsOmega, Reply, skipped, listing, unbuilt, reply_line, Replies}
+use Rattle.cls_session.specs.Declarations.{Declaration, names_of}
+use Rattle.cls_session.specs.Forms.{IsEnd}
+use Rattle.cls_session.specs.Listings.{term_at, terms_within, request}
+use Rattle.cls_session.specs.Repositories.{IsRepository}
+use Rattle.cls_session.specs.Replies.{page_text, ListsOmega, Reply, skipped, listing, unbuilt}
 use Rattle.cls_session.specs.Transcripts.{IsAnswered, Transcript, opening, answering, refusal, IsRefused, Ending, without_end, complete}
-use Rattle.cls_session.specs.Standings.{names_of}
 use Rattle.cls_session.proofs.Firsts.{firsts}
 use Rattle.cls_session.proofs.Omega.{front}
 use Rattle.cls_session.proofs.Typing.{omega_page}
@@ -27,12 +25,15 @@ lists_omega ds max take m t =
     let all = terms_within n max in
     let k = min take all in
     let more = nat_lt k all in
-    let terms = firsts (term_at n) 0 k in
-    (page_text (name_in ds) terms more, record {
-      terms = terms; more = more;
-      page = omega_page ds (request max take) terms more (front n max take m.0 m.1 k more (omega arith) (omega arith) (λ l. omega arith) (let p = t.0 in omega arith) refl);
-      written = refl;
-    })
+    let terms = firsts (term_at n) 0 k in (
+      page_text (name_at (names_of ds)) terms more,
+      record {
+        terms = terms;
+        more = more;
+        page = omega_page ds (request max take) terms more (front n max take m.0 m.1 k more (omega arith) (omega arith) (λ l. omega arith) (let p = t.0 in omega arith) refl);
+        written = refl;
+      },
+    )
 
 -- each line after the repository has a reply
 pub reply_exists : (ds : List Declaration) (line : List ℕ) → (text : List ℕ) × Reply ds line text
@@ -80,9 +81,14 @@ pub IsRefused-append : (lines more : List (List ℕ)) (text : List ℕ) → IsRe
 IsRefused-append lines more text r = record {
   place = r.place;
   fault = (let f = r.fault in record {
-    before = f.before; line = f.line; after = f.after ++ more;
+    before = f.before;
+    line = f.line;
+    after = f.after ++ more;
     split = ap (λ (xs : List (List ℕ)). xs ++ more) f.split ∙ append_assoc f.before (f.line ∷ f.after) more;
-    number = f.number; so_far = f.so_far; no_end = f.no_end; no_entry = f.no_entry;
+    number = f.number;
+    so_far = f.so_far;
+    no_end = f.no_end;
+    no_entry = f.no_entry;
   });
   written = r.written;
 }
@@ -102,10 +108,10 @@ reads_on ds lines (line ∷ more) r =
       | grows cs q ↦ subst (λ (xs : List (List ℕ)). Goes xs []) joined (reads_on cs (lines ++ line ∷ []) more q)
       | ends e ↦ (let on = answers_on ds (lines ++ line ∷ []) more [] (IsAnswered-end lines line ds r e) in subst (λ (xs : List (List ℕ)). Goes xs []) joined (stands on.0 (answering ds on.1)))
       | fails f n ↦ refused (refusal (length lines + 1)) record {
-          place = length lines + 1;
-          fault = record { before = lines; line = line; after = more; split = refl; number = refl; so_far = (ds, r); no_end = n; no_entry = IsRepository-none lines line ds r f };
-          written = refl;
-        }
+        place = length lines + 1;
+        fault = record { before = lines; line = line; after = more; split = refl; number = refl; so_far = (ds, r); no_end = n; no_entry = IsRepository-none lines line ds r f };
+        written = refl;
+      }
     ]
 
 -- what was written goes on to what is written for all lines

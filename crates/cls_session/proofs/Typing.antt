@@ -1,18 +1,18 @@
 -- A term has type omega exactly where its components are declared.
-use Rattle.std.proofs.Common.{◌≡◌, ℕ, zero, suc, ◌+◌, ◌<◌, ◌≤◌, Bool, true, false, List, [], ◌∷◌, ◌++◌, length, refl, sym, ap, ◌∙◌, subst, inl, inr, arith}
-use Rattle.std.specs.Prelude.{◌⊎◌, Some, None, slice_get, bytes_eq, if◌then◌else◌, ◌↔◌, IsTrue, Contains, Option, IfSome}
+use Rattle.std.proofs.Common.{◌≡◌, ℕ, zero, suc, ◌<◌, Bool, true, false, List, [], ◌∷◌, ◌++◌, length, refl, sym, ap, subst, inl, inr, arith}
+use Rattle.std.specs.Prelude.{Some, slice_get, bytes_eq, if◌then◌else◌}
 use Rattle.std.specs.List.{list_any}
 use Rattle.std.proofs.lemmas.Option.{slice_get_within}
-use Rattle.std.specs.Cmp.Lexicographic.{same_text}
 use Rattle.cls_base.specs.Types as types
 use Rattle.cls_base.specs.Types.{ClosedType, arrow}
-use Rattle.cls_base.specs.Subtyping.{Subtype, to_omega, omega_arrow, transitivity}
+use Rattle.cls_base.specs.Subtyping.{to_omega, omega_arrow}
 use Rattle.cls_base.specs.Terms.{Applicative, component, apply}
-use Rattle.cls_base.specs.Typing.{HasType, by_instance, by_application, by_intersection, by_subsumption}
+use Rattle.cls_base.specs.Typing.{by_instance, by_application, by_intersection, by_subsumption}
 use Rattle.cls_base.specs.Pages.{Request, IsDue, IsPage}
 use Rattle.cls_session.specs.Listings.{IsOver}
 use Rattle.cls_session.specs.Declarations.{Declaration}
-use Rattle.cls_session.specs.Typings.{numbered, constructors_from, IsInstance, Has}
+use Rattle.cls_session.specs.Typings.{numbered, constructors_from, Has}
+use Rattle.cls_session.proofs.Decisions.{same_bytes}
 
 get_append : {A : Type 0} (xs ys : List A) (i : ℕ) (x : A) → slice_get xs i ≡ Some x → slice_get (xs ++ ys) i ≡ Some x
 get_append [] ys i x e = cc
@@ -37,13 +37,10 @@ all_stay : (ds : List Declaration) (table : List (List ℕ)) (text : List ℕ) �
 all_stay [] table text s = s
 all_stay (d ∷ ds) table text s = all_stay ds (numbered table d.type) text (stays table text d.type s)
 
-bytes_same : (xs ys : List ℕ) → bytes_eq xs ys ≡ true → xs ≡ ys
-bytes_same xs ys e = same_text xs ys (sym e)
-
 found : (table : List (List ℕ)) (text : List ℕ) → list_any (bytes_eq text) table ≡ true → Stands table text
 found [] text e = cc
 found (x ∷ table) text e = elim (bytes_eq text x) as (λ v. bytes_eq text x ≡ v → Stands (x ∷ table) text) [
-  | true ↦ λ s. (0, ap (λ (y : List ℕ). Some y) (sym (bytes_same text x s)))
+  | true ↦ λ s. (0, ap (λ (y : List ℕ). Some y) (sym (same_bytes text x s)))
   | false ↦ λ s. let r = found table text (rw s at e) in (suc r.0, r.1)
 ] refl
 
@@ -69,12 +66,14 @@ declared_at (d ∷ ds) zero h = (d, refl)
 declared_at (d ∷ ds) (suc x) h = declared_at ds x (omega arith)
 
 module _ (ds : List Declaration) where
+  -- a term with a type has declared components alone
   pub over_from_typed : (e : Applicative) (s : ClosedType) → Has ds e s → IsOver (length ds) e
   over_from_typed (component x) s (by_instance i) = slice_get_within ds x i.declaration i.place
   over_from_typed (apply f a) s (by_application {s = r} p q) = (over_from_typed f (arrow r s) p, over_from_typed a r q)
   over_from_typed e s (by_intersection {s = r} p q) = over_from_typed e r p
   over_from_typed e s (by_subsumption {s = r} p q) = over_from_typed e r p
 
+  -- and with those it has type omega
   pub typed_from_over : (e : Applicative) → IsOver (length ds) e → Has ds e types.omega
   typed_from_over (component x) o =
       let d = declared_at ds x o in

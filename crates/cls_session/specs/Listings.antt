@@ -1,5 +1,5 @@
 -- The terms of size 1 and 2 over numbered components, in their order.
-use Rattle.std.specs.Prelude.{ℕ, zero, suc, ◌+◌, ◌-◌, ◌*◌, ◌/◌, ◌%◌, ◌<◌, nat_lt, if◌then◌else◌, None}
+use Rattle.std.specs.Prelude.{ℕ, ◌+◌, ◌-◌, ◌*◌, ◌/◌, ◌%◌, ◌<◌, nat_lt, if◌then◌else◌, None}
 use Rattle.cls_base.specs.Terms.{Applicative, component, apply}
 use Rattle.cls_base.specs.Pages.{Request}
 

@@ -1,24 +1,21 @@
 -- The replies to queries.
-use Rattle.std.specs.Prelude.{ℕ, ◌≡◌, List, [], ◌∷◌, ◌++◌, Bool, if◌then◌else◌, codes, map, slice_index_or}
+use Rattle.std.specs.Prelude.{ℕ, ◌≡◌, List, [], ◌∷◌, ◌++◌, Bool, if◌then◌else◌, codes}
 use Rattle.std.specs.List.{flat_map}
 use Rattle.cls_base.specs.Types as types
 use Rattle.cls_base.specs.Terms.{Applicative}
 use Rattle.cls_base.specs.Pages.{IsPage}
 use Rattle.cls_syntax.specs.Skipped.{IsSkipped}
-use Rattle.cls_session.specs.Declarations.{Declaration}
+use Rattle.cls_session.specs.Declarations.{Declaration, names_of}
 use Rattle.cls_session.specs.Forms.{IsListing}
 use Rattle.cls_session.specs.Listings.{request}
 use Rattle.cls_session.specs.Typings.{Has}
-use Rattle.cls_term.specs.Texts.{text_of}
+use Rattle.cls_term.specs.Texts.{name_at, text_of}
 
 -- a line of the output
 abbrev pub reply_line : List ℕ → List ℕ
 reply_line text = text ++ 10 ∷ []
 
--- the name of the component with the number
-abbrev pub name_in : List Declaration → ℕ → List ℕ
-name_in declared x = slice_index_or (map (λ d. d.component) declared) x []
-
+-- the line of a term
 abbrev pub term_line : (ℕ → List ℕ) → Applicative → List ℕ
 term_line names e = reply_line (codes "term " ++ text_of names e)
 
@@ -31,7 +28,7 @@ pub record ListsOmega (declared : List Declaration) (max take : ℕ) (text : Lis
   pub terms : List Applicative
   pub more : Bool
   pub page : IsPage (λ e. Has declared e types.omega) (request max take) terms more
-  pub written : text ≡ page_text (name_in declared) terms more
+  pub written : text ≡ page_text (name_at (names_of declared)) terms more
 
 -- what is written for a line after the repository
 pub data Reply (declared : List Declaration) (line text : List ℕ) : Type 0 where

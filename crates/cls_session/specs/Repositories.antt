@@ -1,7 +1,7 @@
 -- Repositories, and the first fault of lines that are none.
-use Rattle.std.specs.Prelude.{ℕ, ◌≡◌, ◌≤◌, ◌+◌, List, [], ◌∷◌, ◌++◌, length, map, Contains}
+use Rattle.std.specs.Prelude.{ℕ, ◌≡◌, ◌≤◌, ◌+◌, List, [], ◌∷◌, ◌++◌, length, Contains}
 use Rattle.cls_syntax.specs.Skipped.{IsSkipped}
-use Rattle.cls_session.specs.Declarations.{Declaration}
+use Rattle.cls_session.specs.Declarations.{Declaration, names_of}
 use Rattle.cls_session.specs.Forms.{IsDeclaration, IsEnd}
 
 -- what a line of a repository declares: nothing or one component
@@ -22,7 +22,7 @@ AreDifferent (x ∷ xs) = (Contains xs x → ⊥) × AreDifferent xs
 -- The lines, none of them `end`, are a repository with these components: at most 1,000, no two of one name.
 pub record IsRepository (lines : List (List ℕ)) (ds : List Declaration) : Type 0 where
   pub declared : Declares lines ds
-  pub different : AreDifferent (map (λ d. d.component) ds)
+  pub different : AreDifferent (names_of ds)
   pub few : length ds ≤ 1000
 
 -- The first line, counted from 1, that is neither `end` nor with the lines before it a repository. No `end` comes before it.

@@ -1,6 +1,6 @@
 -- What a session holds after the lines that it was fed.
-use Rattle.std.specs.Prelude.{ℕ, ◌≡◌, List, [], length, map, Bool, true, false}
-use Rattle.cls_session.specs.Declarations.{Declaration}
+use Rattle.std.specs.Prelude.{ℕ, ◌≡◌, List, [], length, Bool, true, false}
+use Rattle.cls_session.specs.Declarations.{Declaration, names_of}
 use Rattle.cls_session.specs.Repositories.{IsRepository}
 use Rattle.cls_session.specs.Transcripts.{IsAnswered}
 
@@ -9,9 +9,6 @@ pub record Standing : Type 0 where
   pub components : List (List ℕ)
   pub lines : ℕ
   pub ended : Bool
-
-abbrev pub names_of : List Declaration → List (List ℕ)
-names_of declared = map (λ d. d.component) declared
 
 -- The session was fed these lines, and this text is what is written for them.
 pub data Stands (lines : List (List ℕ)) (text : List ℕ) (s : Standing) : Type 0 where

@@ -2,7 +2,7 @@
 use Rattle.std.specs.Prelude.{ℕ, ◌≡◌, List, [], ◌∷◌, ◌++◌, Some, slice_get, bytes_eq, if◌then◌else◌}
 use Rattle.std.specs.List.{list_any}
 use Rattle.cls_base.specs.Types.{ClosedType, omega, constructor}
-use Rattle.cls_base.specs.Taxonomies.{Variance, covariant, Chain}
+use Rattle.cls_base.specs.Taxonomies.{covariant, Chain}
 use Rattle.cls_base.specs.Terms.{Applicative}
 use Rattle.cls_base.specs.Typing.{HasType}
 use Rattle.cls_session.specs.Declarations.{Declaration}

@@ -44,10 +44,7 @@ pub enum QueryLine {
 }
 
 /// Reads a line of the repository.
-pub fn repository_line<'a>(
-    alloc: Global,
-    line: &'a Line,
-) -> Result<RepositoryLine<'a>, OutOfMemory>
+pub fn repository_line<'a>(alloc: Global, line: &'a Line) -> Result<RepositoryLine<'a>, OutOfMemory>
     ensures { IfOk result (IsRepositoryLine line.now) }
 {
     if line.is_skipped() {
@@ -98,7 +95,10 @@ fn query_form(lexemes: &[Lexeme]) -> QueryLine
     let Some((max, take)) = listing(lexemes) else {
         return QueryLine::Unbuilt;
     };
-    match (number_within(&max, MAX_SIZE), number_within(&take, MAX_TAKE)) {
+    match (
+        number_within(&max, MAX_SIZE),
+        number_within(&take, MAX_TAKE),
+    ) {
         (Some(max), Some(take)) => QueryLine::Listing { max, take },
         _ => QueryLine::Unbuilt,
     }

@@ -43,7 +43,11 @@ fn terms_within(count: u32, max: u32) -> u64
     ensures { result ≡ terms_within count max }
 {
     let count = u64::from(count);
-    if max < 2 { count } else { count + count * count }
+    if max < 2 {
+        count
+    } else {
+        count + count * count
+    }
 }
 
 fn term_at(alloc: Global, count: u32, place: u64) -> Result<Term, OutOfMemory>

@@ -1,8 +1,8 @@
 ghost use Rattle.std.specs.Prelude.{◌≡◌, ℕ, ◌+◌, ◌^◌, ◌<◌, ◌≤◌, ◌↔◌, IfOk, OnErr, IsTrue, Contains, length, map, false, string_bytes, List};
-ghost use Rattle.cls_session.specs.Declarations.{Declaration};
+ghost use Rattle.cls_session.specs.Declarations.{Declaration, names_of};
 ghost use Rattle.cls_session.specs.Replies.{reply_line};
 ghost use Rattle.cls_session.specs.Replies as replies;
-ghost use Rattle.cls_session.specs.Standings.{Standing, names_of};
+ghost use Rattle.cls_session.specs.Standings.{Standing};
 ghost use Rattle.cls_session.specs.Transcripts.{refusal};
 
 use crate::forms::{QueryLine, RepositoryLine, query_line, repository_line};

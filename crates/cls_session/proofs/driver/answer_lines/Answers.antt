@@ -1,7 +1,6 @@
-use Rattle.std.proofs.Common.{◌≡◌, ◌++◌, List, ℕ, arith, refl, sym, ◌∙◌, subst}
+use Rattle.std.proofs.Common.{◌++◌, arith, refl, ◌∙◌}
 use Rattle.std.proofs.lemmas.Result.{err_from_is_err_and}
-use Rattle.cls_session.specs.Driving.{AnswersLines}
-use Rattle.cls_session.proofs.Driving.{answers_none, answers_next, fits_next, shorter_next, line_fits, refuses_more, comes_refused, answers_held}
+use Rattle.cls_session.proofs.Driving.{answers_none, answers_next, fits_next, shorter_next, line_fits, stops_more, answers_held}
 use Rattle.cls_session.proofs.driver.answer_lines.Goals as goal
 
 pub lines-init : goal.lines-init
@@ -26,8 +25,9 @@ pub returns-in_err-answer_line-clause-comes : goal.returns-in_err-answer_line-cl
 returns-in_err-answer_line-clause-comes g c =
     let cut = rw c.in-Some.is at c.in_ok-line.ensures.line in
     let p = err_from_is_err_and c.from_residual-in_err-answer_line.result c.from_residual-in_err-answer_line.ensures.1 in
-    rw (p.1, p.2) (comes_refused _ _ _ _ _ _ _ c.in_err-answer_line.ensures.comes (refuses_more (g.K.Sink.held c.args.sink.now) (g.K.Sink.held c.lines.sink) (g.K.Sink.held c.answer_line.new.sink) (g.K.Sink.room c.args.sink.now) (g.K.Sink.room c.lines.sink) (g.K.Sink.room c.answer_line.new.sink)
-        c.args.session.now c.lines.session c.answer_line.new.session (c.args.reader.now ++ c.args.piece.now) (c.lines.reader ++ c.lines.rest.now) c.in-Some.line c.in_ok-line.after.now c.lines.invariant.answered cut))
+    rw (p.1, p.2) (stops_more (g.K.Sink.held c.args.sink.now) (g.K.Sink.held c.lines.sink) (g.K.Sink.held c.answer_line.new.sink) (g.K.Sink.room c.args.sink.now) (g.K.Sink.room c.lines.sink) (g.K.Sink.room c.answer_line.new.sink)
+    c.args.session.now c.lines.session c.answer_line.new.session (c.args.reader.now ++ c.args.piece.now) (c.lines.reader ++ c.lines.rest.now) c.in-Some.line c.in_ok-line.after.now c.lines.invariant.answered cut
+    _ c.take.new.self _ c.in_err-answer_line.ensures.comes)
 
 pub lines-preserved : goal.lines-preserved
 lines-preserved g c =

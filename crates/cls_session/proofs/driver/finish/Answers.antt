@@ -4,7 +4,7 @@ use Rattle.cls_session.proofs.driver.finish.Goals as goal
 pub write_all-requires : goal.write_all-requires
 write_all-requires g c = rw c.as_bytes.ensures.value
     (outcome_fits (g.K.Sink.held c.args.sink.now) (g.K.Sink.held c.answer_last.new.sink) (g.K.Sink.room c.args.sink.now) (g.K.Sink.room c.answer_last.new.sink) c.args.session c.answer_last.new.session c.args.reader _ _
-        c.in_ok-answer_last.ensures.comes c.in_ok-outcome.ensures c.requires.room)
+    c.in_ok-answer_last.ensures.comes c.in_ok-outcome.ensures c.requires.room)
 
 pub returns-clause-comes : goal.returns-clause-comes
 returns-clause-comes g c = ends_output (g.K.Sink.held c.args.sink.now) (g.K.Sink.held c.answer_last.new.sink) (g.K.Sink.room c.args.sink.now) (g.K.Sink.room c.answer_last.new.sink) c.args.session c.answer_last.new.session c.args.reader _ _

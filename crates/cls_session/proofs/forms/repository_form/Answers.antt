@@ -1,13 +1,16 @@
-use Rattle.std.proofs.Common.{◌≡◌, refl, sym}
+use Rattle.std.proofs.Common.{refl}
 use Rattle.cls_session.proofs.Readings.{declaration_read}
 use Rattle.cls_session.proofs.LineForms.{differs, agrees, reserved_component, reserved_type, no_declaration, no_end}
 use Rattle.cls_session.proofs.forms.repository_form.Goals as goal
 use Rattle.cls_session.proofs.forms.repository_form.Goals.{in_default-via-in-Some+then-ne+else-ne-2, in_default-via-in-Some+else-ne, in_default-via-in_default}
 
 pub returns-in-Some : goal.returns-in-Some
-returns-in-Some c =
-    (record { component = c.in-Some.component.now; type = c.in-Some.type_name.now }, refl, declaration_read _ _ _ c.in-Some.ensures,
-        (differs _ _ _ c.ne.ensures c.if-ne.true, differs _ _ _ c.ne-then-ne.ensures c.if-ne-2.true))
+returns-in-Some c = (
+  record { component = c.in-Some.component.now; type = c.in-Some.type_name.now },
+  refl,
+  declaration_read _ _ _ c.in-Some.ensures,
+  (differs _ _ _ c.ne.ensures c.if-ne.true, differs _ _ _ c.ne-then-ne.ensures c.if-ne-2.true),
+)
 
 pub returns-in_default-2 : goal.returns-in_default-2
 returns-in_default-2 c =

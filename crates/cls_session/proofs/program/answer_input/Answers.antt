@@ -1,6 +1,6 @@
-use Rattle.std.proofs.Common.{◌≡◌, ◌+◌, ◌≤◌, length-append, ◌++◌, List, [], ℕ, length, arith, refl, sym, ap, ◌∙◌, subst, take-append-drop}
-use Rattle.cls_session.specs.Outputs.{IsWhole, Answers}
-use Rattle.cls_session.proofs.InputLoop.{IsUnderWay, cut_consumes, cut_lengths, some_over, none_over, none_read, none_more, stopped, last_has_room, answers_end, answers_last_refused, end_status, end_is_whole, end_is_no_usage, piece_has_room, answers_refused, answers_too_long, piece_answered}
+use Rattle.std.proofs.Common.{◌≡◌, ◌+◌, ◌≤◌, length-append, [], length, arith, refl, ap, ◌∙◌, subst}
+use Rattle.cls_session.specs.Outputs.{IsWhole}
+use Rattle.cls_session.proofs.InputLoop.{IsUnderWay, cut_consumes, cut_lengths, some_over, none_over, none_read, none_more, last_has_room, answers_end, answers_last_stopped, end_status, end_is_whole, end_is_no_usage, piece_has_room, answers_stopped, answers_too_long, piece_answered}
 use Rattle.cls_session.proofs.Standings.{Stands-counted}
 use Rattle.cls_session.proofs.program.answer_input.Goals as goal
 
@@ -16,14 +16,14 @@ pieces-init g c = record {
 pub finish-requires-clause-room : goal.finish-requires-clause-room
 finish-requires-clause-room g c =
     let u = none_more (g.S.Source.left c.args.source.now) (g.S.Source.left c.pieces.source) (g.S.Source.left c.read.new.self) (g.K.Sink.held c.args.sink.now) (g.K.Sink.held c.pieces.sink) (g.K.Sink.room c.args.sink.now) (g.K.Sink.room c.pieces.sink) c.pieces.session c.pieces.reader c.pieces.taken
-        c.in-Ok.count c.read.new.into c.pieces.invariant.under_way c.if-count-eq0.true c.in-Ok.ensures.bytes in
+    c.in-Ok.count c.read.new.into c.pieces.invariant.under_way c.if-count-eq0.true c.in-Ok.ensures.bytes in
     let at_end = c.in-Ok.ensures.end c.if-count-eq0.true (omega arith) in
     last_has_room (g.S.Source.left c.args.source.now) (g.S.Source.left c.read.new.self) (g.K.Sink.held c.args.sink.now) (g.K.Sink.held c.pieces.sink) (g.K.Sink.room c.args.sink.now) (g.K.Sink.room c.pieces.sink) c.pieces.session c.pieces.reader c.pieces.taken u c.pieces.invariant.short at_end c.requires.room
 
 pub returns-in-Ok-finish-clause-output : goal.returns-in-Ok-finish-clause-output
 returns-in-Ok-finish-clause-output g c = λ whole.
     let u = none_more (g.S.Source.left c.args.source.now) (g.S.Source.left c.pieces.source) (g.S.Source.left c.read.new.self) (g.K.Sink.held c.args.sink.now) (g.K.Sink.held c.pieces.sink) (g.K.Sink.room c.args.sink.now) (g.K.Sink.room c.pieces.sink) c.pieces.session c.pieces.reader c.pieces.taken
-        c.in-Ok.count c.read.new.into c.pieces.invariant.under_way c.if-count-eq0.true c.in-Ok.ensures.bytes in
+    c.in-Ok.count c.read.new.into c.pieces.invariant.under_way c.if-count-eq0.true c.in-Ok.ensures.bytes in
     let at_end = c.in-Ok.ensures.end c.if-count-eq0.true (omega arith) in
     answers_end (g.S.Source.left c.args.source.now) (g.S.Source.left c.read.new.self) (g.K.Sink.held c.args.sink.now) (g.K.Sink.held c.pieces.sink) (g.K.Sink.room c.args.sink.now) (g.K.Sink.room c.pieces.sink) c.pieces.session c.pieces.reader c.pieces.taken u c.pieces.invariant.short at_end (g.K.Sink.held c.finish.new.sink) (g.K.Sink.room c.finish.new.sink) c.in-Ok-finish.status c.in-Ok-finish.ensures.comes
 
@@ -45,28 +45,25 @@ returns-in-Ok-finish-clause-write_fault g c = λ fault. absurd (subst IsWhole fa
 pub returns-in-Err-clause-output : goal.returns-in-Err-clause-output
 returns-in-Err-clause-output g c =
     let u = none_more (g.S.Source.left c.args.source.now) (g.S.Source.left c.pieces.source) (g.S.Source.left c.read.new.self) (g.K.Sink.held c.args.sink.now) (g.K.Sink.held c.pieces.sink) (g.K.Sink.room c.args.sink.now) (g.K.Sink.room c.pieces.sink) c.pieces.session c.pieces.reader c.pieces.taken
-        c.in-Ok.count c.read.new.into c.pieces.invariant.under_way c.if-count-eq0.true c.in-Ok.ensures.bytes in
+    c.in-Ok.count c.read.new.into c.pieces.invariant.under_way c.if-count-eq0.true c.in-Ok.ensures.bytes in
     let at_end = c.in-Ok.ensures.end c.if-count-eq0.true (omega arith) in
-    stopped _ c.in-Err.stop c.into.result _ _ (λ end. Answers [] (g.S.Source.left c.args.source.now) (g.K.Sink.held c.args.sink.now) (g.K.Sink.held c.finish.new.sink) end) c.in-Err.ensures.comes c.into.ensures
-        (answers_last_refused (g.S.Source.left c.args.source.now) (g.S.Source.left c.read.new.self) (g.K.Sink.held c.args.sink.now) (g.K.Sink.held c.pieces.sink) (g.K.Sink.room c.args.sink.now) (g.K.Sink.room c.pieces.sink) c.pieces.session c.pieces.reader c.pieces.taken u c.pieces.invariant.short at_end (g.K.Sink.held c.finish.new.sink) (g.K.Sink.room c.finish.new.sink))
-
+    answers_last_stopped (g.S.Source.left c.args.source.now) (g.S.Source.left c.read.new.self) (g.K.Sink.held c.args.sink.now) (g.K.Sink.held c.pieces.sink) (g.K.Sink.room c.args.sink.now) (g.K.Sink.room c.pieces.sink) c.pieces.session c.pieces.reader c.pieces.taken u c.pieces.invariant.short at_end (g.K.Sink.held c.finish.new.sink) (g.K.Sink.room c.finish.new.sink)
+    c.in-Err.stop c.into.result c.in-Err.ensures.comes c.into.ensures
 
 pub answer_lines-requires-clause-room : goal.answer_lines-requires-clause-room
 answer_lines-requires-clause-room g c =
     let consumes = cut_consumes c.read.new.into c.split_at.result.0.now c.split_at.result.1.now c.in-Ok.count c.min.result c.split_at.ensures.front c.split_at.ensures.back (g.S.Source.left c.pieces.source) (g.S.Source.left c.read.new.self) c.in-Ok.ensures.bytes in
-    let lengths = cut_lengths c.read.new.into c.split_at.result.0.now c.split_at.result.1.now c.in-Ok.count c.min.result c.split_at.ensures.front c.split_at.ensures.back c.in-Ok.ensures.within in
     let short : c.pieces.taken + length c.split_at.result.0.now ≤ 1048576 = omega (arith, c.split_at.ensures.front_len, c.min.ensures, c.pieces.invariant.short) in
     piece_has_room (g.S.Source.left c.args.source.now) (g.S.Source.left c.pieces.source) (g.K.Sink.held c.args.sink.now) (g.K.Sink.held c.pieces.sink) (g.K.Sink.room c.args.sink.now) (g.K.Sink.room c.pieces.sink) c.pieces.session c.pieces.reader c.pieces.taken c.pieces.invariant.under_way
-        (g.S.Source.left c.read.new.self) c.split_at.result.0.now c.split_at.result.1.now consumes short c.requires.room
+    (g.S.Source.left c.read.new.self) c.split_at.result.0.now c.split_at.result.1.now consumes short c.requires.room
 
 pub returns-in-Err-answer_lines-clause-output : goal.returns-in-Err-answer_lines-clause-output
 returns-in-Err-answer_lines-clause-output g c =
     let consumes = cut_consumes c.read.new.into c.split_at.result.0.now c.split_at.result.1.now c.in-Ok.count c.min.result c.split_at.ensures.front c.split_at.ensures.back (g.S.Source.left c.pieces.source) (g.S.Source.left c.read.new.self) c.in-Ok.ensures.bytes in
-    let lengths = cut_lengths c.read.new.into c.split_at.result.0.now c.split_at.result.1.now c.in-Ok.count c.min.result c.split_at.ensures.front c.split_at.ensures.back c.in-Ok.ensures.within in
     let short : c.pieces.taken + length c.split_at.result.0.now ≤ 1048576 = omega (arith, c.split_at.ensures.front_len, c.min.ensures, c.pieces.invariant.short) in
-    stopped _ c.in-Err-answer_lines.stop c.into-in-Err-answer_lines.result _ _ (λ end. Answers [] (g.S.Source.left c.args.source.now) (g.K.Sink.held c.args.sink.now) (g.K.Sink.held c.answer_lines.new.sink) end) c.in-Err-answer_lines.ensures.comes c.into-in-Err-answer_lines.ensures
-        (answers_refused (g.S.Source.left c.args.source.now) (g.S.Source.left c.pieces.source) (g.K.Sink.held c.args.sink.now) (g.K.Sink.held c.pieces.sink) (g.K.Sink.room c.args.sink.now) (g.K.Sink.room c.pieces.sink) c.pieces.session c.pieces.reader c.pieces.taken c.pieces.invariant.under_way
-        (g.S.Source.left c.read.new.self) c.split_at.result.0.now c.split_at.result.1.now consumes short (g.K.Sink.held c.answer_lines.new.sink) (g.K.Sink.room c.answer_lines.new.sink))
+    answers_stopped (g.S.Source.left c.args.source.now) (g.S.Source.left c.pieces.source) (g.K.Sink.held c.args.sink.now) (g.K.Sink.held c.pieces.sink) (g.K.Sink.room c.args.sink.now) (g.K.Sink.room c.pieces.sink) c.pieces.session c.pieces.reader c.pieces.taken c.pieces.invariant.under_way
+    (g.S.Source.left c.read.new.self) c.split_at.result.0.now c.split_at.result.1.now consumes short (g.K.Sink.held c.answer_lines.new.sink) (g.K.Sink.room c.answer_lines.new.sink)
+    _ c.answer_lines.new.session c.answer_lines.new.reader c.in-Err-answer_lines.stop c.into-in-Err-answer_lines.result c.in-Err-answer_lines.ensures.comes c.into-in-Err-answer_lines.ensures
 
 pub returns-then-not-is_empty-clause-output : goal.returns-then-not-is_empty-clause-output
 returns-then-not-is_empty-clause-output g c = λ whole.
@@ -75,8 +72,8 @@ returns-then-not-is_empty-clause-output g c = λ whole.
     let short : c.pieces.taken + length c.split_at.result.0.now ≤ 1048576 = omega (arith, c.split_at.ensures.front_len, c.min.ensures, c.pieces.invariant.short) in
     let some = some_over (length c.split_at.result.1.now) c.if-not-is_empty.ensures in
     answers_too_long (g.S.Source.left c.args.source.now) (g.S.Source.left c.pieces.source) (g.K.Sink.held c.args.sink.now) (g.K.Sink.held c.pieces.sink) (g.K.Sink.room c.args.sink.now) (g.K.Sink.room c.pieces.sink) c.pieces.session c.pieces.reader c.pieces.taken c.pieces.invariant.under_way
-        (g.S.Source.left c.read.new.self) c.split_at.result.0.now c.split_at.result.1.now consumes short (g.K.Sink.held c.answer_lines.new.sink) (g.K.Sink.room c.answer_lines.new.sink)
-        c.answer_lines.new.session c.answer_lines.new.reader c.in_default-answer_lines.ensures.comes c.in_default-answer_lines.ensures.no_feed (omega (arith, some, lengths, c.split_at.ensures.front_len, c.min.ensures, c.pieces.invariant.short)) some
+    (g.S.Source.left c.read.new.self) c.split_at.result.0.now c.split_at.result.1.now consumes short (g.K.Sink.held c.answer_lines.new.sink) (g.K.Sink.room c.answer_lines.new.sink)
+    c.answer_lines.new.session c.answer_lines.new.reader c.in_default-answer_lines.ensures.comes c.in_default-answer_lines.ensures.no_feed (omega (arith, some, lengths, c.split_at.ensures.front_len, c.min.ensures, c.pieces.invariant.short)) some
 
 pub pieces-preserved : goal.pieces-preserved
 pieces-preserved g c =
@@ -86,8 +83,8 @@ pieces-preserved g c =
     let none = none_over c.split_at.result.1.now c.if-not-is_empty.ensures in
     let whole : length c.split_at.result.0.now ≡ c.in-Ok.count = (let e = ap length none in omega (arith, e, lengths)) in
     let next = piece_answered (g.S.Source.left c.args.source.now) (g.S.Source.left c.pieces.source) (g.K.Sink.held c.args.sink.now) (g.K.Sink.held c.pieces.sink) (g.K.Sink.room c.args.sink.now) (g.K.Sink.room c.pieces.sink) c.pieces.session c.pieces.reader c.pieces.taken c.pieces.invariant.under_way
-        (g.S.Source.left c.read.new.self) c.split_at.result.0.now c.split_at.result.1.now consumes short (g.K.Sink.held c.answer_lines.new.sink) (g.K.Sink.room c.answer_lines.new.sink)
-        c.answer_lines.new.session c.answer_lines.new.reader c.in_default-answer_lines.ensures.comes none in
+    (g.S.Source.left c.read.new.self) c.split_at.result.0.now c.split_at.result.1.now consumes short (g.K.Sink.held c.answer_lines.new.sink) (g.K.Sink.room c.answer_lines.new.sink)
+    c.answer_lines.new.session c.answer_lines.new.reader c.in_default-answer_lines.ensures.comes none in
     record {
       under_way = subst (λ n. IsUnderWay (g.S.Source.left c.args.source.now) (g.S.Source.left c.read.new.self) (g.K.Sink.held c.args.sink.now) (g.K.Sink.held c.answer_lines.new.sink) (g.K.Sink.room c.args.sink.now) (g.K.Sink.room c.answer_lines.new.sink) c.answer_lines.new.session c.answer_lines.new.reader (c.pieces.taken + n)) whole next;
       short = omega (arith, short, whole);

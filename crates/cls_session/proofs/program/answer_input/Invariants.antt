@@ -1,5 +1,4 @@
 use Rattle.std.proofs.Common.{◌≡◌, ◌+◌, ◌-◌, ◌≤◌, length}
-use Rattle.cls_syntax.specs.Lines.{HasNoFeed}
 use Rattle.cls_session.proofs.InputLoop.{IsUnderWay}
 use Rattle.cls_session.proofs.program.answer_input.Given as goal
 

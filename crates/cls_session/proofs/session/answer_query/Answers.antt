@@ -1,4 +1,4 @@
-use Rattle.cls_session.proofs.Pages.{all_over, lists_page}
+use Rattle.cls_session.proofs.Pages.{lists_page}
 use Rattle.cls_session.proofs.session.answer_query.Goals as goal
 
 pub returns-in_ok-print_page-in-Listing : goal.returns-in_ok-print_page-in-Listing

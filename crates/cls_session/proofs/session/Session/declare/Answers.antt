@@ -1,5 +1,5 @@
-use Rattle.std.proofs.Common.{◌≡◌, ℕ, List, ◌∙◌, true, false, inl, inr}
-use Rattle.cls_session.proofs.Standings.{IsFaulty, foreign}
+use Rattle.std.proofs.Common.{◌∙◌}
+use Rattle.cls_session.proofs.Standings.{foreign}
 use Rattle.cls_session.proofs.Replying.{skips, ends, declares, refuses, refused_name, not_end, new_text}
 use Rattle.cls_session.proofs.session.Session.declare.Goals as goal
 use Rattle.cls_session.proofs.session.Session.declare.Goals.{in_default-via-in-Component+else-may_declare, in_default-via-in_default}

@@ -1,4 +1,3 @@
-use Rattle.std.proofs.Common.{◌≡◌, true, ◌∙◌, Bool, rules}
 use Rattle.cls_session.proofs.Replying.{answers}
 use Rattle.cls_session.proofs.session.Session.feed.Goals as goal
 

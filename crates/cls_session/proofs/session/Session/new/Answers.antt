@@ -1,4 +1,4 @@
-use Rattle.std.proofs.Common.{[], refl, ◌≡◌, ℕ, List, subst, sym}
+use Rattle.std.proofs.Common.{[], ℕ, List, subst, sym}
 use Rattle.cls_session.specs.Standings.{Stands}
 use Rattle.cls_session.proofs.Standings.{Stands-nothing, reading}
 use Rattle.cls_session.proofs.session.Session.new.Goals as goal
