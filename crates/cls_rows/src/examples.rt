@@ -1,0 +1,133 @@
+ghost use Rattle.std.specs.Prelude.{◌<◌};
+
+use cls_base::{MemorySink, MemorySource, Numbers, OpenGate};
+use cls_session::{Status, run};
+use std::alloc::Global;
+use std::process::Abort;
+use std::sync::Wait;
+use std::test::Fail;
+use std::thread::Threads;
+
+/// More bytes than a run here writes.
+const SPARE: usize = 65_536;
+
+/// The bytes of a read or a write, where the source and the sink are to cut nothing short.
+pub const WHOLE: usize = 4_194_304;
+
+pub const TWO_COMPONENTS: &[u8] = b"comp x : A\ncomp y : B\nend\nlist omega max 2 take 10\n";
+
+pub const SIX_TERMS: &str = "term x\nterm y\nterm x(x)\nterm x(y)\nterm y(x)\nterm y(y)\ndone\n";
+
+/// An input, and what is written for it with which status.
+#[derive(Clone, Copy)]
+pub struct Example<'a> {
+    pub name: &'a str,
+    pub input: &'a [u8],
+    pub output: &'a str,
+    pub status: Status,
+}
+
+/// How the outside cuts reads and writes short, and which of them fail, counted from 1.
+#[derive(Clone, Copy)]
+pub struct Outside<'a> {
+    pub chunk: usize,
+    pub failing_reads: &'a [u32],
+    pub failing_writes: &'a [u32],
+    ghost some: { 0 < chunk },
+}
+
+/// The status of a run with these words over this input, and what it wrote.
+pub fn outcome<R: Threads + Wait + Sync>(
+    rt: &R,
+    alloc: Global,
+    words: &[&str],
+    input: &[u8],
+    outside: &Outside,
+) -> Result<(Status, String), Fail> {
+    let mut owned = Vec::new(alloc);
+    for word in words {
+        owned.push(String::from_str(alloc, word)?)?;
+    }
+    let fails = Numbers::new(outside.failing_reads.to_vec(alloc)?);
+    let mut source = MemorySource::new(input.to_vec(alloc)?, outside.chunk, fails);
+    let fails = Numbers::new(outside.failing_writes.to_vec(alloc)?);
+    let mut sink = MemorySink::new(alloc, SPARE, outside.chunk, fails)?;
+    let status = run(
+        rt,
+        alloc,
+        owned.as_slice(),
+        &mut source,
+        &mut sink,
+        &OpenGate,
+    );
+    let output = String::from_str(alloc, str::from_utf8(sink.held())?)?;
+    Ok((status, output))
+}
+
+/// Asserts what the example says, where at most so many bytes go at once.
+pub fn assert_example<R: Abort + Threads + Wait + Sync>(
+    rt: &R,
+    alloc: Global,
+    example: &Example,
+    chunk: usize,
+) -> Result<(), Fail>
+    requires { 0 < chunk }
+{
+    let name = example.name;
+    let outside = Outside {
+        chunk,
+        failing_reads: &[],
+        failing_writes: &[],
+    };
+    let (status, output) = outcome(rt, alloc, &[], example.input, &outside)?;
+    assert_eq!(rt;
+        output.as_str(),
+        example.output,
+        "{name}, {chunk} bytes at once"
+    );
+    assert_eq!(rt; status, example.status, "{name}, {chunk} bytes at once");
+    Ok(())
+}
+
+/// Asserts what each example says, in whole reads and writes and in short ones.
+pub fn assert_examples<R: Abort + Threads + Wait + Sync>(
+    rt: &R,
+    alloc: Global,
+    examples: &[Example],
+) -> Result<(), Fail> {
+    for example in examples {
+        assert_example(rt, alloc, example, 1)?;
+        assert_example(rt, alloc, example, 7)?;
+        assert_example(rt, alloc, example, WHOLE)?;
+    }
+    Ok(())
+}
+
+/// An input that ends well.
+pub fn answered<'a>(name: &'a str, input: &'a [u8], output: &'a str) -> Example<'a> {
+    Example {
+        name,
+        input,
+        output,
+        status: Status::Done,
+    }
+}
+
+/// An input whose repository has a fault.
+pub fn refused<'a>(name: &'a str, input: &'a [u8], output: &'a str) -> Example<'a> {
+    Example {
+        name,
+        input,
+        output,
+        status: Status::Refused,
+    }
+}
+
+/// The declarations of so many components, `c0` the first.
+pub fn declarations(alloc: Global, count: u32) -> Result<String, Fail> {
+    let mut text = String::new(alloc);
+    for number in 0..count {
+        text.push_str(format!(in alloc; "comp c{number} : A\n")?.as_str())?;
+    }
+    Ok(text)
+}

@@ -1,0 +1,122 @@
+use crate::examples::{Outside, SIX_TERMS, TWO_COMPONENTS, outcome};
+use cls_session::Status;
+use std::test::Fail;
+
+const USAGE: &str =
+    "usage: clsynth [--workers N] [--max-goals N] [--max-rules N] [--pool N] [generate N]\n";
+
+#[test]
+fn words_are_answered_by_the_usage(rt: HostRuntime) -> Result<(), Fail> {
+    let first_read_fails = Outside {
+        chunk: 7,
+        failing_reads: &[1],
+        failing_writes: &[],
+    };
+    let usages: [&[&str]; 5] = [
+        &["--workers", "0"],
+        &["generate", "5"],
+        &["--"],
+        &["--pool", "5", "--pool", "5"],
+        &[""],
+    ];
+    for words in usages {
+        let (status, output) = outcome(&rt, rt.alloc(), words, TWO_COMPONENTS, &first_read_fails)?;
+        assert_eq!(rt; output.as_str(), USAGE, "{words:?}");
+        assert_eq!(rt; status, Status::Usage, "{words:?}");
+    }
+    Ok(())
+}
+
+#[test]
+fn a_read_fails(rt: HostRuntime) -> Result<(), Fail> {
+    // At 7 bytes a read the input comes in eight reads, and the ninth finds its end.
+    for (place, expected) in [
+        (1, Status::ReadFault),
+        (5, Status::ReadFault),
+        (8, Status::ReadFault),
+        (9, Status::ReadFault),
+        (1_000, Status::Done),
+    ] {
+        let outside = Outside {
+            chunk: 7,
+            failing_reads: &[place],
+            failing_writes: &[],
+        };
+        let (status, output) = outcome(&rt, rt.alloc(), &[], TWO_COMPONENTS, &outside)?;
+        assert_eq!(rt; status, expected, "read {place} fails");
+        assert!(rt;
+            SIX_TERMS.starts_with(output.as_str()),
+            "read {place} fails"
+        );
+    }
+    Ok(())
+}
+
+#[test]
+fn a_write_fails(rt: HostRuntime) -> Result<(), Fail> {
+    // At 7 bytes a write the terms go in nine writes at least.
+    for (words, input, place, output, expected) in [
+        (
+            [].as_slice(),
+            TWO_COMPONENTS,
+            1,
+            SIX_TERMS,
+            Status::WriteFault,
+        ),
+        (
+            [].as_slice(),
+            TWO_COMPONENTS,
+            5,
+            SIX_TERMS,
+            Status::WriteFault,
+        ),
+        (
+            [].as_slice(),
+            TWO_COMPONENTS,
+            9,
+            SIX_TERMS,
+            Status::WriteFault,
+        ),
+        (
+            [].as_slice(),
+            TWO_COMPONENTS,
+            1_000,
+            SIX_TERMS,
+            Status::Done,
+        ),
+        (
+            [].as_slice(),
+            b"wrong".as_slice(),
+            2,
+            "refused 1 unbuilt\n",
+            Status::WriteFault,
+        ),
+        (
+            [].as_slice(),
+            b"".as_slice(),
+            2,
+            "refused 0 unbuilt\n",
+            Status::WriteFault,
+        ),
+        (
+            ["--"].as_slice(),
+            b"".as_slice(),
+            2,
+            USAGE,
+            Status::WriteFault,
+        ),
+    ] {
+        let outside = Outside {
+            chunk: 7,
+            failing_reads: &[],
+            failing_writes: &[place],
+        };
+        let (status, written) = outcome(&rt, rt.alloc(), words, input, &outside)?;
+        assert_eq!(rt; status, expected, "write {place} of {output} fails");
+        assert!(rt;
+            output.starts_with(written.as_str()),
+            "write {place} of {output} fails"
+        );
+    }
+    Ok(())
+}

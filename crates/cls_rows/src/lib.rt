@@ -1,0 +1,14 @@
+//! Worked examples of whole runs of clsynth: for each an input, and the output and the status that the language gives
+//! for it. There is nothing here but tests.
+#![tactic(auto)]
+
+#[cfg(test)]
+mod examples;
+#[cfg(test)]
+mod faults;
+#[cfg(test)]
+mod limits;
+#[cfg(test)]
+mod listings;
+#[cfg(test)]
+mod refusals;

@@ -1,0 +1,184 @@
+use crate::examples::{Example, WHOLE, answered, assert_example, assert_examples, refused};
+use cls_session::Status;
+use std::alloc::Global;
+use std::test::Fail;
+
+/// The most bytes that a line may have.
+const LONGEST_LINE: usize = 65_536;
+
+/// The most bytes that an input may have.
+const LONGEST_INPUT: usize = 1_048_576;
+
+/// A comment of so many bytes, its ending not counted.
+fn comment(alloc: Global, length: usize) -> Result<String, Fail> {
+    let mut text = String::new(alloc);
+    for _ in 0..length {
+        text.push('#')?;
+    }
+    Ok(text)
+}
+
+/// The head and the tail, with comments and blank lines between them so that there are `length` bytes.
+fn padded(alloc: Global, head: &str, tail: &str, length: usize) -> Result<String, Fail> {
+    let fill = length.saturating_sub(head.len()).saturating_sub(tail.len());
+    let mut text = String::from_str(alloc, head)?;
+    for _ in 0..fill / 32 {
+        text.push_str("# A comment of thirty-two bytes\n")?;
+    }
+    for _ in 0..fill % 32 {
+        text.push('\n')?;
+    }
+    text.push_str(tail)?;
+    Ok(text)
+}
+
+#[test]
+fn a_line_is_too_long(rt: HostRuntime) -> Result<(), Fail> {
+    let alloc = rt.alloc();
+    let longest = comment(alloc, LONGEST_LINE)?;
+    let feed = format!(in alloc; "comp x : A\n{longest}\nend\nlist omega max 1 take 1\n")?;
+    let returns = format!(in alloc; "comp x : A\n{longest}\r\nend\nlist omega max 1 take 1\n")?;
+    let beyond = format!(in alloc; "comp x : A\n{longest}#\nend\n")?;
+    let unended = format!(in alloc; "comp x : A\n{longest}#")?;
+    let query = format!(in alloc; "comp x : A\nend\n{longest}#\nlist omega max 1 take 1\n")?;
+    let examples = [
+        answered("the longest comment", feed.as_bytes(), "term x\ndone\n"),
+        answered(
+            "the longest comment and a carriage return",
+            returns.as_bytes(),
+            "term x\ndone\n",
+        ),
+        refused("a byte more", beyond.as_bytes(), "refused 2 unbuilt\n"),
+        refused(
+            "a byte more at the end of the input",
+            unended.as_bytes(),
+            "refused 2 unbuilt\n",
+        ),
+        answered(
+            "a byte more among the queries",
+            query.as_bytes(),
+            "error unbuilt\nterm x\ndone\n",
+        ),
+    ];
+    assert_examples(&rt, alloc, &examples)
+}
+
+#[test]
+fn an_input_is_too_long(rt: HostRuntime) -> Result<(), Fail> {
+    let alloc = rt.alloc();
+    let asked = "comp x : A\nend\nlist omega max 1 take 1\n";
+    let query = "list omega max 1 take 1";
+    for (name, head, tail, excess, output, status) in [
+        (
+            "the longest input",
+            asked,
+            "",
+            0,
+            "term x\ndone\n",
+            Status::Done,
+        ),
+        ("only comments", "end\n", "", 0, "", Status::Done),
+        (
+            "a byte more",
+            asked,
+            "",
+            1,
+            "term x\ndone\n",
+            Status::TooLong,
+        ),
+        (
+            "a byte more of comments",
+            "end\n",
+            "",
+            1,
+            "",
+            Status::TooLong,
+        ),
+        (
+            "a whole input more",
+            asked,
+            "",
+            LONGEST_INPUT,
+            "term x\ndone\n",
+            Status::TooLong,
+        ),
+        ("a last query", "end\n", query, 0, "done\n", Status::Done),
+        (
+            "a query that ends in time",
+            "end\n",
+            "list omega max 1 take 1\n#",
+            1,
+            "done\n",
+            Status::TooLong,
+        ),
+        (
+            "a query whose feed is too late",
+            "end\n",
+            "list omega max 1 take 1\n",
+            1,
+            "",
+            Status::TooLong,
+        ),
+        (
+            "an end whose feed is too late",
+            "comp x : A\n",
+            "end\n",
+            1,
+            "",
+            Status::TooLong,
+        ),
+        ("no end", "comp x : A\n", "", 1, "", Status::TooLong),
+        (
+            "a fault",
+            "comp x : A\nwrong\n",
+            "",
+            1,
+            "refused 2 unbuilt\n",
+            Status::Refused,
+        ),
+        (
+            "a fault whose feed is too late",
+            "comp x : A\n",
+            "wrong\n",
+            1,
+            "",
+            Status::TooLong,
+        ),
+    ] {
+        let input = padded(alloc, head, tail, LONGEST_INPUT + excess)?;
+        assert_eq!(rt; input.len(), LONGEST_INPUT + excess, "{name}");
+        let input = input.as_bytes();
+        let example = Example {
+            name,
+            input,
+            output,
+            status,
+        };
+        assert_example(&rt, alloc, &example, 1_000)?;
+        assert_example(&rt, alloc, &example, WHOLE)?;
+    }
+    Ok(())
+}
+
+#[test]
+fn half_a_million_comments_are_read(rt: HostRuntime) -> Result<(), Fail> {
+    let alloc = rt.alloc();
+    for (head, count, excess, status) in [
+        ("end\n", 524_286, 0, Status::Done),
+        ("end\n##\n", 524_285, 1, Status::TooLong),
+    ] {
+        let mut input = String::from_str(alloc, head)?;
+        for _ in 0..count {
+            input.push_str("#\n")?;
+        }
+        assert_eq!(rt; input.len(), LONGEST_INPUT + excess, "{head}");
+        let example = Example {
+            name: head,
+            input: input.as_bytes(),
+            output: "",
+            status,
+        };
+        assert_example(&rt, alloc, &example, WHOLE)?;
+    }
+    Ok(())
+}
