@@ -10,7 +10,7 @@ use cls_base::{Failed, OutOfMemory, Sink};
 use cls_syntax::{Line, LineReader};
 use std::alloc::Global;
 
-/// Why the lines of an input aren't answered to the end.
+/// Why a run ends before the end of its input.
 #[derive(Clone, Copy, Debug, PartialEq, Eq)]
 pub enum Stop {
     /// The repository has a fault, and the refusal was written.
