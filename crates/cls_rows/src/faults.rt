@@ -1,9 +1,23 @@
 use crate::examples::{Outside, SIX_TERMS, TWO_COMPONENTS, outcome};
-use cls_session::Status;
+use cls_base::{OpenGate, SureSink, SureSource};
+use cls_session::{Status, run};
 use std::test::Fail;
 
 const USAGE: &str =
     "usage: clsynth [--workers N] [--max-goals N] [--max-rules N] [--pool N] [generate N]\n";
+
+/// More bytes than an output for four lines of at most 24 bytes has, whatever the lines ask for.
+const ROOM: usize = 4_194_304;
+
+#[test]
+fn no_read_and_no_write_can_fail(rt: HostRuntime) -> Result<(), Fail> {
+    let mut source = SureSource::new(TWO_COMPONENTS.to_vec(rt.alloc())?);
+    let mut sink = SureSink::new(rt.alloc(), ROOM)?;
+    let status = run(&rt, rt.alloc(), &[], &mut source, &mut sink, &OpenGate);
+    assert_eq!(rt; str::from_utf8(sink.held())?, SIX_TERMS);
+    assert_eq!(rt; status, Status::Done);
+    Ok(())
+}
 
 #[test]
 fn words_are_answered_by_the_usage(rt: HostRuntime) -> Result<(), Fail> {

@@ -1,0 +1,204 @@
+-- How long an output for a few short lines is at most.
+use Rattle.std.proofs.Common.{◌≡◌, ℕ, zero, suc, ◌+◌, ◌-◌, ◌*◌, ◌<◌, ◌≤◌, List, [], ◌∷◌, ◌++◌, length, map, take, drop, refl, sym, ap, ◌∙◌, subst, arith, length-append, Bool, true, false, get_or}
+use Rattle.std.specs.Prelude.{All, codes}
+use Rattle.std.specs.List.{flat_map, AllByRecursion}
+use Rattle.std.specs.Fmt.{decimal}
+use Rattle.std.proofs.lemmas.Bool.Decides.{nat_tests}
+use Rattle.std.proofs.lemmas.Fmt.{length-decimal-le_wide}
+use Rattle.std.proofs.lemmas.List.Elements.{All-contains_itself}
+use Rattle.cls_base.specs.Terms.{Applicative, component, apply}
+use Rattle.cls_syntax.specs.declared.token.TokenKind.{TokenKind}
+use Rattle.cls_syntax.specs.declared.token.TokenKind.TheVariants.{Name, Number, To, And, Times, Open, Close, Comma, Dollar, Colon, Equals, Bar, AtMost, Bad}
+use Rattle.cls_syntax.specs.declared.token.Token.{Token}
+use Rattle.cls_syntax.specs.Lines.{lines_of}
+use Rattle.cls_syntax.specs.Tokens.{tokens_of}
+use Rattle.cls_syntax.specs.Tokens as tokens
+use Rattle.cls_syntax.specs.Words.{Word, name, word_from, word_in, words_of}
+use Rattle.cls_term.specs.Texts.{name_at, text_of}
+use Rattle.cls_term.proofs.Spines.{size_of-ones}
+use Rattle.cls_session.specs.declared.status.Status.{Status}
+use Rattle.cls_session.specs.Declarations.{Declaration, names_of}
+use Rattle.cls_session.specs.Forms.{IsDeclaration}
+use Rattle.cls_session.specs.Outputs.{Output, lines_read}
+use Rattle.cls_session.specs.Outputs as outputs
+use Rattle.cls_session.specs.Replies.{term_line, page_text, Reply, Replies}
+use Rattle.cls_session.specs.Replies as replies
+use Rattle.cls_session.specs.Repositories.{Entry, skipped, declares, Declares}
+use Rattle.cls_session.specs.Transcripts.{IsAnswered, refusal, without_end, complete}
+use Rattle.cls_session.proofs.Omega.{IsSmall, single, pair, small}
+
+-- the line or the name has at most 24 bytes
+abbrev pub IsShort : List ℕ → Type 0
+IsShort line = length line ≤ 24
+
+abbrev name_in : List Declaration → ℕ → List ℕ
+name_in ds = name_at (names_of ds)
+
+take_within : (n : ℕ) (xs : List ℕ) → length (take n xs) ≤ length xs
+take_within zero xs = omega arith
+take_within (suc n) [] = omega arith
+take_within (suc n) (x ∷ xs) = omega (arith, take_within n xs)
+
+drop_within : (n : ℕ) (xs : List ℕ) → length (drop n xs) ≤ length xs
+drop_within zero xs = omega arith
+drop_within (suc n) [] = omega arith
+drop_within (suc n) (x ∷ xs) = omega (arith, drop_within n xs)
+
+name_text : (kind : TokenKind) (text xs : List ℕ) → word_from kind text ≡ name xs → text ≡ xs
+name_text Name text xs e = cc
+name_text Number text xs e = cc
+name_text To text xs e = cc
+name_text And text xs e = cc
+name_text Times text xs e = cc
+name_text Open text xs e = cc
+name_text Close text xs e = cc
+name_text Comma text xs e = cc
+name_text Dollar text xs e = cc
+name_text Colon text xs e = cc
+name_text Equals text xs e = cc
+name_text Bar text xs e = cc
+name_text AtMost text xs e = cc
+name_text Bad text xs e = cc
+
+-- a name stands in its line
+second_within : (line : List ℕ) (ts : List Token) (w : Word) (ws : List Word) (xs : List ℕ) → map (word_in line) ts ≡ w ∷ name xs ∷ ws → length xs ≤ length line
+second_within line [] w ws xs e = absurd cc
+second_within line (t ∷ []) w ws xs e = absurd cc
+second_within line (t ∷ u ∷ ts) w ws xs e =
+    let same : word_from u.kind (tokens.text_of line u) ≡ name xs = cc in
+    let text = ap length (name_text u.kind (tokens.text_of line u) xs same) in
+    let a = take_within (u.end - u.start) (drop u.start line) in
+    let b = drop_within u.start line in
+    omega arith
+
+component_within : (line : List ℕ) (d : Declaration) → IsDeclaration line d → length d.component ≤ length line
+unfolding words_of
+component_within line d p = second_within line (tokens_of line) _ _ d.component p.words
+
+-- short lines declare short names
+entry_short : (line : List ℕ) (first rest : List Declaration) → IsShort line → Entry line first → ((x : ℕ) → IsShort (name_in rest x)) → (x : ℕ) → IsShort (name_in (first ++ rest) x)
+entry_short line first rest h (skipped s e) r x = subst (λ (ds : List Declaration). IsShort (name_in (ds ++ rest) x)) (sym e) (r x)
+entry_short line first rest h (declares d p e) r zero = subst (λ (ds : List Declaration). IsShort (name_in (ds ++ rest) zero)) (sym e) (let w = component_within line d p in omega arith)
+entry_short line first rest h (declares d p e) r (suc x) = subst (λ (ds : List Declaration). IsShort (name_in (ds ++ rest) (suc x))) (sym e) (r x)
+
+names_short : (lines : List (List ℕ)) (ds : List Declaration) → AllByRecursion IsShort lines → Declares lines ds → (x : ℕ) → IsShort (name_in ds x)
+names_short [] ds h e x = subst (λ (cs : List Declaration). IsShort (name_in cs x)) (sym e) (omega arith)
+names_short (line ∷ lines) ds h (first, rest, entry, later, e) x =
+    subst (λ (cs : List Declaration). IsShort (name_in cs x)) (sym e) (entry_short line first rest h.0 entry (names_short lines rest h.1 later) x)
+
+front_short : (xs ys : List (List ℕ)) → AllByRecursion IsShort (xs ++ ys) → AllByRecursion IsShort xs
+front_short [] ys h = tt
+front_short (x ∷ xs) ys h = (h.0, front_short xs ys h.1)
+
+-- what terms of size 1 or 2 take, and a page of them
+module _ (names : ℕ → List ℕ) (short : (x : ℕ) → IsShort (names x)) where
+  term_line-length : (e : Applicative) → IsSmall e → length (term_line names e) ≤ 56
+  term_line-length (component x) single =
+      let a = length-append (codes "term " ++ names x) (10 ∷ []) in
+      let b = length-append (codes "term ") (names x) in
+      let s = short x in
+      omega arith
+  term_line-length (apply (component x) (component y)) pair =
+      let text = text_of names (apply (component x) (component y)) in
+      let a = length-append text (10 ∷ []) in
+      let b = length-append ((names x ++ codes "(") ++ names y) (codes ")") in
+      let c = length-append (names x ++ codes "(") (names y) in
+      let d = length-append (names x) (codes "(") in
+      let s = short x in
+      let t = short y in
+      omega arith
+  term_line-length (apply (component x) (apply g b)) s = elim s [ ]
+  term_line-length (apply (apply g b) a) s = elim s [ ]
+
+  term_lines-length : (es : List Applicative) → All IsSmall es → length (flat_map (term_line names) es) ≤ 56 * length es
+  term_lines-length [] h = omega arith
+  term_lines-length (e ∷ es) h =
+      let a = length-append (term_line names e) (flat_map (term_line names) es) in
+      let b = term_line-length e (h 0 e (omega arith)) in
+      let c = term_lines-length es (λ k d l. h (suc k) d (omega arith)) in
+      omega arith
+
+  page_text-length : (es : List Applicative) (more : Bool) → All IsSmall es → length (page_text names es more) ≤ 56 * length es + 5
+  page_text-length es true h =
+      let a = length-append (flat_map (term_line names) es) (codes "more" ++ 10 ∷ []) in
+      let b = term_lines-length es h in
+      omega arith
+  page_text-length es false h =
+      let a = length-append (flat_map (term_line names) es) (codes "done" ++ 10 ∷ []) in
+      let b = term_lines-length es h in
+      omega arith
+
+module _ (ds : List Declaration) (short : (x : ℕ) → IsShort (name_in ds x)) where
+  reply_length : (line text : List ℕ) → Reply ds line text → length text ≤ 560005
+  reply_length line text (replies.skipped s e) = let a = ap length e in omega arith
+  reply_length line text (replies.unbuilt s n e) = let a = ap length e in omega arith
+  reply_length line text (replies.listing max count q p) =
+      let all : All IsSmall p.terms = λ k d l.
+      let e = get_or p.terms k d in
+      let due = p.page.due e (All-contains_itself p.terms k d l) in
+      small e (let a = due.small in let b = size_of-ones (λ _. 1) (λ x. refl) e in let c = q.max_within in omega (arith, a, b, c.1)) in
+      let a = ap length p.written in
+      let b = page_text-length (name_in ds) short p.terms p.more all in
+      let c = p.page.at_most in
+      let d = q.take_within in
+      omega (arith, a, b, c, d.1)
+
+  replies_length : (lines : List (List ℕ)) (text : List ℕ) → Replies ds lines text → length text ≤ 560005 * length lines
+  replies_length [] text e = let a = ap length e in omega arith
+  replies_length (line ∷ lines) text (first, rest, p, ps, e) =
+      let a = ap length e in
+      let b = length-append first rest in
+      let c = reply_length line first p in
+      let d = replies_length lines rest ps in
+      omega arith
+
+answered_length : (lines : List (List ℕ)) (ds : List Declaration) (text : List ℕ) → AllByRecursion IsShort lines → IsAnswered lines ds text → length text ≤ 560005 * length lines
+answered_length lines ds text h a =
+    let front = front_short a.repository (a.end ∷ a.queries) (subst (λ (ls : List (List ℕ)). AllByRecursion IsShort ls) a.split h) in
+    let b = replies_length ds (names_short a.repository ds front a.reads.declared) a.queries text a.replies in
+    let c = ap length a.split in
+    let d = length-append a.repository (a.end ∷ a.queries) in
+    omega arith
+
+refusal_length : (place : ℕ) → place < 10 → length (refusal place) ≤ 18
+refusal_length place few =
+    let d = length-decimal-le_wide 1 place (omega arith) (omega arith) (omega arith) in
+    let a = length-append (codes "refused " ++ (decimal place ++ codes " unbuilt")) (10 ∷ []) in
+    let b = length-append (codes "refused ") (decimal place ++ codes " unbuilt") in
+    let c = length-append (decimal place) (codes " unbuilt") in
+    omega arith
+
+lines_read-short : (bytes : List ℕ) → length bytes ≤ 1048576 → lines_read bytes ≡ lines_of bytes
+lines_read-short bytes short = grind (arith, nat_tests)
+
+-- four lines of at most 24 bytes have no longer output
+pub output_length : (bytes text : List ℕ) (status : Status) → length bytes ≤ 1048576 → AllByRecursion IsShort (lines_of bytes) → length (lines_of bytes) ≤ 4 → Output [] bytes text status → length text ≤ 2240020
+output_length bytes text status small short few (outputs.no_session n e s) = absurd (n refl)
+output_length bytes text status small short few (outputs.refused a r s) =
+    let split = ap length (sym (lines_read-short bytes small) ∙ r.fault.split) in
+    let b = length-append r.fault.before (r.fault.line ∷ r.fault.after) in
+    let n = r.fault.number in
+    let w = ap length r.written in
+    let l = refusal_length r.place (omega arith) in
+    omega arith
+output_length bytes text status small short few (outputs.ended a l (without_end ds r w s)) =
+    let e = ap length w in
+    let f = refusal_length (length (lines_of bytes)) (omega arith) in
+    omega arith
+output_length bytes text status small short few (outputs.ended a l (complete ds r s)) =
+    let b = answered_length (lines_of bytes) ds text short r in
+    omega arith
+output_length bytes text status small short few (outputs.too_long a l t s) = absurd (omega arith)
+
+-- the lines `comp x : A`, `comp y : B`, `end` and `list omega max 2 take 10`
+abbrev pub two_components : List ℕ
+two_components = (codes "comp x : A" ++ 10 ∷ []) ++ (codes "comp y : B" ++ 10 ∷ []) ++ (codes "end" ++ 10 ∷ []) ++ (codes "list omega max 2 take 10" ++ 10 ∷ [])
+
+two_components-short : AllByRecursion IsShort (lines_of two_components) × (length (lines_of two_components) ≤ 4)
+unfolding lines_of
+two_components-short = ((omega arith, (omega arith, (omega arith, (omega arith, tt)))), omega arith)
+
+pub two_components-output : (text : List ℕ) (status : Status) → Output [] two_components text status → length text ≤ 4194304
+two_components-output text status o =
+    let l = output_length two_components text status (omega arith) two_components-short.0 two_components-short.1 o in
+    omega arith
