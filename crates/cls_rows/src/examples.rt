@@ -18,14 +18,8 @@ pub const TWO_COMPONENTS: &[u8] = b"comp x : A\ncomp y : B\nend\nlist omega max 
 
 pub const SIX_TERMS: &str = "term x\nterm y\nterm x(x)\nterm x(y)\nterm y(x)\nterm y(y)\ndone\n";
 
-/// An input, and what is written for it with which status.
-#[derive(Clone, Copy)]
-pub struct Example<'a> {
-    pub name: &'a str,
-    pub input: &'a [u8],
-    pub output: &'a str,
-    pub status: Status,
-}
+/// The name of an example, an input, and what is written for it.
+pub type Example<'a> = (&'a str, &'a [u8], &'a str);
 
 /// How the outside cuts reads and writes short, and which of them fail, counted from 1.
 #[derive(Clone, Copy)]
@@ -64,63 +58,41 @@ pub fn outcome<R: Threads + Wait + Sync>(
     Ok((status, output))
 }
 
-/// Asserts what the example says, where at most so many bytes go at once.
+/// Asserts what the example says and that the run ends so, where at most so many bytes go at once.
 pub fn assert_example<R: Abort + Threads + Wait + Sync>(
     rt: &R,
     alloc: Global,
-    example: &Example,
+    example: Example,
+    expected: Status,
     chunk: usize,
 ) -> Result<(), Fail>
     requires { 0 < chunk }
 {
-    let name = example.name;
+    let (name, input, text) = example;
     let outside = Outside {
         chunk,
         failing_reads: &[],
         failing_writes: &[],
     };
-    let (status, output) = outcome(rt, alloc, &[], example.input, &outside)?;
-    assert_eq!(rt;
-        output.as_str(),
-        example.output,
-        "{name}, {chunk} bytes at once"
-    );
-    assert_eq!(rt; status, example.status, "{name}, {chunk} bytes at once");
+    let (status, output) = outcome(rt, alloc, &[], input, &outside)?;
+    assert_eq!(rt; output.as_str(), text, "{name}, {chunk} bytes at once");
+    assert_eq!(rt; status, expected, "{name}, {chunk} bytes at once");
     Ok(())
 }
 
-/// Asserts what each example says, in whole reads and writes and in short ones.
+/// Asserts what each example says and that each run ends so, in whole reads and writes and in short ones.
 pub fn assert_examples<R: Abort + Threads + Wait + Sync>(
     rt: &R,
     alloc: Global,
     examples: &[Example],
+    expected: Status,
 ) -> Result<(), Fail> {
-    for example in examples {
-        assert_example(rt, alloc, example, 1)?;
-        assert_example(rt, alloc, example, 7)?;
-        assert_example(rt, alloc, example, WHOLE)?;
+    for example in examples.iter().copied() {
+        assert_example(rt, alloc, example, expected, 1)?;
+        assert_example(rt, alloc, example, expected, 7)?;
+        assert_example(rt, alloc, example, expected, WHOLE)?;
     }
     Ok(())
-}
-
-/// An input that ends well.
-pub fn answered<'a>(name: &'a str, input: &'a [u8], output: &'a str) -> Example<'a> {
-    Example {
-        name,
-        input,
-        output,
-        status: Status::Done,
-    }
-}
-
-/// An input whose repository has a fault.
-pub fn refused<'a>(name: &'a str, input: &'a [u8], output: &'a str) -> Example<'a> {
-    Example {
-        name,
-        input,
-        output,
-        status: Status::Refused,
-    }
 }
 
 /// The declarations of so many components, `c0` the first.

@@ -6,6 +6,17 @@ use std::test::Fail;
 const USAGE: &str =
     "usage: clsynth [--workers N] [--max-goals N] [--max-rules N] [--pool N] [generate N]\n";
 
+/// Words and inputs, what is to be written for them, the write that fails, and how that ends the run.
+const WRITES: [(&[&str], &[u8], &str, u32, Status); 7] = [
+    (&[], TWO_COMPONENTS, SIX_TERMS, 1, Status::WriteFault),
+    (&[], TWO_COMPONENTS, SIX_TERMS, 5, Status::WriteFault),
+    (&[], TWO_COMPONENTS, SIX_TERMS, 9, Status::WriteFault),
+    (&[], TWO_COMPONENTS, SIX_TERMS, 1_000, Status::Done),
+    (&[], b"wrong", "refused 1 unbuilt\n", 2, Status::WriteFault),
+    (&[], b"", "refused 0 unbuilt\n", 2, Status::WriteFault),
+    (&["--"], b"", USAGE, 2, Status::WriteFault),
+];
+
 /// More bytes than an output for four lines of at most 24 bytes has, whatever the lines ask for.
 const ROOM: usize = 4_194_304;
 
@@ -68,58 +79,8 @@ fn a_read_fails(rt: HostRuntime) -> Result<(), Fail> {
 
 #[test]
 fn a_write_fails(rt: HostRuntime) -> Result<(), Fail> {
-    // At 7 bytes a write the terms go in nine writes at least.
-    for (words, input, place, output, expected) in [
-        (
-            [].as_slice(),
-            TWO_COMPONENTS,
-            1,
-            SIX_TERMS,
-            Status::WriteFault,
-        ),
-        (
-            [].as_slice(),
-            TWO_COMPONENTS,
-            5,
-            SIX_TERMS,
-            Status::WriteFault,
-        ),
-        (
-            [].as_slice(),
-            TWO_COMPONENTS,
-            9,
-            SIX_TERMS,
-            Status::WriteFault,
-        ),
-        (
-            [].as_slice(),
-            TWO_COMPONENTS,
-            1_000,
-            SIX_TERMS,
-            Status::Done,
-        ),
-        (
-            [].as_slice(),
-            b"wrong".as_slice(),
-            2,
-            "refused 1 unbuilt\n",
-            Status::WriteFault,
-        ),
-        (
-            [].as_slice(),
-            b"".as_slice(),
-            2,
-            "refused 0 unbuilt\n",
-            Status::WriteFault,
-        ),
-        (
-            ["--"].as_slice(),
-            b"".as_slice(),
-            2,
-            USAGE,
-            Status::WriteFault,
-        ),
-    ] {
+    // At 7 bytes a write the terms go in nine writes at least, and each other output in three.
+    for (words, input, output, place, expected) in WRITES {
         let outside = Outside {
             chunk: 7,
             failing_reads: &[],

@@ -1,4 +1,4 @@
-use crate::examples::{Example, WHOLE, answered, assert_example, assert_examples, refused};
+use crate::examples::{WHOLE, assert_example, assert_examples};
 use cls_session::Status;
 use std::alloc::Global;
 use std::test::Fail;
@@ -8,6 +8,88 @@ const LONGEST_LINE: usize = 65_536;
 
 /// The most bytes that an input may have.
 const LONGEST_INPUT: usize = 1_048_576;
+
+const ASKED: &str = "comp x : A\nend\nlist omega max 1 take 1\n";
+
+/// For each input the lines that it begins with and those that it ends with, how many bytes it has beyond the most, and
+/// what comes of it.
+const INPUTS: [(&str, &str, &str, usize, &str, Status); 12] = [
+    ("the longest", ASKED, "", 0, "term x\ndone\n", Status::Done),
+    ("only comments", "end\n", "", 0, "", Status::Done),
+    (
+        "a byte more",
+        ASKED,
+        "",
+        1,
+        "term x\ndone\n",
+        Status::TooLong,
+    ),
+    (
+        "a byte more of comments",
+        "end\n",
+        "",
+        1,
+        "",
+        Status::TooLong,
+    ),
+    (
+        "twice as long",
+        ASKED,
+        "",
+        LONGEST_INPUT,
+        "term x\ndone\n",
+        Status::TooLong,
+    ),
+    (
+        "a last query",
+        "end\n",
+        "list omega max 1 take 1",
+        0,
+        "done\n",
+        Status::Done,
+    ),
+    (
+        "a query in time",
+        "end\n",
+        "list omega max 1 take 1\n#",
+        1,
+        "done\n",
+        Status::TooLong,
+    ),
+    (
+        "a query too late",
+        "end\n",
+        "list omega max 1 take 1\n",
+        1,
+        "",
+        Status::TooLong,
+    ),
+    (
+        "an end too late",
+        "comp x : A\n",
+        "end\n",
+        1,
+        "",
+        Status::TooLong,
+    ),
+    ("no end", "comp x : A\n", "", 1, "", Status::TooLong),
+    (
+        "a fault",
+        "comp x : A\nwrong\n",
+        "",
+        1,
+        "refused 2 unbuilt\n",
+        Status::Refused,
+    ),
+    (
+        "a fault too late",
+        "comp x : A\n",
+        "wrong\n",
+        1,
+        "",
+        Status::TooLong,
+    ),
+];
 
 /// A comment of so many bytes, its ending not counted.
 fn comment(alloc: Global, length: usize) -> Result<String, Fail> {
@@ -38,124 +120,32 @@ fn a_line_is_too_long(rt: HostRuntime) -> Result<(), Fail> {
     let longest = comment(alloc, LONGEST_LINE)?;
     let feed = format!(in alloc; "comp x : A\n{longest}\nend\nlist omega max 1 take 1\n")?;
     let returns = format!(in alloc; "comp x : A\n{longest}\r\nend\nlist omega max 1 take 1\n")?;
-    let beyond = format!(in alloc; "comp x : A\n{longest}#\nend\n")?;
-    let unended = format!(in alloc; "comp x : A\n{longest}#")?;
     let query = format!(in alloc; "comp x : A\nend\n{longest}#\nlist omega max 1 take 1\n")?;
     let examples = [
-        answered("the longest comment", feed.as_bytes(), "term x\ndone\n"),
-        answered(
-            "the longest comment and a carriage return",
-            returns.as_bytes(),
-            "term x\ndone\n",
-        ),
-        refused("a byte more", beyond.as_bytes(), "refused 2 unbuilt\n"),
-        refused(
-            "a byte more at the end of the input",
-            unended.as_bytes(),
-            "refused 2 unbuilt\n",
-        ),
-        answered(
-            "a byte more among the queries",
-            query.as_bytes(),
-            "error unbuilt\nterm x\ndone\n",
-        ),
+        ("a feed", feed.as_bytes(), "term x\ndone\n"),
+        ("a return", returns.as_bytes(), "term x\ndone\n"),
+        ("a query", query.as_bytes(), "error unbuilt\nterm x\ndone\n"),
     ];
-    assert_examples(&rt, alloc, &examples)
+    assert_examples(&rt, alloc, &examples, Status::Done)?;
+
+    let beyond = format!(in alloc; "comp x : A\n{longest}#\nend\n")?;
+    let last = format!(in alloc; "comp x : A\n{longest}#")?;
+    let examples = [
+        ("a byte more", beyond.as_bytes(), "refused 2 unbuilt\n"),
+        ("a last line", last.as_bytes(), "refused 2 unbuilt\n"),
+    ];
+    assert_examples(&rt, alloc, &examples, Status::Refused)
 }
 
 #[test]
 fn an_input_is_too_long(rt: HostRuntime) -> Result<(), Fail> {
     let alloc = rt.alloc();
-    let asked = "comp x : A\nend\nlist omega max 1 take 1\n";
-    let query = "list omega max 1 take 1";
-    for (name, head, tail, excess, output, status) in [
-        (
-            "the longest input",
-            asked,
-            "",
-            0,
-            "term x\ndone\n",
-            Status::Done,
-        ),
-        ("only comments", "end\n", "", 0, "", Status::Done),
-        (
-            "a byte more",
-            asked,
-            "",
-            1,
-            "term x\ndone\n",
-            Status::TooLong,
-        ),
-        (
-            "a byte more of comments",
-            "end\n",
-            "",
-            1,
-            "",
-            Status::TooLong,
-        ),
-        (
-            "a whole input more",
-            asked,
-            "",
-            LONGEST_INPUT,
-            "term x\ndone\n",
-            Status::TooLong,
-        ),
-        ("a last query", "end\n", query, 0, "done\n", Status::Done),
-        (
-            "a query that ends in time",
-            "end\n",
-            "list omega max 1 take 1\n#",
-            1,
-            "done\n",
-            Status::TooLong,
-        ),
-        (
-            "a query whose feed is too late",
-            "end\n",
-            "list omega max 1 take 1\n",
-            1,
-            "",
-            Status::TooLong,
-        ),
-        (
-            "an end whose feed is too late",
-            "comp x : A\n",
-            "end\n",
-            1,
-            "",
-            Status::TooLong,
-        ),
-        ("no end", "comp x : A\n", "", 1, "", Status::TooLong),
-        (
-            "a fault",
-            "comp x : A\nwrong\n",
-            "",
-            1,
-            "refused 2 unbuilt\n",
-            Status::Refused,
-        ),
-        (
-            "a fault whose feed is too late",
-            "comp x : A\n",
-            "wrong\n",
-            1,
-            "",
-            Status::TooLong,
-        ),
-    ] {
-        let input = padded(alloc, head, tail, LONGEST_INPUT + excess)?;
-        assert_eq!(rt; input.len(), LONGEST_INPUT + excess, "{name}");
-        let input = input.as_bytes();
-        let example = Example {
-            name,
-            input,
-            output,
-            status,
-        };
-        assert_example(&rt, alloc, &example, 1_000)?;
-        assert_example(&rt, alloc, &example, WHOLE)?;
+    for (name, head, tail, excess, output, status) in INPUTS {
+        let input = padded(alloc, head, tail, LONGEST_INPUT.saturating_add(excess))?;
+        assert_eq!(rt; input.len(), LONGEST_INPUT.saturating_add(excess), "{name}");
+        let example = (name, input.as_bytes(), output);
+        assert_example(&rt, alloc, example, status, 1_000)?;
+        assert_example(&rt, alloc, example, status, WHOLE)?;
     }
     Ok(())
 }
@@ -163,22 +153,16 @@ fn an_input_is_too_long(rt: HostRuntime) -> Result<(), Fail> {
 #[test]
 fn half_a_million_comments_are_read(rt: HostRuntime) -> Result<(), Fail> {
     let alloc = rt.alloc();
-    for (head, count, excess, status) in [
-        ("end\n", 524_286, 0, Status::Done),
-        ("end\n##\n", 524_285, 1, Status::TooLong),
+    for (head, count, length, status) in [
+        ("end\n", 524_286, 1_048_576, Status::Done),
+        ("end\n##\n", 524_285, 1_048_577, Status::TooLong),
     ] {
         let mut input = String::from_str(alloc, head)?;
         for _ in 0..count {
             input.push_str("#\n")?;
         }
-        assert_eq!(rt; input.len(), LONGEST_INPUT + excess, "{head}");
-        let example = Example {
-            name: head,
-            input: input.as_bytes(),
-            output: "",
-            status,
-        };
-        assert_example(&rt, alloc, &example, WHOLE)?;
+        assert_eq!(rt; input.len(), length, "{head}");
+        assert_example(&rt, alloc, (head, input.as_bytes(), ""), status, WHOLE)?;
     }
     Ok(())
 }

@@ -1,6 +1,91 @@
-use crate::examples::{SIX_TERMS, TWO_COMPONENTS, answered, assert_examples, declarations};
+use crate::examples::{Example, SIX_TERMS, TWO_COMPONENTS, assert_examples, declarations};
+use cls_session::Status;
 use std::alloc::Global;
 use std::test::Fail;
+
+/// Listings, and their pages.
+const LISTINGS: [Example; 9] = [
+    ("all terms", TWO_COMPONENTS, SIX_TERMS),
+    (
+        "as many terms as are asked for",
+        b"comp x : A\ncomp y : B\nend\nlist omega max 2 take 6\n",
+        SIX_TERMS,
+    ),
+    (
+        "the first terms",
+        b"comp x : A\ncomp y : B\nend\nlist omega max 2 take 3\n",
+        "term x\nterm y\nterm x(x)\nmore\n",
+    ),
+    (
+        "all but the last term",
+        b"comp x : A\ncomp y : B\nend\nlist omega max 2 take 5\n",
+        "term x\nterm y\nterm x(x)\nterm x(y)\nterm y(x)\nmore\n",
+    ),
+    (
+        "the terms of size 1",
+        b"comp x : A\ncomp y : B\nend\nlist omega max 1 take 10\n",
+        "term x\nterm y\ndone\n",
+    ),
+    (
+        "the order of the declarations",
+        b"comp b : A\ncomp a : A\nend\nlist omega max 2 take 10000\n",
+        "term b\nterm a\nterm b(b)\nterm b(a)\nterm a(b)\nterm a(a)\ndone\n",
+    ),
+    ("no components", b"end\nlist omega max 2 take 1\n", "done\n"),
+    ("no query", b"comp x : A\nend\n", ""),
+    (
+        "two queries",
+        b"comp f : A\nend\nlist omega max 1 take 1\nlist omega max 2 take 1\n",
+        "term f\ndone\nterm f\nmore\n",
+    ),
+];
+
+/// Lines that end in one way or another, and lines that are skipped.
+const LINES: [Example; 6] = [
+    (
+        "comments and blank lines",
+        b"# both\n\n \t\ncomp x : A\n  # second\ncomp y : B\n#\nend\n\n# all\nlist omega max 2 take 10\n\t#\n\n",
+        SIX_TERMS,
+    ),
+    (
+        "a comment that isn't ASCII",
+        b"# \xc3\xa9\ncomp x : A\nend\nlist omega max 1 take 1\n",
+        "term x\ndone\n",
+    ),
+    (
+        "carriage returns",
+        b"# both\r\n\r\ncomp x : A\r\ncomp y : B\r\nend\r\nlist omega max 2 take 10\r\n",
+        SIX_TERMS,
+    ),
+    (
+        "a last query without its feed",
+        b"comp x : A\ncomp y : B\nend\nlist omega max 2 take 10",
+        SIX_TERMS,
+    ),
+    (
+        "a last comment without its feed",
+        b"comp x : A\nend\nlist omega max 1 take 1\n# all",
+        "term x\ndone\n",
+    ),
+    ("an end without its feed", b"comp x : A\nend", ""),
+];
+
+/// Lines that are no query that is built.
+const UNBUILT: [&str; 13] = [
+    "list omega max 3 take 1",
+    "list omega max 0 take 1",
+    "list omega max 1 take 0",
+    "list omega max 1 take 10001",
+    "list omega max 4294967297 take 1",
+    "list omega max 1 take 18446744073709551617",
+    "list A max 1 take 1",
+    "list omega max 1",
+    "list omega max 1 take 1 1",
+    "list omega take 1 max 1",
+    "list",
+    "comp y : A",
+    "end",
+];
 
 /// So many terms of one component each, `c0` the first.
 fn components_listed(alloc: Global, count: u32) -> Result<String, Fail> {
@@ -13,75 +98,12 @@ fn components_listed(alloc: Global, count: u32) -> Result<String, Fail> {
 
 #[test]
 fn omega_is_listed(rt: HostRuntime) -> Result<(), Fail> {
-    let examples = [
-        answered("all terms", TWO_COMPONENTS, SIX_TERMS),
-        answered(
-            "as many terms as are asked for",
-            b"comp x : A\ncomp y : B\nend\nlist omega max 2 take 6\n",
-            SIX_TERMS,
-        ),
-        answered(
-            "the first terms",
-            b"comp x : A\ncomp y : B\nend\nlist omega max 2 take 3\n",
-            "term x\nterm y\nterm x(x)\nmore\n",
-        ),
-        answered(
-            "all but the last term",
-            b"comp x : A\ncomp y : B\nend\nlist omega max 2 take 5\n",
-            "term x\nterm y\nterm x(x)\nterm x(y)\nterm y(x)\nmore\n",
-        ),
-        answered(
-            "the terms of size 1",
-            b"comp x : A\ncomp y : B\nend\nlist omega max 1 take 10\n",
-            "term x\nterm y\ndone\n",
-        ),
-        answered(
-            "the order of the declarations",
-            b"comp b : A\ncomp a : A\nend\nlist omega max 2 take 10000\n",
-            "term b\nterm a\nterm b(b)\nterm b(a)\nterm a(b)\nterm a(a)\ndone\n",
-        ),
-        answered("no components", b"end\nlist omega max 2 take 1\n", "done\n"),
-        answered("no query", b"comp x : A\nend\n", ""),
-        answered(
-            "two queries",
-            b"comp f : A\nend\nlist omega max 1 take 1\nlist omega max 2 take 1\n",
-            "term f\ndone\nterm f\nmore\n",
-        ),
-    ];
-    assert_examples(&rt, rt.alloc(), &examples)
+    assert_examples(&rt, rt.alloc(), &LISTINGS, Status::Done)
 }
 
 #[test]
 fn lines_end_and_say_nothing(rt: HostRuntime) -> Result<(), Fail> {
-    let examples = [
-        answered(
-            "comments and blank lines",
-            b"# both\n\n \t\ncomp x : A\n  # second\ncomp y : B\n#\nend\n\n# all\nlist omega max 2 take 10\n\t#\n\n",
-            SIX_TERMS,
-        ),
-        answered(
-            "a comment that isn't ASCII",
-            b"# \xc3\xa9\ncomp x : A\nend\nlist omega max 1 take 1\n",
-            "term x\ndone\n",
-        ),
-        answered(
-            "carriage returns",
-            b"# both\r\n\r\ncomp x : A\r\ncomp y : B\r\nend\r\nlist omega max 2 take 10\r\n",
-            SIX_TERMS,
-        ),
-        answered(
-            "a last query without its feed",
-            b"comp x : A\ncomp y : B\nend\nlist omega max 2 take 10",
-            SIX_TERMS,
-        ),
-        answered(
-            "a last comment without its feed",
-            b"comp x : A\nend\nlist omega max 1 take 1\n# all",
-            "term x\ndone\n",
-        ),
-        answered("an end without its feed", b"comp x : A\nend", ""),
-    ];
-    assert_examples(&rt, rt.alloc(), &examples)
+    assert_examples(&rt, rt.alloc(), &LINES, Status::Done)
 }
 
 #[test]
@@ -96,8 +118,8 @@ fn many_components_are_listed(rt: HostRuntime) -> Result<(), Fail> {
         let input = format!(in alloc; "{repository}end\n{query}\n")?;
         let listed = components_listed(alloc, count)?;
         let output = format!(in alloc; "{listed}{last}\n")?;
-        let example = answered(query, input.as_bytes(), output.as_str());
-        assert_examples(&rt, alloc, &[example])?;
+        let example = (query, input.as_bytes(), output.as_str());
+        assert_examples(&rt, alloc, &[example], Status::Done)?;
     }
     Ok(())
 }
@@ -105,31 +127,22 @@ fn many_components_are_listed(rt: HostRuntime) -> Result<(), Fail> {
 #[test]
 fn queries_of_other_forms_are_errors(rt: HostRuntime) -> Result<(), Fail> {
     let alloc = rt.alloc();
-    for query in [
-        "list omega max 3 take 1",
-        "list omega max 0 take 1",
-        "list omega max 1 take 0",
-        "list omega max 1 take 10001",
-        "list omega max 4294967297 take 1",
-        "list omega max 1 take 18446744073709551617",
-        "list A max 1 take 1",
-        "list omega max 1",
-        "list omega max 1 take 1 1",
-        "list omega take 1 max 1",
-        "list",
-        "comp y : A",
-        "end",
-    ] {
+    for query in UNBUILT {
         let input = format!(in alloc;
             "comp x : A\nend\n{query}\n# next\nlist omega max 2 take 2\n"
         )?;
         let output = "error unbuilt\nterm x\nterm x(x)\ndone\n";
-        assert_examples(&rt, alloc, &[answered(query, input.as_bytes(), output)])?;
+        assert_examples(
+            &rt,
+            alloc,
+            &[(query, input.as_bytes(), output)],
+            Status::Done,
+        )?;
     }
-    let faulty = answered(
+    let faulty = (
         "a query that isn't UTF-8",
-        b"comp x : A\nend\nlist omega max 1 take 1\n\xff\nend",
+        b"comp x : A\nend\nlist omega max 1 take 1\n\xff\nend".as_slice(),
         "term x\ndone\nerror unbuilt\nerror unbuilt\n",
     );
-    assert_examples(&rt, alloc, &[faulty])
+    assert_examples(&rt, alloc, &[faulty], Status::Done)
 }
