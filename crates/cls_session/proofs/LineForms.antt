@@ -11,7 +11,7 @@ use Rattle.cls_session.specs.declared.forms.QueryLine.{QueryLine}
 use Rattle.cls_session.specs.declared.forms.QueryLine.TheVariants as query
 use Rattle.cls_session.specs.Declarations.{Declaration}
 use Rattle.cls_session.specs.Forms.{declaration_words, end_words, listing_words, IsRead}
-use Rattle.cls_session.specs.Lines.{IsFree, IsWithin, IsRepositoryForm, IsQueryForm, IsRepositoryLine, IsQueryLine}
+use Rattle.cls_session.specs.LineAnswers.{IsFree, IsWithin, IsRepositoryForm, IsQueryForm, IsRepositoryLine, IsQueryLine}
 use Rattle.cls_session.specs.Readings.{declaration_at, listing_at}
 use Rattle.cls_session.proofs.Decisions.{same_bytes, bytes_eq-refl}
 use Rattle.cls_session.proofs.Readings.{declaration_reads, listing_read, listing_reads}

@@ -11,7 +11,8 @@ use Rattle.cls_base.specs.Typing.{by_instance, by_application, by_intersection, 
 use Rattle.cls_base.specs.Pages.{Request, IsDue, IsPage}
 use Rattle.cls_session.specs.Listings.{IsOver}
 use Rattle.cls_session.specs.Declarations.{Declaration}
-use Rattle.cls_session.specs.Typings.{numbered, constructors_from, Has}
+use Rattle.cls_syntax.specs.Names.{with_text}
+use Rattle.cls_session.specs.Typings.{constructors_from, Has}
 use Rattle.cls_session.proofs.Decisions.{same_bytes}
 
 get_append : {A : Type 0} (xs ys : List A) (i : ℕ) (x : A) → slice_get xs i ≡ Some x → slice_get (xs ++ ys) i ≡ Some x
@@ -27,7 +28,7 @@ get_last (z ∷ xs) x = get_last xs x
 abbrev Stands : List (List ℕ) → List ℕ → Type 0
 Stands table text = (n : ℕ) × (slice_get table n ≡ Some text)
 
-stays : (table : List (List ℕ)) (text other : List ℕ) → Stands table text → Stands (numbered table other) text
+stays : (table : List (List ℕ)) (text other : List ℕ) → Stands table text → Stands (with_text table other) text
 stays table text other s = elim (list_any (bytes_eq other) table) as (λ v. Stands (if v then table else table ++ other ∷ []) text) [
   | true ↦ s
   | false ↦ (s.0, get_append table (other ∷ []) s.0 text s.1)
@@ -35,7 +36,7 @@ stays table text other s = elim (list_any (bytes_eq other) table) as (λ v. Stan
 
 all_stay : (ds : List Declaration) (table : List (List ℕ)) (text : List ℕ) → Stands table text → Stands (constructors_from table ds) text
 all_stay [] table text s = s
-all_stay (d ∷ ds) table text s = all_stay ds (numbered table d.type) text (stays table text d.type s)
+all_stay (d ∷ ds) table text s = all_stay ds (with_text table d.type) text (stays table text d.type s)
 
 found : (table : List (List ℕ)) (text : List ℕ) → list_any (bytes_eq text) table ≡ true → Stands table text
 found [] text e = cc
@@ -44,7 +45,7 @@ found (x ∷ table) text e = elim (bytes_eq text x) as (λ v. bytes_eq text x �
   | false ↦ λ s. let r = found table text (rw s at e) in (suc r.0, r.1)
 ] refl
 
-stands : (table : List (List ℕ)) (text : List ℕ) → Stands (numbered table text) text
+stands : (table : List (List ℕ)) (text : List ℕ) → Stands (with_text table text) text
 stands table text = elim (list_any (bytes_eq text) table) as (λ v. list_any (bytes_eq text) table ≡ v → Stands (if v then table else table ++ text ∷ []) text) [
   | true ↦ λ e. found table text e
   | false ↦ λ e. (length table, get_last table text)
@@ -56,8 +57,8 @@ named [] table x d e = cc
 named (c ∷ ds) table zero d e =
     let same : c ≡ d = cc in
     let P : Declaration → Type 0 = λ b. Stands (constructors_from table (c ∷ ds)) b.type in
-    subst P same (all_stay ds (numbered table c.type) c.type (stands table c.type))
-named (c ∷ ds) table (suc x) d e = named ds (numbered table c.type) x d e
+    subst P same (all_stay ds (with_text table c.type) c.type (stands table c.type))
+named (c ∷ ds) table (suc x) d e = named ds (with_text table c.type) x d e
 
 -- the declaration at a place
 declared_at : (ds : List Declaration) (x : ℕ) → x < length ds → (d : Declaration) × (slice_get ds x ≡ Some d)

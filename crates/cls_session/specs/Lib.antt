@@ -2,7 +2,7 @@ pub mod Commands
 pub mod Declarations
 pub mod Driving
 pub mod Forms
-pub mod Lines
+pub mod LineAnswers
 pub mod Listings
 pub mod Outputs
 pub mod Readings

@@ -1,20 +1,16 @@
 -- What types the components of a repository give to terms.
-use Rattle.std.specs.Prelude.{ℕ, ◌≡◌, List, [], ◌∷◌, ◌++◌, Some, slice_get, bytes_eq, if◌then◌else◌}
-use Rattle.std.specs.List.{list_any}
+use Rattle.std.specs.Prelude.{ℕ, ◌≡◌, List, [], ◌∷◌, Some, slice_get}
 use Rattle.cls_base.specs.Types.{ClosedType, omega, constructor}
 use Rattle.cls_base.specs.Taxonomies.{covariant, Chain}
 use Rattle.cls_base.specs.Terms.{Applicative}
 use Rattle.cls_base.specs.Typing.{HasType}
+use Rattle.cls_syntax.specs.Names.{with_text}
 use Rattle.cls_session.specs.Declarations.{Declaration}
-
--- the table with the text, which goes last where it isn't there yet
-abbrev pub numbered : List (List ℕ) → List ℕ → List (List ℕ)
-numbered table text = if list_any (bytes_eq text) table then table else table ++ text ∷ []
 
 -- the table with the names of these types, in the order of their first occurrence
 abbrev pub constructors_from : List (List ℕ) → List Declaration → List (List ℕ)
 constructors_from table [] = table
-constructors_from table (d ∷ ds) = constructors_from (numbered table d.type) ds
+constructors_from table (d ∷ ds) = constructors_from (with_text table d.type) ds
 
 -- s is the type with which component number x was declared
 pub record IsInstance (declared : List Declaration) (x : ℕ) (s : ClosedType) : Type 0 where

@@ -4,13 +4,13 @@ ghost use Rattle.cls_syntax.specs.Lines.{HasNoFeed};
 ghost use Rattle.cls_session.specs.declared.driver.Stop.TheVariants.{WriteFault, NoMemory};
 ghost use Rattle.cls_session.specs.Driving.{Writes, FitsLine, FitsLines, FitsLast, AnswersLine, RefusesLine, AnswersLines, RefusesLines, AnswersLast, RefusesLast, EndsOutput, Comes, CountsFaults};
 
-use crate::session::{Reply, Session};
+use crate::session::{Answer, Session};
 use crate::status::Status;
 use cls_base::{Failed, OutOfMemory, Sink};
 use cls_syntax::{Line, LineReader};
 use std::alloc::Global;
 
-/// Why a run ends before the end of its input.
+/// Why the lines of an input aren't answered to the end.
 #[derive(Clone, Copy, Debug, PartialEq, Eq)]
 pub enum Stop {
     /// The repository has a fault, and the refusal was written.
@@ -68,11 +68,11 @@ pub fn answer_line<K: Sink>(
     ensures faults { CountsFaults result (K.faults sink.old) (K.faults sink.new) }
 {
     match session.feed(alloc, line)? {
-        Reply::Text(text) => {
+        Answer::Reply(text) => {
             write_all(sink, text.as_bytes())?;
             Ok(())
         }
-        Reply::Refusal(text) => {
+        Answer::Refusal(text) => {
             write_all(sink, text.as_bytes())?;
             Err(Stop::Refused)
         }

@@ -4,7 +4,7 @@ ghost use Rattle.cls_syntax.specs.Fronts.{words};
 ghost use Rattle.cls_syntax.specs.Numerals.{number_value};
 ghost use Rattle.cls_syntax.specs.Words.{words_of};
 ghost use Rattle.cls_session.specs.Forms.{end_words};
-ghost use Rattle.cls_session.specs.Lines.{IsRepositoryLine, IsQueryLine, IsRepositoryForm, IsQueryForm};
+ghost use Rattle.cls_session.specs.LineAnswers.{IsRepositoryLine, IsQueryLine, IsRepositoryForm, IsQueryForm};
 ghost use Rattle.cls_session.specs.Readings.{declaration_at, listing_at};
 
 use cls_base::OutOfMemory;

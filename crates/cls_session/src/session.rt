@@ -18,9 +18,9 @@ pub const MAX_COMPONENTS: u32 = 1_000;
 
 /// What a session answers to a line.
 #[derive(Drop)]
-pub enum Reply {
+pub enum Answer {
     /// This is written, and the session goes on. A line that asks for nothing has the empty reply.
-    Text(String),
+    Reply(String),
     /// This is written, and the session ends: the line is the first fault of the repository.
     Refusal(String),
 }
@@ -54,7 +54,7 @@ impl Model for Session {
 
 impl Session {
     ghost use Rattle.std.specs.Prelude.{[], ◌++◌};
-    ghost use Rattle.cls_session.specs.Sessions.{Replied};
+    ghost use Rattle.cls_session.specs.Sessions.{AnswersFeed};
     ghost use Rattle.cls_session.specs.Standings.{Stands};
     ghost use Rattle.cls_session.specs.Transcripts.{Ending};
 
@@ -70,9 +70,9 @@ impl Session {
     }
 
     /// Takes the next line and answers it. After a refusal no further line is to be fed.
-    pub fn feed(&mut self, alloc: Global, line: &Line) -> Result<Reply, OutOfMemory>
+    pub fn feed(&mut self, alloc: Global, line: &Line) -> Result<Answer, OutOfMemory>
         requires { self.old.lines < 2 ^ 32 }
-        ensures replied { IfOk result (λ reply. Replied self.old line.now reply self.new) }
+        ensures answered { IfOk result (λ answer. AnswersFeed self.old line.now answer self.new) }
         ensures counted { IfOk result (λ _. self.new.lines ≤ self.old.lines + 1) }
         ensures err { OnErr result (self.new ≡ self.old) }
     {
@@ -81,7 +81,7 @@ impl Session {
         }
         let text = answer_query(alloc, &self.components, line)?;
         self.lines += 1;
-        Ok(Reply::Text(text))
+        Ok(Answer::Reply(text))
     }
 
     /// Ends the output where no further line comes: a repository without the line `end` is refused.
@@ -103,29 +103,29 @@ impl Session {
     }
 
     /// Takes a line of the repository.
-    fn declare(&mut self, alloc: Global, line: &Line) -> Result<Reply, OutOfMemory>
+    fn declare(&mut self, alloc: Global, line: &Line) -> Result<Answer, OutOfMemory>
         requires reading { self.old.ended ≡ false }
         requires few { self.old.lines < 2 ^ 32 }
-        ensures replied { IfOk result (λ reply. Replied self.old line.now reply self.new) }
+        ensures answered { IfOk result (λ answer. AnswersFeed self.old line.now answer self.new) }
         ensures counted { IfOk result (λ _. self.new.lines ≤ self.old.lines + 1) }
         ensures err { OnErr result (self.new ≡ self.old) }
     {
         match repository_line(alloc, line)? {
             RepositoryLine::Skipped => {
                 self.lines += 1;
-                Ok(Reply::Text(String::new(alloc)))
+                Ok(Answer::Reply(String::new(alloc)))
             }
             RepositoryLine::End => {
                 self.ended = true;
                 self.lines += 1;
-                Ok(Reply::Text(String::new(alloc)))
+                Ok(Answer::Reply(String::new(alloc)))
             }
             RepositoryLine::Component(name) if may_declare(&self.components, name) => {
                 self.components.intern(alloc, name)?;
                 self.lines += 1;
-                Ok(Reply::Text(String::new(alloc)))
+                Ok(Answer::Reply(String::new(alloc)))
             }
-            _ => Ok(Reply::Refusal(refusal(alloc, self.lines + 1)?)),
+            _ => Ok(Answer::Refusal(refusal(alloc, self.lines + 1)?)),
         }
     }
 }
