@@ -54,25 +54,22 @@ fn words_are_answered_by_the_usage(rt: HostRuntime) -> Result<(), Fail> {
 
 #[test]
 fn a_read_fails(rt: HostRuntime) -> Result<(), Fail> {
-    // At 7 bytes a read the input comes in eight reads, and the ninth finds its end.
-    for (place, expected) in [
-        (1, Status::ReadFault),
-        (5, Status::ReadFault),
-        (8, Status::ReadFault),
-        (9, Status::ReadFault),
-        (1_000, Status::Done),
+    // At 7 bytes a read the query is whole with the eighth, and the ninth finds the end.
+    for (place, output, expected) in [
+        (1, "", Status::ReadFault),
+        (5, "", Status::ReadFault),
+        (8, "", Status::ReadFault),
+        (9, SIX_TERMS, Status::ReadFault),
+        (1_000, SIX_TERMS, Status::Done),
     ] {
         let outside = Outside {
             chunk: 7,
             failing_reads: &[place],
             failing_writes: &[],
         };
-        let (status, output) = outcome(&rt, rt.alloc(), &[], TWO_COMPONENTS, &outside)?;
+        let (status, written) = outcome(&rt, rt.alloc(), &[], TWO_COMPONENTS, &outside)?;
         assert_eq!(rt; status, expected, "read {place} fails");
-        assert!(rt;
-            SIX_TERMS.starts_with(output.as_str()),
-            "read {place} fails"
-        );
+        assert_eq!(rt; written.as_str(), output, "read {place} fails");
     }
     Ok(())
 }
@@ -88,8 +85,14 @@ fn a_write_fails(rt: HostRuntime) -> Result<(), Fail> {
         };
         let (status, written) = outcome(&rt, rt.alloc(), words, input, &outside)?;
         assert_eq!(rt; status, expected, "write {place} of {output} fails");
+        let whole_writes = (place as usize - 1) * 7;
         assert!(rt;
             output.starts_with(written.as_str()),
+            "write {place} of {output} fails"
+        );
+        assert_eq!(rt;
+            written.len(),
+            output.len().min(whole_writes),
             "write {place} of {output} fails"
         );
     }
