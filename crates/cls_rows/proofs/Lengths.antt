@@ -3,7 +3,6 @@ use Rattle.std.proofs.Common.{◌≡◌, ℕ, zero, suc, ◌+◌, ◌-◌, ◌*�
 use Rattle.std.specs.Prelude.{All, codes}
 use Rattle.std.specs.List.{flat_map, AllByRecursion}
 use Rattle.std.specs.Fmt.{decimal}
-use Rattle.std.proofs.lemmas.Bool.Decides.{nat_tests}
 use Rattle.std.proofs.lemmas.Fmt.{length-decimal-le_wide}
 use Rattle.std.proofs.lemmas.List.Elements.{All-contains_itself}
 use Rattle.cls_base.specs.Terms.{Applicative, component, apply}
@@ -25,6 +24,7 @@ use Rattle.cls_session.specs.Replies.{term_line, page_text, Reply, Replies}
 use Rattle.cls_session.specs.Replies as replies
 use Rattle.cls_session.specs.Repositories.{Entry, skipped, declares, Declares}
 use Rattle.cls_session.specs.Transcripts.{IsAnswered, refusal, without_end, complete}
+use Rattle.cls_session.proofs.Outputs.{lines_read-short}
 use Rattle.cls_session.proofs.Omega.{IsSmall, single, pair, small}
 
 -- the line or the name has at most 24 bytes
@@ -167,9 +167,6 @@ refusal_length place few =
     let b = length-append (codes "refused ") (decimal place ++ codes " unbuilt") in
     let c = length-append (decimal place) (codes " unbuilt") in
     omega arith
-
-lines_read-short : (bytes : List ℕ) → length bytes ≤ 1048576 → lines_read bytes ≡ lines_of bytes
-lines_read-short bytes short = grind (arith, nat_tests)
 
 -- four lines of at most 24 bytes have no longer output
 pub output_length : (bytes text : List ℕ) (status : Status) → length bytes ≤ 1048576 → AllByRecursion IsShort (lines_of bytes) → length (lines_of bytes) ≤ 4 → Output [] bytes text status → length text ≤ 2240020

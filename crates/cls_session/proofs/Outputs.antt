@@ -28,8 +28,8 @@ pub ended_lines-CutsLines : (text rest : List ℕ) (lines : List (List ℕ)) →
 ended_lines-CutsLines text rest [] e = ap ended_lines e
 ended_lines-CutsLines text rest (l ∷ lines) (after, c, cs) = ended_lines-CutsLine text l after c ∙ ap (λ (xs : List (List ℕ)). l ∷ xs) (ended_lines-CutsLines after rest lines cs)
 
--- which lines count
-lines_read-short : (bytes : List ℕ) → length bytes ≤ 1048576 → lines_read bytes ≡ lines_of bytes
+-- with few bytes all lines count
+pub lines_read-short : (bytes : List ℕ) → length bytes ≤ 1048576 → lines_read bytes ≡ lines_of bytes
 lines_read-short bytes l = ap (λ (b : Bool). if b then ended_lines (take 1048576 bytes) else lines_of bytes) (le-ltb 1048576 (length bytes) l)
 
 lines_read-long : (bytes : List ℕ) → 1048576 < length bytes → lines_read bytes ≡ ended_lines (take 1048576 bytes)
