@@ -2,20 +2,21 @@
 use Rattle.std.proofs.Common.{◌≡◌, ℕ, zero, suc, true, false, length-take-le, ◌+◌, ◌<◌, ◌≤◌, List, [], ◌∷◌, ◌++◌, length, take, drop, refl, sym, ap, ◌∙◌, subst, inl, inr, arith, append_assoc, append-nil, length-append, take-append-drop}
 use Rattle.std.specs.Prelude.{◌⊎◌, ◌==◌, Option, None, Some, Err}
 use Rattle.std.proofs.lemmas.Bool.Decides.{nat_tests}
-use Rattle.std.specs.Io.KnownBytes.{Consumes, IsAtEnd}
+use Rattle.std.specs.Io.KnownBytes.{Appends, Consumes, Keeps, IsAtEnd}
 use Rattle.std.proofs.KnownBytes.{Appends-trans}
-use Rattle.cls_syntax.specs.Lines.{HasNoFeed, lines_of}
+use Rattle.cls_syntax.specs.Lines.{HasNoFeed, lines_of, ended_lines}
+use Rattle.cls_syntax.proofs.LinePieces.{ended_lines-HasNoFeed}
 use Rattle.cls_session.specs.declared.driver.Stop.{Stop}
 use Rattle.cls_session.specs.declared.driver.Stop.TheVariants as stops
 use Rattle.cls_session.specs.declared.status.Status.{Status}
 use Rattle.cls_session.specs.declared.status.Status.TheVariants as status
 use Rattle.cls_session.specs.Driving.{CutsLines, Writes, FitsLines, FitsLast, AnswersLines, RefusesLines, RefusesLast, EndsOutput, Comes}
-use Rattle.cls_session.specs.Outputs.{Output, IsWhole, Answers, HasRoom}
+use Rattle.cls_session.specs.Outputs.{Output, IsWhole, Answers, AnswersTaken, HasRoom}
 use Rattle.cls_session.specs.Standings.{Standing, Stands}
 use Rattle.cls_session.specs.Stops.{status_of}
-use Rattle.cls_session.specs.Transcripts.{IsRefused, Ending, without_end, complete}
+use Rattle.cls_session.specs.Transcripts.{Transcript, IsRefused, Ending, without_end, complete}
 use Rattle.cls_session.proofs.Driving.{CutsLines-trans}
-use Rattle.cls_session.proofs.Outputs.{Begins, IsWholly, CutsLines-append, told, room_left, output_goes_on, output_refused, output_refused_last, output_ended, output_too_long}
+use Rattle.cls_session.proofs.Outputs.{Begins, IsWholly, CutsLines-append, ended_lines-CutsLines, told, room_left, output_goes_on, output_refused, output_refused_last, output_ended, output_too_long}
 use Rattle.cls_session.proofs.Standings.{Stands-transcript}
 use Rattle.cls_session.proofs.Writing.{Writes-none, Writes-trans}
 
@@ -129,6 +130,12 @@ end_is_no_usage end (inr e) u = refused_differs (sym e ∙ u)
 Ending-status : (lines : List (List ℕ)) (text : List ℕ) (end : Status) → Ending lines text end → IsEndStatus end
 Ending-status lines text end (without_end ds r t s) = inr s
 Ending-status lines text end (complete ds a s) = inl s
+
+taken_so : (a b c held held' : Option (List ℕ)) (bytes text : List ℕ) → Consumes a b bytes → Keeps b c → length bytes ≤ 1048576 → Transcript (ended_lines bytes) text → Appends held held' text → AnswersTaken a c held held'
+taken_so None b c held held' bytes text p k l t w = tt
+taken_so (Some x) None c held held' bytes text p k l t w = absurd p
+taken_so (Some x) (Some y) None held held' bytes text p k l t w = absurd k
+taken_so (Some x) (Some y) (Some z) held held' bytes text p k l t w = (bytes, text, p ∙ ap (λ (r : List ℕ). bytes ++ r) (sym k), l, t, w)
 
 module _ (left left' held held' : Option (List ℕ)) (room room' : Option ℕ) (session : Standing) (reader : List ℕ) (taken : ℕ)
     (u : IsUnderWay left left' held held' room room' session reader taken) where
@@ -245,3 +252,10 @@ module _ (left left' held held' : Option (List ℕ)) (room room' : Option ℕ) (
               stands = next;
               writes = Writes-trans held held' held'' room room' room'' u.written reply u.writes writes;
             }
+
+  -- A read failed.
+  pub answers_taken : (left'' : Option (List ℕ)) → HasNoFeed reader → taken ≤ 1048576 → Keeps left' left'' → AnswersTaken left left'' held held'
+  answers_taken left'' free short keeps =
+      let same : ended_lines u.bytes ≡ u.lines = ended_lines-CutsLines u.bytes reader u.lines u.cuts ∙ (ap (λ (xs : List (List ℕ)). u.lines ++ xs) (ended_lines-HasNoFeed reader free) ∙ append-nil u.lines) in
+      let t = subst (λ (xs : List (List ℕ)). Transcript xs u.written) (sym same) (Stands-transcript u.lines u.written session u.stands) in
+      taken_so left left' left'' held held' u.bytes u.written u.consumes keeps (let k = u.count in omega arith) t u.writes.0

@@ -6,12 +6,12 @@ use Rattle.std.proofs.lemmas.Bool.{cases_lt, le-ltb, lt-ltb}
 use Rattle.std.specs.Io.KnownBytes.{Appends}
 use Rattle.cls_base.specs.Outside.{Holds, Fills}
 use Rattle.cls_syntax.specs.Lines.{lines_of, ended_lines, HasNoFeed}
-use Rattle.cls_syntax.proofs.LinePieces.{lines_of-CutsLine, ended_lines-CutsLine, CutsLine-append, ended_lines-HasNoFeed}
+use Rattle.cls_syntax.proofs.LinePieces.{lines_of-ended_lines, lines_of-CutsLine, ended_lines-CutsLine, CutsLine-append, ended_lines-HasNoFeed}
 use Rattle.cls_session.specs.declared.status.Status.{Status}
 use Rattle.cls_session.specs.declared.status.Status.TheVariants.{Usage, Refused, TooLong}
 use Rattle.cls_session.specs.Commands.{AsksSession, usage}
 use Rattle.cls_session.specs.Driving.{CutsLines, IsWritten}
-use Rattle.cls_session.specs.Outputs.{lines_read, Output, Answers, HasRoom}
+use Rattle.cls_session.specs.Outputs.{lines_read, Output, Answers, HasRoom, TranscriptsGoOn}
 use Rattle.cls_session.specs.Outputs as outputs
 use Rattle.cls_session.specs.Transcripts.{Transcript, IsRefused, Ending}
 use Rattle.cls_session.proofs.Totality.{refused, stands, goes_on, ends_by, IsRefused-append}
@@ -131,3 +131,9 @@ pub usage_fits : (words : List (List ℕ)) (left : Option (List ℕ)) (room : Op
 usage_fits words left None h n = tt
 usage_fits words None (Some m) h n = absurd h
 usage_fits words (Some bytes) (Some m) h n = h usage Usage (outputs.no_session n refl refl)
+
+-- what is written for the whole lines of a text goes on to an output for it
+pub transcripts_go_on : TranscriptsGoOn
+transcripts_go_on bytes text short t =
+    let all = lines_of-ended_lines bytes in
+    goes_to_output bytes text (ended_lines bytes) all.last (lines_read-short bytes short ∙ all.joined) (inl t)

@@ -1,5 +1,5 @@
 -- The output of a run.
-use Rattle.std.specs.Prelude.{ℕ, ◌≡◌, ◌≤◌, ◌<◌, List, length, take, nat_lt, if◌then◌else◌, Option, Some, None}
+use Rattle.std.specs.Prelude.{ℕ, ◌≡◌, ◌≤◌, ◌<◌, List, [], ◌++◌, length, take, nat_lt, if◌then◌else◌, Option, Some, None}
 use Rattle.std.specs.Io.KnownBytes.{Appends}
 use Rattle.cls_syntax.specs.Lines.{lines_of, ended_lines}
 use Rattle.cls_session.specs.declared.status.Status.{Status}
@@ -38,3 +38,16 @@ abbrev pub HasRoom : List (List ℕ) → Option (List ℕ) → Option ℕ → Ty
 HasRoom words bytes None = Unit {0}
 HasRoom words None (Some room) = ⊥
 HasRoom words (Some bytes) (Some room) = (text : List ℕ) (status : Status) → Output words bytes text status → length text ≤ room
+
+-- Where a read failed: so much of the bytes that the source told was taken, and what was written is exactly what the lines
+-- ask for that were taken whole. No fault of the repository stands in these, and no reply to one of them is missing.
+abbrev pub AnswersTaken : Option (List ℕ) → Option (List ℕ) → Option (List ℕ) → Option (List ℕ) → Type 0
+AnswersTaken None left' held held' = Unit {0}
+AnswersTaken (Some bytes) None held held' = ⊥
+AnswersTaken (Some bytes) (Some rest) held held' = (taken text : List ℕ) × (bytes ≡ taken ++ rest) × (length taken ≤ 1048576)
+    × Transcript (ended_lines taken) text × Appends held held' text
+
+-- What is written for the whole lines of a text that isn't too long is the beginning of an output for it.
+abbrev pub TranscriptsGoOn : Type 0
+TranscriptsGoOn = (bytes text : List ℕ) → length bytes ≤ 1048576 → Transcript (ended_lines bytes) text
+    → (more : List ℕ) × (status : Status) × Output [] bytes (text ++ more) status

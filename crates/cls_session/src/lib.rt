@@ -5,6 +5,7 @@
 //!   `Outputs` at its top.
 //! - [`Status`] says how a run ended.
 //! - [`read_words`] reads the words of the command line.
+//! - [`laws`] holds what is true of every input.
 //!
 //! Inside, a `Session` takes one line after another and answers it; the driver feeds it the lines of the source while
 //! they come, and writes each answer before it reads on.
@@ -12,6 +13,7 @@
 
 mod driver;
 mod forms;
+pub mod laws;
 mod listing;
 mod program;
 mod session;

@@ -1,11 +1,13 @@
-use Rattle.std.proofs.Common.{◌≡◌, ◌+◌, ◌≤◌, length-append, [], length, arith, refl, ap, ◌∙◌, subst}
+use Rattle.std.proofs.Common.{List, ℕ, ◌≡◌, ◌+◌, ◌≤◌, length-append, [], length, arith, refl, sym, ap, ◌∙◌, subst}
+use Rattle.cls_syntax.specs.Lines.{HasNoFeed}
 use Rattle.cls_session.specs.Outputs.{IsWhole}
-use Rattle.cls_session.proofs.InputLoop.{IsUnderWay, cut_consumes, cut_lengths, some_over, none_over, none_read, none_more, last_has_room, answers_end, answers_last_stopped, end_status, end_is_whole, end_is_no_usage, piece_has_room, answers_stopped, answers_too_long, piece_answered}
+use Rattle.cls_session.proofs.InputLoop.{answers_taken, IsUnderWay, cut_consumes, cut_lengths, some_over, none_over, none_read, none_more, last_has_room, answers_end, answers_last_stopped, end_status, end_is_whole, end_is_no_usage, piece_has_room, answers_stopped, answers_too_long, piece_answered}
 use Rattle.cls_session.proofs.Standings.{Stands-counted}
 use Rattle.cls_session.proofs.program.answer_input.Goals as goal
 
 pub pieces-init : goal.pieces-init
 pieces-init g c = record {
+  no_feed = subst (λ (x : List ℕ). HasNoFeed x) (sym c.new-reader.ensures) tt;
   under_way = none_read (g.S.Source.left c.args.source.now) (g.K.Sink.held c.args.sink.now) (g.K.Sink.room c.args.sink.now) c.new-session.result c.new-reader.result c.new-session.ensures c.new-reader.ensures;
   short = omega arith;
   few = (let lines = Stands-counted [] [] c.new-session.result c.new-session.ensures in let bytes = ap length c.new-reader.ensures in omega arith);
@@ -33,6 +35,10 @@ returns-in-Ok-finish-clause-read_whole g c = λ done. c.in-Ok.ensures.end c.if-c
 pub returns-in-Ok-finish-clause-never_usage : goal.returns-in-Ok-finish-clause-never_usage
 returns-in-Ok-finish-clause-never_usage g c =
     end_is_no_usage c.in-Ok-finish.status (end_status (g.S.Source.left c.args.source.now) (g.S.Source.left c.pieces.source) (g.K.Sink.held c.args.sink.now) (g.K.Sink.held c.pieces.sink) (g.K.Sink.room c.args.sink.now) (g.K.Sink.room c.pieces.sink) c.pieces.session c.pieces.reader c.pieces.taken c.pieces.invariant.under_way (g.K.Sink.held c.finish.new.sink) (g.K.Sink.room c.finish.new.sink) c.in-Ok-finish.status c.in-Ok-finish.ensures.comes)
+
+pub returns-in-Ok-finish-clause-none_waits : goal.returns-in-Ok-finish-clause-none_waits
+returns-in-Ok-finish-clause-none_waits g c = λ fault. absurd (subst IsWhole fault (end_is_whole c.in-Ok-finish.status
+    (end_status (g.S.Source.left c.args.source.now) (g.S.Source.left c.pieces.source) (g.K.Sink.held c.args.sink.now) (g.K.Sink.held c.pieces.sink) (g.K.Sink.room c.args.sink.now) (g.K.Sink.room c.pieces.sink) c.pieces.session c.pieces.reader c.pieces.taken c.pieces.invariant.under_way (g.K.Sink.held c.finish.new.sink) (g.K.Sink.room c.finish.new.sink) c.in-Ok-finish.status c.in-Ok-finish.ensures.comes)))
 
 pub returns-in-Ok-finish-clause-read_fault : goal.returns-in-Ok-finish-clause-read_fault
 returns-in-Ok-finish-clause-read_fault g c = λ fault. absurd (subst IsWhole fault (end_is_whole c.in-Ok-finish.status
@@ -87,8 +93,14 @@ pieces-preserved g c =
     c.answer_lines.new.session c.answer_lines.new.reader c.in_default-answer_lines.ensures.comes none in
     record {
       under_way = subst (λ n. IsUnderWay (g.S.Source.left c.args.source.now) (g.S.Source.left c.read.new.self) (g.K.Sink.held c.args.sink.now) (g.K.Sink.held c.answer_lines.new.sink) (g.K.Sink.room c.args.sink.now) (g.K.Sink.room c.answer_lines.new.sink) c.answer_lines.new.session c.answer_lines.new.reader (c.pieces.taken + n)) whole next;
+      no_feed = c.in_default-answer_lines.ensures.no_feed;
       short = omega (arith, short, whole);
       few = (let a = length-append c.pieces.reader c.split_at.result.0.now in omega (arith, a, whole, c.in_default-answer_lines.ensures.counted, c.pieces.invariant.few));
       source_faults = c.in-Ok.ensures.ok ∙ c.pieces.invariant.source_faults;
       sink_faults = c.in_default-answer_lines.ensures.faults ∙ c.pieces.invariant.sink_faults;
     }
+
+pub returns-in_default-clause-none_waits : goal.returns-in_default-clause-none_waits
+returns-in_default-clause-none_waits g c = λ fault.
+    answers_taken (g.S.Source.left c.args.source.now) (g.S.Source.left c.pieces.source) (g.K.Sink.held c.args.sink.now) (g.K.Sink.held c.pieces.sink) (g.K.Sink.room c.args.sink.now) (g.K.Sink.room c.pieces.sink) c.pieces.session c.pieces.reader c.pieces.taken c.pieces.invariant.under_way
+    (g.S.Source.left c.read.new.self) c.pieces.invariant.no_feed c.pieces.invariant.short c.in_default.ensures.stays
