@@ -1,5 +1,5 @@
 -- How long an output for a few short lines is at most.
-use Rattle.std.proofs.Common.{◌≡◌, ℕ, zero, suc, ◌+◌, ◌-◌, ◌*◌, ◌<◌, ◌≤◌, List, [], ◌∷◌, ◌++◌, length, map, take, drop, refl, sym, ap, ◌∙◌, subst, arith, length-append, Bool, true, false, get_or}
+use Rattle.std.proofs.Common.{length-take, length-drop, ◌≡◌, ℕ, zero, suc, ◌+◌, ◌-◌, ◌*◌, ◌<◌, ◌≤◌, List, [], ◌∷◌, ◌++◌, length, map, drop, refl, sym, ap, ◌∙◌, subst, arith, length-append, Bool, true, false, get_or}
 use Rattle.std.specs.Prelude.{All, codes}
 use Rattle.std.specs.List.{flat_map, AllByRecursion}
 use Rattle.std.specs.Fmt.{decimal}
@@ -34,16 +34,6 @@ IsShort line = length line ≤ 24
 abbrev name_in : List Declaration → ℕ → List ℕ
 name_in ds = name_at (names_of ds)
 
-take_within : (n : ℕ) (xs : List ℕ) → length (take n xs) ≤ length xs
-take_within zero xs = omega arith
-take_within (suc n) [] = omega arith
-take_within (suc n) (x ∷ xs) = omega (arith, take_within n xs)
-
-drop_within : (n : ℕ) (xs : List ℕ) → length (drop n xs) ≤ length xs
-drop_within zero xs = omega arith
-drop_within (suc n) [] = omega arith
-drop_within (suc n) (x ∷ xs) = omega (arith, drop_within n xs)
-
 name_text : (kind : TokenKind) (text xs : List ℕ) → word_from kind text ≡ name xs → text ≡ xs
 name_text Name text xs e = cc
 name_text Number text xs e = cc
@@ -67,8 +57,8 @@ second_within line (t ∷ []) w ws xs e = absurd cc
 second_within line (t ∷ u ∷ ts) w ws xs e =
     let same : word_from u.kind (tokens.text_of line u) ≡ name xs = cc in
     let text = ap length (name_text u.kind (tokens.text_of line u) xs same) in
-    let a = take_within (u.end - u.start) (drop u.start line) in
-    let b = drop_within u.start line in
+    let a = length-take (u.end - u.start) (drop u.start line) in
+    let b = length-drop u.start line in
     omega arith
 
 component_within : (line : List ℕ) (d : Declaration) → IsDeclaration line d → length d.component ≤ length line

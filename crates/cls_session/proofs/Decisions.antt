@@ -1,11 +1,10 @@
 -- What a line is can be told.
-use Rattle.std.proofs.Common.{◌≡◌, ℕ, zero, suc, ◌≤◌, List, [], ◌∷◌, length, refl, sym, ap, ◌∙◌, subst, inl, inr, arith, Bool, true, false}
+use Rattle.std.proofs.Common.{◌≡◌, ℕ, zero, suc, ◌≤◌, List, [], ◌∷◌, length, refl, sym, ap, ◌∙◌, inl, inr, arith, Bool, true, false}
 use Rattle.std.specs.Prelude.{◌⊎◌, Contains, codes, bytes_eq, IsTrue, IsUtf8}
-use Rattle.std.specs.Cmp.Lexicographic.{same_text}
+use Rattle.std.proofs.lemmas.Slice.Eq.{bytes_eq-Decides}
 use Rattle.std.specs.Str.{is_utf8}
 use Rattle.std.proofs.lemmas.Str.{IsUtf8-from_is_utf8, is_utf8-from_IsUtf8}
 use Rattle.std.proofs.lemmas.Bool.{cases_lt}
-use Rattle.std.proofs.lemmas.Bool.Decides.{nat_tests}
 use Rattle.cls_syntax.specs.declared.token.TokenKind.TheVariants.{Colon}
 use Rattle.cls_syntax.specs.Skipped.{IsText, IsSkipped, says_nothing}
 use Rattle.cls_syntax.specs.Words.{Word, name, number, sign, words_of}
@@ -19,18 +18,14 @@ Decided P = P ⊎ (P → ⊥)
 
 -- texts that are found equal are the same
 pub same_bytes : (xs ys : List ℕ) → bytes_eq xs ys ≡ true → xs ≡ ys
-same_bytes xs ys e = same_text xs ys (sym e)
-
-pub bytes_eq-refl : (xs : List ℕ) → bytes_eq xs xs ≡ true
-bytes_eq-refl [] = refl
-bytes_eq-refl (x ∷ xs) = let h = bytes_eq-refl xs in grind (arith, nat_tests)
+same_bytes xs ys e = (bytes_eq-Decides xs ys).0 e
 
 -- whether two texts are the same
 pub text_decided : (xs ys : List ℕ) → Decided (xs ≡ ys)
 text_decided xs ys =
     elim (bytes_eq xs ys) as (λ v. bytes_eq xs ys ≡ v → Decided (xs ≡ ys)) [
       | true ↦ λ e. inl (same_bytes xs ys e)
-      | false ↦ λ e. inr (λ p. let q : bytes_eq xs ys ≡ true = subst (λ (zs : List ℕ). bytes_eq xs zs ≡ true) p (bytes_eq-refl xs) in cc)
+      | false ↦ λ e. inr (λ p. let q : bytes_eq xs ys ≡ true = (bytes_eq-Decides xs ys).1 p in cc)
     ] refl
 
 declaration_decided : (ws : List Word) → Decided ((d : Declaration) × (ws ≡ declaration_words d))

@@ -3,7 +3,7 @@ use Rattle.std.proofs.Common.{◌≡◌, ℕ, zero, suc, true, false, length-tak
 use Rattle.std.specs.Prelude.{◌⊎◌, ◌==◌, Option, None, Some, Err}
 use Rattle.std.proofs.lemmas.Bool.Decides.{nat_tests}
 use Rattle.std.specs.Io.KnownBytes.{Appends, Consumes, Keeps, IsAtEnd}
-use Rattle.std.proofs.KnownBytes.{Appends-trans}
+use Rattle.std.proofs.KnownBytes.{Appends-trans, Consumes-nil, Consumes-trans, Consumes-kept}
 use Rattle.cls_syntax.specs.Lines.{HasNoFeed, lines_of, ended_lines}
 use Rattle.cls_syntax.proofs.LinePieces.{ended_lines-HasNoFeed}
 use Rattle.cls_session.specs.declared.driver.Stop.{Stop}
@@ -31,16 +31,6 @@ pub record IsUnderWay (left left' held held' : Option (List ℕ)) (room room' : 
   pub stands : Stands lines written session
   pub writes : Writes held held' room room' written
 
-Consumes-none : (left : Option (List ℕ)) → Consumes left left []
-Consumes-none None = tt
-Consumes-none (Some bytes) = refl
-
-Consumes-trans : (a b c : Option (List ℕ)) (first rest : List ℕ) → Consumes a b first → Consumes b c rest → Consumes a c (first ++ rest)
-Consumes-trans None b c first rest p q = tt
-Consumes-trans (Some x) None c first rest p q = absurd p
-Consumes-trans (Some x) (Some y) None first rest p q = absurd q
-Consumes-trans (Some x) (Some y) (Some z) first rest p q = p ∙ (ap (λ (t : List ℕ). first ++ t) q ∙ sym (append_assoc first rest z))
-
 Consumes-begins : (a b : Option (List ℕ)) (front : List ℕ) → Consumes a b front → Begins a front
 Consumes-begins None b front p = tt
 Consumes-begins (Some x) None front p = absurd p
@@ -57,7 +47,7 @@ Begins-front (Some x) front more (tail, e) = (more ++ tail, e ∙ append_assoc f
 
 -- nothing was read
 pub none_read : (left held : Option (List ℕ)) (room : Option ℕ) (session : Standing) (reader : List ℕ) → Stands [] [] session → reader ≡ [] → IsUnderWay left left held held room room session reader 0
-none_read left held room session reader s e = record { bytes = []; lines = []; written = []; count = refl; consumes = Consumes-none left; cuts = sym e; stands = s; writes = Writes-none held room }
+none_read left held room session reader s e = record { bytes = []; lines = []; written = []; count = refl; consumes = Consumes-nil left; cuts = sym e; stands = s; writes = Writes-none held room }
 
 -- the end of the input was read
 pub none_more : (left left' left'' held held' : Option (List ℕ)) (room room' : Option ℕ) (session : Standing) (reader : List ℕ) (taken : ℕ) (count : ℕ) (buffer : List ℕ)
@@ -131,11 +121,11 @@ Ending-status : (lines : List (List ℕ)) (text : List ℕ) (end : Status) → E
 Ending-status lines text end (without_end ds r t s) = inr s
 Ending-status lines text end (complete ds a s) = inl s
 
-taken_so : (a b c held held' : Option (List ℕ)) (bytes text : List ℕ) → Consumes a b bytes → Keeps b c → length bytes ≤ 1048576 → Transcript (ended_lines bytes) text → Appends held held' text → AnswersTaken a c held held'
-taken_so None b c held held' bytes text p k l t w = tt
-taken_so (Some x) None c held held' bytes text p k l t w = absurd p
-taken_so (Some x) (Some y) None held held' bytes text p k l t w = absurd k
-taken_so (Some x) (Some y) (Some z) held held' bytes text p k l t w = (bytes, text, p ∙ ap (λ (r : List ℕ). bytes ++ r) (sym k), l, t, w)
+-- what was taken, where the source tells its bytes
+taken_so : (a b held held' : Option (List ℕ)) (bytes text : List ℕ) → Consumes a b bytes → length bytes ≤ 1048576 → Transcript (ended_lines bytes) text → Appends held held' text → AnswersTaken a b held held'
+taken_so None b held held' bytes text p l t w = tt
+taken_so (Some x) None held held' bytes text p l t w = absurd p
+taken_so (Some x) (Some y) held held' bytes text p l t w = (bytes, text, p, l, t, w)
 
 module _ (left left' held held' : Option (List ℕ)) (room room' : Option ℕ) (session : Standing) (reader : List ℕ) (taken : ℕ)
     (u : IsUnderWay left left' held held' room room' session reader taken) where
@@ -258,4 +248,4 @@ module _ (left left' held held' : Option (List ℕ)) (room room' : Option ℕ) (
   answers_taken left'' free short keeps =
       let same : ended_lines u.bytes ≡ u.lines = ended_lines-CutsLines u.bytes reader u.lines u.cuts ∙ (ap (λ (xs : List (List ℕ)). u.lines ++ xs) (ended_lines-HasNoFeed reader free) ∙ append-nil u.lines) in
       let t = subst (λ (xs : List (List ℕ)). Transcript xs u.written) (sym same) (Stands-transcript u.lines u.written session u.stands) in
-      taken_so left left' left'' held held' u.bytes u.written u.consumes keeps (let k = u.count in omega arith) t u.writes.0
+      taken_so left left'' held held' u.bytes u.written (Consumes-kept left left' left'' u.bytes u.consumes keeps) (let k = u.count in omega arith) t u.writes.0

@@ -13,7 +13,8 @@ use Rattle.cls_session.specs.Declarations.{Declaration}
 use Rattle.cls_session.specs.Forms.{declaration_words, end_words, listing_words, IsRead}
 use Rattle.cls_session.specs.LineAnswers.{IsFree, IsWithin, IsRepositoryForm, IsQueryForm, IsRepositoryLine, IsQueryLine}
 use Rattle.cls_session.specs.Readings.{declaration_at, listing_at}
-use Rattle.cls_session.proofs.Decisions.{same_bytes, bytes_eq-refl}
+use Rattle.std.proofs.lemmas.Slice.Eq.{bytes_eq-Decides}
+use Rattle.cls_session.proofs.Decisions.{same_bytes}
 use Rattle.cls_session.proofs.Readings.{declaration_reads, listing_read, listing_reads}
 
 none_some : {A : Type 0} (x : A) → ◌≡◌ {A = Option A} None (Some x) → ⊥
@@ -41,7 +42,7 @@ not_false false e = cc
 pub differs : (answer : Bool) (xs word : List ℕ) → answer ≡ not (bytes_eq xs word) → answer ≡ true → xs ≢ word
 differs answer xs word e t = λ p.
     let f : bytes_eq xs word ≡ false = not_true (bytes_eq xs word) (sym e ∙ t) in
-    let s : bytes_eq xs word ≡ true = subst (λ (ys : List ℕ). bytes_eq xs ys ≡ true) p (bytes_eq-refl xs) in
+    let s : bytes_eq xs word ≡ true = (bytes_eq-Decides xs word).1 p in
     absurd (cc)
 
 pub agrees : (answer : Bool) (xs word : List ℕ) → answer ≡ not (bytes_eq xs word) → answer ≡ false → xs ≡ word
