@@ -3,6 +3,7 @@ pub mod Outside
 pub mod Pages
 pub mod Spines
 pub mod Subtyping
+pub mod Taxa
 pub mod Taxonomies
 pub mod Terms
 pub mod Ty

@@ -4,10 +4,13 @@
 //!   is defined in `specs/`.
 //! - [`Source`], [`Sink`] and [`Gate`] are the outside. [`MemorySource`] and [`MemorySink`] fail where a test wants it,
 //!   [`SureSource`] and [`SureSink`] never do.
+//! - [`Taxa`] is what the layers above ask of an order of names, [`Flat`] the order in which a name is below itself
+//!   alone, and [`Key`] what serves as a key of a table.
 //! - [`Numbers`] is a list of numbers, and [`OutOfMemory`] what a call answers that found no memory.
 #![tactic(auto)]
 
 mod gate;
+mod key;
 mod memory_sink;
 mod memory_source;
 mod numbers;
@@ -15,11 +18,13 @@ mod out_of_memory;
 mod sink;
 mod source;
 mod sure;
+mod taxa;
 #[cfg(test)]
 mod tests;
 mod ty;
 
 pub use gate::{Gate, OpenGate};
+pub use key::Key;
 pub use memory_sink::MemorySink;
 pub use memory_source::MemorySource;
 pub use numbers::Numbers;
@@ -27,4 +32,5 @@ pub use out_of_memory::OutOfMemory;
 pub use sink::Sink;
 pub use source::{Failed, Source};
 pub use sure::{SureSink, SureSource};
+pub use taxa::{Flat, Taxa, Variance};
 pub use ty::{Name, Ty};

@@ -1,0 +1,24 @@
+-- The variance that a value of the program says, and the order in which a name is below itself alone.
+use Rattle.std.specs.Prelude.{ℕ, ◌≡◌, ◌==◌, IsTrue}
+use Rattle.std.proofs.Common.{rules}
+use Rattle.std.specs.Cmp.Rules.{comparing}
+use Rattle.cls_base.specs.Taxonomies as taxonomies
+use Rattle.cls_base.specs.declared.taxa.Variance.{Variance}
+use Rattle.cls_base.specs.declared.taxa.Variance.TheVariants.{Co, Contra, Inv}
+
+abbrev pub variance_of : Variance → taxonomies.Variance
+variance_of Co = taxonomies.covariant
+variance_of Contra = taxonomies.contravariant
+variance_of Inv = taxonomies.invariant
+
+pub flat_reflexive : (a : ℕ) → IsTrue (a == a)
+flat_reflexive a = Prim.search (comparing, rules)
+
+pub flat_antisymmetric : (a b : ℕ) → IsTrue (a == b) → IsTrue (b == a) → a ≡ b
+flat_antisymmetric a b p q = Prim.search (comparing, rules)
+
+pub flat_transitive : (a b c : ℕ) → IsTrue (a == b) → IsTrue (b == c) → IsTrue (a == c)
+flat_transitive a b c p q = Prim.search (comparing, rules)
+
+pub flat_one_variance : taxonomies.covariant ≡ taxonomies.covariant
+flat_one_variance = Prim.search rules
