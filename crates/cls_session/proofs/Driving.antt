@@ -59,11 +59,12 @@ pub answers_none : (held : Option (List ℕ)) (room : Option ℕ) (s : Standing)
 answers_none held room s text = λ lines written stands.
     ([], [], refl, subst (λ (x : List ℕ). Stands (lines ++ []) x s) (sym (append-nil written)) (subst (λ (xs : List (List ℕ)). Stands xs written s) (sym (append-nil lines)) stands), Writes-none held room)
 
--- at an error only the refusal says anything
-pub comes_refused : (A B : Type 0) (stop : Stop) (Well : A → Type 0) (Well' : B → Type 0) (Refused Refused' : Type 0) → Comes {A = A} (Err stop) Well Refused → (Refused → Refused') → Comes {A = B} (Err stop) Well' Refused'
-comes_refused A B stops.Refused Well Well' Refused Refused' c f = f c
-comes_refused A B stops.WriteFault Well Well' Refused Refused' c f = tt
-comes_refused A B stops.NoMemory Well Well' Refused Refused' c f = tt
+-- what an error says of the one call it says of the call around it
+pub comes_stopped : (A B : Type 0) (stop : Stop) (Well : A → Type 0) (Well' : B → Type 0) (Refuses Refuses' Breaks Breaks' : Type 0)
+    → Comes {A = A} (Err stop) Well Refuses Breaks → (Refuses → Refuses') → (Breaks → Breaks') → Comes {A = B} (Err stop) Well' Refuses' Breaks'
+comes_stopped A B stops.Refused Well Well' Refuses Refuses' Breaks Breaks' c f g = f c
+comes_stopped A B stops.WriteFault Well Well' Refuses Refuses' Breaks Breaks' c f g = g c
+comes_stopped A B stops.NoMemory Well Well' Refuses Refuses' Breaks Breaks' c f g = g c
 
 module _ (a b c : Option (List ℕ)) (r s t : Option ℕ) (first mid last : Standing) (text between line after : List ℕ)
     (so_far : AnswersLines a b r s first mid text between) (cut : CutsLine between line after) where
@@ -91,11 +92,6 @@ module _ (a b c : Option (List ℕ)) (r s t : Option ℕ) (first mid last : Stan
         subst (λ (x : List ℕ). IsRefused (lines ++ (more ++ line ∷ [])) x) (append_assoc written reply further) (subst (λ (xs : List (List ℕ)). IsRefused xs ((written ++ reply) ++ further)) (append_assoc lines more (line ∷ [])) end),
         Writes-trans a b c r s t reply further writes wrote,
       )
-
-  -- where the line was not answered, the lines were not either
-  pub stops_more : (A : Type 0) (rest : List ℕ) (stop : Stop) → Comes {A = A} (Err stop) (λ _. AnswersLine b c s t mid last line) (RefusesLine b c s t mid line)
-      → Comes {A = A} (Err stop) (λ _. AnswersLines a c r t first last text rest) (RefusesLines a c r t first text)
-  stops_more A rest stop h = comes_refused A A stop (λ _. AnswersLine b c s t mid last line) (λ _. AnswersLines a c r t first last text rest) (RefusesLine b c s t mid line) (RefusesLines a c r t first text) h refuses_more
 
 -- The same where the reader holds nothing after the line.
 module _ (a b c : Option (List ℕ)) (r s t : Option ℕ) (first mid last : Standing) (text between line after held : List ℕ)

@@ -10,13 +10,13 @@ use Rattle.cls_session.specs.declared.driver.Stop.{Stop}
 use Rattle.cls_session.specs.declared.driver.Stop.TheVariants as stops
 use Rattle.cls_session.specs.declared.status.Status.{Status}
 use Rattle.cls_session.specs.declared.status.Status.TheVariants as status
-use Rattle.cls_session.specs.Driving.{CutsLines, Writes, FitsLines, FitsLast, AnswersLines, RefusesLines, RefusesLast, EndsOutput, Comes}
-use Rattle.cls_session.specs.Outputs.{Output, IsWhole, Answers, AnswersTaken, HasRoom}
+use Rattle.cls_session.specs.Driving.{CutsLines, Writes, FitsLines, FitsLast, AnswersLines, RefusesLines, BreaksLines, RefusesLast, BreaksLast, IsEnded, EndsOutput, Comes}
+use Rattle.cls_session.specs.Outputs.{Output, IsWhole, IsCutOff, Answers, BeginsAnswers, AnswersTaken, BeginsTaken, HasRoom}
 use Rattle.cls_session.specs.Standings.{Standing, Stands}
 use Rattle.cls_session.specs.Stops.{status_of}
 use Rattle.cls_session.specs.Transcripts.{Transcript, IsRefused, Ending, without_end, complete}
 use Rattle.cls_session.proofs.Driving.{CutsLines-trans}
-use Rattle.cls_session.proofs.Outputs.{Begins, IsWholly, CutsLines-append, ended_lines-CutsLines, told, room_left, output_goes_on, output_refused, output_refused_last, output_ended, output_too_long}
+use Rattle.cls_session.proofs.Outputs.{Begins, IsWholly, CutsLines-append, ended_lines-CutsLines, told, told_front, room_left, output_goes_on, output_refused, output_refused_last, output_ended, output_too_long, transcripts_go_on}
 use Rattle.cls_session.proofs.Standings.{Stands-transcript}
 use Rattle.cls_session.proofs.Writing.{Writes-none, Writes-trans}
 
@@ -93,11 +93,18 @@ none_over [] e = refl
 none_over (x ∷ over) e = absurd (let n = is_none (length (x ∷ over)) e in omega arith)
 
 -- where a run stops early, only a refusal is whole
-stopped : (A : Type 0) (stop : Stop) (end : Status) (Well : A → Type 0) (Refuses : Type 0) (Claim : Status → Type 0)
-    → Comes {A = A} (Err stop) Well Refuses → end ≡ status_of stop → (Refuses → Claim status.Refused) → IsWhole end → Claim end
-stopped A stops.Refused end Well Refuses Claim c e f w = subst Claim (sym e) (f c)
-stopped A stops.WriteFault end Well Refuses Claim c e f w = absurd (subst IsWhole e w)
-stopped A stops.NoMemory end Well Refuses Claim c e f w = absurd (subst IsWhole e w)
+stopped : (A : Type 0) (stop : Stop) (end : Status) (Well : A → Type 0) (Refuses Breaks : Type 0) (Claim : Status → Type 0)
+    → Comes {A = A} (Err stop) Well Refuses Breaks → end ≡ status_of stop → (Refuses → Claim status.Refused) → IsWhole end → Claim end
+stopped A stops.Refused end Well Refuses Breaks Claim c e f w = subst Claim (sym e) (f c)
+stopped A stops.WriteFault end Well Refuses Breaks Claim c e f w = absurd (subst IsWhole e w)
+stopped A stops.NoMemory end Well Refuses Breaks Claim c e f w = absurd (subst IsWhole e w)
+
+-- and else it was cut off
+cut_off : (A : Type 0) (stop : Stop) (end : Status) (Well : A → Type 0) (Refuses Breaks Claim : Type 0)
+    → Comes {A = A} (Err stop) Well Refuses Breaks → end ≡ status_of stop → (Breaks → Claim) → IsCutOff end → Claim
+cut_off A stops.Refused end Well Refuses Breaks Claim c e f w = absurd (subst IsCutOff e w)
+cut_off A stops.WriteFault end Well Refuses Breaks Claim c e f w = f c
+cut_off A stops.NoMemory end Well Refuses Breaks Claim c e f w = f c
 
 -- the statuses that the end of the input gives
 abbrev pub IsEndStatus : Status → Type 0
@@ -112,6 +119,10 @@ done_differs e = cc
 
 refused_differs : status.Refused ≡ status.Usage → ⊥
 refused_differs e = cc
+
+pub end_is_not_cut_off : (end : Status) → IsEndStatus end → IsCutOff end → ⊥
+end_is_not_cut_off end (inl e) c = subst IsCutOff e c
+end_is_not_cut_off end (inr e) c = subst IsCutOff e c
 
 pub end_is_no_usage : (end : Status) → IsEndStatus end → end ≡ status.Usage → ⊥
 end_is_no_usage end (inl e) u = done_differs (sym e ∙ u)
@@ -169,9 +180,29 @@ module _ (left left' held held' : Option (List ℕ)) (room room' : Option ℕ) (
           told left held held'' (u.written ++ reply) status.Refused (Appends-trans held held' held'' u.written reply u.writes.0 writes.0) (λ bytes e. refused_output reply bytes e refused)
 
       -- where the last line stops the run, what was written is an output if anything was refused
-      pub answers_last_stopped : (stop : Stop) (end : Status) → Comes {A = Status} (Err stop) (EndsOutput held' held'' room' room'' session reader) (RefusesLast held' held'' room' room'' session reader)
+      pub answers_last_stopped : (stop : Stop) (end : Status) → Comes {A = Status} (Err stop) (EndsOutput held' held'' room' room'' session reader) (RefusesLast held' held'' room' room'' session reader) (BreaksLast held' held'' session reader)
           → end ≡ status_of stop → IsWhole end → Answers [] left held held'' end
-      answers_last_stopped stop end comes e = stopped Status stop end (EndsOutput held' held'' room' room'' session reader) (RefusesLast held' held'' room' room'' session reader) (λ x. Answers [] left held held'' x) comes e answers_last_refused
+      answers_last_stopped stop end comes e = stopped Status stop end (EndsOutput held' held'' room' room'' session reader) (RefusesLast held' held'' room' room'' session reader) (BreaksLast held' held'' session reader)
+          (λ x. Answers [] left held held'' x) comes e answers_last_refused
+
+      -- an end that was reached is an output
+      output_of_end : (reply bytes : List ℕ) → left ≡ Some bytes → IsEnded (u.lines ++ lines_of reader) (u.written ++ reply) → (end : Status) × Output [] bytes (u.written ++ reply) end
+      output_of_end reply bytes e (inl r) = (status.Refused, refused_output reply bytes e r)
+      output_of_end reply bytes e (inr (end, r)) = (end, ended_output reply end bytes e r)
+
+      begins_last : BreaksLast held' held'' session reader → BeginsAnswers [] left held held''
+      begins_last h =
+          let (reply, ended, part) = h u.lines u.written u.stands in
+          let (front, rest, split, writes) = part in
+          told_front left held held'' (u.written ++ front) rest (Appends-trans held held' held'' u.written front u.writes.0 writes)
+          (λ bytes e. let (end, output) = output_of_end reply bytes e ended in
+          ([], end, subst (λ (x : List ℕ). Output [] bytes x end) (ap (λ (x : List ℕ). u.written ++ x) split ∙ (sym (append_assoc u.written front rest) ∙ sym (append-nil ((u.written ++ front) ++ rest)))) output))
+
+      -- else it begins one
+      pub begins_last_stopped : (stop : Stop) (end : Status) → Comes {A = Status} (Err stop) (EndsOutput held' held'' room' room'' session reader) (RefusesLast held' held'' room' room'' session reader) (BreaksLast held' held'' session reader)
+          → end ≡ status_of stop → IsCutOff end → BeginsAnswers [] left held held''
+      begins_last_stopped stop end comes e = cut_off Status stop end (EndsOutput held' held'' room' room'' session reader) (RefusesLast held' held'' room' room'' session reader) (BreaksLast held' held'' session reader)
+          (BeginsAnswers [] left held held'') comes e begins_last
 
   pub end_status : (held'' : Option (List ℕ)) (room'' : Option ℕ) (end : Status) → EndsOutput held' held'' room' room'' session reader end → IsEndStatus end
   end_status held'' room'' end h =
@@ -214,10 +245,25 @@ module _ (left left' held held' : Option (List ℕ)) (room room' : Option ℕ) (
 
       -- where a line of the piece stops the run, what was written is an output if anything was refused
       pub answers_stopped : (A : Type 0) (session' : Standing) (reader' : List ℕ) (stop : Stop) (end : Status)
-          → Comes {A = A} (Err stop) (λ _. AnswersLines held' held'' room' room'' session session' (reader ++ piece) reader') (RefusesLines held' held'' room' room'' session (reader ++ piece))
+          → Comes {A = A} (Err stop) (λ _. AnswersLines held' held'' room' room'' session session' (reader ++ piece) reader') (RefusesLines held' held'' room' room'' session (reader ++ piece)) (BreaksLines held' held'' session (reader ++ piece))
           → end ≡ status_of stop → IsWhole end → Answers [] left held held'' end
       answers_stopped A session' reader' stop end comes e = stopped A stop end (λ _. AnswersLines held' held'' room' room'' session session' (reader ++ piece) reader') (RefusesLines held' held'' room' room'' session (reader ++ piece))
-          (λ x. Answers [] left held held'' x) comes e answers_refused
+          (BreaksLines held' held'' session (reader ++ piece)) (λ x. Answers [] left held held'' x) comes e answers_refused
+
+      begins_lines : BreaksLines held' held'' session (reader ++ piece) → BeginsAnswers [] left held held''
+      begins_lines h =
+          let (more, rest, reply, cs, w, part) = h u.lines u.written u.stands in
+          let (front, after, split, writes) = part in
+          told_front left held held'' (u.written ++ front) after (Appends-trans held held' held'' u.written front u.writes.0 writes)
+          (λ bytes e. let (on, end, output) = output_goes_on (u.bytes ++ piece) rest (u.written ++ reply) (u.lines ++ more) (cuts_on more rest cs) few_bytes bytes (begins bytes e) w in
+          (on, end, subst (λ (x : List ℕ). Output [] bytes (x ++ on) end) (ap (λ (x : List ℕ). u.written ++ x) split ∙ sym (append_assoc u.written front after)) output))
+
+      -- else it begins one
+      pub begins_stopped : (A : Type 0) (session' : Standing) (reader' : List ℕ) (stop : Stop) (end : Status)
+          → Comes {A = A} (Err stop) (λ _. AnswersLines held' held'' room' room'' session session' (reader ++ piece) reader') (RefusesLines held' held'' room' room'' session (reader ++ piece)) (BreaksLines held' held'' session (reader ++ piece))
+          → end ≡ status_of stop → IsCutOff end → BeginsAnswers [] left held held''
+      begins_stopped A session' reader' stop end comes e = cut_off A stop end (λ _. AnswersLines held' held'' room' room'' session session' (reader ++ piece) reader') (RefusesLines held' held'' room' room'' session (reader ++ piece))
+          (BreaksLines held' held'' session (reader ++ piece)) (BeginsAnswers [] left held held'') comes e begins_lines
 
       module _ (session' : Standing) (reader' : List ℕ) (answers : AnswersLines held' held'' room' room'' session session' (reader ++ piece) reader') where
         -- where bytes are too many, the replies to the lines that count are an output
@@ -249,3 +295,11 @@ module _ (left left' held held' : Option (List ℕ)) (room room' : Option ℕ) (
       let same : ended_lines u.bytes ≡ u.lines = ended_lines-CutsLines u.bytes reader u.lines u.cuts ∙ (ap (λ (xs : List (List ℕ)). u.lines ++ xs) (ended_lines-HasNoFeed reader free) ∙ append-nil u.lines) in
       let t = subst (λ (xs : List (List ℕ)). Transcript xs u.written) (sym same) (Stands-transcript u.lines u.written session u.stands) in
       taken_so left left'' held held' u.bytes u.written (Consumes-kept left left' left'' u.bytes u.consumes keeps) (let k = u.count in omega arith) t u.writes.0
+
+-- what was written for the lines that were taken whole begins an output for what was taken
+pub taken_begins : (left left' held held' : Option (List ℕ)) → AnswersTaken left left' held held' → BeginsTaken left left' held held'
+taken_begins None left' held held' a = tt
+taken_begins (Some bytes) None held held' a = a
+taken_begins (Some bytes) (Some rest) held held' (taken, text, split, short, t, w) =
+    let (more, end, output) = transcripts_go_on taken text short t in
+    (taken, split, (text, more, end, output, w))

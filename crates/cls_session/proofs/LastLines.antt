@@ -1,14 +1,12 @@
 -- How the answer to the line that is left at the end of the input ends the output.
 use Rattle.std.proofs.Common.{◌≡◌, ℕ, List, [], ◌∷◌, ◌++◌, length, sym, subst, inl, inr, arith, append_assoc, append-nil, length-append}
-use Rattle.std.specs.Prelude.{Option, None, Some, Err}
+use Rattle.std.specs.Prelude.{Option, None, Some}
 use Rattle.cls_base.specs.Outside.{Holds}
 use Rattle.cls_syntax.specs.Lines.{lines_of}
 use Rattle.cls_session.specs.declared.status.Status.{Status}
-use Rattle.cls_session.specs.declared.driver.Stop.{Stop}
-use Rattle.cls_session.specs.Driving.{Writes, FitsLine, FitsLast, AnswersLine, RefusesLine, AnswersLast, RefusesLast, EndsOutput, Comes}
+use Rattle.cls_session.specs.Driving.{Writes, FitsLine, FitsLast, AnswersLine, RefusesLine, AnswersLast, RefusesLast, EndsOutput}
 use Rattle.cls_session.specs.Standings.{Standing, Stands}
 use Rattle.cls_session.specs.Transcripts.{IsRefused, Ending}
-use Rattle.cls_session.proofs.Driving.{comes_refused}
 use Rattle.cls_session.proofs.Totality.{ends_by}
 use Rattle.cls_session.proofs.Writing.{Holds-rest, Writes-none, Writes-trans}
 
@@ -43,11 +41,6 @@ module _ (line text : List ℕ) (left : line ∷ [] ≡ lines_of text) where
     pub refuses_last : RefusesLine held held' room room' old line → RefusesLast held held' room room' old text
     refuses_last h = λ lines written stands. let (reply, next, writes) = h lines written stands in
         (reply, subst (λ (xs : List (List ℕ)). IsRefused (lines ++ xs) (written ++ reply)) left next, writes)
-
-    -- where the line was not answered, what is left was not either
-    pub stops_last : (A : Type 0) (new : Standing) (stop : Stop) → Comes {A = A} (Err stop) (λ _. AnswersLine held held' room room' old new line) (RefusesLine held held' room room' old line)
-        → Comes {A = A} (Err stop) (λ _. AnswersLast held held' room room' old new text) (RefusesLast held held' room room' old text)
-    stops_last A new stop h = comes_refused A A stop (λ _. AnswersLine held held' room room' old new line) (λ _. AnswersLast held held' room room' old new text) (RefusesLine held held' room room' old line) (RefusesLast held held' room room' old text) h refuses_last
 
 -- no line is left
 pub none_last : (held : Option (List ℕ)) (room : Option ℕ) (s : Standing) (text : List ℕ) → [] ≡ lines_of text → AnswersLast held held room room s s text

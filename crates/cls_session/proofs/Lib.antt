@@ -4,6 +4,7 @@ pub mod Omega
 pub mod Typing
 pub mod Repositories
 pub mod Standings
+pub mod Breaks
 pub mod Decisions
 pub mod Totality
 pub mod Writing

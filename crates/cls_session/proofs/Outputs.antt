@@ -10,8 +10,8 @@ use Rattle.cls_syntax.proofs.LinePieces.{lines_of-ended_lines, lines_of-CutsLine
 use Rattle.cls_session.specs.declared.status.Status.{Status}
 use Rattle.cls_session.specs.declared.status.Status.TheVariants.{Usage, Refused, TooLong}
 use Rattle.cls_session.specs.Commands.{AsksSession, usage}
-use Rattle.cls_session.specs.Driving.{CutsLines, IsWritten}
-use Rattle.cls_session.specs.Outputs.{lines_read, Output, Answers, HasRoom, TranscriptsGoOn}
+use Rattle.cls_session.specs.Driving.{CutsLines, WritesFront, IsWritten}
+use Rattle.cls_session.specs.Outputs.{lines_read, Output, Answers, BeginsAnswers, HasRoom, TranscriptsGoOn}
 use Rattle.cls_session.specs.Outputs as outputs
 use Rattle.cls_session.specs.Transcripts.{Transcript, IsRefused, Ending}
 use Rattle.cls_session.proofs.Totality.{refused, stands, goes_on, ends_by, IsRefused-append}
@@ -77,6 +77,19 @@ IsWholly (Some bytes) front = bytes ≡ front
 pub told : (left held held' : Option (List ℕ)) (text : List ℕ) (end : Status) → Appends held held' text → ((bytes : List ℕ) → left ≡ Some bytes → Output [] bytes text end) → Answers [] left held held' end
 told None held held' text end a output = tt
 told (Some bytes) held held' text end a output = (text, output bytes refl, a)
+
+-- what is told of the front that was written begins an output
+pub told_front : (left held held' : Option (List ℕ)) (front rest : List ℕ) → Appends held held' front
+    → ((bytes : List ℕ) → left ≡ Some bytes → (more : List ℕ) × (end : Status) × Output [] bytes ((front ++ rest) ++ more) end) → BeginsAnswers [] left held held'
+told_front None held held' front rest a output = tt
+told_front (Some bytes) held held' front rest a output =
+    let (more, end, whole) = output bytes refl in
+    (front, rest ++ more, end, subst (λ (x : List ℕ). Output [] bytes x end) (append_assoc front rest more) whole, a)
+
+-- a front of the usage line begins an output where the words ask for no session
+pub usage_begins : (words : List (List ℕ)) (left held held' : Option (List ℕ)) → (AsksSession words → ⊥) → WritesFront held held' usage → BeginsAnswers words left held held'
+usage_begins words None held held' n f = tt
+usage_begins words (Some bytes) held held' n (front, rest, split, w) = (front, rest, Usage, outputs.no_session n (sym split) refl, w)
 
 -- an output that goes on with the reply fits, and the reply fits the room that is left
 pub room_left : (left : Option (List ℕ)) (room room' : Option ℕ) (written reply : List ℕ) → HasRoom [] left room → Fills room room' (length written)

@@ -18,6 +18,10 @@ CutsLines text (line ∷ lines) rest = (after : List ℕ) × CutsLine text line 
 abbrev pub Writes : Option (List ℕ) → Option (List ℕ) → Option ℕ → Option ℕ → List ℕ → Type 0
 Writes held held' room room' text = Appends held held' text × Fills room room' (length text)
 
+-- A front of the text was written.
+abbrev pub WritesFront : Option (List ℕ) → Option (List ℕ) → List ℕ → Type 0
+WritesFront held held' text = (front rest : List ℕ) × (text ≡ front ++ rest) × Appends held held' front
+
 -- What may stand written for the lines, be it that the repository is refused at the last of them.
 abbrev pub IsWritten : List (List ℕ) → List ℕ → Type 0
 IsWritten lines text = Transcript lines text ⊎ IsRefused lines text
@@ -43,6 +47,11 @@ abbrev pub RefusesLine : Option (List ℕ) → Option (List ℕ) → Option ℕ 
 RefusesLine held held' room room' old line = (lines : List (List ℕ)) (written : List ℕ) → Stands lines written old
     → (reply : List ℕ) × IsRefused (lines ++ line ∷ []) (written ++ reply) × Writes held held' room room' reply
 
+-- Before the line was answered or refused the run stopped: what was written begins what may stand written for it.
+abbrev pub BreaksLine : Option (List ℕ) → Option (List ℕ) → Standing → List ℕ → Type 0
+BreaksLine held held' old line = (lines : List (List ℕ)) (written : List ℕ) → Stands lines written old
+    → (reply : List ℕ) × IsWritten (lines ++ line ∷ []) (written ++ reply) × WritesFront held held' reply
+
 -- The lines that the text begins with were answered, and the rest is without a line feed.
 abbrev pub AnswersLines : Option (List ℕ) → Option (List ℕ) → Option ℕ → Option ℕ → Standing → Standing → List ℕ → List ℕ → Type 0
 AnswersLines held held' room room' old new text rest = (lines : List (List ℕ)) (written : List ℕ) → Stands lines written old
@@ -52,6 +61,11 @@ AnswersLines held held' room room' old new text rest = (lines : List (List ℕ))
 abbrev pub RefusesLines : Option (List ℕ) → Option (List ℕ) → Option ℕ → Option ℕ → Standing → List ℕ → Type 0
 RefusesLines held held' room room' old text = (lines : List (List ℕ)) (written : List ℕ) → Stands lines written old
     → (more : List (List ℕ)) × (rest reply : List ℕ) × CutsLines text more rest × IsRefused (lines ++ more) (written ++ reply) × Writes held held' room room' reply
+
+-- The run stopped at one of them, or between two: what was written begins what may stand written for them.
+abbrev pub BreaksLines : Option (List ℕ) → Option (List ℕ) → Standing → List ℕ → Type 0
+BreaksLines held held' old text = (lines : List (List ℕ)) (written : List ℕ) → Stands lines written old
+    → (more : List (List ℕ)) × (rest reply : List ℕ) × CutsLines text more rest × IsWritten (lines ++ more) (written ++ reply) × WritesFront held held' reply
 
 -- The lines that are left at the end of the input were answered.
 abbrev pub AnswersLast : Option (List ℕ) → Option (List ℕ) → Option ℕ → Option ℕ → Standing → Standing → List ℕ → Type 0
@@ -68,18 +82,27 @@ abbrev pub EndsOutput : Option (List ℕ) → Option (List ℕ) → Option ℕ �
 EndsOutput held held' room room' old text status = (lines : List (List ℕ)) (written : List ℕ) → Stands lines written old
     → (reply : List ℕ) × Ending (lines ++ lines_of text) (written ++ reply) status × Writes held held' room room' reply
 
+-- What may stand written at the end of these lines, be it that the repository is refused at the last of them.
+abbrev pub IsEnded : List (List ℕ) → List ℕ → Type 0
+IsEnded lines text = IsRefused lines text ⊎ ((status : Status) × Ending lines text status)
+
+-- The run stopped at the lines that are left, or at the end: what was written begins what ends the output.
+abbrev pub BreaksLast : Option (List ℕ) → Option (List ℕ) → Standing → List ℕ → Type 0
+BreaksLast held held' old text = (lines : List (List ℕ)) (written : List ℕ) → Stands lines written old
+    → (reply : List ℕ) × IsEnded (lines ++ lines_of text) (written ++ reply) × WritesFront held held' reply
+
 -- The room, where it is told, is enough for whatever is to be written where the text is all that is left.
 abbrev pub FitsLast : Option ℕ → Standing → List ℕ → Type 0
 FitsLast room s text = (lines : List (List ℕ)) × (written : List ℕ) × Stands lines written s
     × ((reply : List ℕ) → IsRefused (lines ++ lines_of text) (written ++ reply) → Holds room (length reply))
     × ((reply : List ℕ) (status : Status) → Ending (lines ++ lines_of text) (written ++ reply) status → Holds room (length reply))
 
--- What holds where all went well, and where the repository was refused. Of a fault and of want of memory nothing else is said.
-abbrev pub Comes : {A : Type 0} → Result A Stop → (A → Type 0) → Type 0 → Type 0
-Comes (Ok a) Well Refused = Well a
-Comes (Err stops.Refused) Well Refused = Refused
-Comes (Err stops.WriteFault) Well Refused = Unit {0}
-Comes (Err stops.NoMemory) Well Refused = Unit {0}
+-- What holds where all went well, where the repository was refused, and where a write failed or no memory was found.
+abbrev pub Comes : {A : Type 0} → Result A Stop → (A → Type 0) → Type 0 → Type 0 → Type 0
+Comes (Ok a) Well Refuses Breaks = Well a
+Comes (Err stops.Refused) Well Refuses Breaks = Refuses
+Comes (Err stops.WriteFault) Well Refuses Breaks = Breaks
+Comes (Err stops.NoMemory) Well Refuses Breaks = Breaks
 
 -- The count of the sink's faults rose where a write failed, and is the same else.
 abbrev pub CountsFaults : {A : Type 0} → Result A Stop → ℕ → ℕ → Type 0

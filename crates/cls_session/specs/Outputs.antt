@@ -28,10 +28,25 @@ IsWhole ReadFault = ⊥
 IsWhole WriteFault = ⊥
 IsWhole NoMemory = ⊥
 
+-- the statuses of a run that was cut off by a failed write or by want of memory
+abbrev pub IsCutOff : Status → Type 0
+IsCutOff Done = ⊥
+IsCutOff Usage = ⊥
+IsCutOff Refused = ⊥
+IsCutOff TooLong = ⊥
+IsCutOff ReadFault = ⊥
+IsCutOff WriteFault = Unit {0}
+IsCutOff NoMemory = Unit {0}
+
 -- Where the source tells its bytes, what the sink was given is an output for them.
 abbrev pub Answers : List (List ℕ) → Option (List ℕ) → Option (List ℕ) → Option (List ℕ) → Status → Type 0
 Answers words None old new status = Unit {0}
 Answers words (Some bytes) old new status = (text : List ℕ) × Output words bytes text status × Appends old new text
+
+-- Where the source tells its bytes, what the sink was given begins an output for them.
+abbrev pub BeginsAnswers : List (List ℕ) → Option (List ℕ) → Option (List ℕ) → Option (List ℕ) → Type 0
+BeginsAnswers words None old new = Unit {0}
+BeginsAnswers words (Some bytes) old new = (front rest : List ℕ) × (status : Status) × Output words bytes (front ++ rest) status × Appends old new front
 
 -- The room that the sink tells is enough for each output for the bytes that the source tells.
 abbrev pub HasRoom : List (List ℕ) → Option (List ℕ) → Option ℕ → Type 0
@@ -46,6 +61,12 @@ AnswersTaken None left' held held' = Unit {0}
 AnswersTaken (Some bytes) None held held' = ⊥
 AnswersTaken (Some bytes) (Some rest) held held' = (taken text : List ℕ) × (bytes ≡ taken ++ rest) × (length taken ≤ 1048576)
     × Transcript (ended_lines taken) text × Appends held held' text
+
+-- Where a read failed: so much of the bytes that the source told was taken, and what was written begins an output for these.
+abbrev pub BeginsTaken : Option (List ℕ) → Option (List ℕ) → Option (List ℕ) → Option (List ℕ) → Type 0
+BeginsTaken None left' held held' = Unit {0}
+BeginsTaken (Some bytes) None held held' = ⊥
+BeginsTaken (Some bytes) (Some rest) held held' = (taken : List ℕ) × (bytes ≡ taken ++ rest) × BeginsAnswers [] (Some taken) held held'
 
 -- What is written for the whole lines of a text that isn't too long is the beginning of an output for it.
 abbrev pub TranscriptsGoOn : Type 0

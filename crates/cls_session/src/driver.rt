@@ -2,7 +2,7 @@ ghost use Rattle.std.specs.Prelude.{◌≡◌, ℕ, ◌+◌, ◌^◌, ◌<◌, �
 ghost use Rattle.cls_base.specs.Outside.{HasRisen, Holds};
 ghost use Rattle.cls_syntax.specs.Lines.{HasNoFeed};
 ghost use Rattle.cls_session.specs.declared.driver.Stop.TheVariants.{WriteFault, NoMemory};
-ghost use Rattle.cls_session.specs.Driving.{Writes, FitsLine, FitsLines, FitsLast, AnswersLine, RefusesLine, AnswersLines, RefusesLines, AnswersLast, RefusesLast, EndsOutput, Comes, CountsFaults};
+ghost use Rattle.cls_session.specs.Driving.{Writes, WritesFront, FitsLine, FitsLines, FitsLast, AnswersLine, RefusesLine, BreaksLine, AnswersLines, RefusesLines, BreaksLines, AnswersLast, RefusesLast, BreaksLast, EndsOutput, Comes, CountsFaults};
 
 use crate::session::{Answer, Session};
 use crate::status::Status;
@@ -43,6 +43,7 @@ pub fn write_all<K: Sink>(sink: &mut K, text: &[u8]) -> Result<(), Failed>
     ensures written { OnOk result (Writes (K.held sink.old) (K.held sink.new) (K.room sink.old) (K.room sink.new) text.now) }
     ensures ok { OnOk result (K.faults sink.new ≡ K.faults sink.old) }
     ensures failed { OnErr result (HasRisen (K.faults sink.old) (K.faults sink.new)) }
+    ensures part { OnErr result (WritesFront (K.held sink.old) (K.held sink.new) text.now) }
 {
     let mut rest = text;
     while !rest.is_empty() {
@@ -63,7 +64,8 @@ pub fn answer_line<K: Sink>(
     requires room { FitsLine (K.room sink.old) session.old line.now }
     ensures comes { Comes result
         (λ _. AnswersLine (K.held sink.old) (K.held sink.new) (K.room sink.old) (K.room sink.new) session.old session.new line.now)
-        (RefusesLine (K.held sink.old) (K.held sink.new) (K.room sink.old) (K.room sink.new) session.old line.now) }
+        (RefusesLine (K.held sink.old) (K.held sink.new) (K.room sink.old) (K.room sink.new) session.old line.now)
+        (BreaksLine (K.held sink.old) (K.held sink.new) session.old line.now) }
     ensures counted { OnOk result (session.new.lines ≤ session.old.lines + 1) }
     ensures faults { CountsFaults result (K.faults sink.old) (K.faults sink.new) }
 {
@@ -91,7 +93,8 @@ pub fn answer_lines<K: Sink>(
     requires room { FitsLines (K.room sink.old) session.old (reader.old ++ piece.now) }
     ensures comes { Comes result
         (λ _. AnswersLines (K.held sink.old) (K.held sink.new) (K.room sink.old) (K.room sink.new) session.old session.new (reader.old ++ piece.now) reader.new)
-        (RefusesLines (K.held sink.old) (K.held sink.new) (K.room sink.old) (K.room sink.new) session.old (reader.old ++ piece.now)) }
+        (RefusesLines (K.held sink.old) (K.held sink.new) (K.room sink.old) (K.room sink.new) session.old (reader.old ++ piece.now))
+        (BreaksLines (K.held sink.old) (K.held sink.new) session.old (reader.old ++ piece.now)) }
     ensures no_feed { OnOk result (HasNoFeed reader.new) }
     ensures counted { OnOk result (session.new.lines + length reader.new ≤ session.old.lines + length (reader.old ++ piece.now)) }
     ensures faults { CountsFaults result (K.faults sink.old) (K.faults sink.new) }
@@ -118,7 +121,8 @@ pub fn answer_last<K: Sink>(
     requires room { FitsLast (K.room sink.old) session.old reader }
     ensures comes { Comes result
         (λ _. AnswersLast (K.held sink.old) (K.held sink.new) (K.room sink.old) (K.room sink.new) session.old session.new reader)
-        (RefusesLast (K.held sink.old) (K.held sink.new) (K.room sink.old) (K.room sink.new) session.old reader) }
+        (RefusesLast (K.held sink.old) (K.held sink.new) (K.room sink.old) (K.room sink.new) session.old reader)
+        (BreaksLast (K.held sink.old) (K.held sink.new) session.old reader) }
     ensures faults { CountsFaults result (K.faults sink.old) (K.faults sink.new) }
 {
     match reader.finish() {
@@ -141,7 +145,8 @@ pub fn finish<K: Sink>(
     requires room { FitsLast (K.room sink.old) session reader }
     ensures comes { Comes result
         (EndsOutput (K.held sink.old) (K.held sink.new) (K.room sink.old) (K.room sink.new) session reader)
-        (RefusesLast (K.held sink.old) (K.held sink.new) (K.room sink.old) (K.room sink.new) session reader) }
+        (RefusesLast (K.held sink.old) (K.held sink.new) (K.room sink.old) (K.room sink.new) session reader)
+        (BreaksLast (K.held sink.old) (K.held sink.new) session reader) }
     ensures faults { CountsFaults result (K.faults sink.old) (K.faults sink.new) }
 {
     answer_last(alloc, &mut session, reader, sink)?;

@@ -1,7 +1,7 @@
 ghost use Rattle.std.specs.Prelude.{◌≡◌, ◌≢◌, List, [], map, string_bytes};
 ghost use Rattle.std.specs.Io.KnownBytes.{IsAtEnd, Keeps};
 ghost use Rattle.cls_base.specs.Outside.{HasRisen};
-ghost use Rattle.cls_session.specs.Outputs.{IsWhole, Answers, AnswersTaken, HasRoom};
+ghost use Rattle.cls_session.specs.Outputs.{IsWhole, IsCutOff, Answers, BeginsAnswers, AnswersTaken, BeginsTaken, HasRoom};
 ghost use Rattle.cls_session.specs.Stops.{status_of};
 ghost use Rattle.cls_session.specs.declared.status.Status.TheVariants.{Done, Usage, ReadFault, WriteFault};
 
@@ -48,6 +48,8 @@ pub fn run<R: Threads + Wait + Sync, S: Source, K: Sink, G: Gate + Sync>(
     ensures read_whole { result ≡ Done → IsAtEnd (S.left source.new) }
     ensures unread { result ≡ Usage → Keeps (S.left source.old) (S.left source.new) }
     ensures none_waits { result ≡ ReadFault → AnswersTaken (S.left source.old) (S.left source.new) (K.held sink.old) (K.held sink.new) }
+    ensures begins_taken { result ≡ ReadFault → BeginsTaken (S.left source.old) (S.left source.new) (K.held sink.old) (K.held sink.new) }
+    ensures begins { IsCutOff result → BeginsAnswers (map string_bytes words.now) (S.left source.old) (K.held sink.old) (K.held sink.new) }
     ensures read_fault { result ≡ ReadFault → HasRisen (S.faults source.old) (S.faults source.new) }
     ensures write_fault { result ≡ WriteFault → HasRisen (K.faults sink.old) (K.faults sink.new) }
     ensures no_read_fault { IsWhole result → S.faults source.new ≡ S.faults source.old }
@@ -69,6 +71,7 @@ fn answer_input<S: Source, K: Sink>(alloc: Global, source: &mut S, sink: &mut K)
     ensures read_whole { result ≡ Done → IsAtEnd (S.left source.new) }
     ensures never_usage { result ≢ Usage }
     ensures none_waits { result ≡ ReadFault → AnswersTaken (S.left source.old) (S.left source.new) (K.held sink.old) (K.held sink.new) }
+    ensures begins { IsCutOff result → BeginsAnswers [] (S.left source.old) (K.held sink.old) (K.held sink.new) }
     ensures read_fault { result ≡ ReadFault → HasRisen (S.faults source.old) (S.faults source.new) }
     ensures write_fault { result ≡ WriteFault → HasRisen (K.faults sink.old) (K.faults sink.new) }
     ensures no_read_fault { IsWhole result → S.faults source.new ≡ S.faults source.old }

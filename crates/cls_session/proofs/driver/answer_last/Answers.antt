@@ -1,5 +1,6 @@
 use Rattle.std.proofs.lemmas.Result.{err_from_is_err_and}
-use Rattle.cls_session.proofs.LastLines.{last_fits, answers_last, stops_last, none_last}
+use Rattle.cls_session.proofs.Breaks.{stops_last}
+use Rattle.cls_session.proofs.LastLines.{last_fits, answers_last, none_last}
 use Rattle.cls_session.proofs.driver.answer_last.Goals as goal
 
 pub answer_line-requires-clause-room : goal.answer_line-requires-clause-room
@@ -15,5 +16,5 @@ returns-in_ok-answer_line-in-Some-clause-comes g c =
 pub returns-in_err-answer_line-in-Some-clause-comes : goal.returns-in_err-answer_line-in-Some-clause-comes
 returns-in_err-answer_line-in-Some-clause-comes g c =
     let p = err_from_is_err_and c.from_residual.result c.from_residual.ensures.1 in
-    rw (p.1, p.2) (stops_last c.in-Some.line c.args.reader c.in-Some.ensures.lines (g.K.Sink.held c.args.sink.now) (g.K.Sink.held c.answer_line.new.sink) (g.K.Sink.room c.args.sink.now) (g.K.Sink.room c.answer_line.new.sink) c.args.session.now
-    _ c.answer_line.new.session _ c.in_err-answer_line-in-Some.ensures.comes)
+    rw (p.1, p.2) (stops_last c.in-Some.line c.args.reader c.in-Some.ensures.lines (g.K.Sink.held c.args.sink.now) (g.K.Sink.held c.answer_line.new.sink) (g.K.Sink.room c.args.sink.now) (g.K.Sink.room c.answer_line.new.sink)
+    c.args.session.now c.answer_line.new.session _ _ c.in_err-answer_line-in-Some.ensures.comes)

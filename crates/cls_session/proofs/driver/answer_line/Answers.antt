@@ -1,3 +1,5 @@
+use Rattle.std.proofs.lemmas.Result.{err_from_is_err_and}
+use Rattle.cls_session.proofs.Breaks.{breaks_unread, breaks_reply, breaks_refusal}
 use Rattle.cls_session.proofs.Driving.{text_fits, refusal_fits}
 use Rattle.cls_session.proofs.driver.answer_line.Goals as goal
 
@@ -20,3 +22,22 @@ pub returns-in_ok-write_all-in-Refusal-clause-comes : goal.returns-in_ok-write_a
 returns-in_ok-write_all-in-Refusal-clause-comes g c = λ lines written stands.
     let replied = rw c.in-Refusal.is at c.in_ok-text.ensures.answered in
     (_, replied lines written stands, rw c.as_bytes-in-Refusal.ensures.value at c.in_ok-write_all-in-Refusal.ensures.written)
+
+pub returns-in_err-text-clause-comes : goal.returns-in_err-text-clause-comes
+returns-in_err-text-clause-comes g c =
+    let p = err_from_is_err_and c.from_residual.result c.from_residual.ensures.1 in
+    rw (p.1, p.2) (breaks_unread (g.K.Sink.held c.args.sink.now) c.args.session.now c.args.line.now)
+
+pub returns-in_err-write_all-in-Reply-clause-comes : goal.returns-in_err-write_all-in-Reply-clause-comes
+returns-in_err-write_all-in-Reply-clause-comes g c =
+    let replied = rw c.in-Reply.is at c.in_ok-text.ensures.answered in
+    let p = err_from_is_err_and c.from_residual-in_err-write_all-in-Reply.result c.from_residual-in_err-write_all-in-Reply.ensures.1 in
+    rw (p.1, p.2) (breaks_reply (g.K.Sink.held c.args.sink.now) (g.K.Sink.held c.write_all.new.sink) c.args.session.now c.feed.new.self c.args.line.now _ replied
+    (rw c.as_bytes.ensures.value at c.in_err-write_all-in-Reply.ensures.part))
+
+pub returns-in_err-write_all-in-Refusal-clause-comes : goal.returns-in_err-write_all-in-Refusal-clause-comes
+returns-in_err-write_all-in-Refusal-clause-comes g c =
+    let replied = rw c.in-Refusal.is at c.in_ok-text.ensures.answered in
+    let p = err_from_is_err_and c.from_residual-in_err-write_all-in-Refusal.result c.from_residual-in_err-write_all-in-Refusal.ensures.1 in
+    rw (p.1, p.2) (breaks_refusal (g.K.Sink.held c.args.sink.now) (g.K.Sink.held c.write_all-in-Refusal.new.sink) c.args.session.now c.args.line.now _ replied
+    (rw c.as_bytes-in-Refusal.ensures.value at c.in_err-write_all-in-Refusal.ensures.part))

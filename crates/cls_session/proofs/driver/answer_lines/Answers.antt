@@ -1,6 +1,7 @@
 use Rattle.std.proofs.Common.{◌++◌, arith, refl, ◌∙◌}
 use Rattle.std.proofs.lemmas.Result.{err_from_is_err_and}
-use Rattle.cls_session.proofs.Driving.{answers_none, answers_next, fits_next, shorter_next, line_fits, stops_more, answers_held}
+use Rattle.cls_session.proofs.Breaks.{breaks_between, stops_more}
+use Rattle.cls_session.proofs.Driving.{answers_none, answers_next, fits_next, shorter_next, line_fits, answers_held}
 use Rattle.cls_session.proofs.driver.answer_lines.Goals as goal
 
 pub lines-init : goal.lines-init
@@ -15,6 +16,12 @@ pub returns-in_default-clause-comes : goal.returns-in_default-clause-comes
 returns-in_default-clause-comes g c =
     let held = rw c.in_default.is at c.in_ok-line.ensures.held in
     answers_held (g.K.Sink.held c.args.sink.now) (g.K.Sink.held c.lines.sink) (g.K.Sink.room c.args.sink.now) (g.K.Sink.room c.lines.sink) c.args.session.now c.lines.session (c.args.reader.now ++ c.args.piece.now) (c.lines.reader ++ c.lines.rest.now) c.take.new.self held c.lines.invariant.answered
+
+pub returns-in_err-line-clause-comes : goal.returns-in_err-line-clause-comes
+returns-in_err-line-clause-comes g c =
+    let p = err_from_is_err_and c.from_residual.result c.from_residual.ensures.1 in
+    rw (p.1, p.2) (breaks_between (g.K.Sink.held c.args.sink.now) (g.K.Sink.held c.lines.sink) (g.K.Sink.room c.args.sink.now) (g.K.Sink.room c.lines.sink)
+    c.args.session.now c.lines.session (c.args.reader.now ++ c.args.piece.now) (c.lines.reader ++ c.lines.rest.now) c.lines.invariant.answered)
 
 pub answer_line-requires-clause-room : goal.answer_line-requires-clause-room
 answer_line-requires-clause-room g c =

@@ -1,7 +1,7 @@
 use Rattle.std.proofs.Common.{List, ℕ, ◌≡◌, ◌+◌, ◌≤◌, length-append, [], length, arith, refl, sym, ap, ◌∙◌, subst}
 use Rattle.cls_syntax.specs.Lines.{HasNoFeed}
 use Rattle.cls_session.specs.Outputs.{IsWhole}
-use Rattle.cls_session.proofs.InputLoop.{answers_taken, IsUnderWay, cut_consumes, cut_lengths, some_over, none_over, none_read, none_more, last_has_room, answers_end, answers_last_stopped, end_status, end_is_whole, end_is_no_usage, piece_has_room, answers_stopped, answers_too_long, piece_answered}
+use Rattle.cls_session.proofs.InputLoop.{begins_last_stopped, begins_stopped, end_is_not_cut_off, answers_taken, IsUnderWay, cut_consumes, cut_lengths, some_over, none_over, none_read, none_more, last_has_room, answers_end, answers_last_stopped, end_status, end_is_whole, end_is_no_usage, piece_has_room, answers_stopped, answers_too_long, piece_answered}
 use Rattle.cls_session.proofs.Standings.{Stands-counted}
 use Rattle.cls_session.proofs.program.answer_input.Goals as goal
 
@@ -104,3 +104,23 @@ pub returns-in_default-clause-none_waits : goal.returns-in_default-clause-none_w
 returns-in_default-clause-none_waits g c = λ fault.
     answers_taken (g.S.Source.left c.args.source.now) (g.S.Source.left c.pieces.source) (g.K.Sink.held c.args.sink.now) (g.K.Sink.held c.pieces.sink) (g.K.Sink.room c.args.sink.now) (g.K.Sink.room c.pieces.sink) c.pieces.session c.pieces.reader c.pieces.taken c.pieces.invariant.under_way
     (g.S.Source.left c.read.new.self) c.pieces.invariant.no_feed c.pieces.invariant.short c.in_default.ensures.stays
+
+pub returns-in-Ok-finish-clause-begins : goal.returns-in-Ok-finish-clause-begins
+returns-in-Ok-finish-clause-begins g c = λ cut. absurd (
+    end_is_not_cut_off c.in-Ok-finish.status (end_status (g.S.Source.left c.args.source.now) (g.S.Source.left c.pieces.source) (g.K.Sink.held c.args.sink.now) (g.K.Sink.held c.pieces.sink) (g.K.Sink.room c.args.sink.now) (g.K.Sink.room c.pieces.sink) c.pieces.session c.pieces.reader c.pieces.taken c.pieces.invariant.under_way (g.K.Sink.held c.finish.new.sink) (g.K.Sink.room c.finish.new.sink) c.in-Ok-finish.status c.in-Ok-finish.ensures.comes) cut)
+
+pub returns-in-Err-clause-begins : goal.returns-in-Err-clause-begins
+returns-in-Err-clause-begins g c =
+    let u = none_more (g.S.Source.left c.args.source.now) (g.S.Source.left c.pieces.source) (g.S.Source.left c.read.new.self) (g.K.Sink.held c.args.sink.now) (g.K.Sink.held c.pieces.sink) (g.K.Sink.room c.args.sink.now) (g.K.Sink.room c.pieces.sink) c.pieces.session c.pieces.reader c.pieces.taken
+    c.in-Ok.count c.read.new.into c.pieces.invariant.under_way c.if-count-eq0.true c.in-Ok.ensures.bytes in
+    let at_end = c.in-Ok.ensures.end c.if-count-eq0.true (omega arith) in
+    begins_last_stopped (g.S.Source.left c.args.source.now) (g.S.Source.left c.read.new.self) (g.K.Sink.held c.args.sink.now) (g.K.Sink.held c.pieces.sink) (g.K.Sink.room c.args.sink.now) (g.K.Sink.room c.pieces.sink) c.pieces.session c.pieces.reader c.pieces.taken u c.pieces.invariant.short at_end (g.K.Sink.held c.finish.new.sink) (g.K.Sink.room c.finish.new.sink)
+    c.in-Err.stop c.into.result c.in-Err.ensures.comes c.into.ensures
+
+pub returns-in-Err-answer_lines-clause-begins : goal.returns-in-Err-answer_lines-clause-begins
+returns-in-Err-answer_lines-clause-begins g c =
+    let consumes = cut_consumes c.read.new.into c.split_at.result.0.now c.split_at.result.1.now c.in-Ok.count c.min.result c.split_at.ensures.front c.split_at.ensures.back (g.S.Source.left c.pieces.source) (g.S.Source.left c.read.new.self) c.in-Ok.ensures.bytes in
+    let short : c.pieces.taken + length c.split_at.result.0.now ≤ 1048576 = omega (arith, c.split_at.ensures.front_len, c.min.ensures, c.pieces.invariant.short) in
+    begins_stopped (g.S.Source.left c.args.source.now) (g.S.Source.left c.pieces.source) (g.K.Sink.held c.args.sink.now) (g.K.Sink.held c.pieces.sink) (g.K.Sink.room c.args.sink.now) (g.K.Sink.room c.pieces.sink) c.pieces.session c.pieces.reader c.pieces.taken c.pieces.invariant.under_way
+    (g.S.Source.left c.read.new.self) c.split_at.result.0.now c.split_at.result.1.now consumes short (g.K.Sink.held c.answer_lines.new.sink) (g.K.Sink.room c.answer_lines.new.sink)
+    _ c.answer_lines.new.session c.answer_lines.new.reader c.in-Err-answer_lines.stop c.into-in-Err-answer_lines.result c.in-Err-answer_lines.ensures.comes c.into-in-Err-answer_lines.ensures
