@@ -20,7 +20,7 @@ use Rattle.cls_session.specs.Declarations.{Declaration, names_of}
 use Rattle.cls_session.specs.Forms.{IsDeclaration}
 use Rattle.cls_session.specs.Outputs.{Output, lines_read}
 use Rattle.cls_session.specs.Outputs as outputs
-use Rattle.cls_session.specs.Replies.{term_line, page_text, Reply, Replies}
+use Rattle.cls_session.specs.Replies.{term_line, page_text, Reply, Answered, Replies}
 use Rattle.cls_session.specs.Replies as replies
 use Rattle.cls_session.specs.Repositories.{Entry, skipped, declares, Declares}
 use Rattle.cls_session.specs.Transcripts.{IsAnswered, refusal, without_end, complete}
@@ -133,14 +133,20 @@ module _ (ds : List Declaration) (short : (x : ℕ) → IsShort (name_in ds x)) 
       let d = q.take_within in
       omega (arith, a, b, c, d.1)
 
+  answered_query_length : (query : List (List ℕ)) (text : List ℕ) → Answered ds query text → length text ≤ 560005 * length query
+  answered_query_length query text (replies.of_line line e p) = let a = ap length e in let b = reply_length line text p in omega arith
+
   replies_length : (lines : List (List ℕ)) (text : List ℕ) → Replies ds lines text → length text ≤ 560005 * length lines
-  replies_length [] text e = let a = ap length e in omega arith
-  replies_length (line ∷ lines) text (first, rest, p, ps, e) =
+  replies_length lines text (replies.none l e) = let a = ap length e in omega arith
+  replies_length lines text (replies.next query others first rest l p ps e) =
       let a = ap length e in
       let b = length-append first rest in
-      let c = reply_length line first p in
-      let d = replies_length lines rest ps in
+      let c = answered_query_length query first p in
+      let d = replies_length others rest ps in
+      let k = ap length l in
+      let n = length-append query others in
       omega arith
+  replies_length lines text (replies.begun b e) = let a = ap length e in omega arith
 
 answered_length : (lines : List (List ℕ)) (ds : List Declaration) (text : List ℕ) → AllByRecursion IsShort lines → IsAnswered lines ds text → length text ≤ 560005 * length lines
 answered_length lines ds text h a =

@@ -6,16 +6,20 @@ use std::test::Fail;
 const USAGE: &str =
     "usage: clsynth [--workers N] [--max-goals N] [--max-rules N] [--pool N] [generate N]\n";
 
-/// Words and inputs, what is to be written for them, the write that fails, and how that ends the run.
-const WRITES: [(&[&str], &[u8], &str, u32, Status); 7] = [
-    (&[], TWO_COMPONENTS, SIX_TERMS, 1, Status::WriteFault),
-    (&[], TWO_COMPONENTS, SIX_TERMS, 5, Status::WriteFault),
-    (&[], TWO_COMPONENTS, SIX_TERMS, 9, Status::WriteFault),
-    (&[], TWO_COMPONENTS, SIX_TERMS, 1_000, Status::Done),
-    (&[], b"wrong", "refused 1 unbuilt\n", 2, Status::WriteFault),
-    (&[], b"", "refused 0 unbuilt\n", 2, Status::WriteFault),
-    (&["--"], b"", USAGE, 2, Status::WriteFault),
+/// Words and inputs, the one reply to them, and the status.
+const REPLIES: [(&[&str], &[u8], &str, Status); 4] = [
+    (&[], TWO_COMPONENTS, SIX_TERMS, Status::Done),
+    (&[], b"wrong", "refused 1 unbuilt\n", Status::Refused),
+    (&[], b"", "refused 0 unbuilt\n", Status::Refused),
+    (&["--"], b"", USAGE, Status::Usage),
 ];
+
+/// Two queries, the first whole with 51 bytes and the second with 75.
+const TWO_QUERIES: &[u8] =
+    b"comp x : A\ncomp y : B\nend\nlist omega max 2 take 10\nlist omega max 1 take 1\n";
+
+const SEVEN_TERMS: &str =
+    "term x\nterm y\nterm x(x)\nterm x(y)\nterm y(x)\nterm y(y)\ndone\nterm x\nmore\n";
 
 /// More bytes than an output for four lines of at most 24 bytes has, whatever the lines ask for.
 const ROOM: usize = 4_194_304;
@@ -54,47 +58,77 @@ fn words_are_answered_by_the_usage(rt: HostRuntime) -> Result<(), Fail> {
 
 #[test]
 fn a_read_fails(rt: HostRuntime) -> Result<(), Fail> {
-    // At 7 bytes a read the query is whole with the eighth, and the ninth finds the end.
-    for (place, output, expected) in [
-        (1, "", Status::ReadFault),
-        (5, "", Status::ReadFault),
-        (8, "", Status::ReadFault),
-        (9, SIX_TERMS, Status::ReadFault),
-        (1_000, SIX_TERMS, Status::Done),
+    // At 7 bytes a read the eleventh takes the last bytes, and the twelfth finds the end.
+    for (chunk, place, output, expected) in [
+        (16, 2, "", Status::ReadFault),
+        (7, 1, "", Status::ReadFault),
+        (7, 2, "", Status::ReadFault),
+        (7, 3, "", Status::ReadFault),
+        (7, 4, "", Status::ReadFault),
+        (7, 5, "", Status::ReadFault),
+        (7, 6, "", Status::ReadFault),
+        (7, 7, "", Status::ReadFault),
+        (7, 8, "", Status::ReadFault),
+        (7, 9, SIX_TERMS, Status::ReadFault),
+        (7, 10, SIX_TERMS, Status::ReadFault),
+        (7, 11, SIX_TERMS, Status::ReadFault),
+        (7, 12, SEVEN_TERMS, Status::ReadFault),
+        (7, 13, SEVEN_TERMS, Status::Done),
     ] {
         let outside = Outside {
-            chunk: 7,
+            chunk,
             failing_reads: &[place],
             failing_writes: &[],
         };
-        let (status, written) = outcome(&rt, rt.alloc(), &[], TWO_COMPONENTS, &outside)?;
-        assert_eq!(rt; status, expected, "read {place} fails");
-        assert_eq!(rt; written.as_str(), output, "read {place} fails");
+        let (status, written) = outcome(&rt, rt.alloc(), &[], TWO_QUERIES, &outside)?;
+        assert_eq!(rt; status, expected, "read {place} of {chunk} bytes fails");
+        assert_eq!(rt;
+            written.as_str(),
+            output,
+            "read {place} of {chunk} bytes fails"
+        );
     }
     Ok(())
 }
 
 #[test]
+fn the_second_write_fails(rt: HostRuntime) -> Result<(), Fail> {
+    let outside = Outside {
+        chunk: 5,
+        failing_reads: &[],
+        failing_writes: &[2],
+    };
+    let (status, written) = outcome(&rt, rt.alloc(), &[], TWO_COMPONENTS, &outside)?;
+    assert_eq!(rt; written.as_str(), "term ");
+    assert_eq!(rt; status, Status::WriteFault);
+    Ok(())
+}
+
+#[test]
 fn a_write_fails(rt: HostRuntime) -> Result<(), Fail> {
-    // At 7 bytes a write the terms go in nine writes at least, and each other output in three.
-    for (words, input, output, place, expected) in WRITES {
-        let outside = Outside {
-            chunk: 7,
-            failing_reads: &[],
-            failing_writes: &[place],
-        };
-        let (status, written) = outcome(&rt, rt.alloc(), words, input, &outside)?;
-        assert_eq!(rt; status, expected, "write {place} of {output} fails");
-        let whole_writes = (place as usize - 1) * 7;
-        assert!(rt;
-            output.starts_with(written.as_str()),
-            "write {place} of {output} fails"
-        );
-        assert_eq!(rt;
-            written.len(),
-            output.len().min(whole_writes),
-            "write {place} of {output} fails"
-        );
+    for (words, input, output, expected) in REPLIES {
+        let writes = output.len().div_ceil(3) as u32;
+        for place in 1..=writes + 1 {
+            let outside = Outside {
+                chunk: 3,
+                failing_reads: &[],
+                failing_writes: &[place],
+            };
+            let (status, written) = outcome(&rt, rt.alloc(), words, input, &outside)?;
+            let fails = place <= writes;
+            let whole = if fails {
+                3 * (place as usize - 1)
+            } else {
+                output.len()
+            };
+            let status_then = if fails { Status::WriteFault } else { expected };
+            assert!(rt;
+                output.starts_with(written.as_str()),
+                "write {place} of {output} fails"
+            );
+            assert_eq!(rt; written.len(), whole, "write {place} of {output} fails");
+            assert_eq!(rt; status, status_then, "write {place} of {output} fails");
+        }
     }
     Ok(())
 }

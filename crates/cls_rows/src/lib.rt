@@ -3,6 +3,8 @@
 #![tactic(auto)]
 
 #[cfg(test)]
+mod ends;
+#[cfg(test)]
 mod examples;
 #[cfg(test)]
 mod faults;
@@ -10,5 +12,7 @@ mod faults;
 mod limits;
 #[cfg(test)]
 mod listings;
+#[cfg(test)]
+mod pieces;
 #[cfg(test)]
 mod refusals;

@@ -166,3 +166,31 @@ fn half_a_million_comments_are_read(rt: HostRuntime) -> Result<(), Fail> {
     }
     Ok(())
 }
+
+#[test]
+fn the_surplus_lies_in_one_line(rt: HostRuntime) -> Result<(), Fail> {
+    let alloc = rt.alloc();
+    for (head, output) in [("end\n", ""), (ASKED, "term x\ndone\n")] {
+        let surplus = comment(
+            alloc,
+            LONGEST_INPUT.saturating_add(1).saturating_sub(head.len()),
+        )?;
+        let input = format!(in alloc; "{head}{surplus}")?;
+        assert_eq!(rt; input.len(), LONGEST_INPUT + 1, "{head}");
+        assert_example(
+            &rt,
+            alloc,
+            (head, input.as_bytes(), output),
+            Status::TooLong,
+            1_000,
+        )?;
+        assert_example(
+            &rt,
+            alloc,
+            (head, input.as_bytes(), output),
+            Status::TooLong,
+            WHOLE,
+        )?;
+    }
+    Ok(())
+}

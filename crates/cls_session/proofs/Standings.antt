@@ -5,7 +5,7 @@ use Rattle.cls_syntax.specs.Skipped.{IsSkipped}
 use Rattle.cls_session.specs.Declarations.{Declaration, names_of}
 use Rattle.cls_session.specs.Forms.{IsDeclaration, IsEnd}
 use Rattle.cls_session.specs.Repositories.{Entry, skipped, declares, AreDifferent, IsRepository}
-use Rattle.cls_session.specs.Replies.{Reply, Replies}
+use Rattle.cls_session.specs.Replies.{Reply, of_line, Replies, none, next, begun}
 use Rattle.cls_session.specs.Transcripts.{IsAnswered, Transcript, opening, answering, refusal, IsRefused, Ending, without_end, complete}
 use Rattle.cls_session.specs.declared.status.Status.TheVariants.{Done, Refused}
 use Rattle.cls_session.specs.Standings.{Standing, Stands}
@@ -57,8 +57,12 @@ IsRepository-none lines line ds r f cs q =
     entry_of ds line p.1 f p.3 (subst (λ (xs : List Declaration). AreDifferent (names_of xs)) is q.different) (subst (λ (xs : List Declaration). length xs ≤ 1000) is q.few)
 
 pub Replies-push : (ds : List Declaration) (lines : List (List ℕ)) (line text reply : List ℕ) → Replies ds lines text → Reply ds line reply → Replies ds (lines ++ line ∷ []) (text ++ reply)
-Replies-push ds [] line text reply e q = (reply, [], q, refl, rw e (sym (append-nil reply)))
-Replies-push ds (l ∷ lines) line text reply (a, b, p, ps, e) q = (a, b ++ reply, p, Replies-push ds lines line b reply ps q, rw e (append_assoc a b reply))
+Replies-push ds lines line text reply (none l t) q =
+    next (line ∷ []) [] reply [] (ap (λ (xs : List (List ℕ)). xs ++ line ∷ []) l) (of_line line refl q) (none refl refl) (ap (λ (x : List ℕ). x ++ reply) t ∙ sym (append-nil reply))
+Replies-push ds lines line text reply (next query others a b l p ps t) q =
+    next query (others ++ line ∷ []) a (b ++ reply) (ap (λ (xs : List (List ℕ)). xs ++ line ∷ []) l ∙ append_assoc query others (line ∷ [])) p (Replies-push ds others line b reply ps q)
+    (ap (λ (x : List ℕ). x ++ reply) t ∙ append_assoc a b reply)
+Replies-push ds lines line text reply (begun b t) q = absurd b
 
 pub IsAnswered-push : (lines : List (List ℕ)) (line text reply : List ℕ) (ds : List Declaration) → IsAnswered lines ds text → Reply ds line reply → IsAnswered (lines ++ line ∷ []) ds (text ++ reply)
 IsAnswered-push lines line text reply ds a q = record {
@@ -72,7 +76,7 @@ IsAnswered-push lines line text reply ds a q = record {
 }
 
 pub IsAnswered-end : (lines : List (List ℕ)) (line : List ℕ) (ds : List Declaration) → IsRepository lines ds → IsEnd line → IsAnswered (lines ++ line ∷ []) ds []
-IsAnswered-end lines line ds r e = record { repository = lines; end = line; queries = []; split = refl; ends = e; reads = r; replies = refl }
+IsAnswered-end lines line ds r e = record { repository = lines; end = line; queries = []; split = refl; ends = e; reads = r; replies = none refl refl }
 
 -- what a session that reads the repository holds
 abbrev pub reading : List (List ℕ) → ℕ → Standing

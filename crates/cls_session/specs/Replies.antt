@@ -36,7 +36,18 @@ pub data Reply (declared : List Declaration) (line text : List ℕ) : Type 0 whe
   listing : (max take : ℕ) → IsListing line max take → ListsOmega declared max take text → Reply declared line text
   unbuilt : (IsSkipped line → ⊥) → ((max take : ℕ) → IsListing line max take → ⊥) → text ≡ reply_line (codes "error unbuilt") → Reply declared line text
 
--- what is written for lines after the repository, in turn
-abbrev pub Replies : List Declaration → List (List ℕ) → List ℕ → Type 0
-Replies declared [] text = text ≡ []
-Replies declared (line ∷ lines) text = (first rest : List ℕ) × Reply declared line first × Replies declared lines rest × (text ≡ first ++ rest)
+-- What is written for a query where all its lines are whole. Each query has one line.
+pub data Answered (declared : List Declaration) (query : List (List ℕ)) (text : List ℕ) : Type 0 where
+  of_line : (line : List ℕ) → query ≡ line ∷ [] → Reply declared line text → Answered declared query text
+
+-- The lines begin a query that further lines complete. There is no such query yet.
+abbrev pub IsBegun : List (List ℕ) → Type 0
+IsBegun lines = ⊥
+
+-- What is written for lines after the repository, in turn: for each query whose lines are whole its reply, and nothing for one
+-- that is begun.
+pub data Replies (declared : List Declaration) : List (List ℕ) → List ℕ → Type 0 where
+  none : {lines : List (List ℕ)} {text : List ℕ} → lines ≡ [] → text ≡ [] → Replies declared lines text
+  next : {lines : List (List ℕ)} {text : List ℕ} → (query others : List (List ℕ)) (first rest : List ℕ) → lines ≡ query ++ others
+      → Answered declared query first → Replies declared others rest → text ≡ first ++ rest → Replies declared lines text
+  begun : {lines : List (List ℕ)} {text : List ℕ} → IsBegun lines → text ≡ [] → Replies declared lines text
