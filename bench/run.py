@@ -24,11 +24,20 @@ def comments(length):
     return text + "#" * (length - len(text) - 1) + "\n"
 
 
+def mixed():
+    """10,000 queries for one term each, between comments that fill the input."""
+    head, query = components(1), "list omega max 1 take 1\n"
+    fill = (MAX_INPUT_BYTES - len(head)) // 10_000 - len(query)
+    text = head + ("#" * (fill - 1) + "\n" + query) * 10_000
+    return text + "#" * (MAX_INPUT_BYTES - len(text))
+
+
 def inputs():
     """Each input with what it is, and the last line and the status that it must give."""
     yield "1,000 components, list omega max 1 take 1000", components(1000) + "list omega max 1 take 1000\n", "done", 0
     yield "1 MiB of comments", comments(MAX_INPUT_BYTES - 4) + "end\n", "", 0
     yield "1 MiB of queries of one term", components(1) + "list omega max 1 take 1\n" * 43689, "done", 0
+    yield "1 MiB with 10,000 short queries", mixed(), "done", 0
     yield "1,000 components, 1,000 pages of 10,000 terms", components(1000) + "list omega max 2 take 10000\n" * 1000, "more", 0
     yield "one line of 1 MiB", "end\n" + "x" * (MAX_INPUT_BYTES - 4), "error unbuilt", 0
 
