@@ -68,11 +68,11 @@ fn a_piece_ends_with_a_line_or_is_the_rest_of_one(rt: HostRuntime) -> Result<(),
         let status = run(&rt, alloc, &[], &mut source, &mut sink, &OpenGate);
         assert_eq!(rt; status, Status::Done, "{chunk} bytes at once");
         let mut rest: &[u8] = &[];
-        let mut whole = 0;
+        let mut whole: usize = 0;
         for piece in sink.offered.iter() {
             if rest.is_empty() {
                 assert!(rt; piece.ends_with(b"\n"), "{chunk} bytes at once");
-                whole += 1;
+                whole = whole.saturating_add(1);
             } else {
                 assert_eq!(rt; piece.as_slice(), rest, "{chunk} bytes at once");
             }
