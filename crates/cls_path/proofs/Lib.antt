@@ -1,0 +1,12 @@
+pub mod Completeness
+pub mod Decided
+pub mod Derivations
+pub mod Equivalence
+pub mod Insertion
+pub mod Orders
+pub mod RoundTrip
+pub mod Sorting
+pub mod Soundness
+pub mod Transitivity
+pub mod Turning
+pub mod Uniqueness
