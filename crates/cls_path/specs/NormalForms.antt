@@ -74,6 +74,11 @@ module _ (below : ℕ → ℕ → Type 0) (variance : ℕ → Variance) where
     IsCanonical none = Unit {0}
     IsCanonical (more p n) = IsCanonicalPath p × LeadsAntichain p n × IsCanonical n
 
+  -- each path of the list, which need not be sorted itself
+  abbrev pub EachCanonical : Paths → Type 0
+  EachCanonical none = Unit {0}
+  EachCanonical (more p n) = IsCanonicalPath p × EachCanonical n
+
   -- normal for the taxonomy: each name stands in a form of its variance, and the list is canonical
   pub record IsNormal (n : Paths) : Type 0 where
     pub suits : SuitsAll variance n

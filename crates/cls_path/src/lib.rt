@@ -10,6 +10,7 @@ mod below;
 mod feed;
 mod key;
 mod make;
+mod meet;
 mod order;
 mod path;
 
