@@ -56,7 +56,7 @@ module _ (below : ℕ → ℕ → Type 0) (variance : ℕ → Variance) (reflexi
   abbrev pub Some : Paths → TypePath → Type 0
   Some n q = (p : TypePath) × In p n × PathLe below variance p q
 
-  above_some : (n : Paths) (q : TypePath) → SomeLe below variance n q → Some n q
+  pub above_some : (n : Paths) (q : TypePath) → SomeLe below variance n q → Some n q
   above_some none q h = elim h [ ]
   above_some (more p n) q (here h) = (p, first_in, h)
   above_some (more p n) q (there a) = let r = above_some n q a in (r.0, later_in r.1, r.2)

@@ -1,5 +1,5 @@
 -- The tests decide when paths are below each other.
-use Rattle.std.proofs.Common.{◌≡◌, refl, sym, ◌∙◌, subst, ap, ℕ, Bool, true, false, ◌||◌, ◌&&◌, ◌↔◌, inl, inr}
+use Rattle.std.proofs.Common.{◌≡◌, refl, sym, ◌∙◌, subst, ℕ, Bool, true, false, ◌||◌, ◌&&◌, inl, inr}
 use Rattle.std.proofs.lemmas.Bool.{and_parts, and_from, or_cases, false≢true}
 use Rattle.std.specs.Ordering.{is_eq}
 use Rattle.std.specs.declared.cmp.Ordering.{Ordering}
@@ -7,10 +7,9 @@ use Rattle.std.specs.declared.cmp.Ordering.TheVariants.{Less, Equal, Greater}
 use Rattle.cls_base.specs.Taxonomies.{Variance, covariant, contravariant, invariant}
 use Rattle.cls_base.specs.Taxa.{Below}
 use Rattle.cls_path.specs.Paths.{TypePath, atom, inside, unit, left, right, function, sealed, Paths, none, more, PathLe, atoms, inside_atom, insides, units, left_unit, right_unit, lefts, rights, functions, contravariants, invariants, SomeLe, here, there, PathsLe, empty, each, Suits, SuitsAll}
-use Rattle.cls_path.specs.PathOrder.{paths_order}
 use Rattle.cls_path.specs.OrderLaws.{paths_same}
-use Rattle.cls_path.specs.Tests.{some_passes, each_passes, same_paths, sealed_below, path_below, path_above, each_above, some_below, list_below}
-use Rattle.cls_path.proofs.Turning.{turns, each_above-list_below, each_passes-list_below}
+use Rattle.cls_path.specs.Tests.{each_passes, same_paths, sealed_below, path_below, each_above, some_below, list_below}
+use Rattle.cls_path.proofs.Turning.{each_above-list_below, each_passes-list_below}
 use Rattle.cls_path.proofs.Completeness.{covers_refl}
 
 or_left : (x y : Bool) → x ≡ true → (x || y) ≡ true

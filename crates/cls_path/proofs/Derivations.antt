@@ -1,11 +1,11 @@
 -- Paths and lists are below each other exactly where a derivation says it of their types.
-use Rattle.std.proofs.Common.{ℕ, ◌≡◌, ◌↔◌, sym, subst}
+use Rattle.std.proofs.Common.{ℕ, ◌↔◌, subst}
 use Rattle.cls_base.specs.Taxonomies.{Variance}
 use Rattle.cls_base.specs.Subtyping.{Subtype}
-use Rattle.cls_path.specs.Paths.{TypePath, Paths, none, more, PathLe, SomeLe, here, there, PathsLe, empty, each, type_of_path, type_of_paths, paths_of, Suits, SuitsAll}
+use Rattle.cls_path.specs.Paths.{TypePath, Paths, none, more, PathLe, SomeLe, here, there, PathsLe, each, type_of_path, type_of_paths, paths_of, Suits, SuitsAll}
 use Rattle.cls_path.proofs.Soundness.{le_sound, covers_sound, above_sound}
 use Rattle.cls_path.proofs.Completeness.{complete}
-use Rattle.cls_path.proofs.RoundTrip.{path_back, paths_back}
+use Rattle.cls_path.proofs.RoundTrip.{paths_back}
 
 module _ (below : ℕ → ℕ → Type 0) (variance : ℕ → Variance) (reflexive : (c : ℕ) → below c c) (transitive : (c d e : ℕ) → below c d → below d e → below c e) where
   first_of : (n m : Paths) (q : TypePath) → PathsLe below variance n (more q m) → SomeLe below variance n q

@@ -4,7 +4,7 @@ use Rattle.cls_base.specs.Types as types
 use Rattle.cls_base.specs.Types.{ClosedType, constructor, product, arrow, meet}
 use Rattle.cls_base.specs.Taxonomies.{Variance, covariant, contravariant, invariant}
 use Rattle.cls_base.specs.Subtyping.{Subtype, reflexivity, transitivity, to_omega, omega_arrow, meet_left, meet_right, to_meet, arrow_meet, arrows, covariants, covariant_meet, contravariants as sub_contra, invariants as sub_inv, products, product_meet}
-use Rattle.cls_path.specs.Paths.{TypePath, atom, inside, unit, left, right, function, sealed, Paths, none, more, PathsLe, type_of_path, type_of_paths, meets, append, map_paths, or_one, constructor_paths, paths_of, InPaths, first_in, later_in, SuitsAll}
+use Rattle.cls_path.specs.Paths.{TypePath, atom, inside, unit, left, right, function, sealed, Paths, none, more, PathsLe, type_of_path, type_of_paths, meets, append, map_paths, or_one, constructor_paths, paths_of, first_in, later_in, SuitsAll}
 use Rattle.cls_path.specs.NormalForms.{IsNormalForm}
 use Rattle.cls_path.proofs.Soundness.{meets_head, meets_mono, to_meets, covers_sound}
 use Rattle.cls_path.proofs.Completeness.{In, in_append, in_append_left, in_append_right, map_in, covers_subset, suits_paths, suits_append, suits_map, suits_or_one, in_or_one, product_paths}
@@ -72,17 +72,17 @@ module _ (below : ℕ → ℕ → Type 0) (variance : ℕ → Variance) (reflexi
   product_left none m s t = product_unit none m
   product_left (more p n) m s t =
       transitivity
-        (part _ (map_paths left (more p n)) (suits_product (more p n) m s t) (suits_map below variance reflexive transitive left (λ q h. h) (more p n) s)
-          (λ q i. in_append_left q (map_paths left (more p n)) (map_paths right m) i))
-        (joined_left (type_of_path p) n)
+      (part _ (map_paths left (more p n)) (suits_product (more p n) m s t) (suits_map below variance reflexive transitive left (λ q h. h) (more p n) s)
+      (λ q i. in_append_left q (map_paths left (more p n)) (map_paths right m) i))
+      (joined_left (type_of_path p) n)
 
   product_right : (n m : Paths) → SuitsAll variance n → SuitsAll variance m → S (type_of_paths (or_one unit (append (map_paths left n) (map_paths right m)))) (product types.omega (type_of_paths m))
   product_right n none s t = product_unit n none
   product_right n (more q m) s t =
       transitivity
-        (part _ (map_paths right (more q m)) (suits_product n (more q m) s t) (suits_map below variance reflexive transitive right (λ p h. h) (more q m) t)
-          (λ r i. in_or_one below variance reflexive transitive unit r _ (in_append_right r (map_paths left n) (map_paths right (more q m)) i)))
-        (joined_right (type_of_path q) m)
+      (part _ (map_paths right (more q m)) (suits_product n (more q m) s t) (suits_map below variance reflexive transitive right (λ p h. h) (more q m) t)
+      (λ r i. in_or_one below variance reflexive transitive unit r _ (in_append_right r (map_paths left n) (map_paths right (more q m)) i)))
+      (joined_right (type_of_path q) m)
 
   -- both ways at once, since an arrow and a contravariant name turn a list round
   record Known (t : ClosedType) (n : Paths) : Type 0 where
@@ -129,8 +129,8 @@ module _ (below : ℕ → ℕ → Type 0) (variance : ℕ → Variance) (reflexi
       record {
         down = each_or_one (product s t) unit (append (map_paths left n) (map_paths right m)) (products to_omega to_omega)
             (each_append (product s t) (map_paths left n) (map_paths right m)
-              (each_map left s (product s t) n (λ q d. products d to_omega) k.down)
-              (each_map right t (product s t) m (λ q d. products to_omega d) l.down));
+            (each_map left s (product s t) n (λ q d. products d to_omega) k.down)
+            (each_map right t (product s t) m (λ q d. products to_omega d) l.down));
         up = transitivity (to_meet (product_left n m a b) (product_right n m a b))
             (transitivity product_meet (products (transitivity meet_left k.up) (transitivity meet_right l.up)));
       }

@@ -5,19 +5,18 @@ use Rattle.std.specs.declared.cmp.Ordering.{Ordering}
 use Rattle.std.specs.declared.cmp.Ordering.TheVariants.{Less, Equal, Greater}
 use Rattle.std.specs.Ordering.{is_lt}
 use Rattle.std.proofs.lemmas.Bool.{false≢true}
-use Rattle.cls_base.specs.Types.{ClosedType, meet}
+use Rattle.cls_base.specs.Types.{meet}
 use Rattle.cls_base.specs.Taxonomies.{Variance}
 use Rattle.cls_base.specs.Taxa.{Below}
-use Rattle.cls_path.specs.Paths.{TypePath, atom, inside, unit, left, right, function, sealed, Paths, none, more, PathLe, SomeLe, here, there, PathsLe, empty, each, InPaths, first_in, later_in, append, paths_of, type_of_path, type_of_paths, meets, Suits, SuitsAll, listed}
+use Rattle.cls_path.specs.Paths.{TypePath, atom, inside, unit, left, right, function, sealed, Paths, none, more, PathLe, PathsLe, empty, each, first_in, later_in, append, paths_of, type_of_path, type_of_paths, Suits, SuitsAll, listed}
 use Rattle.cls_path.specs.NormalForms.{PathBefore, Leads, IsSorted, IsSortedPath, LeadsAntichain, IsCanonicalPath, IsCanonical, IsNormal, IsNormalForm}
 use Rattle.cls_path.specs.PathOrder.{path_order}
 use Rattle.cls_path.specs.OrderLaws.{order_same}
 use Rattle.cls_path.specs.Tests.{path_below, some_below}
 use Rattle.cls_path.specs.Insertion.{place, without_above}
 use Rattle.cls_path.proofs.Sorting.{less_before, path_order-greater}
-use Rattle.cls_path.proofs.Transitivity.{widen, covers_trans}
-use Rattle.cls_path.proofs.Completeness.{In, in_append, in_append_left, in_append_right, Some, some_above, covered, covers_all, le_refl, covers_refl, covers_subset, suits_in, suits_paths}
-use Rattle.cls_path.proofs.RoundTrip.{path_back, paths_back, meets_back}
+use Rattle.cls_path.proofs.Completeness.{In, in_append, in_append_left, in_append_right, Some, covered, covers_all, le_refl, covers_subset, suits_in}
+use Rattle.cls_path.proofs.RoundTrip.{path_back, paths_back}
 use Rattle.cls_path.proofs.Decided.{le_tested, tested_le, tested_some}
 use Rattle.cls_path.proofs.Uniqueness.{before_trans}
 

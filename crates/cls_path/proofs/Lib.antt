@@ -4,6 +4,7 @@ pub mod Derivations
 pub mod Equivalence
 pub mod Insertion
 pub mod Orders
+pub mod PathLaws
 pub mod Remains
 pub mod RoundTrip
 pub mod Sorting

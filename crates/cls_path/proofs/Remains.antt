@@ -1,11 +1,11 @@
 -- A list of paths that is put into a normal list path by path.
-use Rattle.std.proofs.Common.{◌≡◌, refl, sym, ◌∙◌, subst, ap, ℕ, List, [], ◌∷◌, ◌++◌, ◌⊎◌, inl, inr}
+use Rattle.std.proofs.Common.{◌≡◌, refl, sym, subst, ap, ℕ, List, [], ◌∷◌, ◌++◌, ◌⊎◌, inl, inr}
 use Rattle.cls_base.specs.Types.{ClosedType, meet}
 use Rattle.cls_base.specs.Taxonomies.{Variance}
-use Rattle.cls_path.specs.Paths.{TypePath, Paths, none, more, PathsLe, InPaths, first_in, later_in, append, paths_of, type_of_path, type_of_paths, Suits, SuitsAll, listed}
+use Rattle.cls_path.specs.Paths.{TypePath, Paths, none, more, PathsLe, first_in, later_in, append, paths_of, type_of_path, type_of_paths, Suits, SuitsAll, listed}
 use Rattle.cls_path.specs.NormalForms.{IsCanonicalPath, IsCanonical, EachCanonical, IsNormal, IsNormalForm}
 use Rattle.cls_path.proofs.Transitivity.{covers_trans}
-use Rattle.cls_path.proofs.Completeness.{In, in_append, in_append_left, in_append_right, Some, covered, covers_all, le_refl, covers_refl, suits_in}
+use Rattle.cls_path.proofs.Completeness.{In, in_append, in_append_left, in_append_right, Some, covered, covers_all, le_refl, covers_refl}
 use Rattle.cls_path.proofs.RoundTrip.{append_none, path_back, paths_back}
 
 module _ (below : ℕ → ℕ → Type 0) (variance : ℕ → Variance) where

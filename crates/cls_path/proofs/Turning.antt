@@ -1,5 +1,5 @@
 -- To be above is to be below the other way round.
-use Rattle.std.proofs.Common.{◌≡◌, refl, sym, ◌∙◌, ℕ, Bool, ◌&&◌, ◌||◌}
+use Rattle.std.proofs.Common.{◌≡◌, refl, sym, ℕ, Bool, ◌&&◌, ◌||◌}
 use Rattle.cls_base.specs.Taxonomies.{Variance}
 use Rattle.cls_path.specs.Paths.{TypePath, atom, inside, unit, left, right, function, sealed, Paths, none, more}
 use Rattle.cls_path.specs.Tests.{some_passes, each_passes, same_paths, sealed_below, path_below, path_above, each_above, some_below, list_below}

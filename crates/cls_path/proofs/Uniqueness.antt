@@ -2,11 +2,10 @@
 use Rattle.std.proofs.Common.{◌≡◌, refl, sym, ◌∙◌, ap, subst, ℕ, ◌⊎◌, inl, inr}
 use Rattle.std.specs.declared.cmp.Ordering.TheVariants.{Less, Equal}
 use Rattle.cls_base.specs.Types.{ClosedType}
-use Rattle.cls_base.specs.Taxonomies.{Variance, contravariant, invariant}
+use Rattle.cls_base.specs.Taxonomies.{Variance}
 use Rattle.cls_base.specs.Subtyping.{Subtype}
-use Rattle.cls_path.specs.Paths.{TypePath, atom, inside, unit, left, right, function, sealed, Paths, none, more, PathLe, atoms, inside_atom, insides, units, left_unit, right_unit, lefts, rights, functions, contravariants, invariants, PathsLe, InPaths, first_in, later_in, paths_of}
+use Rattle.cls_path.specs.Paths.{TypePath, atom, inside, unit, left, right, function, sealed, Paths, none, more, PathLe, atoms, insides, lefts, rights, functions, contravariants, invariants, PathsLe, first_in, later_in, paths_of}
 use Rattle.cls_path.specs.NormalForms.{PathBefore, LeadsAntichain, IsCanonicalPath, IsCanonical, IsNormalForm}
-use Rattle.cls_path.specs.PathOrder.{path_order}
 use Rattle.cls_path.specs.OrderLaws.{path_order_total}
 use Rattle.cls_path.proofs.Sorting.{before_less, less_before, path_self}
 use Rattle.cls_path.proofs.Transitivity.{le_trans, covers_trans}
@@ -198,8 +197,8 @@ module _ (below : ℕ → ℕ → Type 0) (variance : ℕ → Variance) (reflexi
   pub form_unique : (s t : ClosedType) (n m : Paths) → IsNormalForm below variance s n → IsNormalForm below variance t m → Subtype below variance s t → Subtype below variance t s → n ≡ m
   form_unique s t n m h k d e =
       canonical_unique n m h.normal.canonical k.normal.canonical
-        (through n m (paths_of variance s) (paths_of variance t) h.lower (complete below variance reflexive transitive d) k.upper)
-        (through m n (paths_of variance t) (paths_of variance s) k.lower (complete below variance reflexive transitive e) h.upper)
+      (through n m (paths_of variance s) (paths_of variance t) h.lower (complete below variance reflexive transitive d) k.upper)
+      (through m n (paths_of variance t) (paths_of variance s) k.lower (complete below variance reflexive transitive e) h.upper)
     where
       through : (n m a b : Paths) → PathsLe below variance n a → PathsLe below variance a b → PathsLe below variance b m → PathsLe below variance n m
       through n m a b f g h = covers_trans below variance reflexive transitive n a m f (covers_trans below variance reflexive transitive a b m g h)

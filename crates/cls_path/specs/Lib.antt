@@ -1,6 +1,7 @@
 pub mod Falls
 pub mod Feed
 pub mod Insertion
+pub mod Laws
 pub mod NormalForms
 pub mod OrderLaws
 pub mod PathOrder

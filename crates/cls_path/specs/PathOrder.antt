@@ -1,10 +1,10 @@
 -- The order of paths as it is computed.
-use Rattle.std.specs.Prelude.{ℕ, List}
+use Rattle.std.specs.Prelude.{List}
 use Rattle.std.specs.declared.cmp.Ordering.{Ordering}
 use Rattle.std.specs.declared.cmp.Ordering.TheVariants.{Less, Equal, Greater}
 use Rattle.std.specs.Ordering.{nat_cmp, ordering_then}
 use Rattle.std.specs.Cmp.Lexicographic.{slice_cmp}
-use Rattle.cls_path.specs.Paths.{TypePath, atom, inside, unit, left, right, function, sealed, Paths, none, more}
+use Rattle.cls_path.specs.Paths.{TypePath, atom, inside, left, right, function, sealed, Paths, none, more}
 use Rattle.cls_path.specs.NormalForms.{kind_of}
 
 abbrev mutual

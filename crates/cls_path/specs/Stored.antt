@@ -1,5 +1,5 @@
 -- Paths as the trees of numbers under which values that contracts see are kept.
-use Rattle.std.specs.Prelude.{ℕ, zero, suc, ◌≡◌, refl}
+use Rattle.std.specs.Prelude.{zero, suc, ◌≡◌, refl}
 use Rattle.std.proofs.Common.{sym, ap, ◌∙◌}
 use base.Stored.{Gv, gnil, gnum, gcons, num, Coded}
 use Rattle.cls_path.specs.Paths.{TypePath, atom, inside, unit, left, right, function, sealed, Paths, none, more}

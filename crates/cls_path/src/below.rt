@@ -34,7 +34,8 @@ impl Path {
             (Form::Left(p), Form::Left(q)) => p.is_below(taxa, q),
             (Form::Right(p), Form::Right(q)) => p.is_below(taxa, q),
             (Form::Arrow(n, p), Form::Arrow(m, q)) => p.is_below(taxa, q) && m.is_below(taxa, n),
-            (Form::Sealed(c, n), Form::Sealed(d, m)) => taxa.below(*c, *d) && n.is_sealed_below(taxa, taxa.variance(*c), m),
+            (Form::Sealed(c, n), Form::Sealed(d, m)) => taxa.below(*c, *d)
+                && n.is_sealed_below(taxa, taxa.variance(*c), m),
             _ => false,
         }
     }
@@ -48,7 +49,7 @@ impl Nf {
         requires other_suits { SuitsAll (T.kind taxa.now) (listed other.now) }
         ensures exact { IsTrue result
             ↔ Subtype (Below (T.is_below taxa.now)) (T.kind taxa.now)
-                (type_of_paths (listed self.now)) (type_of_paths (listed other.now)) }
+            (type_of_paths (listed self.now)) (type_of_paths (listed other.now)) }
         ensures cases { IsTrue result
             ↔ PathsLe (Below (T.is_below taxa.now)) (T.kind taxa.now) (listed self.now) (listed other.now) }
     {
@@ -80,7 +81,8 @@ impl Nf {
             Variance::Contra => other.is_below(taxa, self),
             // Equal lists are told at once, since each depth of invariant names would else double the work.
             Variance::Inv => {
-                self.order_by_path(other).is_eq() || (other.is_below(taxa, self) && self.is_below(taxa, other))
+                self.order_by_path(other).is_eq()
+                    || (other.is_below(taxa, self) && self.is_below(taxa, other))
             }
         }
     }

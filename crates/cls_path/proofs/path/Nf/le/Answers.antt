@@ -1,4 +1,4 @@
-use Rattle.std.proofs.Common.{◌≡◌, sym, ◌∙◌}
+use Rattle.std.proofs.Common.{sym, ◌∙◌}
 use Rattle.cls_base.specs.Taxa.{Below}
 use Rattle.cls_path.specs.Paths.{listed}
 use Rattle.cls_path.proofs.Decided.{paths_tested, tested_paths}
@@ -9,9 +9,10 @@ pub returns-clause-cases : goal.returns-clause-cases
 returns-clause-cases g c =
     let b = g.T.Taxa.is_below c.args.taxa.now in
     let v = g.T.Taxa.kind c.args.taxa.now in
-    let met = g.met.T.Taxa in
-    (λ h. tested_paths b v (met.reflexive c.args.taxa.now) (met.transitive c.args.taxa.now) (met.one_variance c.args.taxa.now) (listed c.args.self.now) (listed c.args.other.now) c.requires.suits c.requires.other_suits (sym c.is_below.ensures ∙ h),
-    λ l. c.is_below.ensures ∙ paths_tested b v l)
+    let met = g.met.T.Taxa in (
+      λ h. tested_paths b v (met.reflexive c.args.taxa.now) (met.transitive c.args.taxa.now) (met.one_variance c.args.taxa.now) (listed c.args.self.now) (listed c.args.other.now) c.requires.suits c.requires.other_suits (sym c.is_below.ensures ∙ h),
+      λ l. c.is_below.ensures ∙ paths_tested b v l,
+    )
 
 pub returns-clause-exact : goal.returns-clause-exact
 returns-clause-exact g c =
