@@ -223,3 +223,31 @@ fn what_is_fit(rt: HostRuntime) -> Result<(), Fail> {
     }
     Ok(())
 }
+
+/// So many invariant names over one another, each over the intersection of what is below it with a name.
+fn nested(alloc: Global, height: u32, word: &str) -> Result<Ty, Fail> {
+    let mut ty = read(alloc, word)?;
+    for _ in 0..height {
+        let argument = pair(alloc, b'&', ty, read(alloc, "B")?)?;
+        ty = pair(alloc, b'@', read(alloc, "R")?, argument)?;
+    }
+    Ok(ty)
+}
+
+/// Each depth compares both ways, and the work doesn't double with it.
+#[test]
+fn deep_invariant_names(rt: HostRuntime) -> Result<(), Fail> {
+    let alloc = rt.alloc();
+    for (lower, upper, answer) in [
+        ("A", "A", true),
+        ("A", "C", false),
+        ("D", "P", false),
+        ("AC&", "CA&", true),
+        ("A", "AC&", false),
+    ] {
+        let lower = nested(alloc, 60, lower)?;
+        let upper = nested(alloc, 60, upper)?;
+        assert!(rt; subtype(alloc, &Zoo, &lower, &upper)? == answer);
+    }
+    Ok(())
+}

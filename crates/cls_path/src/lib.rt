@@ -14,5 +14,7 @@ mod make;
 mod meet;
 mod order;
 mod path;
+#[cfg(test)]
+mod tests;
 
 pub use path::{Form, Nf, Path};
