@@ -1,9 +1,8 @@
 -- The nodes of an intersection of paths.
-use Rattle.std.proofs.Common.{◌≡◌, ℕ, ◌+◌, ◌-◌, ◌≤◌, refl, ◌∙◌, sym, ap, arith, List, [], ◌∷◌, length, take, drop, get_or}
+use Rattle.std.proofs.Common.{◌≡◌, ℕ, ◌+◌, ◌-◌, ◌≤◌, ◌∙◌, sym, ap, arith, List, [], ◌∷◌, length, take, drop, get_or}
 use Rattle.std.proofs.lemmas.List.{take_all}
 use Rattle.cls_base.specs.Types.{ClosedType, nodes, meet}
 use Rattle.cls_path.specs.Paths.{TypePath, Paths, none, more, type_of_path, type_of_paths, meets, listed}
-use Rattle.cls_norm.specs.Fit.{up_to_fit}
 
 -- what paths behind others add
 abbrev pub further_nodes : Paths → ℕ

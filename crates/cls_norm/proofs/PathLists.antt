@@ -1,10 +1,10 @@
 -- The paths of a type from those of its parts.
-use Rattle.std.proofs.Common.{◌≡◌, refl, sym, ◌∙◌, ap, subst, ℕ, List, [], ◌∷◌, ◌++◌, ◌⊎◌, inl, inr}
+use Rattle.std.proofs.Common.{◌≡◌, refl, ◌∙◌, ap, subst, ℕ, List, [], ◌∷◌, ◌++◌, ◌⊎◌, inl, inr}
 use Rattle.std.specs.Prelude.{map}
 use Rattle.cls_base.specs.Types as types
 use Rattle.cls_base.specs.Types.{ClosedType, constructor, product, arrow, meet}
 use Rattle.cls_base.specs.Taxonomies.{Variance, covariant, contravariant, invariant}
-use Rattle.cls_path.specs.Paths.{TypePath, atom, inside, unit, left, right, function, sealed, Paths, none, more, PathLe, insides, lefts, rights, functions, contravariants, invariants, here, PathsLe, empty, each, type_of_paths, append, map_paths, or_one, constructor_paths, paths_of, InPaths, Suits, SuitsAll, listed}
+use Rattle.cls_path.specs.Paths.{TypePath, atom, inside, unit, left, right, function, sealed, Paths, none, more, functions, contravariants, invariants, here, PathsLe, empty, each, type_of_paths, append, map_paths, or_one, constructor_paths, paths_of, listed}
 use Rattle.cls_path.specs.NormalForms.{IsCanonicalPath, EachCanonical, IsNormalForm}
 use Rattle.cls_path.proofs.Transitivity.{covers_trans}
 use Rattle.cls_path.proofs.Completeness.{in_append, covered, covers_all, covers_map_both, covers_covariant, covers_products, suits_append, suits_map, suits_or_one, some_left, some_right, at_variance}

@@ -8,12 +8,13 @@ use Rattle.cls_path.specs.Paths.{TypePath, sealed, Paths, none, more, type_of_pa
 use Rattle.cls_path.specs.NormalForms.{PathBefore, PathsBefore, prefix, first, rest}
 use Rattle.cls_path.specs.PathOrder.{path_order}
 use Rattle.cls_path.specs.OrderLaws.{order_same, path_order_total}
-use Rattle.cls_path.specs.Laws.{PathsAreOrdered, ListsAreOrdered, TypesArePaths, DerivationsAreDecided, PathsArePrime, FormsAreEquivalent, FormsAreExact}
+use Rattle.cls_path.specs.Laws.{PathsAreOrdered, ListsAreOrdered, TypesArePaths, BelowIsTransitive, DerivationsAreDecided, PathsArePrime, FormsAreEquivalent, FormsAreExact}
 use Rattle.cls_path.proofs.Sorting.{less_before, path_order-greater, paths_before_less, less_paths_before, paths_self}
 use Rattle.cls_path.proofs.Soundness.{le_sound}
 use Rattle.cls_path.proofs.Completeness.{complete, above_some, some_above, suits_in}
 use Rattle.cls_path.proofs.Derivations.{prime, path_exact}
 use Rattle.cls_path.proofs.Equivalence.{to_paths, from_paths, paths_sound, to_form, from_form}
+use Rattle.cls_path.proofs.Transitivity.{le_trans}
 use Rattle.cls_path.proofs.Uniqueness.{before_trans, not_before_itself, form_unique}
 
 path_total : (p q : TypePath) → PathBefore p q ⊎ (p ≡ q) ⊎ PathBefore q p
@@ -57,6 +58,9 @@ lists_are_ordered = record { irreflexive = lists_irreflexive; transitive = lists
 
 pub types_are_paths : TypesArePaths
 types_are_paths test variance o t = (to_paths (Below test) variance o.reflexive o.transitive t, from_paths (Below test) variance o.reflexive o.transitive t)
+
+pub below_is_transitive : BelowIsTransitive
+below_is_transitive test variance o p q r h k = le_trans (Below test) variance o.reflexive o.transitive q p r h k
 
 pub derivations_are_decided : DerivationsAreDecided
 derivations_are_decided test variance o s t = ((λ d. complete (Below test) variance o.reflexive o.transitive d), (λ h. paths_sound (Below test) variance o.reflexive o.transitive s t h))

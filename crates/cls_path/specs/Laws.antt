@@ -4,7 +4,7 @@ use Rattle.cls_base.specs.Types.{ClosedType}
 use Rattle.cls_base.specs.Taxonomies.{Variance}
 use Rattle.cls_base.specs.Taxa.{Below}
 use Rattle.cls_base.specs.Subtyping.{Subtype}
-use Rattle.cls_path.specs.Paths.{TypePath, Paths, PathsLe, InPaths, type_of_path, type_of_paths, paths_of, Suits, SuitsAll}
+use Rattle.cls_path.specs.Paths.{TypePath, Paths, PathLe, PathsLe, InPaths, type_of_path, type_of_paths, paths_of, Suits, SuitsAll}
 use Rattle.cls_path.specs.NormalForms.{PathBefore, PathsBefore, IsNormalForm}
 
 pub record IsPartialOrder (below : ℕ → ℕ → Type 0) : Type 0 where
@@ -26,6 +26,10 @@ ListsAreOrdered = IsStrictTotalOrder Paths PathsBefore
 -- a type is equivalent to the intersection of its paths
 abbrev pub TypesArePaths : Type 0
 TypesArePaths = (test : ℕ → ℕ → Bool) (variance : ℕ → Variance) → IsPartialOrder (Below test) → (t : ClosedType) → Subtype (Below test) variance t (type_of_paths (paths_of variance t)) × Subtype (Below test) variance (type_of_paths (paths_of variance t)) t
+
+-- what is below is transitive, though no case of it says so
+abbrev pub BelowIsTransitive : Type 0
+BelowIsTransitive = (test : ℕ → ℕ → Bool) (variance : ℕ → Variance) → IsPartialOrder (Below test) → (p q r : TypePath) → PathLe (Below test) variance p q → PathLe (Below test) variance q r → PathLe (Below test) variance p r
 
 -- derivations are the order of the lists of paths
 abbrev pub DerivationsAreDecided : Type 0

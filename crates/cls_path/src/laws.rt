@@ -1,5 +1,5 @@
 //! What holds of all paths and normal forms, as calls that do nothing and promise the law.
-ghost use Rattle.cls_path.specs.Laws.{PathsAreOrdered, ListsAreOrdered, TypesArePaths, DerivationsAreDecided, PathsArePrime, FormsAreEquivalent, FormsAreExact};
+ghost use Rattle.cls_path.specs.Laws.{PathsAreOrdered, ListsAreOrdered, TypesArePaths, BelowIsTransitive, DerivationsAreDecided, PathsArePrime, FormsAreEquivalent, FormsAreExact};
 
 /// The orders of paths and of lists of paths are strict and total.
 pub fn orders_are_total()
@@ -12,8 +12,12 @@ pub fn types_are_paths()
     ensures { TypesArePaths }
 {}
 
+/// What is below a path that is below another is below that one, though no case of the definition says so.
+pub fn below_is_transitive()
+    ensures { BelowIsTransitive }
+{}
+
 /// A derivation that one type is below another exists exactly where each path of the other is above some path of the one.
-/// The derivations have transitivity, and the order of paths has it as a consequence.
 pub fn derivations_are_decided()
     ensures { DerivationsAreDecided }
 {}

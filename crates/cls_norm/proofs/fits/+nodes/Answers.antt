@@ -1,9 +1,7 @@
-use Rattle.std.proofs.Common.{rules, arith, ◌≡◌, ◌∙◌, ap, sym}
-use Rattle.cls_path.specs.Seen.{path_of}
+use Rattle.std.proofs.Common.{rules, arith, ap}
 use Rattle.cls_path.specs.Falls.{sizes_of-listed}
-use Rattle.cls_path.specs.Paths.{type_of_path, listed}
 use Rattle.cls_path.specs.Sizes.{size_of}
-use Rattle.cls_norm.proofs.Counts.{nodes-meets, nodes-first}
+use Rattle.cls_norm.proofs.Counts.{nodes-first}
 use Rattle.cls_norm.proofs.Sizes.{size_in_rest}
 use Rattle.cls_norm.proofs.fits.+nodes.Goals as goal
 

@@ -1,4 +1,3 @@
-use Rattle.std.proofs.Common.{◌≡◌}
 use Rattle.cls_base.specs.Ty.{type_of}
 use Rattle.cls_base.specs.Taxa.{Below}
 use Rattle.cls_path.specs.Paths.{listed}

@@ -1,5 +1,4 @@
 use Rattle.std.proofs.Common.{rules, ap}
-use Rattle.cls_path.specs.Seen.{path_of}
 use Rattle.cls_path.specs.Falls.{sizes_of-listed}
 use Rattle.cls_path.specs.Sizes.{size_of}
 use Rattle.cls_norm.proofs.Sizes.{size_in_rest}
