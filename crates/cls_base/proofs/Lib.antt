@@ -1,1 +1,3 @@
+pub mod Depths
 pub mod Lists
+pub mod TypeOrders

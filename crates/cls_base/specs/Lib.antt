@@ -1,11 +1,14 @@
+pub mod Measures
 pub mod Memory
 pub mod Outside
 pub mod Pages
+pub mod Schemas
 pub mod Spines
 pub mod Subtyping
 pub mod Taxa
 pub mod Taxonomies
 pub mod Terms
 pub mod Ty
+pub mod TypeOrder
 pub mod Types
 pub mod Typing

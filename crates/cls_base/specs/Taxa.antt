@@ -1,5 +1,5 @@
 -- The variance that a value of the program says, and the order in which a name is below itself alone.
-use Rattle.std.specs.Prelude.{ℕ, ◌≡◌, ◌==◌, IsTrue}
+use Rattle.std.specs.Prelude.{ℕ, ◌≡◌, ◌==◌, Bool, IsTrue}
 use Rattle.std.proofs.Common.{rules}
 use Rattle.std.specs.Cmp.Rules.{comparing}
 use Rattle.cls_base.specs.Taxonomies as taxonomies
@@ -22,3 +22,7 @@ flat_transitive a b c p q = Prim.search (comparing, rules)
 
 pub flat_one_variance : taxonomies.covariant ≡ taxonomies.covariant
 flat_one_variance = Prim.search rules
+
+-- the order of names that a test of two names decides
+abbrev pub Below : (ℕ → ℕ → Bool) → ℕ → ℕ → Type 0
+Below test a b = IsTrue (test a b)

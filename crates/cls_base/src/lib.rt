@@ -1,7 +1,7 @@
 //! The ground that every other crate of clsynth stands on.
 //!
-//! - [`Ty`] is a closed type and [`Name`] the number of a name. What types, terms, subtyping, typing and pages mean
-//!   is defined in `specs/`.
+//! - [`Ty`] is a closed type with its order and measures, [`Schema`] a type that may have variables, and [`Name`] the
+//!   number of a name. What types, terms, subtyping, typing and pages mean is defined in `specs/`.
 //! - [`Source`], [`Sink`] and [`Gate`] are the outside. [`MemorySource`] and [`MemorySink`] fail where a test wants it,
 //!   [`SureSource`] and [`SureSink`] never do.
 //! - [`Taxa`] is what the layers above ask of an order of names, [`Flat`] the order in which a name is below itself
@@ -11,10 +11,12 @@
 
 mod gate;
 mod key;
+mod measures;
 mod memory_sink;
 mod memory_source;
 mod numbers;
 mod out_of_memory;
+mod schema;
 mod sink;
 mod source;
 mod sure;
@@ -22,6 +24,8 @@ mod taxa;
 #[cfg(test)]
 mod tests;
 mod ty;
+#[cfg(test)]
+mod type_tests;
 
 pub use gate::{Gate, OpenGate};
 pub use key::Key;
@@ -29,6 +33,7 @@ pub use memory_sink::MemorySink;
 pub use memory_source::MemorySource;
 pub use numbers::Numbers;
 pub use out_of_memory::OutOfMemory;
+pub use schema::Schema;
 pub use sink::Sink;
 pub use source::{Failed, Source};
 pub use sure::{SureSink, SureSource};

@@ -1,3 +1,11 @@
+ghost use Rattle.std.specs.Prelude.{◌≡◌, ◌↔◌, IfOk};
+ghost use Rattle.cls_base.specs.Ty.{type_of};
+ghost use Rattle.cls_base.specs.TypeOrder.{form_of, order_of};
+
+use crate::out_of_memory::OutOfMemory;
+use std::alloc::Global;
+use std::cmp::Ordering;
+
 /// The number of a name in its table. Constructors, components and variables have separate tables.
 #[derive(Clone, Copy, Debug, PartialEq, Eq, PartialOrd, Ord, Hash)]
 pub struct Name(pub u32);
@@ -6,6 +14,8 @@ pub struct Name(pub u32);
 ///
 /// Arrows, intersections and omega are those of intersection types (Barendregt, Coppo and Dezani 1983).
 /// Constructors and products are this project's own.
+///
+/// Dropping a type, as each call that goes down it, takes stack by its depth as a tree.
 #[derive(Drop)]
 pub enum Ty {
     /// The type of every term.
@@ -18,4 +28,65 @@ pub enum Ty {
     Arrow(Box<Ty>, Box<Ty>),
     /// The intersection of two types.
     Meet(Box<Ty>, Box<Ty>),
+}
+
+impl Ty {
+    /// Compares by form, in the order in which the forms are listed, and types of one form by their parts from left to
+    /// right. This order is the project's own choice.
+    pub fn order(&self, other: &Ty) -> Ordering
+        ensures value { result ≡ order_of (type_of self.now) (type_of other.now) }
+        ensures equal { (result ≡ Ordering.Equal) ↔ (type_of self.now ≡ type_of other.now) }
+    {
+        self.order_by_parts(other)
+    }
+
+    fn order_by_parts(&self, other: &Ty) -> Ordering
+        ensures { result ≡ order_of (type_of self.now) (type_of other.now) }
+    {
+        match (self, other) {
+            (Ty::Con(c, s), Ty::Con(d, t)) => c.0.cmp(&d.0).then(s.order_by_parts(t)),
+            (Ty::Prod(s, t), Ty::Prod(u, v)) => s.order_by_parts(u).then(t.order_by_parts(v)),
+            (Ty::Arrow(s, t), Ty::Arrow(u, v)) => s.order_by_parts(u).then(t.order_by_parts(v)),
+            (Ty::Meet(s, t), Ty::Meet(u, v)) => s.order_by_parts(u).then(t.order_by_parts(v)),
+            (one, another) => one.form().cmp(&another.form()),
+        }
+    }
+
+    /// The place of the form among the five.
+    fn form(&self) -> u8
+        ensures { result ≡ form_of (type_of self.now) }
+    {
+        match self {
+            Ty::Omega => 0,
+            Ty::Con(..) => 1,
+            Ty::Prod(..) => 2,
+            Ty::Arrow(..) => 3,
+            Ty::Meet(..) => 4,
+        }
+    }
+
+    /// A type equal to this one. The only error is want of memory.
+    pub fn copy(&self, alloc: Global) -> Result<Ty, OutOfMemory>
+        ensures { IfOk result (λ ty. type_of ty ≡ type_of self.now) }
+    {
+        match self {
+            Ty::Omega => Ok(Ty::Omega),
+            Ty::Con(name, argument) => {
+                let argument = Box::new(alloc, argument.copy(alloc)?)?;
+                Ok(Ty::Con(*name, argument))
+            }
+            Ty::Prod(left, right) => {
+                let left = Box::new(alloc, left.copy(alloc)?)?;
+                Ok(Ty::Prod(left, Box::new(alloc, right.copy(alloc)?)?))
+            }
+            Ty::Arrow(source, target) => {
+                let source = Box::new(alloc, source.copy(alloc)?)?;
+                Ok(Ty::Arrow(source, Box::new(alloc, target.copy(alloc)?)?))
+            }
+            Ty::Meet(left, right) => {
+                let left = Box::new(alloc, left.copy(alloc)?)?;
+                Ok(Ty::Meet(left, Box::new(alloc, right.copy(alloc)?)?))
+            }
+        }
+    }
 }

@@ -1,0 +1,51 @@
+ghost use Rattle.std.specs.Prelude.{◌≡◌, IfOk};
+ghost use Rattle.cls_base.specs.Schemas.{schema_of};
+
+use crate::out_of_memory::OutOfMemory;
+use crate::ty::Name;
+use std::alloc::Global;
+
+/// A type that may have variables. It is seen as the tree that `schema_of` gives.
+#[derive(Drop)]
+pub enum Schema {
+    /// The type of every term.
+    Omega,
+    /// A constructor over a schema. A bare name is the name over omega.
+    Con(Name, Box<Schema>),
+    /// A product of two schemas.
+    Prod(Box<Schema>, Box<Schema>),
+    /// The functions from the first schema to the second.
+    Arrow(Box<Schema>, Box<Schema>),
+    /// The intersection of two schemas.
+    Meet(Box<Schema>, Box<Schema>),
+    /// A variable, numbered in a table of its own.
+    Var(Name),
+}
+
+impl Schema {
+    /// A schema equal to this one. The only error is want of memory.
+    pub fn copy(&self, alloc: Global) -> Result<Schema, OutOfMemory>
+        ensures { IfOk result (λ schema. schema_of schema ≡ schema_of self.now) }
+    {
+        match self {
+            Schema::Omega => Ok(Schema::Omega),
+            Schema::Con(name, argument) => {
+                let argument = Box::new(alloc, argument.copy(alloc)?)?;
+                Ok(Schema::Con(*name, argument))
+            }
+            Schema::Prod(left, right) => {
+                let left = Box::new(alloc, left.copy(alloc)?)?;
+                Ok(Schema::Prod(left, Box::new(alloc, right.copy(alloc)?)?))
+            }
+            Schema::Arrow(source, target) => {
+                let source = Box::new(alloc, source.copy(alloc)?)?;
+                Ok(Schema::Arrow(source, Box::new(alloc, target.copy(alloc)?)?))
+            }
+            Schema::Meet(left, right) => {
+                let left = Box::new(alloc, left.copy(alloc)?)?;
+                Ok(Schema::Meet(left, Box::new(alloc, right.copy(alloc)?)?))
+            }
+            Schema::Var(variable) => Ok(Schema::Var(*variable)),
+        }
+    }
+}

@@ -1,0 +1,3 @@
+pub mod Counts
+pub mod PathLists
+pub mod Sizes

@@ -1,0 +1,61 @@
+ghost use Rattle.std.specs.Prelude.{◌≡◌, ◌↔◌, IfOk, IsTrue};
+ghost use Rattle.cls_base.specs.Types.{nodes};
+ghost use Rattle.cls_path.specs.Paths.{type_of_path, type_of_paths, listed};
+ghost use Rattle.cls_norm.specs.Fit.{IsFit, up_to_fit};
+
+use crate::types::type_of;
+use cls_base::OutOfMemory;
+use cls_path::{Form, Nf, Path};
+use std::alloc::Global;
+
+/// One more than the greatest number of nodes that is fit.
+const TOO_MANY: u64 = 1025;
+
+/// Whether the type of the normal form has at most 1,024 nodes, a depth of at most 64 and a spread of at most 16,384. The
+/// only error is want of memory.
+///
+/// The nodes are counted first, so no type of more nodes is made, however long the list.
+pub fn fit(alloc: Global, nf: &Nf) -> Result<bool, OutOfMemory>
+    ensures { IfOk result (λ answer. IsTrue answer ↔ IsFit (type_of_paths (listed nf.now))) }
+{
+    if list_nodes(nf) == TOO_MANY {
+        return Ok(false);
+    }
+    let ty = type_of(alloc, nf)?;
+    Ok(ty.depth() <= 64 && ty.spread() <= 16_384)
+}
+
+/// The number of nodes of the type of the list, or 1,025 where there are more.
+#[cycle(nodes)]
+fn list_nodes(nf: &Nf) -> u64
+    ensures { result ≡ up_to_fit (nodes (type_of_paths (listed nf.now))) }
+{
+    match nf.paths() {
+        [] => 1,
+        [first, rest @ ..] => {
+            let mut count = path_nodes(first);
+            for path in rest {
+                if count == TOO_MANY {
+                    return count;
+                }
+                count = TOO_MANY.min(count + 1 + path_nodes(path));
+            }
+            count
+        }
+    }
+}
+
+/// The number of nodes of the type of the path, or 1,025 where there are more.
+#[cycle(nodes)]
+fn path_nodes(path: &Path) -> u64
+    ensures { result ≡ up_to_fit (nodes (type_of_path path.now)) }
+{
+    match path.form() {
+        Form::Atom(_) => 2,
+        Form::Con(_, rest) => TOO_MANY.min(1 + path_nodes(rest)),
+        Form::Unit => 3,
+        Form::Left(rest) | Form::Right(rest) => TOO_MANY.min(2 + path_nodes(rest)),
+        Form::Arrow(source, rest) => TOO_MANY.min(1 + list_nodes(source) + path_nodes(rest)),
+        Form::Sealed(_, argument) => TOO_MANY.min(1 + list_nodes(argument)),
+    }
+}

@@ -1,0 +1,17 @@
+//! Normal forms of types, and subtyping.
+//!
+//! - [`normal`] gives the normal form of a type, [`type_of`] the type of a normal form.
+//! - [`subtype`] says exactly whether a derivation of subtyping exists.
+//! - [`fit`] says whether the type of a normal form is small enough to be worked on further.
+#![tactic(auto)]
+
+mod fits;
+mod normals;
+mod paths;
+#[cfg(test)]
+mod tests;
+mod types;
+
+pub use fits::fit;
+pub use normals::{normal, subtype};
+pub use types::type_of;

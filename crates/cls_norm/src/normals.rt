@@ -1,0 +1,44 @@
+ghost use Rattle.std.specs.Prelude.{◌↔◌, IfOk, IsTrue};
+ghost use Rattle.cls_base.specs.Ty.{type_of};
+ghost use Rattle.cls_base.specs.Taxa.{Below};
+ghost use Rattle.cls_base.specs.Subtyping.{Subtype};
+ghost use Rattle.cls_path.specs.Paths.{type_of_paths, listed};
+ghost use Rattle.cls_path.specs.NormalForms.{IsNormalForm};
+
+use crate::paths::paths_of;
+use cls_base::{OutOfMemory, Taxa, Ty};
+use cls_path::Nf;
+use std::alloc::Global;
+
+/// The normal form of the type: the least of its paths, strictly sorted. Equivalent types have equal normal forms, which
+/// a law of the crate of paths says.
+///
+/// Time and memory are bounded by the spread of the type, which callers keep at 16,384 or below, and the stack by its
+/// depth as a tree, so by its nodes. The only error is want of memory.
+pub fn normal<T: Taxa>(alloc: Global, taxa: &T, ty: &Ty) -> Result<Nf, OutOfMemory>
+    ensures form { IfOk result (λ nf.
+        IsNormalForm (Below (T.is_below taxa.now)) (T.kind taxa.now) (type_of ty.now) (listed nf)) }
+    ensures below { IfOk result (λ nf.
+        Subtype (Below (T.is_below taxa.now)) (T.kind taxa.now) (type_of_paths (listed nf)) (type_of ty.now)) }
+    ensures above { IfOk result (λ nf.
+        Subtype (Below (T.is_below taxa.now)) (T.kind taxa.now) (type_of ty.now) (type_of_paths (listed nf))) }
+{
+    let paths = paths_of(alloc, taxa, ty)?;
+    Ok(Nf::from_paths(alloc, taxa, paths)?)
+}
+
+/// Whether the first type is a subtype of the second: yes exactly where a derivation by the rules exists. The only error
+/// is want of memory. What bounds the work is said at [`normal`].
+pub fn subtype<T: Taxa>(
+    alloc: Global,
+    taxa: &T,
+    lower: &Ty,
+    upper: &Ty,
+) -> Result<bool, OutOfMemory>
+    ensures { IfOk result (λ answer. IsTrue answer
+        ↔ Subtype (Below (T.is_below taxa.now)) (T.kind taxa.now) (type_of lower.now) (type_of upper.now)) }
+{
+    let lower = normal(alloc, taxa, lower)?;
+    let upper = normal(alloc, taxa, upper)?;
+    Ok(lower.le(taxa, &upper))
+}

@@ -1,0 +1,14 @@
+pub mod Completeness
+pub mod Decided
+pub mod Derivations
+pub mod Equivalence
+pub mod Insertion
+pub mod Orders
+pub mod PathLaws
+pub mod Remains
+pub mod RoundTrip
+pub mod Sorting
+pub mod Soundness
+pub mod Transitivity
+pub mod Turning
+pub mod Uniqueness

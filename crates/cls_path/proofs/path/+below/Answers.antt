@@ -1,0 +1,28 @@
+use Rattle.std.proofs.Common.{rules}
+use Rattle.cls_path.specs.Paths.{listed}
+use Rattle.cls_path.proofs.Orders.{paths_order-listed}
+use Rattle.cls_path.proofs.Turning.{each_above-list_below, sealed-list_below}
+use Rattle.cls_path.proofs.path.+below.Goals as goal
+
+pub Path::is_below-returns-then-is_below : goal.Path::is_below-returns-then-is_below
+Path::is_below-returns-then-is_below g t c =
+    let e = each_above-list_below (g.T.Taxa.is_below c.args.taxa.now) (g.T.Taxa.kind c.args.taxa.now) (listed c.in-Arrow-Arrow.n) (listed c.in-Arrow-Arrow.m) in
+    search rules
+
+pub Path::is_below-returns-then-below-2 : goal.Path::is_below-returns-then-below-2
+Path::is_below-returns-then-below-2 g t c =
+    let e = sealed-list_below (g.T.Taxa.is_below c.args.taxa.now) (g.T.Taxa.kind c.args.taxa.now) c.in-Sealed-Sealed.c.0 c.in-Sealed-Sealed.d.0 (listed c.in-Sealed-Sealed.n) (listed c.in-Sealed-Sealed.m) in
+    let v = c.variance.ensures.is in
+    search rules
+
+pub Nf::is_sealed_below-returns-then-is_eq : goal.Nf::is_sealed_below-returns-then-is_eq
+Nf::is_sealed_below-returns-then-is_eq g t c =
+    let e = paths_order-listed c.args.self.now c.args.other.now in search rules
+
+pub Nf::is_sealed_below-returns-then-is_below : goal.Nf::is_sealed_below-returns-then-is_below
+Nf::is_sealed_below-returns-then-is_below g t c =
+    let e = paths_order-listed c.args.self.now c.args.other.now in search rules
+
+pub Nf::is_sealed_below-returns-else-is_below : goal.Nf::is_sealed_below-returns-else-is_below
+Nf::is_sealed_below-returns-else-is_below g t c =
+    let e = paths_order-listed c.args.self.now c.args.other.now in search rules

@@ -1,0 +1,27 @@
+use Rattle.std.proofs.Common.{rules, arith, length, ◌≤◌, inl, inr}
+use Rattle.std.specs.Prelude.{◌⊎◌}
+use Rattle.cls_path.proofs.Orders.{paths_order-listed, exhausted}
+use Rattle.cls_path.proofs.path.+order.Goals as goal
+use Rattle.cls_path.proofs.path.+order.Goals.{Nf::order_by_path-then-loop-i-test+else-i-len, Nf::order_by_path-else-loop-i-test}
+
+pub Nf::order_by_path-returns : goal.Nf::order_by_path-returns
+Nf::order_by_path-returns t c =
+    let xs = c.self.inside.paths in
+    let ys = c.other.inside.paths in
+    let over : (length xs.items ≤ c.loop-i.i) ⊎ (length ys.items ≤ c.loop-i.i) =
+    elim c.loop-i-test.branch [
+      | Nf::order_by_path-then-loop-i-test+else-i-len w ↦ inr (omega (arith, ys.ok.0))
+      | Nf::order_by_path-else-loop-i-test w ↦ inl (omega (arith, xs.ok.0))
+    ] in
+    let e = exhausted c.loop-i.i xs.items ys.items c.loop-i.invariant.in_one c.loop-i.invariant.in_two over in
+    search rules
+
+pub Path::order_by_kind-returns-in-Arrow-Arrow : goal.Path::order_by_kind-returns-in-Arrow-Arrow
+Path::order_by_kind-returns-in-Arrow-Arrow t c =
+    let e = paths_order-listed c.in-Arrow-Arrow.n c.in-Arrow-Arrow.m in
+    search rules
+
+pub Path::order_by_kind-returns-in-Sealed-Sealed : goal.Path::order_by_kind-returns-in-Sealed-Sealed
+Path::order_by_kind-returns-in-Sealed-Sealed t c =
+    let e = paths_order-listed c.in-Sealed-Sealed.n c.in-Sealed-Sealed.m in
+    search rules

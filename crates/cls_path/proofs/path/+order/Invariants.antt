@@ -1,0 +1,20 @@
+use Rattle.std.proofs.Common.{◌≡◌, ◌-◌, ◌≤◌, drop, length}
+use Rattle.cls_path.specs.PathOrder.{list_order}
+use Rattle.cls_path.specs.Sizes.{size_of, list_size}
+use Rattle.cls_path.proofs.path.+order.Given as goal
+
+abbrev pub decreases-Path::order_by_kind : goal.decreases-Path::order_by_kind
+decreases-Path::order_by_kind l = size_of l.self.now
+
+abbrev pub decreases-Nf::order_by_path : goal.decreases-Nf::order_by_path
+decreases-Nf::order_by_path l = list_size l.self.now
+
+abbrev pub invariant-Nf::order_by_path-loop-i : goal.invariant-Nf::order_by_path-loop-i
+invariant-Nf::order_by_path-loop-i l = record {
+  in_one : l.i ≤ length l.self-inside.paths.items;
+  in_two : l.i ≤ length l.other-inside.paths.items;
+  rest : list_order l.self-inside.paths.items l.other-inside.paths.items ≡ list_order (drop l.i l.self-inside.paths.items) (drop l.i l.other-inside.paths.items);
+}
+
+abbrev pub decreases-Nf::order_by_path-loop-i : goal.decreases-Nf::order_by_path-loop-i
+decreases-Nf::order_by_path-loop-i l = length l.initial.self-inside.paths.items - l.i

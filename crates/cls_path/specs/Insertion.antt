@@ -1,0 +1,17 @@
+-- A path put into a list of paths.
+use Rattle.std.specs.Prelude.{ℕ, Bool, List, [], ◌∷◌, cond, not, filter}
+use Rattle.std.specs.Ordering.{is_lt}
+use Rattle.cls_base.specs.Taxonomies.{Variance}
+use Rattle.cls_path.specs.Paths.{TypePath}
+use Rattle.cls_path.specs.PathOrder.{path_order}
+use Rattle.cls_path.specs.Tests.{path_below}
+
+-- before the first path that it is before
+abbrev pub place : TypePath → List TypePath → List TypePath
+place p [] = p ∷ []
+place p (q ∷ n) = cond (is_lt (path_order p q)) (p ∷ q ∷ n) (q ∷ place p n)
+
+module _ (test : ℕ → ℕ → Bool) (variance : ℕ → Variance) where
+  -- the list without the paths above the path
+  abbrev pub without_above : TypePath → List TypePath → List TypePath
+  without_above p n = filter (λ q. not (path_below test variance p q)) n

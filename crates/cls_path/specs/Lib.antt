@@ -1,0 +1,12 @@
+pub mod Falls
+pub mod Feed
+pub mod Insertion
+pub mod Laws
+pub mod NormalForms
+pub mod OrderLaws
+pub mod PathOrder
+pub mod Paths
+pub mod Seen
+pub mod Sizes
+pub mod Stored
+pub mod Tests

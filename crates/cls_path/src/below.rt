@@ -1,0 +1,102 @@
+//! When a path is below another.
+ghost use Rattle.std.specs.Prelude.{◌≡◌, ◌↔◌, IsTrue};
+ghost use Rattle.cls_base.specs.Taxa.{Below, variance_of};
+ghost use Rattle.cls_base.specs.Subtyping.{Subtype};
+ghost use Rattle.cls_path.specs.Paths.{PathLe, PathsLe, Suits, SuitsAll, type_of_path, type_of_paths, listed};
+ghost use Rattle.cls_path.specs.Tests.{path_below, list_below, some_below, same_paths, sealed_below};
+
+use crate::path::{Form, Nf, Path};
+use cls_base::{Taxa, Variance};
+
+impl Path {
+    /// Whether the type of this path is a subtype of the type of the other. Each name has to stand in a kind of path that
+    /// fits its variance. Takes no memory.
+    pub fn le<T: Taxa>(&self, taxa: &T, other: &Path) -> bool
+        requires suits { Suits (T.kind taxa.now) self.now }
+        requires other_suits { Suits (T.kind taxa.now) other.now }
+        ensures exact { IsTrue result
+            ↔ Subtype (Below (T.is_below taxa.now)) (T.kind taxa.now) (type_of_path self.now) (type_of_path other.now) }
+        ensures cases { IsTrue result ↔ PathLe (Below (T.is_below taxa.now)) (T.kind taxa.now) self.now other.now }
+    {
+        self.is_below(taxa, other)
+    }
+
+    /// Kind and name are compared before anything inside.
+    #[cycle(below)]
+    pub(crate) fn is_below<T: Taxa>(&self, taxa: &T, other: &Path) -> bool
+        ensures { result ≡ path_below (T.is_below taxa.now) (T.kind taxa.now) self.now other.now }
+    {
+        match (&self.form, &other.form) {
+            (Form::Atom(c), Form::Atom(d)) => taxa.below(*c, *d),
+            (Form::Con(c, _), Form::Atom(d)) => taxa.below(*c, *d),
+            (Form::Con(c, p), Form::Con(d, q)) => taxa.below(*c, *d) && p.is_below(taxa, q),
+            (Form::Unit | Form::Left(_) | Form::Right(_), Form::Unit) => true,
+            (Form::Left(p), Form::Left(q)) => p.is_below(taxa, q),
+            (Form::Right(p), Form::Right(q)) => p.is_below(taxa, q),
+            (Form::Arrow(n, p), Form::Arrow(m, q)) => p.is_below(taxa, q) && m.is_below(taxa, n),
+            (Form::Sealed(c, n), Form::Sealed(d, m)) => taxa.below(*c, *d)
+                && n.is_sealed_below(taxa, taxa.variance(*c), m),
+            _ => false,
+        }
+    }
+}
+
+impl Nf {
+    /// Whether the type of this intersection is a subtype of the type of the other. Each name has to stand in a kind of
+    /// path that fits its variance. Takes no memory.
+    pub fn le<T: Taxa>(&self, taxa: &T, other: &Nf) -> bool
+        requires suits { SuitsAll (T.kind taxa.now) (listed self.now) }
+        requires other_suits { SuitsAll (T.kind taxa.now) (listed other.now) }
+        ensures exact { IsTrue result
+            ↔ Subtype (Below (T.is_below taxa.now)) (T.kind taxa.now)
+            (type_of_paths (listed self.now)) (type_of_paths (listed other.now)) }
+        ensures cases { IsTrue result
+            ↔ PathsLe (Below (T.is_below taxa.now)) (T.kind taxa.now) (listed self.now) (listed other.now) }
+    {
+        self.is_below(taxa, other)
+    }
+
+    /// Whether each path of the other is above some path of this one.
+    #[cycle(below)]
+    fn is_below<T: Taxa>(&self, taxa: &T, other: &Nf) -> bool
+        ensures { result ≡ list_below (T.is_below taxa.now) (T.kind taxa.now) (listed self.now) (listed other.now) }
+    {
+        for path in &other.paths {
+            if !self.some_below(taxa, path) {
+                return false;
+            }
+        }
+        true
+    }
+
+    /// Whether a name of this variance over this list is below one over the other, where the name itself is.
+    #[cycle(below)]
+    fn is_sealed_below<T: Taxa>(&self, taxa: &T, variance: Variance, other: &Nf) -> bool
+        ensures { result ≡ sealed_below (variance_of variance) (same_paths (listed self.now) (listed other.now))
+            (list_below (T.is_below taxa.now) (T.kind taxa.now) (listed other.now) (listed self.now))
+            (list_below (T.is_below taxa.now) (T.kind taxa.now) (listed self.now) (listed other.now)) }
+    {
+        match variance {
+            Variance::Co => false,
+            Variance::Contra => other.is_below(taxa, self),
+            // Equal lists are told at once, since each depth of invariant names would else double the work.
+            Variance::Inv => {
+                self.order_by_path(other).is_eq()
+                    || (other.is_below(taxa, self) && self.is_below(taxa, other))
+            }
+        }
+    }
+
+    /// Whether some path of the list is below the path.
+    #[cycle(below)]
+    pub(crate) fn some_below<T: Taxa>(&self, taxa: &T, path: &Path) -> bool
+        ensures { result ≡ some_below (T.is_below taxa.now) (T.kind taxa.now) (listed self.now) path.now }
+    {
+        for one in &self.paths {
+            if one.is_below(taxa, path) {
+                return true;
+            }
+        }
+        false
+    }
+}

@@ -1,0 +1,20 @@
+//! Paths and normal forms of types: the exact test of subtyping.
+//!
+//! - [`Path`] is a type without intersections on its way to its end, and [`Form`] its seven kinds.
+//! - [`Nf`] is an intersection of paths, strictly sorted at every depth. It serves as a key of a table.
+//! - `specs/` defines paths, the paths of a type, when a path is below another, the order of paths, and normal forms.
+//!   What holds of them all stands in the calls of [`laws`].
+#![tactic(auto)]
+
+mod below;
+mod feed;
+mod key;
+pub mod laws;
+mod make;
+mod meet;
+mod order;
+mod path;
+#[cfg(test)]
+mod tests;
+
+pub use path::{Form, Nf, Path};

@@ -1,0 +1,79 @@
+//! The order of paths and of lists of paths.
+ghost use Rattle.std.specs.Prelude.{◌≡◌, ◌↔◌};
+ghost use Rattle.cls_path.specs.Paths.{listed};
+ghost use Rattle.cls_path.specs.NormalForms.{kind_of, PathBefore, PathsBefore};
+ghost use Rattle.cls_path.specs.PathOrder.{path_order, list_order};
+ghost use Rattle.cls_path.specs.Seen.{path_of};
+
+use crate::path::{Form, Nf, Path};
+use std::cmp::Ordering;
+
+impl Form {
+    /// The place of the kind among the seven.
+    fn kind(&self) -> u8
+        ensures { result ≡ kind_of (path_of self.now) }
+    {
+        match self {
+            Form::Atom(_) => 0,
+            Form::Con(..) => 1,
+            Form::Unit => 2,
+            Form::Left(_) => 3,
+            Form::Right(_) => 4,
+            Form::Arrow(..) => 5,
+            Form::Sealed(..) => 6,
+        }
+    }
+}
+
+impl Path {
+    /// Compares by kind, then by the number of the name, then by the list inside, then by the rest of the path: `Less`
+    /// where this path comes before the other. This order is the project's own choice.
+    pub fn order(&self, other: &Path) -> Ordering
+        ensures less { (result ≡ Ordering.Less) ↔ PathBefore self.now other.now }
+        ensures equal { (result ≡ Ordering.Equal) ↔ (self.now ≡ other.now) }
+        ensures greater { (result ≡ Ordering.Greater) ↔ PathBefore other.now self.now }
+    {
+        self.order_by_kind(other)
+    }
+
+    #[cycle(order)]
+    pub(crate) fn order_by_kind(&self, other: &Path) -> Ordering
+        ensures { result ≡ path_order self.now other.now }
+    {
+        match (&self.form, &other.form) {
+            (Form::Atom(c), Form::Atom(d)) => c.0.cmp(&d.0),
+            (Form::Con(c, p), Form::Con(d, q)) => c.0.cmp(&d.0).then(p.order_by_kind(q)),
+            (Form::Left(p), Form::Left(q)) => p.order_by_kind(q),
+            (Form::Right(p), Form::Right(q)) => p.order_by_kind(q),
+            (Form::Arrow(n, p), Form::Arrow(m, q)) => n.order_by_path(m).then(p.order_by_kind(q)),
+            (Form::Sealed(c, n), Form::Sealed(d, m)) => c.0.cmp(&d.0).then(n.order_by_path(m)),
+            (one, another) => one.kind().cmp(&another.kind()),
+        }
+    }
+}
+
+impl Nf {
+    /// Compares path by path, a proper prefix first: `Less` where this list comes before the other.
+    pub fn order(&self, other: &Nf) -> Ordering
+        ensures less { (result ≡ Ordering.Less) ↔ PathsBefore (listed self.now) (listed other.now) }
+        ensures equal { (result ≡ Ordering.Equal) ↔ (self.now ≡ other.now) }
+        ensures greater { (result ≡ Ordering.Greater) ↔ PathsBefore (listed other.now) (listed self.now) }
+    {
+        self.order_by_path(other)
+    }
+
+    #[cycle(order)]
+    pub(crate) fn order_by_path(&self, other: &Nf) -> Ordering
+        ensures { result ≡ list_order self.now other.now }
+    {
+        let mut i = 0;
+        while i < self.paths.len() && i < other.paths.len() {
+            let one = self.paths[i].order_by_kind(&other.paths[i]);
+            if one.is_ne() {
+                return one;
+            }
+            i += 1;
+        }
+        self.paths.len().cmp(&other.paths.len())
+    }
+}

@@ -1,0 +1,90 @@
+use cls_base::Name;
+use std::marker::Model;
+
+/// A path: a type without intersections on its way to its end. It is seen as a `TypePath`.
+///
+/// Dropping a path, as each call that goes down it, takes stack by its depth as a tree.
+#[cycle(path)]
+#[derive(Drop)]
+pub struct Path {
+    pub(crate) form: Form,
+}
+
+/// The seven kinds of path, in their order.
+#[cycle(path)]
+#[derive(Drop)]
+pub enum Form {
+    /// A covariant name over omega.
+    Atom(Name),
+    /// A covariant name over a path.
+    Con(Name, Box<Path>),
+    /// The product of omega and omega.
+    Unit,
+    /// The product of a path and omega.
+    Left(Box<Path>),
+    /// The product of omega and a path.
+    Right(Box<Path>),
+    /// The functions from an intersection of paths to a path.
+    Arrow(Nf, Box<Path>),
+    /// A contravariant or invariant name over an intersection of paths.
+    Sealed(Name, Nf),
+}
+
+/// An intersection of paths, seen as the list of them: strictly sorted, as are all lists inside it.
+///
+/// That no path of it is below another depends on an order of names, and `IsNormal` says it.
+#[cycle(path)]
+#[derive(Drop)]
+pub struct Nf {
+    pub(crate) paths: Vec<Path>,
+}
+
+impl Model for Path {
+    ghost use Rattle.cls_path.specs.Paths.{TypePath};
+    ghost use Rattle.cls_path.specs.Stored.{coded_path};
+
+    ghost Value = { TypePath };
+
+    ghost coded = { coded_path };
+
+    ghost use Rattle.cls_path.specs.Seen.{path_of};
+
+    ghost view = { λ p. path_of p.form };
+
+    ghost use Rattle.cls_path.specs.NormalForms.{IsSortedPath};
+
+    ghost invariant = { λ p. IsSortedPath (path_of p.form) };
+
+    ghost use Rattle.cls_path.specs.Sizes.{size_of};
+
+    ghost size = { size_of };
+
+    ghost use Rattle.cls_path.specs.Falls.{path_falls};
+
+    ghost size_decreases = { λ p h. path_falls p.form };
+}
+
+impl Model for Nf {
+    ghost use Rattle.std.specs.Prelude.{List};
+    ghost use Rattle.std.specs.Coded.{coded_list};
+    ghost use Rattle.cls_path.specs.Paths.{TypePath, listed};
+    ghost use Rattle.cls_path.specs.Stored.{coded_path};
+
+    ghost Value = { List TypePath };
+
+    ghost coded = { coded_list coded_path };
+
+    ghost view = { λ n. n.paths.items };
+
+    ghost use Rattle.cls_path.specs.NormalForms.{IsSorted};
+
+    ghost invariant = { λ n. IsSorted (listed n.paths.items) };
+
+    ghost use Rattle.cls_path.specs.Sizes.{list_size};
+
+    ghost size = { list_size };
+
+    ghost use Rattle.cls_path.specs.Falls.{list_falls};
+
+    ghost size_decreases = { λ n h. list_falls n.paths.items };
+}
