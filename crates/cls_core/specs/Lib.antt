@@ -1,0 +1,5 @@
+pub mod Arguments
+pub mod Kept
+pub mod Machine
+pub mod Numbers
+pub mod Rows

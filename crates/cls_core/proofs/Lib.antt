@@ -1,0 +1,4 @@
+pub mod Columns
+pub mod FiledRows
+pub mod Filing
+pub mod Insertion
