@@ -1,4 +1,6 @@
+pub mod Closure
 pub mod Columns
 pub mod FiledRows
 pub mod Filing
 pub mod Insertion
+pub mod Members

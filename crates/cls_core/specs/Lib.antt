@@ -1,4 +1,5 @@
 pub mod Arguments
+pub mod Closure
 pub mod Kept
 pub mod Machine
 pub mod Numbers
