@@ -133,3 +133,13 @@ module _ {G : Type 0} (goals : List G) (states : List RowState) (first held rule
               let other : i ≢ row = grind (arith, nat_tests) in
               let at : slice_get behind i ≡ slice_get states i = ap (λ l. slice_get l i) are ∙ get-within states (replicate n Free) i (omega (arith, k.within)) in
               k.taken i h (sym at ∙ (sym (get-set-other behind row i (Filed a) other) ∙ f))
+
+-- a claim leaves the count of rules
+pub claimed-counts : (ss : List RowState) (row worker : ℕ) → slice_get ss row ≡ Some Free → rules_in (set ss row (Held worker)) ≡ rules_in ss
+claimed-counts ss row worker free = let n = count-set rules_weight ss row Free (Held worker) free in omega arith
+
+-- a filing adds the rules of its answer
+pub filed-counts : (ss : List RowState) (row worker n : ℕ) (a : Answer ℕ) → slice_get ss row ≡ Some (Held worker) → rules_in (set ss row (Filed a) ++ replicate n Free) ≡ rules_in ss + rule_count a
+filed-counts ss row worker n a held =
+    let c = count-set rules_weight ss row (Held worker) (Filed a) held in
+    omega (arith, sum_by-append rules_weight (set ss row (Filed a)) (replicate n Free), sum_by-replicate rules_weight n Free)

@@ -4,3 +4,4 @@ pub mod FiledRows
 pub mod Filing
 pub mod Insertion
 pub mod Members
+pub mod Replaying

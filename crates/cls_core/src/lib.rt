@@ -11,18 +11,18 @@
 
 mod adding;
 mod answer;
-mod core;
 mod entry;
 mod expand;
 mod finished;
+mod machine;
 mod numbering;
 mod rule;
 mod state;
 
 pub use answer::Answer;
-pub use core::Core;
 pub use entry::{Entry, History};
 pub use expand::Expand;
 pub use finished::{Finished, Rows};
+pub use machine::Core;
 pub use rule::{Goals, Rule, Rules};
 pub use state::RowState;

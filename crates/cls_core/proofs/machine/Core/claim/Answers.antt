@@ -2,7 +2,7 @@ use Rattle.std.proofs.Common.{arith, inl, inr, refl, ap, sym, subst, Some, slice
 use Rattle.cls_core.specs.declared.state.RowState.TheVariants.{Free}
 use Rattle.cls_core.specs.declared.entry.Entry.TheVariants.{Claim}
 use Rattle.cls_core.proofs.Columns.{kept-claim}
-use Rattle.cls_core.proofs.core.Core.claim.Goals as goal
+use Rattle.cls_core.proofs.machine.Core.claim.Goals as goal
 
 pub invariant_of-self-then-row-self : goal.invariant_of-self-then-row-self
 invariant_of-self-then-row-self g c =

@@ -1,6 +1,6 @@
 use Rattle.std.proofs.Common.{refl, ap, sym, subst, ◌∙◌}
 use Rattle.cls_core.specs.Machine.{EachFiled}
-use Rattle.cls_core.proofs.core.Core.finish.Goals as goal
+use Rattle.cls_core.proofs.machine.Core.finish.Goals as goal
 
 pub returns-then-not-all_filed-clause-err : goal.returns-then-not-all_filed-clause-err
 returns-then-not-all_filed-clause-err g c =

@@ -1,7 +1,7 @@
 use Rattle.std.proofs.Common.{rules, tests, arith, ℕ, ◌≡◌, ◌<◌, ap, IsTrue, nat_lt}
 use Rattle.cls_core.proofs.Columns.{held-some, held-counts}
 use Rattle.cls_core.specs.Machine.{held_in}
-use Rattle.cls_core.proofs.core.Core.any_held.Goals as goal
+use Rattle.cls_core.proofs.machine.Core.any_held.Goals as goal
 
 lt_true : (n : ℕ) → IsTrue (nat_lt 0 n) → 0 < n
 lt_true n h = search (rules, tests)

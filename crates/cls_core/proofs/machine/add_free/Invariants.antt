@@ -2,7 +2,7 @@ use Rattle.std.proofs.Common.{◌≡◌, ◌++◌, ◌+◌}
 use Rattle.std.specs.Prelude.{replicate, vec_len}
 use Rattle.std.specs.Vec.{vec_capacity}
 use Rattle.cls_core.specs.declared.state.RowState.TheVariants.{Free}
-use Rattle.cls_core.proofs.core.add_free.Given as goal
+use Rattle.cls_core.proofs.machine.add_free.Given as goal
 
 abbrev pub invariant-loop-row : goal.invariant-loop-row
 invariant-loop-row l =

@@ -8,7 +8,7 @@ use Rattle.cls_core.specs.Machine.{grown, filed}
 use Rattle.cls_core.proofs.Columns.{held-counts, kept-file}
 use Rattle.cls_core.proofs.Filing.{added-count, filed-rows}
 use Rattle.cls_core.proofs.Insertion.{all-again, answer-count}
-use Rattle.cls_core.proofs.core.Core.file.Goals as goal
+use Rattle.cls_core.proofs.machine.Core.file.Goals as goal
 
 pub overflow_sub-self : goal.overflow_sub-self
 overflow_sub-self g c =
