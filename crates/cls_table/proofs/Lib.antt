@@ -1,0 +1,4 @@
+pub mod Completing
+pub mod Counting
+pub mod Going
+pub mod Seating
