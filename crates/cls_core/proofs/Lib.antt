@@ -5,3 +5,4 @@ pub mod Filing
 pub mod Insertion
 pub mod Members
 pub mod Replaying
+pub mod Sent

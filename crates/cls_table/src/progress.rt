@@ -265,10 +265,10 @@ impl<E: Expand> Progress<E> {
         let mut progress = self;
         let mut row = 0;
         while row < progress.count() {
-            if let Err(fault) = progress.complete_row(alloc, by, row) {
-                return Err(fault);
+            match progress.complete_row(alloc, by, row) {
+                Ok(()) => row += 1,
+                Err(fault) => return Err(fault),
             }
-            row += 1;
         }
         match progress.finish() {
             Ok(finished) => Ok(finished),
