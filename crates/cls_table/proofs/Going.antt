@@ -136,9 +136,9 @@ module _ {B G : Type 0} (eq : G → G → Bool) (answer : B → G → Answer G) 
         let rules = filed-counts p.rows.states row worker (length (grown eq p.rows.goals a) - length p.rows.goals) (numbered eq (grown eq p.rows.goals a) a) held in
         let same = mapped-count (λ x. position_or_len (eq x) (grown eq p.rows.goals a)) a in
         more (nat_lt p.tag.goals (length (grown eq p.rows.goals a))) refl
-          (nat_lt p.tag.rules (rules_in p.rows.states + rule_count a)) refl
-          (λ h. shows-goals eq exact reflexive (answer p.tag.by) p.tag.start (filed eq p.rows row a) p.tag.goals sound h)
-          (λ h. shows-rules eq exact reflexive (answer p.tag.by) p.tag.start (filed eq p.rows row a) p.tag.rules sound (omega arith))
+        (nat_lt p.tag.rules (rules_in p.rows.states + rule_count a)) refl
+        (λ h. shows-goals eq exact reflexive (answer p.tag.by) p.tag.start (filed eq p.rows row a) p.tag.goals sound h)
+        (λ h. shows-rules eq exact reflexive (answer p.tag.by) p.tag.start (filed eq p.rows row a) p.tag.rules sound (omega arith))
       where
         more : (b : Bool) → nat_lt p.tag.goals (length (grown eq p.rows.goals a)) ≡ b → (c : Bool) → nat_lt p.tag.rules (rules_in p.rows.states + rule_count a) ≡ c
             → (p.tag.goals < length (grown eq p.rows.goals a) → HasMoreGoals (answer p.tag.by) p.tag.start p.tag.goals) → (p.tag.rules < rules_in p.rows.states + rule_count a → HasMoreRules (answer p.tag.by) p.tag.start p.tag.rules) → IsLarge answer p.tag

@@ -193,13 +193,7 @@ impl<E: Expand> Progress<E> {
     }
 
     // Files the row, which the worker holds, with the answer of its goal.
-    fn file_held(
-        &mut self,
-        alloc: Global,
-        by: &E,
-        worker: u32,
-        row: u32,
-    ) -> Result<(), ExpandFault>
+    fn file_held(&mut self, alloc: Global, by: &E, worker: u32, row: u32) -> Result<(), ExpandFault>
         requires tag { E.tag by.now ≡ self.old.tag.by }
         requires held { slice_get self.old.rows.states row ≡ Some (Held worker) }
         ensures goes { OnOk result (GoesOn self.old self.new) }
@@ -252,11 +246,7 @@ impl<E: Expand> Progress<E> {
     }
 
     /// Files each row, the held ones by their holders and the free ones as the worker 0, until all are filed.
-    pub(crate) fn complete(
-        self,
-        alloc: Global,
-        by: &E,
-    ) -> Result<Finished<E::Goal>, ExpandFault>
+    pub(crate) fn complete(self, alloc: Global, by: &E) -> Result<Finished<E::Goal>, ExpandFault>
         requires tag { E.tag by.now ≡ self.tag.by }
         ensures complete { IfOk result (λ f. IsCompletion E.Goal.eq E.answer self f) }
         ensures within { OnOk result (IsLarge E.answer self.tag → ⊥) }
