@@ -7,10 +7,11 @@ use Rattle.std.proofs.lemmas.List.{length-replicate, set-append_left}
 use Rattle.std.proofs.lemmas.List.Sums.{sum_by-cons}
 use Rattle.std.proofs.lemmas.Option.{slice_get_within}
 use Rattle.indexmap.specs.IndexSet.{insert_key, insert_all}
-use Rattle.cls_core.specs.Closure.{Has, Differ, IsReached, at_start, at_argument, AllReached, HasMoreGoals, HasMoreRules, IsTooLarge}
+use Rattle.cls_core.specs.Closure.{Has, Differ, IsReached, at_start, at_argument, AllReached, HasMoreGoals, HasMoreRules, IsTooLarge, IsClosure, goals_of}
 use Rattle.cls_core.specs.Arguments.{arguments_of_rule, arguments_in, arguments_of, map_rule, map_answer, rule_count}
 use Rattle.cls_core.specs.Machine.{IsFiled, EachFiled, AllFiled, begun, claimed, grown, numbered, filed, Steps, Replays, rules_in, rules_weight}
-use Rattle.cls_core.specs.Rows.{Machine, machine}
+use Rattle.cls_core.specs.Rows.{Machine, machine, filed_rows}
+use Rattle.cls_core.proofs.FiledRows.{filed-goals, filed-parts}
 use Rattle.cls_core.specs.declared.state.RowState.{RowState}
 use Rattle.cls_core.specs.declared.state.RowState.TheVariants.{Free, Held, Filed}
 use Rattle.cls_core.specs.declared.entry.Entry.{Entry}
@@ -267,3 +268,14 @@ module _ {G : Type 0} (eq : G → G → Bool) (exact : (x y : G) → eq x y ≡ 
     | inl m ↦ (let h = length-within m.0 r.goals m.1 (λ x k. complete-reaches r s f x (m.2 x k)) in let w = m.3 in omega arith)
     | inr m ↦ (let h = sum-within (λ g. rule_count (answer g)) m.0 r.goals m.1 (λ x k. complete-reaches r s f x (m.2 x k)) in let w = m.3 in omega (arith, filed-rules r.goals r.states s.paired (counted r s), ap (sum_by (λ g. rule_count (answer g))) (all-goals r.goals r.states s.paired f)))
   ]
+
+  -- The rows of a legal complete history are the closure.
+  pub complete-closure : (r : Machine G) → IsSound r → AllFiled r → IsClosure eq answer start (filed_rows r.goals r.states)
+  complete-closure r s f =
+      let goals = sym (filed-goals r.goals r.states s.paired f) in record {
+        first = subst (λ l. slice_get l 0 ≡ Some start) goals s.begins;
+        differ = subst Differ goals s.differ;
+        reached = subst (AllReached answer start) goals s.reached;
+        whole = subst (λ l. (g : G) → IsReached answer start g → Has l g) goals (complete-reaches r s f);
+        answered = λ k row e. (let p = filed-parts r.goals r.states k row e in subst (λ l. row.answer ≡ numbered eq l (answer row.goal)) goals (s.answered k row.goal row.answer p.0 p.1));
+      }

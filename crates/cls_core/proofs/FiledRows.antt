@@ -6,6 +6,7 @@ use Rattle.cls_core.specs.declared.state.RowState.TheVariants.{Free, Held, Filed
 use Rattle.cls_core.specs.declared.answer.Answer.{Answer}
 use Rattle.cls_core.specs.Machine.{IsFiled, EachFiled}
 use Rattle.cls_core.specs.Rows.{Row, filed_rows}
+use Rattle.cls_core.specs.Closure.{goals_of}
 
 module _ {G : Type 0} where
   pub filed-count : (gs : List G) (ss : List RowState) → length ss ≡ length gs → EachFiled ss → length (filed_rows gs ss) ≡ length gs
@@ -48,6 +49,27 @@ module _ {G : Type 0} where
       same : (b a : Answer ℕ) → Some (Filed b) ≡ Some (Filed a) → Some b ≡ Some a
       same b a h = cc
   filed-answer (x ∷ gs) (Filed b ∷ ss) (suc k) a e f h = filed-answer gs ss k a (omega arith) (λ j s q. f (suc j) s q) h
+
+  pub filed-goals : (gs : List G) (ss : List RowState) → length ss ≡ length gs → EachFiled ss → goals_of (filed_rows gs ss) ≡ gs
+  filed-goals [] ss e f = refl
+  filed-goals (x ∷ gs) [] e f = absurd (omega arith)
+  filed-goals (x ∷ gs) (Free ∷ ss) e f = absurd (f zero Free refl)
+  filed-goals (x ∷ gs) (Held worker ∷ ss) e f = absurd (f zero (Held worker) refl)
+  filed-goals (x ∷ gs) (Filed a ∷ ss) e f = ap (λ l. x ∷ l) (filed-goals gs ss (omega arith) (λ k s h. f (suc k) s h))
+
+  -- the goal and the state of a row of the list
+  pub filed-parts : (gs : List G) (ss : List RowState) (k : ℕ) (r : Row G) → slice_get (filed_rows gs ss) k ≡ Some r → (slice_get gs k ≡ Some r.goal) × (slice_get ss k ≡ Some (Filed r.answer))
+  filed-parts [] ss k r e = cc
+  filed-parts (x ∷ gs) [] k r e = cc
+  filed-parts (x ∷ gs) (Free ∷ ss) k r e = cc
+  filed-parts (x ∷ gs) (Held worker ∷ ss) k r e = cc
+  filed-parts (x ∷ gs) (Filed a ∷ ss) zero r e =
+      let same : record { goal = x; answer = a } ≡ r = some-inside (record { goal = x; answer = a }) r e in
+      (ap (λ (q : Row G). Some q.goal) same, ap (λ (q : Row G). Some (Filed q.answer)) same)
+    where
+      some-inside : (p q : Row G) → Some p ≡ Some q → p ≡ q
+      some-inside p q h = cc
+  filed-parts (x ∷ gs) (Filed a ∷ ss) (suc k) r e = filed-parts gs ss k r e
 
 -- a filed state is one with an answer
 pub filed-is : (s : RowState) → IsFiled s → ((a : Answer ℕ) → s ≡ Filed a → ⊥) → ⊥

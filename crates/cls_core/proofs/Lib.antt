@@ -6,3 +6,4 @@ pub mod Insertion
 pub mod Members
 pub mod Replaying
 pub mod Sent
+pub mod Times

@@ -1,8 +1,10 @@
 -- The closure of a goal, and when it has more goals or rules than a number.
-use Rattle.std.specs.Prelude.{◌≡◌, ◌<◌, ◌⊎◌, ℕ, List, [], ◌∷◌, length}
+use Rattle.std.specs.Prelude.{◌≡◌, ◌<◌, ◌⊎◌, ℕ, Bool, List, [], ◌∷◌, Some, length, map, slice_get}
 use Rattle.std.specs.List.{sum_by}
 use Rattle.cls_core.specs.declared.answer.Answer.{Answer}
 use Rattle.cls_core.specs.Arguments.{arguments_of, rule_count}
+use Rattle.cls_core.specs.Machine.{numbered}
+use Rattle.cls_core.specs.Rows.{Row}
 
 -- x stands in the list
 abbrev pub Has : {A : Type 0} → List A → A → Type 0
@@ -36,3 +38,15 @@ module _ {G : Type 0} (answer : G → Answer G) (start : G) where
   -- the closure has more goals than the one number, or more rules than the other
   abbrev pub IsTooLarge : ℕ → ℕ → Type 0
   IsTooLarge goals rules = HasMoreGoals goals ⊎ HasMoreRules rules
+
+abbrev pub goals_of : {G : Type 0} → List (Row G) → List G
+goals_of rows = map (λ r. r.goal) rows
+
+-- The rows are the closure: row 0 is the start goal, the goals differ, they are those that are reached and no others, and each
+-- row holds the answer of its goal, with numbers of rows in place of goals.
+pub record IsClosure {G : Type 0} (eq : G → G → Bool) (answer : G → Answer G) (start : G) (rows : List (Row G)) : Type 0 where
+  pub first : slice_get (goals_of rows) 0 ≡ Some start
+  pub differ : Differ (goals_of rows)
+  pub reached : AllReached answer start (goals_of rows)
+  pub whole : (g : G) → IsReached answer start g → Has (goals_of rows) g
+  pub answered : (k : ℕ) (r : Row G) → slice_get rows k ≡ Some r → r.answer ≡ numbered eq (goals_of rows) (answer r.goal)

@@ -4,3 +4,4 @@ pub mod Kept
 pub mod Machine
 pub mod Numbers
 pub mod Rows
+pub mod Times
