@@ -12,6 +12,11 @@ use Rattle.cls_core.specs.declared.entry.Entry.TheVariants.{Claim, File}
 use Rattle.cls_core.specs.declared.answer.Answer.{Answer}
 use Rattle.cls_core.proofs.Columns.{get-set-same, get-set-other, get-front}
 use Rattle.cls_table.specs.Seen.{ProgressSeen}
+use Rattle.cls_core.specs.Closure.{IsClosure}
+use Rattle.cls_core.specs.Times.{EachOnce}
+use Rattle.cls_core.proofs.Closure.{replay-sound, complete-closure, complete-within}
+use Rattle.cls_core.proofs.FiledRows.{filed-count}
+use Rattle.cls_core.proofs.Times.{each-once}
 use Rattle.cls_table.specs.Going.{IsGoing, NamesUpTo}
 use Rattle.cls_table.specs.Completing.{IsFiledAt, GoesOn, IsComplete, IsCompletion}
 use Rattle.cls_core.specs.declared.finished.Finished.{Finished}
@@ -60,19 +65,27 @@ module _ {B G : Type 0} where
         let new = numbered eq (grown eq p.rows.goals a) a in
         (new, ap (λ m. slice_get m.states row) r ∙ get-front (set p.rows.states row (Filed new)) _ row (Filed new) (get-set-same p.rows.states row (Filed new) (slice_get_within p.rows.states row (Held worker) held)))
 
-module _ {B G : Type 0} (eq : G → G → Bool) (answer : B → G → Answer G) (ready : B → G → Type 0) where
+module _ {B G : Type 0} (eq : G → G → Bool) (exact : (x y : G) → eq x y ≡ true → x ≡ y) (reflexive : (x : G) → eq x x ≡ true) (answer : B → G → Answer G) (ready : B → G → Type 0) where
+  finished-under : (q : ProgressSeen B G) (f : Finished G) → IsGoing eq answer ready q → AllFiled q.rows → f.rows ≡ filed_rows q.rows.goals q.rows.states → f.history ≡ q.history → IsComplete eq answer q.tag f
+  finished-under q f k all shown is =
+      let sound = replay-sound eq exact reflexive (answer q.tag.by) q.tag.start q.history q.rows k.legal in
+      record {
+        rows = q.rows;
+        legal = subst (λ es. Replays eq (answer q.tag.by) (begun q.tag.start) es q.rows) (sym is) k.legal;
+        complete = all;
+        shown = shown;
+        within = k.within;
+        few = k.few;
+        named = subst (λ es. NamesUpTo q.tag.workers es) (sym is) k.named;
+        closure = subst (IsClosure eq (answer q.tag.by) q.tag.start) (sym shown) (complete-closure eq exact reflexive (answer q.tag.by) q.tag.start q.rows sound all);
+        once = subst (EachOnce (length f.rows)) (sym is) (subst (λ n. EachOnce n q.history) (sound.paired ∙ (sym (filed-count q.rows.goals q.rows.states sound.paired all) ∙ ap length (sym shown))) (each-once eq (answer q.tag.by) q.tag.start q.history q.rows k.legal all));
+        fits = complete-within eq exact reflexive (answer q.tag.by) q.tag.start q.rows q.tag.goals q.tag.rules sound all k.within k.few;
+      }
+
   -- what is finished after p was gone on with
   pub completed : (p q : ProgressSeen B G) (f : Finished G) → GoesOn p q → IsGoing eq answer ready q → AllFiled q.rows → f.rows ≡ filed_rows q.rows.goals q.rows.states → f.history ≡ q.history → IsCompletion eq answer p f
   completed p q f h k all shown is = record {
-    whole = record {
-      rows = q.rows;
-      legal = subst (λ es. Replays eq (answer p.tag.by) (begun p.tag.start) es q.rows) (sym is) (subst (λ t. Replays eq (answer t.by) (begun t.start) q.history q.rows) h.tag k.legal);
-      complete = all;
-      shown = shown;
-      within = subst (λ t. length q.rows.goals ≤ t.goals) h.tag k.within;
-      few = subst (λ t. rules_in q.rows.states ≤ t.rules) h.tag k.few;
-      named = subst (λ es. NamesUpTo p.tag.workers es) (sym is) (subst (λ t. NamesUpTo t.workers q.history) h.tag k.named);
-    };
+    whole = subst (λ t. IsComplete eq answer t f) h.tag (finished-under q f k all shown is);
     more = (h.more.0, is ∙ h.more.1);
   }
 

@@ -3,7 +3,7 @@ use Rattle.cls_core.proofs.Closure.{replay-sound, complete-within}
 use Rattle.cls_core.proofs.Columns.{lt-split}
 use Rattle.cls_table.specs.Going.{IsLarge}
 use Rattle.cls_table.specs.Completing.{IsFiledAt}
-use Rattle.cls_table.proofs.Completing.{goes-further, all-filed}
+use Rattle.cls_table.proofs.Completing.{completed, goes-further, all-filed}
 use Rattle.cls_table.proofs.progress.Progress.complete.Goals as goal
 
 pub returns-in-Err-clause-large : goal.returns-in-Err-clause-large
@@ -32,3 +32,9 @@ returns-clause-within g c =
     let answer = g.E.Expand.answer p.tag.by in
     let sound = replay-sound eq exact reflexive answer p.tag.start p.history p.rows e.going.legal in
     λ large. complete-within eq exact reflexive answer p.tag.start p.rows p.tag.goals p.tag.rules sound e.rows.0 e.going.within e.going.few (subst (IsLarge g.E.Expand.answer) (sym c.loop-row.invariant.0.tag) large)
+
+pub returns-clause-complete : goal.returns-clause-complete
+returns-clause-complete g c =
+    let p = c.loop-row.progress in
+    let e = c.in-Ok-finish.ensures in
+    completed g.E.Goal.PartialEq.eq g.met.E.Goal.Key.exact g.met.E.Goal.Eq.laws.refl g.E.Expand.answer g.E.Expand.ready c.args.self p c.in-Ok-finish.finished c.loop-row.invariant.0 e.going e.rows.0 e.rows.1 e.rows.2

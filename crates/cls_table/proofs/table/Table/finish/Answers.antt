@@ -27,4 +27,4 @@ pub returns-in-Ok-clause-complete : goal.returns-in-Ok-clause-complete
 returns-in-Ok-clause-complete g c =
     let i = c.self.inside in
     let e = c.in-Ok.ensures in
-    subst (λ p. IsCompletion g.E.Goal.PartialEq.eq g.E.Expand.answer p c.in-Ok.finished) (ap progress_of c.self.view_is) (completed g.E.Goal.PartialEq.eq g.E.Expand.answer g.E.Expand.ready i.progress i.progress c.in-Ok.finished (goes-nowhere i.progress) e.going e.rows.0 e.rows.1 e.rows.2)
+    subst (λ p. IsCompletion g.E.Goal.PartialEq.eq g.E.Expand.answer p c.in-Ok.finished) (ap progress_of c.self.view_is) (completed g.E.Goal.PartialEq.eq g.met.E.Goal.Key.exact g.met.E.Goal.Eq.laws.refl g.E.Expand.answer g.E.Expand.ready i.progress i.progress c.in-Ok.finished (goes-nowhere i.progress) e.going e.rows.0 e.rows.1 e.rows.2)
