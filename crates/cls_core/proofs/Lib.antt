@@ -4,6 +4,7 @@ pub mod FiledRows
 pub mod Filing
 pub mod Insertion
 pub mod Members
+pub mod Canonical
 pub mod Replaying
 pub mod Sent
 pub mod Times

@@ -60,8 +60,8 @@ claim-marks ss row worker i free = by (row == i) refl
     by true e =
         let same : row ≡ i = grind (arith, nat_tests) in
         subst (λ j. (claim_mark (slice_get (set ss row (Held worker)) j) ≡ 1 + claim_mark (slice_get ss j)) × (file_mark (slice_get (set ss row (Held worker)) j) ≡ file_mark (slice_get ss j))) same
-          (let new = get-set-same ss row (Held worker) (slice_get_within ss row Free free) in
-          (omega (arith, ap claim_mark new, ap claim_mark free), ap file_mark new ∙ sym (ap file_mark free)))
+        (let new = get-set-same ss row (Held worker) (slice_get_within ss row Free free) in
+        (omega (arith, ap claim_mark new, ap claim_mark free), ap file_mark new ∙ sym (ap file_mark free)))
     by false e =
         let other : i ≢ row = grind (arith, nat_tests) in
         let at = get-set-other ss row i (Held worker) other in
@@ -74,8 +74,8 @@ file-marks ss row worker i a held = by (row == i) refl
     by true e =
         let same : row ≡ i = grind (arith, nat_tests) in
         subst (λ j. (claim_mark (slice_get (set ss row (Filed a)) j) ≡ claim_mark (slice_get ss j)) × (file_mark (slice_get (set ss row (Filed a)) j) ≡ 1 + file_mark (slice_get ss j))) same
-          (let new = get-set-same ss row (Filed a) (slice_get_within ss row (Held worker) held) in
-          (ap claim_mark new ∙ sym (ap claim_mark held), omega (arith, ap file_mark new, ap file_mark held)))
+        (let new = get-set-same ss row (Filed a) (slice_get_within ss row (Held worker) held) in
+        (ap claim_mark new ∙ sym (ap claim_mark held), omega (arith, ap file_mark new, ap file_mark held)))
     by false e =
         let other : i ≢ row = grind (arith, nat_tests) in
         let at = get-set-other ss row i (Filed a) other in

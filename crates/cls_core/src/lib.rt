@@ -14,6 +14,7 @@ mod answer;
 mod entry;
 mod expand;
 mod finished;
+pub mod laws;
 mod machine;
 mod numbering;
 mod rule;
