@@ -1,16 +1,15 @@
 -- The rows of a legal history lie in the closure, and those of a complete one are the closure.
-use Rattle.std.proofs.Common.{◌≡◌, ◌≢◌, ℕ, zero, suc, ◌+◌, ◌-◌, ◌<◌, ◌≤◌, ◌==◌, Bool, true, false, List, [], ◌∷◌, ◌++◌, Some, None, length, map, set, slice_get, refl, sym, ap, subst, ◌∙◌, arith, ◌⊎◌, inl, inr, length-append, length-set}
+use Rattle.std.proofs.Common.{◌≡◌, ◌≢◌, ℕ, zero, suc, ◌-◌, ◌<◌, ◌≤◌, ◌==◌, Bool, true, false, List, [], ◌∷◌, ◌++◌, Some, length, map, set, slice_get, refl, sym, ap, subst, ◌∙◌, arith, ◌⊎◌, inl, inr, length-append, length-set}
 use Rattle.std.specs.Prelude.{replicate, nat_lt}
 use Rattle.std.specs.List.{sum_by, position_or_len, list_any}
 use Rattle.std.proofs.lemmas.Bool.Decides.{nat_tests}
-use Rattle.std.proofs.lemmas.List.{length-replicate, set-append_left}
+use Rattle.std.proofs.lemmas.List.{length-replicate}
 use Rattle.std.proofs.lemmas.List.Sums.{sum_by-cons}
 use Rattle.std.proofs.lemmas.Option.{slice_get_within}
-use Rattle.indexmap.specs.IndexSet.{insert_key, insert_all}
-use Rattle.cls_core.specs.Closure.{Has, Differ, IsReached, at_start, at_argument, AllReached, HasMoreGoals, HasMoreRules, IsTooLarge, IsClosure, goals_of}
+use Rattle.cls_core.specs.Closure.{Has, Differ, IsReached, at_start, at_argument, AllReached, HasMoreGoals, HasMoreRules, IsTooLarge, IsClosure}
 use Rattle.cls_core.specs.Arguments.{arguments_of_rule, arguments_in, arguments_of, map_rule, map_answer, rule_count}
 use Rattle.cls_core.specs.Machine.{IsFiled, EachFiled, AllFiled, begun, claimed, grown, numbered, filed, Steps, Replays, rules_in, rules_weight}
-use Rattle.cls_core.specs.Rows.{Machine, machine, filed_rows}
+use Rattle.cls_core.specs.Rows.{Machine, filed_rows}
 use Rattle.cls_core.proofs.FiledRows.{filed-goals, filed-parts}
 use Rattle.cls_core.specs.declared.state.RowState.{RowState}
 use Rattle.cls_core.specs.declared.state.RowState.TheVariants.{Free, Held, Filed}
@@ -20,7 +19,7 @@ use Rattle.cls_core.specs.declared.rule.Rule.{Rule}
 use Rattle.cls_core.specs.declared.rule.Rule.TheVariants.{Head, Any}
 use Rattle.cls_core.specs.declared.answer.Answer.{Answer}
 use Rattle.cls_core.specs.declared.answer.Answer.TheVariants.{Rules, Wide}
-use Rattle.cls_core.proofs.Members.{has-at, at-has, has-left, has-right, has-split, sum-within, length-within, has-any, all-differ, all-keeps, all-has, all-only}
+use Rattle.cls_core.proofs.Members.{has-at, at-has, has-left, has-right, sum-within, length-within, has-any, all-differ, all-keeps, all-has, all-only}
 use Rattle.cls_core.proofs.Insertion.{all-front, stays}
 use Rattle.cls_core.proofs.Columns.{get-set-same, get-set-other, get-front, get-within}
 

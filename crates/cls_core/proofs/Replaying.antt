@@ -1,5 +1,5 @@
 -- A history, and one event more.
-use Rattle.std.proofs.Common.{◌≡◌, Bool, List, [], ◌∷◌, ◌++◌, refl, subst}
+use Rattle.std.proofs.Common.{Bool, List, [], ◌∷◌, ◌++◌, refl, subst}
 use Rattle.cls_core.specs.Rows.{Machine}
 use Rattle.cls_core.specs.Machine.{Steps, Replays}
 use Rattle.cls_core.specs.declared.entry.Entry.{Entry}

@@ -1,13 +1,10 @@
 -- Rows that are filed one after the other.
-use Rattle.std.proofs.Common.{◌≡◌, ◌≢◌, ℕ, ◌+◌, ◌-◌, ◌<◌, ◌≤◌, ◌==◌, Bool, true, false, List, [], ◌∷◌, ◌++◌, Some, length, set, length-set, slice_get, refl, sym, ap, subst, ◌∙◌, arith, append_assoc}
-use Rattle.std.specs.Prelude.{replicate}
-use Rattle.std.proofs.lemmas.Bool.Decides.{nat_tests}
+use Rattle.std.proofs.Common.{◌≡◌, ℕ, ◌<◌, ◌≤◌, Bool, true, List, [], ◌∷◌, ◌++◌, Some, length, set, slice_get, refl, sym, ap, subst, ◌∙◌, arith, append_assoc}
 use Rattle.std.proofs.lemmas.Option.{slice_get_within}
-use Rattle.cls_core.specs.Rows.{Machine, filed_rows}
-use Rattle.cls_core.specs.Machine.{begun, claimed, filed, grown, numbered, Replays, AllFiled, IsFiled, rules_in}
+use Rattle.cls_core.specs.Rows.{filed_rows}
+use Rattle.cls_core.specs.Machine.{begun, claimed, filed, grown, numbered, Replays, AllFiled, IsFiled}
 use Rattle.cls_core.specs.declared.state.RowState.{RowState}
 use Rattle.cls_core.specs.declared.state.RowState.TheVariants.{Free, Held, Filed}
-use Rattle.cls_core.specs.declared.entry.Entry.{Entry}
 use Rattle.cls_core.specs.declared.entry.Entry.TheVariants.{Claim, File}
 use Rattle.cls_core.specs.declared.answer.Answer.{Answer}
 use Rattle.cls_core.proofs.Columns.{get-set-same, get-set-other, get-front}

@@ -1,5 +1,5 @@
 -- The claims of a history.
-use Rattle.std.proofs.Common.{◌≡◌, ℕ, suc, ◌+◌, ◌≤◌, Bool, List, [], ◌∷◌, ◌++◌, length, refl, sym, ap, ◌∙◌, arith}
+use Rattle.std.proofs.Common.{◌≡◌, ℕ, suc, ◌+◌, ◌≤◌, List, [], ◌∷◌, ◌++◌, length, refl, ap, arith}
 use Rattle.cls_core.specs.declared.entry.Entry.{Entry}
 use Rattle.cls_core.specs.declared.entry.Entry.TheVariants.{Claim, File}
 use Rattle.cls_table.specs.Going.{claims_in}

@@ -1,15 +1,15 @@
 -- A machine under a tag stays one at each event.
-use Rattle.std.proofs.Common.{◌≡◌, ℕ, zero, suc, ◌+◌, ◌-◌, ◌<◌, ◌≤◌, ◌^◌, Bool, true, false, List, [], ◌∷◌, ◌++◌, Some, length, slice_get, refl, sym, ap, subst, ◌∙◌, arith, ◌⊎◌, inl, inr, length-append, length-set, set, ◌==◌, ◌≢◌}
+use Rattle.std.proofs.Common.{◌≡◌, ℕ, zero, suc, ◌+◌, ◌-◌, ◌<◌, ◌≤◌, ◌^◌, Bool, true, false, List, [], ◌∷◌, ◌++◌, Some, length, slice_get, refl, sym, ap, subst, ◌∙◌, arith, inl, inr, length-set, set, ◌==◌, ◌≢◌}
 use Rattle.std.specs.Prelude.{replicate}
 use Rattle.std.specs.Prelude.{All}
 use Rattle.std.specs.List.{position_or_len}
 use Rattle.std.proofs.lemmas.Option.{slice_get_within, get_or_from_slice_get}
 use Rattle.std.specs.Prelude.{nat_lt}
 use Rattle.std.proofs.lemmas.Bool.Decides.{nat_tests}
-use Rattle.cls_core.specs.Rows.{Machine, machine}
-use Rattle.cls_core.specs.Machine.{begun, claimed, filed, grown, numbered, Steps, Replays, rules_in, rules_weight}
+use Rattle.cls_core.specs.Rows.{Machine}
+use Rattle.cls_core.specs.Machine.{begun, claimed, filed, grown, numbered, Replays, rules_in}
 use Rattle.cls_core.specs.Arguments.{arguments_of, rule_count}
-use Rattle.cls_core.specs.Closure.{HasMoreGoals, HasMoreRules, IsTooLarge}
+use Rattle.cls_core.specs.Closure.{HasMoreGoals, HasMoreRules}
 use Rattle.cls_core.specs.declared.state.RowState.{RowState}
 use Rattle.cls_core.specs.declared.state.RowState.TheVariants.{Free, Held, Filed}
 use Rattle.cls_core.specs.declared.entry.Entry.{Entry}

@@ -1,6 +1,5 @@
 -- The facts that hold of a machine under a tag.
 use Rattle.std.specs.Prelude.{◌≡◌, ℕ, suc, ◌<◌, ◌≤◌, ◌^◌, Bool, List, [], ◌∷◌, Some, length, slice_get}
-use Rattle.cls_core.specs.Rows.{Machine}
 use Rattle.cls_core.specs.Machine.{begun, Replays, rules_in}
 use Rattle.cls_core.specs.Closure.{IsTooLarge}
 use Rattle.cls_core.specs.declared.entry.Entry.{Entry}

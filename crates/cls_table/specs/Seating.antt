@@ -1,5 +1,5 @@
 -- What a seat at a table is, and what a shared call tells it.
-use Rattle.std.specs.Prelude.{◌≡◌, ◌<◌, ◌≤◌, ℕ, Bool, Option, Some}
+use Rattle.std.specs.Prelude.{◌≡◌, ◌<◌, ◌≤◌, ℕ}
 use Rattle.cls_core.specs.declared.answer.Answer.{Answer}
 use Rattle.cls_turn.specs.Seats.{HasTag, IsFree}
 use Rattle.cls_turn.specs.declared.seat.TurnSeat.{TurnSeat}

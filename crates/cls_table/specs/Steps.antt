@@ -1,5 +1,5 @@
 -- What a holding of the table does.
-use Rattle.std.specs.Prelude.{◌≡◌, ◌≢◌, ℕ, ◌+◌, ◌<◌, ◌≤◌, Bool, true, false, [], ◌∷◌, ◌++◌, Some, length, slice_get}
+use Rattle.std.specs.Prelude.{◌≡◌, ◌≢◌, ℕ, ◌+◌, ◌≤◌, Bool, true, false, [], ◌∷◌, ◌++◌, Some, length, slice_get}
 use Rattle.cls_core.specs.Machine.{claimed, filed, grown, rules_in}
 use Rattle.cls_core.specs.Arguments.{rule_count}
 use Rattle.cls_core.specs.Rows.{Machine}

@@ -1,5 +1,5 @@
 -- What becomes of a worker's seat.
-use Rattle.std.specs.Prelude.{◌≡◌, ◌≤◌, ℕ, Option, Some}
+use Rattle.std.specs.Prelude.{◌≡◌, ◌≤◌, Some}
 use Rattle.cls_table.specs.declared.tag.Tag.{Tag}
 use Rattle.cls_table.specs.Seen.{SeatSeen}
 

@@ -1,8 +1,6 @@
-use Rattle.std.proofs.Common.{rules}
-use denote.RattleType.{RattleType}
 use denote.Param.{param}
 use denote.Exit.{yes}
-use denote.Param.Send.{IsSend, IsSync, sendable, param_send, param_sync, arg_send, struct_send, shr_send}
+use denote.Param.Send.{IsSend, IsSync, param_send, arg_send, shr_send}
 use Rattle.cls_table.specs.contracts.seat.TableSeat.{the_row as seat_row}
 use Rattle.cls_table.specs.contracts.shared.SharedTable.{the_row as shared_row}
 use Rattle.std.proofs.alloc.Global.TheSendSync.{the_send as global_send}

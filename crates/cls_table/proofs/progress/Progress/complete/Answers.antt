@@ -1,4 +1,4 @@
-use Rattle.std.proofs.Common.{◌≡◌, ◌<◌, ◌+◌, ◌-◌, ◌⊎◌, inl, inr, ℕ, arith, sym, subst, ap}
+use Rattle.std.proofs.Common.{inl, inr, arith, sym, subst}
 use Rattle.cls_core.proofs.Closure.{replay-sound, complete-within}
 use Rattle.cls_core.proofs.Columns.{lt-split}
 use Rattle.cls_table.specs.Going.{IsLarge}

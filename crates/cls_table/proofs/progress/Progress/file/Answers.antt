@@ -1,4 +1,4 @@
-use Rattle.std.proofs.Common.{arith, sym, subst, ap, ◌≡◌, ◌≤◌, ◌∙◌, Some, slice_get}
+use Rattle.std.proofs.Common.{sym, subst, ◌≡◌, ◌∙◌, Some, slice_get}
 use Rattle.std.proofs.lemmas.Bool.{false≢true}
 use Rattle.std.specs.Prelude.{All}
 use Rattle.cls_core.specs.declared.state.RowState.TheVariants.{Held}

@@ -1,4 +1,4 @@
-use Rattle.std.proofs.Common.{arith, sym, subst, ap, ◌≡◌, ◌∙◌, Some, slice_get}
+use Rattle.std.proofs.Common.{sym, subst, ◌≡◌, Some, slice_get}
 use Rattle.std.proofs.lemmas.Option.{slice_get_within}
 use Rattle.cls_core.specs.declared.state.RowState.TheVariants.{Held}
 use Rattle.cls_table.proofs.Going.{row-goal, seen}

@@ -1,4 +1,3 @@
-use Rattle.std.proofs.Common.{arith, sym, subst}
 use Rattle.std.proofs.lemmas.Option.{slice_get_within}
 use Rattle.cls_table.proofs.Going.{row-goal, seen}
 use Rattle.cls_table.proofs.progress.Progress.fits.Goals as goal

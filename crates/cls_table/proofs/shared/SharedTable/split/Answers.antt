@@ -1,4 +1,4 @@
-use Rattle.std.proofs.Common.{arith, ◌≤◌, ◌∙◌, sym, ap}
+use Rattle.std.proofs.Common.{arith, ◌∙◌, sym, ap}
 use Rattle.cls_table.proofs.Seating.{stays-seated, is-seated}
 use Rattle.cls_table.proofs.shared.SharedTable.split.Goals as goal
 
