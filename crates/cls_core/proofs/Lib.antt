@@ -1,0 +1,10 @@
+pub mod Closure
+pub mod Columns
+pub mod FiledRows
+pub mod Filing
+pub mod Insertion
+pub mod Members
+pub mod Canonical
+pub mod Replaying
+pub mod Sent
+pub mod Times

@@ -1,0 +1,9 @@
+pub mod Arguments
+pub mod Closure
+pub mod Kept
+pub mod Laws
+pub mod Machine
+pub mod Canonical
+pub mod Numbers
+pub mod Rows
+pub mod Times

@@ -1,0 +1,32 @@
+-- What contracts see of the core machine.
+use Rattle.std.specs.Prelude.{ℕ, List, [], ◌∷◌}
+use Rattle.cls_core.specs.declared.state.RowState.{RowState}
+use Rattle.cls_core.specs.declared.state.RowState.TheVariants.{Free, Held, Filed}
+use Rattle.cls_core.specs.declared.entry.Entry.{Entry}
+use Rattle.cls_core.specs.declared.answer.Answer.{Answer}
+
+-- the goal of each row, and the state of each row
+pub record Machine (G : Type 0) : Type 0 where
+  pub goals : List G
+  pub states : List RowState
+
+abbrev pub machine : {G : Type 0} → List G → List RowState → Machine G
+machine gs ss = record { goals = gs; states = ss }
+
+-- the rows of the machine, and its events so far
+pub record Recorded (G : Type 0) : Type 0 where
+  pub rows : Machine G
+  pub history : List Entry
+
+-- a filed row
+pub record Row (G : Type 0) : Type 0 where
+  pub goal : G
+  pub answer : Answer ℕ
+
+-- the rows as a list, where all are filed
+abbrev pub filed_rows : {G : Type 0} → List G → List RowState → List (Row G)
+filed_rows [] states = []
+filed_rows (g ∷ gs) [] = []
+filed_rows (g ∷ gs) (Filed a ∷ ss) = record { goal = g; answer = a } ∷ filed_rows gs ss
+filed_rows (g ∷ gs) (Free ∷ ss) = []
+filed_rows (g ∷ gs) (Held worker ∷ ss) = []

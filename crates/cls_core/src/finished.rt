@@ -1,0 +1,78 @@
+ghost use Rattle.std.specs.Prelude.{◌≡◌, ◌<◌, Some, length, slice_get, option_map};
+ghost use Rattle.cls_core.specs.Machine.{EachFiled};
+
+use crate::answer::Answer;
+use crate::entry::History;
+use crate::state::RowState;
+use cls_base::Key;
+use indexmap::IndexSet;
+use std::marker::Model;
+
+/// Rows that are all filed, seen as the list of their goals with their answers. The goals of the answers are numbers of
+/// rows.
+#[derive(Drop)]
+pub struct Rows<G: Key + Drop> {
+    goals: IndexSet<G>,
+    states: Vec<RowState>,
+}
+
+impl<G: Key + Drop> Model for Rows<G> {
+    ghost use Rattle.std.specs.Prelude.{◌≡◌, ◌<◌, ◌^◌, List, length};
+    ghost use Rattle.cls_core.specs.Rows.{Row, filed_rows};
+    ghost use Rattle.cls_core.specs.Machine.{EachFiled};
+
+    ghost Value = { List (Row G) };
+
+    ghost view = { λ r. filed_rows r.goals.keys r.states.items };
+
+    ghost invariant = { λ r. (length r.states.items ≡ length r.goals.keys) × (length r.goals.keys < 2 ^ 32) × EachFiled r.states.items };
+}
+
+impl<G: Key + Drop> Rows<G> {
+    ghost use Rattle.std.specs.Prelude.{◌^◌};
+    ghost use Rattle.cls_core.specs.Rows.{Row, filed_rows};
+
+    pub(crate) fn of(goals: IndexSet<G>, states: Vec<RowState>) -> Rows<G>
+        requires paired { length states.items ≡ length goals.keys }
+        requires small { length goals.keys < 2 ^ 32 }
+        requires filed { EachFiled states.items }
+        ensures { result ≡ filed_rows goals.keys states.items }
+    {
+        Rows { goals, states }
+    }
+
+    /// The number of rows.
+    pub fn count(&self) -> u32
+        ensures { result ≡ length self.now }
+    {
+        self.states.len() as u32
+    }
+
+    /// The row's goal.
+    pub fn goal(&self, row: u32) -> &G
+        requires { row < length self.now }
+        ensures { option_map (λ (r : Row G). r.goal) (slice_get self.now row) ≡ Some result.now }
+    {
+        self.goals.get_index(row as usize).unwrap()
+    }
+
+    /// The row's answer, whose goals are numbers of rows.
+    pub fn answer(&self, row: u32) -> &Answer<u32>
+        requires { row < length self.now }
+        ensures { option_map (λ (r : Row G). r.answer) (slice_get self.now row) ≡ Some result.now }
+    {
+        match &self.states[row as usize] {
+            RowState::Filed(answer) => answer,
+            _ => unreachable!(),
+        }
+    }
+}
+
+/// What is left of a core where every row is filed.
+#[derive(Drop)]
+pub struct Finished<G: Key + Drop> {
+    /// The rows, each with its goal and its answer.
+    pub rows: Rows<G>,
+    /// The events that led to them.
+    pub history: History,
+}

@@ -1,0 +1,29 @@
+//! The core machine: which goals were reached, who works on which, and what became of each.
+//!
+//! - [`Rule`] is one way in which a goal can be met, with goals for arguments. [`Goals`] and [`Rules`] are lists.
+//! - [`Answer`] is what is known of a goal once it was worked on, and [`Expand`] what works on it.
+//! - [`Core`] has a row for each goal that was reached. A row is free, held by a worker, or filed with its answer.
+//!   [`Core::claim`] and [`Core::file`] are its two events, and [`Entry`] and [`History`] record them.
+//! - [`Finished`] is a core whose rows are all filed, with [`Rows`] and the history.
+//! - [`laws`] holds what is true of every history: which goals it reaches, and that the rows of a complete one don't
+//!   depend on it.
+#![tactic(auto)]
+
+mod adding;
+mod answer;
+mod entry;
+mod expand;
+mod finished;
+pub mod laws;
+mod machine;
+mod numbering;
+mod rule;
+mod state;
+
+pub use answer::Answer;
+pub use entry::{Entry, History};
+pub use expand::Expand;
+pub use finished::{Finished, Rows};
+pub use machine::Core;
+pub use rule::{Goals, Rule, Rules};
+pub use state::RowState;

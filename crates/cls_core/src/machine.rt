@@ -1,0 +1,244 @@
+ghost use Rattle.std.specs.Prelude.{◌≡◌, ◌<◌, ◌≤◌, ◌+◌, ◌^◌, [], ◌∷◌, ◌++◌, Some, IfOk, IfErr, IfSome, IfNone, OnOk, OnErr, IsTrue, true, false, ◌↔◌, ℕ, ◌≢◌, length, slice_get, vec_len, replicate};
+ghost use Rattle.std.specs.Vec.{vec_capacity};
+ghost use Rattle.indexmap.specs.IndexSet.{spare, insert_all};
+ghost use Rattle.cls_core.specs.Machine.{rules_in, IsFiled};
+ghost use Rattle.cls_core.specs.Arguments.{rule_count};
+ghost use Rattle.cls_core.specs.declared.state.RowState.{RowState};
+ghost use Rattle.cls_core.specs.declared.state.RowState.TheVariants.{Free, Held};
+
+use crate::adding::added_by;
+use crate::answer::Answer;
+use crate::entry::{Entry, History};
+use crate::finished::{Finished, Rows};
+use crate::numbering::number_answer;
+use crate::state::RowState;
+use cls_base::{Key, OutOfMemory};
+use indexmap::IndexSet;
+use std::alloc::Global;
+use std::marker::Model;
+
+/// The rows of the core machine, each with its goal and its state, and the events so far.
+///
+/// No two rows have one goal. A goal's row is found by the goal.
+#[derive(Drop)]
+pub struct Core<G: Key + Drop> {
+    // The goal of each row.
+    goals: IndexSet<G>,
+    // The state of each row.
+    states: Vec<RowState>,
+    // There is room for the entries of the filings to come.
+    history: Vec<Entry>,
+    // The rows below this one aren't free.
+    first: usize,
+    // The number of rows that are held.
+    held: usize,
+    // The number of rules of the filed rows together.
+    rules: u64,
+}
+
+impl<G: Key + Drop> Model for Core<G> {
+    ghost use Rattle.cls_core.specs.Rows.{Recorded};
+    ghost use Rattle.cls_core.specs.Kept.{IsKept};
+    ghost use Rattle.std.specs.Vec.{vec_capacity};
+
+    ghost Value = { Recorded G };
+
+    ghost view = { λ c. record { rows = record { goals = c.goals.keys; states = c.states.items }; history = c.history.items } };
+
+    ghost invariant = { λ c. IsKept c.goals.keys c.states.items c.first c.held c.rules c.history.items (vec_capacity c.history) };
+}
+
+// Puts so many free rows behind the others, for which there is room.
+fn add_free(states: &mut Vec<RowState>, count: usize)
+    requires { vec_len states.old + count ≤ vec_capacity states.old }
+    ensures { states.new.items ≡ states.old.items ++ replicate count Free }
+{
+    for row in 0..count {
+        let _ = row;
+        states.push_reserved(RowState::Free);
+    }
+}
+
+// Whether all rows are filed.
+fn all_filed(states: &[RowState]) -> bool
+    ensures yes { result ≡ true → (row : ℕ) (s : RowState) → slice_get states.now row ≡ Some s → IsFiled s }
+    ensures no { result ≡ false → ((row : ℕ) × (s : RowState) × (slice_get states.now row ≡ Some s) × (IsFiled s → ⊥)) }
+{
+    for state in states {
+        match state {
+            RowState::Filed(_) => {}
+            _ => return false,
+        }
+    }
+    true
+}
+
+impl<G: Key + Drop> Core<G> {
+    ghost use Rattle.cls_core.specs.declared.entry.Entry.TheVariants.{Claim, File};
+    ghost use Rattle.cls_core.specs.Machine.{begun, claimed, filed, grown, AllFiled};
+    ghost use Rattle.cls_core.specs.Rows.{filed_rows};
+
+    /// One free row, the start goal, and an empty history. The only error is want of memory.
+    pub fn enter(alloc: Global, start: G) -> Result<Core<G>, OutOfMemory>
+        ensures rows { IfOk result (λ c. c.rows ≡ begun start) }
+        ensures history { IfOk result (λ c. c.history ≡ []) }
+    {
+        let mut goals = IndexSet::new(alloc);
+        let mut states = Vec::new(alloc);
+        states.push(RowState::Free)?;
+        goals.insert(start)?;
+        Ok(Core {
+            goals,
+            states,
+            history: Vec::new(alloc),
+            first: 0,
+            held: 0,
+            rules: 0,
+        })
+    }
+
+    /// The number of rows.
+    pub fn count(&self) -> u32
+        ensures { result ≡ length self.now.rows.goals }
+    {
+        self.states.len() as u32
+    }
+
+    /// The number of rules of the filed rows together.
+    pub fn rules(&self) -> u64
+        ensures { result ≡ rules_in self.now.rows.states }
+    {
+        self.rules
+    }
+
+    /// The row's goal.
+    pub fn goal(&self, row: u32) -> &G
+        requires { row < length self.now.rows.goals }
+        ensures { slice_get self.now.rows.goals row ≡ Some result.now }
+    {
+        self.goals.get_index(row as usize).unwrap()
+    }
+
+    /// The row's state.
+    pub fn state(&self, row: u32) -> &RowState
+        requires { row < length self.now.rows.goals }
+        ensures { slice_get self.now.rows.states row ≡ Some result.now }
+    {
+        &self.states[row as usize]
+    }
+
+    /// A free row: the one with the least number.
+    pub fn any_free(&self) -> Option<u32>
+        ensures some { IfSome result (λ row. slice_get self.now.rows.states row ≡ Some Free) }
+        ensures within { IfSome result (λ row. row < length self.now.rows.goals) }
+        ensures none { IfNone result ((row : ℕ) → slice_get self.now.rows.states row ≢ Some Free) }
+    {
+        for row in self.first..self.states.len() {
+            if matches!(self.states[row], RowState::Free) {
+                return Some(row as u32);
+            }
+        }
+        None
+    }
+
+    /// Whether some row is held.
+    pub fn any_held(&self) -> bool
+        ensures { IsTrue result ↔ ((row : ℕ) × (worker : ℕ) × (slice_get self.now.rows.states row ≡ Some (Held worker))) }
+    {
+        self.held > 0
+    }
+
+    /// Whether there is this row and the worker holds it.
+    pub fn is_held(&self, worker: u32, row: u32) -> bool
+        ensures { IsTrue result ↔ (slice_get self.now.rows.states row ≡ Some (Held worker)) }
+    {
+        match self.states.get(row as usize) {
+            Some(RowState::Held(by)) => *by == worker,
+            _ => false,
+        }
+    }
+
+    /// The number of different argument goals of the answer that have no row yet. The only error is want of memory.
+    pub fn added(&self, alloc: Global, answer: &Answer<G>) -> Result<u64, OutOfMemory>
+        ensures { IfOk result (λ n. length (grown G.eq self.now.rows.goals answer.now) ≡ length self.now.rows.goals + n) }
+    {
+        let added = added_by(alloc, &self.goals, answer)?;
+        Ok(added.len() as u64)
+    }
+
+    /// The event Claim: the worker takes the row, which is free. Room for the entry of its filing is taken too. The only
+    /// error is want of memory, at which the core is as before.
+    pub fn claim(&mut self, worker: u32, row: u32) -> Result<(), OutOfMemory>
+        requires { slice_get self.old.rows.states row ≡ Some Free }
+        ensures rows { OnOk result (self.new.rows ≡ claimed self.old.rows worker row) }
+        ensures history { OnOk result (self.new.history ≡ self.old.history ++ Claim worker row ∷ []) }
+        ensures small { OnOk result (length self.new.history < 2 ^ 63) }
+        ensures err { OnErr result (self.new ≡ self.old) }
+    {
+        self.history.reserve(self.held + 2)?;
+        self.history.push_reserved(Entry::Claim { worker, row });
+        self.states[row as usize] = RowState::Held(worker);
+        self.held += 1;
+        if row as usize == self.first {
+            self.first += 1;
+        }
+        Ok(())
+    }
+
+    /// The event File: the row, which the worker holds, is filed with the answer, and each argument goal that has no row
+    /// yet gets a free one. All memory is taken before a row changes. The Err is want of memory alone: it hands the answer
+    /// back, and the core is as before.
+    pub fn file(
+        &mut self,
+        alloc: Global,
+        worker: u32,
+        row: u32,
+        answer: Answer<G>,
+    ) -> Result<(), Answer<G>>
+        requires held { slice_get self.old.rows.states row ≡ Some (Held worker) }
+        requires room { length (grown G.eq self.old.rows.goals answer) < 2 ^ 32 }
+        requires rules { rules_in self.old.rows.states + rule_count answer < 2 ^ 64 }
+        ensures rows { OnOk result (self.new.rows ≡ filed G.eq self.old.rows row answer) }
+        ensures history { OnOk result (self.new.history ≡ self.old.history ++ File worker row ∷ []) }
+        ensures err { IfErr result (λ a. (a ≡ answer) × (self.new ≡ self.old)) }
+    {
+        let Ok((numbers, mut added)) = number_answer(alloc, &self.goals, &answer) else {
+            return Err(answer);
+        };
+        let count = added.len();
+        let Ok(()) = self.states.reserve(count) else {
+            return Err(answer);
+        };
+        let Ok(()) = self.goals.append(&mut added) else {
+            return Err(answer);
+        };
+        add_free(&mut self.states, count);
+        self.rules += answer.rule_count() as u64;
+        self.states[row as usize] = RowState::Filed(numbers);
+        self.held -= 1;
+        self.history.push_reserved(Entry::File { worker, row });
+        Ok(())
+    }
+
+    /// The rows and the history. The Err comes exactly where some row isn't filed, and hands the core back.
+    pub fn finish(self) -> Result<Finished<G>, Core<G>>
+        ensures ok { IfOk result (λ f. AllFiled self.rows × (f.rows ≡ filed_rows self.rows.goals self.rows.states) × (f.history ≡ self.history)) }
+        ensures err { IfErr result (λ c. (c ≡ self) × (AllFiled self.rows → ⊥)) }
+    {
+        if !all_filed(self.states.as_slice()) {
+            return Err(self);
+        }
+        let Core {
+            goals,
+            states,
+            history,
+            first: _,
+            held: _,
+            rules: _,
+        } = self;
+        Ok(Finished {
+            rows: Rows::of(goals, states),
+            history: History::new(history),
+        })
+    }
+}

@@ -1,0 +1,29 @@
+-- What the expander of the tests means: a heap of a size.
+use Rattle.std.specs.Prelude.{◌≡◌, ◌<◌, ◌+◌, ◌*◌, ◌^◌, ℕ, Bool, true, false, List, [], ◌∷◌, All, nat_lt, if◌then◌else◌}
+use Rattle.std.proofs.Common.{arith, zero, suc, refl}
+use Rattle.std.proofs.lemmas.Bool.Decides.{nat_tests}
+use Rattle.cls_core.specs.Arguments.{arguments_of}
+use Rattle.cls_core.specs.declared.rule.Rule.TheVariants.{Head}
+use Rattle.cls_core.specs.declared.answer.Answer.{Answer}
+use Rattle.cls_core.specs.declared.answer.Answer.TheVariants.{Rules}
+use Rattle.cls_machine_tests.specs.Nodes.{node}
+use Rattle.cls_machine_tests.specs.declared.heap.Node.{Node}
+
+abbrev pub below : ℕ → Node → Bool → List Node
+below size g true = node (2 * g.id + 1) ∷ node (2 * g.id + 2) ∷ []
+below size g false = []
+
+abbrev pub heap_answer : ℕ → Node → Answer Node
+heap_answer size g = Rules (Head g.id (below size g (nat_lt (2 * g.id + 2) size)) ∷ [])
+
+abbrev pub IsInHeap : ℕ → Node → Type 0
+IsInHeap size g = (g.id < size) × (size < 1000)
+
+in_heap : (size : ℕ) (g : Node) → IsInHeap size g → (b : Bool) → nat_lt (2 * g.id + 2) size ≡ b → All (IsInHeap size) (arguments_of (Rules (Head g.id (below size g b) ∷ [])))
+in_heap size g h true e zero d k = (grind (arith, nat_tests), h.1)
+in_heap size g h true e (suc zero) d k = (grind (arith, nat_tests), h.1)
+in_heap size g h true e (suc (suc i)) d k = absurd (omega arith)
+in_heap size g h false e i d k = absurd (omega arith)
+
+pub arguments_in_heap : (size : ℕ) (g : Node) → IsInHeap size g → All (IsInHeap size) (arguments_of (heap_answer size g))
+arguments_in_heap size g h = in_heap size g h (nat_lt (2 * g.id + 2) size) refl

@@ -1,0 +1,81 @@
+//! A closure whose goals are numbers: each has one rule, over the two numbers below it in a heap of this size, where both
+//! are there.
+ghost use Rattle.std.specs.Prelude.{◌≡◌, ◌<◌, IfOk};
+
+use cls_base::{Key, OutOfMemory};
+use cls_core::{Answer, Expand, Goals, Rule, Rules};
+use std::alloc::Global;
+use std::sync::atomic::AtomicU64;
+use std::sync::atomic::Ordering::SeqCst;
+
+#[derive(PartialEq, Eq, Hash, Drop, Clone, Copy)]
+pub struct Node {
+    pub id: u32,
+}
+
+impl Key for Node {
+    ghost use Rattle.cls_machine_tests.specs.Nodes.{node_is};
+
+    fn copy(&self, _alloc: Global) -> Result<Node, OutOfMemory> {
+        Ok(Node { id: self.id })
+    }
+
+    ghost exact = { node_is };
+}
+
+#[derive(Drop)]
+pub struct Heap {
+    size: u32,
+    asks: AtomicU64,
+    // At this ask, counted from 1, it wants memory.
+    fails: u64,
+}
+
+impl Heap {
+    pub fn new(size: u32, fails: u64) -> Heap
+        ensures { result.size ≡ size }
+    {
+        Heap {
+            size,
+            asks: AtomicU64::new(1),
+            fails,
+        }
+    }
+}
+
+impl Expand for Heap {
+    ghost use Rattle.cls_machine_tests.specs.Heaps.{heap_answer, IsInHeap, arguments_in_heap};
+
+    type Goal = Node;
+
+    type Tag = u32;
+
+    ghost tag = { λ h. h.size };
+
+    ghost answer = { heap_answer };
+
+    ghost ready = { IsInHeap };
+
+    fn expand(&self, alloc: Global, goal: &Node) -> Result<Answer<Node>, OutOfMemory> {
+        if self.asks.fetch_add(1, SeqCst) == self.fails {
+            return Err(OutOfMemory);
+        }
+        let mut args = Vec::new(alloc);
+        if 2 * goal.id + 2 < self.size {
+            args.push(Node {
+                id: 2 * goal.id + 1,
+            })?;
+            args.push(Node {
+                id: 2 * goal.id + 2,
+            })?;
+        }
+        let mut rules = Vec::new(alloc);
+        rules.push(Rule::Head {
+            component: goal.id,
+            args: Goals::new(args),
+        })?;
+        Ok(Answer::Rules(Rules::new(rules)))
+    }
+
+    ghost arguments_ready = { arguments_in_heap };
+}

@@ -1,0 +1,13 @@
+//! Tests of the machine: workers over a closure whose goals are numbers. No code of the program's own.
+//!
+//! [`Heap`] is an expander that can be made to want memory at one ask, and [`Meeting`] a gate that holds one worker until
+//! another makes a claim.
+#![tactic(auto)]
+
+mod heap;
+mod meeting;
+#[cfg(test)]
+mod tests;
+
+pub use heap::{Heap, Node};
+pub use meeting::Meeting;

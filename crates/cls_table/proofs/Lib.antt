@@ -1,0 +1,5 @@
+pub mod Completing
+pub mod Counting
+pub mod Going
+pub mod Seating
+pub mod Sent

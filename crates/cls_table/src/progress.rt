@@ -1,0 +1,268 @@
+//! A machine with its history, under a tag: what a table has beside its count and its marks.
+ghost use Rattle.std.specs.Prelude.{◌≡◌, ◌<◌, ◌≤◌, ◌+◌, ◌^◌, [], ◌∷◌, ◌++◌, Some, true, false, ℕ, ◌≢◌, ◌↔◌, IsTrue, IfOk, IfErr, IfSome, IfNone, OnOk, OnErr, length, slice_get};
+ghost use Rattle.cls_core.specs.declared.state.RowState.TheVariants.{Free, Held};
+ghost use Rattle.cls_core.specs.declared.entry.Entry.TheVariants.{Claim as ClaimEntry, File};
+ghost use Rattle.cls_core.specs.Machine.{begun, claimed, filed, Replays, AllFiled, rules_in};
+ghost use Rattle.cls_core.specs.Rows.{filed_rows};
+ghost use Rattle.cls_table.specs.Steps.{Fits, HasRoom};
+ghost use Rattle.cls_table.specs.Going.{IsGoing, IsLarge, claims_in};
+ghost use Rattle.cls_table.specs.Completing.{GoesOn, IsFiledAt, IsCompletion};
+
+use crate::claim::Claim;
+use crate::fault::ExpandFault;
+use crate::limits::Limits;
+use crate::origin::Origin;
+use cls_base::{Key, OutOfMemory};
+use cls_core::{Answer, Core, Expand, Finished, RowState};
+use std::alloc::Global;
+use std::marker::Model;
+use std::snapshot::Snapshot;
+
+/// The rows and the history, of which the tag is the meaning.
+#[derive(Drop)]
+pub struct Progress<E: Expand> {
+    core: Core<E::Goal>,
+    origin: Origin<E>,
+}
+
+impl<E: Expand> Model for Progress<E> {
+    ghost use Rattle.cls_table.specs.Seen.{ProgressSeen};
+    ghost use Rattle.cls_table.specs.Going.{IsGoing};
+
+    ghost Value = { ProgressSeen E.Tag E.Goal };
+
+    ghost view = { λ p. record { tag = p.origin; rows = p.core.rows; history = p.core.history } };
+
+    ghost invariant = { λ p. IsGoing E.Goal.eq E.answer E.ready (record { tag = p.origin; rows = p.core.rows; history = p.core.history }) };
+}
+
+/// What became of a filing.
+pub(crate) enum Outcome {
+    /// The row is filed.
+    Kept,
+    /// It would have passed the limits, and nothing changed.
+    Beyond,
+}
+
+impl<E: Expand> Progress<E> {
+    ghost use Rattle.cls_table.specs.Outcomes.{KeptOrBeyond};
+
+    /// One free row, the start goal.
+    pub(crate) fn start(
+        alloc: Global,
+        by: &E,
+        goal: E::Goal,
+        limits: Limits,
+        workers: u32,
+    ) -> Result<Progress<E>, OutOfMemory>
+        requires ready { E.ready (E.tag by.now) goal }
+        requires some { 0 < limits.goals }
+        ensures tag { IfOk result (λ p. p.tag ≡ record { by = E.tag by.now; start = goal; goals = limits.goals; rules = limits.rules; workers = workers }) }
+        ensures rows { IfOk result (λ p. p.rows ≡ begun goal) }
+        ensures history { IfOk result (λ p. p.history ≡ []) }
+    {
+        let origin = Origin::new(by, &goal, limits, workers);
+        let core = Core::enter(alloc, goal)?;
+        Ok(Progress { core, origin })
+    }
+
+    /// A free row.
+    pub(crate) fn any_free(&self) -> Option<u32>
+        ensures some { IfSome result (λ row. slice_get self.now.rows.states row ≡ Some Free) }
+        ensures none { IfNone result ((row : ℕ) → slice_get self.now.rows.states row ≢ Some Free) }
+    {
+        self.core.any_free()
+    }
+
+    /// Whether some row is held.
+    pub(crate) fn any_held(&self) -> bool
+        ensures { IsTrue result ↔ ((row : ℕ) × (worker : ℕ) × (slice_get self.now.rows.states row ≡ Some (Held worker))) }
+    {
+        self.core.any_held()
+    }
+
+    /// The number of rows.
+    fn count(&self) -> u32
+        ensures goals { result ≡ length self.now.rows.goals }
+        ensures states { result ≡ length self.now.rows.states }
+        ensures within { length self.now.rows.goals ≤ self.now.tag.goals }
+    {
+        self.core.count()
+    }
+
+    // The event of a claim: the worker takes the row, which is free.
+    fn claim_row(&mut self, worker: u32, row: u32) -> Result<(), OutOfMemory>
+        requires worker { worker ≤ self.old.tag.workers }
+        requires free { slice_get self.old.rows.states row ≡ Some Free }
+        ensures tag { self.new.tag ≡ self.old.tag }
+        ensures rows { OnOk result (self.new.rows ≡ claimed self.old.rows worker row) }
+        ensures history { OnOk result (self.new.history ≡ self.old.history ++ ClaimEntry worker row ∷ []) }
+        ensures small { OnOk result (length self.new.history < 2 ^ 63) }
+        ensures err { OnErr result (self.new ≡ self.old) }
+    {
+        self.core.claim(worker, row)?;
+        Ok(())
+    }
+
+    /// The worker claims the row, which is free, and has its goal then.
+    pub(crate) fn claim(
+        &mut self,
+        alloc: Global,
+        worker: u32,
+        row: u32,
+        number: u64,
+    ) -> Result<Claim<E>, OutOfMemory>
+        requires worker { worker ≤ self.old.tag.workers }
+        requires free { slice_get self.old.rows.states row ≡ Some Free }
+        ensures claim { IfOk result (λ c. (c.tag ≡ self.old.tag) × (c.worker ≡ worker) × (c.row ≡ row) × (c.number ≡ number)) }
+        ensures goal { IfOk result (λ c. slice_get self.old.rows.goals row ≡ Some c.goal) }
+        ensures tag { self.new.tag ≡ self.old.tag }
+        ensures rows { OnOk result (self.new.rows ≡ claimed self.old.rows worker row) }
+        ensures history { OnOk result (self.new.history ≡ self.old.history ++ ClaimEntry worker row ∷ []) }
+        ensures small { OnOk result (length self.new.history < 2 ^ 63) }
+        ensures err { OnErr result (self.new ≡ self.old) }
+    {
+        let goal = self.core.goal(row).copy(alloc)?;
+        self.claim_row(worker, row)?;
+        Ok(Claim {
+            origin: Snapshot::of(&self.origin),
+            worker,
+            row,
+            number,
+            goal,
+        })
+    }
+
+    /// Whether the claim's row is held by its worker and has its goal.
+    pub(crate) fn fits(&self, claim: &Claim<E>) -> bool
+        ensures yes { result ≡ true → Fits self.now.rows claim.now }
+        ensures no { result ≡ false → Fits self.now.rows claim.now → ⊥ }
+    {
+        self.core.is_held(claim.worker, claim.row) && *self.core.goal(claim.row) == claim.goal
+    }
+
+    // Whether the answer can be filed within the limits. The only error is want of memory.
+    fn has_room(&self, alloc: Global, answer: &Answer<E::Goal>) -> Result<bool, OutOfMemory>
+        ensures { IfOk result (λ b. IsTrue b ↔ HasRoom E.Goal.eq self.now.tag self.now.rows answer.now) }
+    {
+        let added = self.core.added(alloc, answer)?;
+        let goals = u64::from(self.origin.goals() - self.core.count());
+        let rules = u64::from(self.origin.rules()) - self.core.rules();
+        Ok(added <= goals && answer.rule_count() as u64 <= rules)
+    }
+
+    /// Files the row, which the worker holds, with the answer that the tag gives for its goal, where that stays within the
+    /// limits. The Err is want of memory alone, and hands the answer back.
+    #[tactic(auto, using(crate::proofs::Counting::claims_in_file))]
+    pub(crate) fn file(
+        &mut self,
+        alloc: Global,
+        worker: u32,
+        row: u32,
+        answer: Answer<E::Goal>,
+    ) -> Result<Outcome, Answer<E::Goal>>
+        requires held { slice_get self.old.rows.states row ≡ Some (Held worker) }
+        requires answer { (g : E.Goal) → slice_get self.old.rows.goals row ≡ Some g → answer ≡ E.answer self.old.tag.by g }
+        ensures outcome { IfOk result (λ o. KeptOrBeyond E.Goal.eq worker row answer o self.old self.new) }
+        ensures large { IfOk result (λ o. o ≡ Outcome.Beyond → IsLarge E.answer self.old.tag) }
+        ensures claims { OnOk result (claims_in self.new.history ≡ claims_in self.old.history) }
+        ensures tag { self.new.tag ≡ self.old.tag }
+        ensures err { IfErr result (λ a. (a ≡ answer) × (self.new ≡ self.old)) }
+    {
+        let Ok(room) = self.has_room(alloc, &answer) else {
+            return Err(answer);
+        };
+        if !room {
+            return Ok(Outcome::Beyond);
+        }
+        self.core.file(alloc, worker, row, answer)?;
+        Ok(Outcome::Kept)
+    }
+
+    /// The rows and the history. The Err comes exactly where some row isn't filed.
+    pub(crate) fn finish(self) -> Result<Finished<E::Goal>, Progress<E>>
+        ensures rows { IfOk result (λ f. AllFiled self.rows × (f.rows ≡ filed_rows self.rows.goals self.rows.states) × (f.history ≡ self.history)) }
+        ensures going { OnOk result (IsGoing E.Goal.eq E.answer E.ready self) }
+        ensures err { IfErr result (λ p. (p ≡ self) × (AllFiled self.rows → ⊥)) }
+    {
+        let Progress { core, origin } = self;
+        match core.finish() {
+            Ok(finished) => Ok(finished),
+            Err(core) => Err(Progress { core, origin }),
+        }
+    }
+
+    // Files the row, which the worker holds, with the answer of its goal.
+    fn file_held(&mut self, alloc: Global, by: &E, worker: u32, row: u32) -> Result<(), ExpandFault>
+        requires tag { E.tag by.now ≡ self.old.tag.by }
+        requires held { slice_get self.old.rows.states row ≡ Some (Held worker) }
+        ensures goes { OnOk result (GoesOn self.old self.new) }
+        ensures filed { OnOk result (IsFiledAt self.new.rows row) }
+        ensures large { IfErr result (λ e. e ≡ ExpandFault.TooLarge → IsLarge E.answer self.old.tag) }
+    {
+        let Ok(answer) = by.expand(alloc, self.core.goal(row)) else {
+            return Err(ExpandFault::OutOfMemory);
+        };
+        match self.file(alloc, worker, row, answer) {
+            Ok(Outcome::Kept) => Ok(()),
+            Ok(Outcome::Beyond) => Err(ExpandFault::TooLarge),
+            Err(_) => Err(ExpandFault::OutOfMemory),
+        }
+    }
+
+    // Files the row, by its holder, or by the worker 0 where it is free.
+    fn complete_row(&mut self, alloc: Global, by: &E, row: u32) -> Result<(), ExpandFault>
+        requires tag { E.tag by.now ≡ self.old.tag.by }
+        requires within { row < length self.old.rows.goals }
+        ensures goes { OnOk result (GoesOn self.old self.new) }
+        ensures filed { OnOk result (IsFiledAt self.new.rows row) }
+        ensures large { IfErr result (λ e. e ≡ ExpandFault.TooLarge → IsLarge E.answer self.old.tag) }
+    {
+        let worker = match self.core.state(row) {
+            RowState::Filed(_) => return Ok(()),
+            RowState::Held(worker) => *worker,
+            RowState::Free => {
+                return self.complete_free(alloc, by, row);
+            }
+        };
+        self.file_held(alloc, by, worker, row)
+    }
+
+    // Claims the row, which is free, as the worker 0, and files it.
+    fn complete_free(&mut self, alloc: Global, by: &E, row: u32) -> Result<(), ExpandFault>
+        requires tag { E.tag by.now ≡ self.old.tag.by }
+        requires free { slice_get self.old.rows.states row ≡ Some Free }
+        ensures goes { OnOk result (GoesOn self.old self.new) }
+        ensures filed { OnOk result (IsFiledAt self.new.rows row) }
+        ensures large { IfErr result (λ e. e ≡ ExpandFault.TooLarge → IsLarge E.answer self.old.tag) }
+    {
+        let Ok(()) = self.claim_row(0, row) else {
+            return Err(ExpandFault::OutOfMemory);
+        };
+        match self.file_held(alloc, by, 0, row) {
+            Ok(()) => Ok(()),
+            Err(fault) => Err(fault),
+        }
+    }
+
+    /// Files each row, the held ones by their holders and the free ones as the worker 0, until all are filed.
+    pub(crate) fn complete(self, alloc: Global, by: &E) -> Result<Finished<E::Goal>, ExpandFault>
+        requires tag { E.tag by.now ≡ self.tag.by }
+        ensures complete { IfOk result (λ f. IsCompletion E.Goal.eq E.answer self f) }
+        ensures within { OnOk result (IsLarge E.answer self.tag → ⊥) }
+        ensures large { IfErr result (λ e. e ≡ ExpandFault.TooLarge → IsLarge E.answer self.tag) }
+    {
+        let mut progress = self;
+        let mut row = 0;
+        while row < progress.count() {
+            match progress.complete_row(alloc, by, row) {
+                Ok(()) => row += 1,
+                Err(fault) => return Err(fault),
+            }
+        }
+        match progress.finish() {
+            Ok(finished) => Ok(finished),
+            Err(_) => unreachable!(),
+        }
+    }
+}

@@ -1,0 +1,214 @@
+ghost use Rattle.std.specs.Prelude.{◌≡◌, ◌<◌, ◌≤◌, ◌+◌, Some, IfOk, IfErr, IfSome, OnOk};
+
+use crate::claim::{Claim, ClaimAnswer, Filed};
+use crate::limits::Limits;
+use crate::seat::TableSeat;
+use crate::table::Table;
+use crate::tag::Tag;
+use cls_base::OutOfMemory;
+use cls_core::{Expand, Finished};
+use cls_turn::Turn;
+use std::alloc::Global;
+use std::sync::Wait;
+use std::sync::ledger::{Blank, Ledger, Share};
+
+/// A table under a turn.
+///
+/// Each call that takes a seat wants one of this table: the first, or one that was split from such a seat.
+#[derive(Drop)]
+pub struct SharedTable<E: Expand, L: Ledger> {
+    turn: Turn<Table<E, L>, Tag<E::Tag, E::Goal>>,
+}
+
+/// A table that was closed while some row wasn't filed.
+#[derive(Drop)]
+pub struct Unfinished<E: Expand, L: Ledger> {
+    /// The table that was taken out.
+    pub table: Table<E, L>,
+}
+
+impl<E: Expand, L: Ledger> SharedTable<E, L> {
+    ghost use Rattle.cls_turn.specs.Seats.{id_of};
+    ghost use Rattle.cls_core.specs.Machine.{AllFiled};
+    ghost use Rattle.cls_table.specs.Going.{claims_in};
+    ghost use Rattle.cls_table.specs.Steps.{made_by};
+    ghost use Rattle.cls_table.specs.Seating.{Tells};
+    ghost use Rattle.cls_table.specs.Completing.{IsComplete};
+    ghost use Rattle.cls_table.specs.declared.tag.Tag.{Tag};
+
+    /// A table with one free row, the goal, and the seat of the worker 0 with every part of the ledger. The only error is
+    /// want of memory.
+    pub fn start(
+        alloc: Global,
+        by: &E,
+        goal: E::Goal,
+        limits: Limits,
+        workers: u32,
+        blank: Blank,
+    ) -> Result<(SharedTable<E, L>, TableSeat<E, L>), OutOfMemory>
+        requires ready { E.ready (E.tag by.now) goal }
+        requires some { 0 < limits.goals }
+        requires name { blank.name ≡ L.name }
+        requires parts { blank.parts ≡ L.parts }
+        requires each { L.parts ≡ workers + 1 }
+        ensures turn { IfOk result (λ r. r.1.turn ≡ id_of r.0.turn) }
+        ensures tag { IfOk result (λ r. r.1.tag ≡ Some (record { by = E.tag by.now; start = goal; goals = limits.goals; rules = limits.rules; workers = workers })) }
+        ensures seat { IfOk result (λ r. (r.1.worker ≡ 0) × (r.1.parts ≡ L.parts) × (r.1.amount ≡ 0)) }
+    {
+        let (book, share) = blank.open::<L>();
+        let table = Table::start(alloc, by, goal, limits, workers, book)?;
+        let (turn, seat) = Turn::new(alloc, table)?;
+        Ok((
+            SharedTable { turn },
+            TableSeat {
+                seat,
+                share,
+                worker: 0,
+            },
+        ))
+    }
+
+    /// A seat for the worker, with one part of the ledger taken from the given seat.
+    pub fn split(&self, seat: &mut TableSeat<E, L>, worker: u32) -> TableSeat<E, L>
+        requires of { seat.old.turn ≡ id_of self.now.turn }
+        requires parts { 1 < seat.old.parts }
+        requires worker { (t : Tag E.Tag E.Goal) → seat.old.tag ≡ Some t → worker ≤ t.workers }
+        ensures new { (result.turn ≡ seat.old.turn) × (result.tag ≡ seat.old.tag) × (result.worker ≡ worker) × (result.parts ≡ 1) × (result.amount ≡ 0) }
+        ensures left { (seat.new.turn ≡ seat.old.turn) × (seat.new.tag ≡ seat.old.tag) × (seat.new.worker ≡ seat.old.worker) × (seat.new.parts + 1 ≡ seat.old.parts) × (seat.new.amount ≡ seat.old.amount) }
+    {
+        let share = seat.share.split_off(1, 0);
+        TableSeat {
+            seat: self.turn.split(&mut seat.seat),
+            share,
+            worker,
+        }
+    }
+
+    /// Ends the other seat, and adds its parts and its amount to the given one.
+    pub fn join(&self, seat: &mut TableSeat<E, L>, other: TableSeat<E, L>)
+        requires of { seat.old.turn ≡ id_of self.now.turn }
+        requires of_other { other.turn ≡ id_of self.now.turn }
+        ensures same { (seat.new.turn ≡ seat.old.turn) × (seat.new.tag ≡ seat.old.tag) × (seat.new.worker ≡ seat.old.worker) }
+        ensures shares { (seat.new.parts ≡ seat.old.parts + other.parts) × (seat.new.amount ≡ seat.old.amount + other.amount) }
+    {
+        let TableSeat {
+            seat: ended,
+            share,
+            worker: _,
+        } = other;
+        self.turn.join(&mut seat.seat, ended);
+        seat.share.merge(share);
+    }
+
+    /// Waits for the turn, and asks for a goal: what `Table::claim` answers at that holding.
+    ///
+    /// It can tell that the closure is too large only where it is. `OutOfMemory` comes for want of memory, and where the table
+    /// is stopped.
+    pub fn claim<R: Wait>(
+        &self,
+        rt: &R,
+        alloc: Global,
+        seat: &mut TableSeat<E, L>,
+    ) -> Result<ClaimAnswer<E>, OutOfMemory>
+        requires of { seat.old.turn ≡ id_of self.now.turn }
+        ensures same { (seat.new.turn ≡ seat.old.turn) × (seat.new.tag ≡ seat.old.tag) × (seat.new.worker ≡ seat.old.worker) × (seat.new.parts ≡ seat.old.parts) }
+        ensures tells { IfOk result (λ a. (t : Tag E.Tag E.Goal) → seat.old.tag ≡ Some t → Tells E.answer t seat.old.worker a) }
+        ensures amount { IfOk result (λ a. seat.new.amount ≡ seat.old.amount + made_by a) }
+        ensures err { IfErr result (λ _. seat.new.amount ≡ seat.old.amount) }
+    {
+        let TableSeat {
+            seat,
+            share,
+            worker,
+        } = seat;
+        let mut table = self.turn.take(rt, seat);
+        let answer = table.claim(alloc, share, *worker);
+        self.turn.put(seat, table);
+        answer
+    }
+
+    // One holding of `file`.
+    fn file_once<R: Wait>(
+        &self,
+        rt: &R,
+        alloc: Global,
+        seat: &mut TableSeat<E, L>,
+        filed: Filed<E>,
+    ) -> Result<Option<Filed<E>>, Filed<E>>
+        requires of { seat.old.turn ≡ id_of self.now.turn }
+        requires tag { seat.old.tag ≡ Some filed.claim.tag }
+        ensures same { seat.new ≡ seat.old }
+        ensures back { IfOk result (λ r. IfSome r (λ f. f ≡ filed)) }
+        ensures err { IfErr result (λ f. f ≡ filed) }
+    {
+        let TableSeat { seat, .. } = seat;
+        let mut table = self.turn.take(rt, seat);
+        let answer = table.file(alloc, filed);
+        self.turn.put(seat, table);
+        answer
+    }
+
+    /// Waits for a holding at which the claim's row is held by its worker and has the claim's goal, and files there what
+    /// `Table::file` files. The Err is want of memory alone, and hands the filing back.
+    pub fn file<R: Wait>(
+        &self,
+        rt: &R,
+        alloc: Global,
+        seat: &mut TableSeat<E, L>,
+        filed: Filed<E>,
+    ) -> Result<(), Filed<E>>
+        requires of { seat.old.turn ≡ id_of self.now.turn }
+        requires tag { seat.old.tag ≡ Some filed.claim.tag }
+        ensures same { seat.new ≡ seat.old }
+        ensures err { IfErr result (λ f. f ≡ filed) }
+    {
+        let mut filed = filed;
+        for _ in rt.forever() {
+            match self.file_once(rt, alloc, seat, filed)? {
+                None => return Ok(()),
+                Some(back) => filed = back,
+            }
+        }
+        unreachable!()
+    }
+
+    /// Waits for the turn, and stops the table, which spends the claim.
+    pub fn stop<R: Wait>(&self, rt: &R, seat: &mut TableSeat<E, L>, claim: Claim<E>)
+        requires of { seat.old.turn ≡ id_of self.now.turn }
+        ensures same { seat.new ≡ seat.old }
+    {
+        let TableSeat { seat, .. } = seat;
+        let mut table = self.turn.take(rt, seat);
+        table.stop(claim);
+        self.turn.put(seat, table);
+    }
+
+    /// Waits for the turn, and takes the table out: the rows and the history where all rows are filed. Else, and exactly then,
+    /// the table. With a seat that has every part of the ledger, the history has as many claims as the seat's share counts.
+    pub fn close<R: Wait>(
+        self,
+        rt: &R,
+        seat: TableSeat<E, L>,
+    ) -> Result<Finished<E::Goal>, Unfinished<E, L>>
+        requires of { seat.turn ≡ id_of self.turn }
+        ensures complete { IfOk result (λ f. (t : Tag E.Tag E.Goal) → seat.tag ≡ Some t → IsComplete E.Goal.eq E.answer t f) }
+        ensures count { IfOk result (λ f. seat.parts ≡ L.parts → claims_in f.history ≡ seat.amount) }
+        ensures tag { IfErr result (λ u. seat.tag ≡ Some u.table.tag) }
+        ensures unfinished { IfErr result (λ u. AllFiled u.table.rows → ⊥) }
+        ensures claims { IfErr result (λ u. seat.parts ≡ L.parts → u.table.claims ≡ seat.amount) }
+    {
+        let TableSeat {
+            seat,
+            share,
+            worker: _,
+        } = seat;
+        let SharedTable { turn } = self;
+        let mut table = turn.close(rt, seat);
+        let mut share = share;
+        table.audit(&mut share);
+        match table.finish() {
+            Ok(finished) => Ok(finished),
+            Err(table) => Err(Unfinished { table }),
+        }
+    }
+}

@@ -1,0 +1,215 @@
+ghost use Rattle.std.specs.Prelude.{◌≡◌, ◌<◌, ◌≤◌, ◌+◌, [], ◌∷◌, ◌++◌, Some, true, false, ℕ, IfOk, IfErr, IfSome, IfNone, OnOk, OnErr};
+
+use crate::claim::{Claim, ClaimAnswer, Filed};
+use crate::fault::ExpandFault;
+use crate::limits::Limits;
+use crate::progress::{Outcome, Progress};
+use crate::tag::Tag;
+use cls_base::OutOfMemory;
+use cls_core::{Expand, Finished};
+use cls_turn::Tagged;
+use std::alloc::Global;
+use std::marker::Model;
+use std::sync::ledger::{Book, Ledger, Share};
+
+/// The rows, the history, the count of claims made and the marks, under a tag.
+///
+/// Whenever it is there its history is legal and has the rows as its replay, row 0 is the tag's start goal, each filed row
+/// holds the answer that the tag gives for its goal, all is within the tag's limits, no entry names a worker above the
+/// greatest, the claims of the history are as many as the count, and it is marked as too large only where the closure is.
+#[derive(Drop)]
+pub struct Table<E: Expand, L: Ledger> {
+    progress: Progress<E>,
+    claims: Book<L>,
+    made: u64,
+    large: bool,
+    stopped: bool,
+}
+
+impl<E: Expand, L: Ledger> Model for Table<E, L> {
+    ghost use Rattle.std.specs.Prelude.{◌≡◌, true};
+    ghost use Rattle.cls_table.specs.Seen.{TableSeen};
+    ghost use Rattle.cls_table.specs.Going.{IsLarge, claims_in};
+
+    ghost Value = { TableSeen E.Tag E.Goal };
+
+    ghost view = { λ t. record { tag = t.progress.tag; rows = t.progress.rows; history = t.progress.history; claims = t.claims.total; large = t.large; stopped = t.stopped } };
+
+    ghost invariant = { λ t. (claims_in t.progress.history ≡ t.claims.total) × (t.made ≡ t.claims.total) × (t.large ≡ true → IsLarge E.answer t.progress.tag) };
+}
+
+impl<E: Expand, L: Ledger> Tagged<Tag<E::Tag, E::Goal>> for Table<E, L> {
+    ghost tag = { λ t. t.tag };
+}
+
+impl<E: Expand, L: Ledger> Table<E, L> {
+    ghost use Rattle.cls_core.specs.Machine.{begun, AllFiled};
+    ghost use Rattle.cls_table.specs.Completing.{IsCompletion, progress_of};
+    ghost use Rattle.cls_table.specs.Going.{IsLarge, claims_in};
+    ghost use Rattle.cls_table.specs.Steps.{Claims, Files, Fits, made_by, stopped_table};
+
+    pub(crate) fn start(
+        alloc: Global,
+        by: &E,
+        goal: E::Goal,
+        limits: Limits,
+        workers: u32,
+        claims: Book<L>,
+    ) -> Result<Table<E, L>, OutOfMemory>
+        requires ready { E.ready (E.tag by.now) goal }
+        requires some { 0 < limits.goals }
+        requires none { claims.total ≡ 0 }
+        ensures tag { IfOk result (λ t. t.tag ≡ record { by = E.tag by.now; start = goal; goals = limits.goals; rules = limits.rules; workers = workers }) }
+        ensures rows { IfOk result (λ t. t.rows ≡ begun goal) }
+        ensures marks { IfOk result (λ t. (t.large ≡ false) × (t.stopped ≡ false) × (t.history ≡ [])) }
+    {
+        let progress = Progress::start(alloc, by, goal, limits, workers)?;
+        Ok(Table {
+            progress,
+            claims,
+            made: 0,
+            large: false,
+            stopped: false,
+        })
+    }
+
+    /// Gives a goal to the worker, or says why it doesn't: the whole work of one holding of `SharedTable::claim`.
+    ///
+    /// Where the table is stopped the answer is `OutOfMemory`, which also comes for want of memory. Else it is `TooLarge`
+    /// exactly where the table is marked so, `Job` where some row is free, `Again` exactly where no row is free and some
+    /// is held, and `Finished` exactly where all rows are filed. `Job` makes the row held by the worker, adds the entry of the
+    /// claim and raises the share by one. With any other answer the table and the share are as before.
+    pub fn claim(
+        &mut self,
+        alloc: Global,
+        share: &mut Share<L>,
+        worker: u32,
+    ) -> Result<ClaimAnswer<E>, OutOfMemory>
+        requires worker { worker ≤ self.old.tag.workers }
+        requires part { 0 < share.old.parts }
+        ensures stopped { self.old.stopped ≡ true → OnOk result ⊥ }
+        ensures claims { IfOk result (λ a. Claims self.old worker a self.new) }
+        ensures large { self.old.large ≡ true → IsLarge E.answer self.old.tag }
+        ensures tag { self.new.tag ≡ self.old.tag }
+        ensures amount { IfOk result (λ a. share.new.amount ≡ share.old.amount + made_by a) }
+        ensures parts { share.new.parts ≡ share.old.parts }
+        ensures err { OnErr result ((self.new ≡ self.old) × (share.new.amount ≡ share.old.amount)) }
+    {
+        if self.stopped {
+            return Err(OutOfMemory);
+        }
+        if self.large {
+            return Ok(ClaimAnswer::TooLarge);
+        }
+        let Some(row) = self.progress.any_free() else {
+            if self.progress.any_held() {
+                return Ok(ClaimAnswer::Again);
+            }
+            return Ok(ClaimAnswer::Finished);
+        };
+        let claim = self.progress.claim(alloc, worker, row, self.made)?;
+        self.claims.add(share, 1);
+        self.made += 1;
+        Ok(ClaimAnswer::Job(claim))
+    }
+
+    /// Files a claim's goal: the whole work of one holding of `SharedTable::file`.
+    ///
+    /// It hands the filing back exactly where the claim's row isn't held by its worker or has another goal, and the table is
+    /// then as before. Else it files the row where that stays within the limits, and marks the table as too large where it
+    /// doesn't. The Err is want of memory alone: it hands the filing back too, and the table is as before.
+    pub fn file(&mut self, alloc: Global, filed: Filed<E>) -> Result<Option<Filed<E>>, Filed<E>>
+        requires { filed.claim.tag ≡ self.old.tag }
+        ensures files { IfOk result (λ r. IfNone r (Files E.Goal.eq self.old filed self.new)) }
+        ensures back { IfOk result (λ r. IfSome r (λ f. (f ≡ filed) × (self.new ≡ self.old) × (Fits self.old.rows filed.claim → ⊥))) }
+        ensures err { IfErr result (λ f. (f ≡ filed) × (self.new ≡ self.old)) }
+        ensures tag { self.new.tag ≡ self.old.tag }
+    {
+        if !self.progress.fits(&filed.claim) {
+            return Ok(Some(filed));
+        }
+        let Filed { claim, answer } = filed;
+        match self.progress.file(alloc, claim.worker, claim.row, answer) {
+            Ok(Outcome::Kept) => {}
+            Ok(Outcome::Beyond) => self.large = true,
+            Err(answer) => return Err(Filed { claim, answer }),
+        }
+        claim.spend();
+        Ok(None)
+    }
+
+    /// Tells how the share stands to the claims made.
+    pub(crate) fn audit(&mut self, share: &mut Share<L>)
+        ensures same { self.new ≡ self.old }
+        ensures whole { share.old.parts ≡ L.parts → share.old.amount ≡ self.old.claims }
+    {
+        self.claims.audit(share);
+    }
+
+    /// Whether the table is marked as too large.
+    pub fn large(&self) -> bool
+        ensures mark { result ≡ self.now.large }
+        ensures cause { result ≡ true → IsLarge E.answer self.now.tag }
+    {
+        self.large
+    }
+
+    /// Whether the table is stopped.
+    pub fn stopped(&self) -> bool
+        ensures { result ≡ self.now.stopped }
+    {
+        self.stopped
+    }
+
+    /// Stops the table for want of memory, and spends the claim. Rows and history stay.
+    pub fn stop(&mut self, claim: Claim<E>)
+        ensures { self.new ≡ stopped_table self.old }
+    {
+        self.stopped = true;
+        claim.spend();
+    }
+
+    /// Files each row that isn't filed: a held one under its holder's number, a free one after a claim as the worker 0.
+    /// Nothing waits. Where the table is stopped the answer is `OutOfMemory`, which also comes for want of memory. Else
+    /// `TooLarge` comes exactly where the closure of the tag's start goal passes the tag's limits.
+    pub fn complete(self, alloc: Global, by: &E) -> Result<Finished<E::Goal>, ExpandFault>
+        requires tag { E.tag by.now ≡ self.tag.by }
+        ensures complete { IfOk result (λ f. IsCompletion E.Goal.eq E.answer (progress_of self) f) }
+        ensures within { OnOk result (IsLarge E.answer self.tag → ⊥) }
+        ensures large { IfErr result (λ e. e ≡ ExpandFault.TooLarge → (self.stopped ≡ false) × IsLarge E.answer self.tag) }
+        ensures stopped { self.stopped ≡ true → IfErr result (λ e. e ≡ ExpandFault.OutOfMemory) × OnOk result ⊥ }
+    {
+        if self.stopped {
+            return Err(ExpandFault::OutOfMemory);
+        }
+        if self.large {
+            return Err(ExpandFault::TooLarge);
+        }
+        self.progress.complete(alloc, by)
+    }
+
+    /// The rows and the history. The Err comes exactly where some row isn't filed, and hands the table back.
+    pub(crate) fn finish(self) -> Result<Finished<E::Goal>, Table<E, L>>
+        ensures complete { IfOk result (λ f. IsCompletion E.Goal.eq E.answer (progress_of self) f) }
+        ensures history { IfOk result (λ f. (f.history ≡ self.history) × (claims_in f.history ≡ self.claims)) }
+        ensures err { IfErr result (λ t. (t ≡ self) × (AllFiled self.rows → ⊥)) }
+    {
+        let Table {
+            progress,
+            claims,
+            made,
+            large,
+            stopped,
+        } = self;
+        match progress.finish() {
+            Ok(finished) => Ok(finished),
+            Err(progress) => Err(Table {
+                progress,
+                claims,
+                made,
+                large,
+                stopped,
+            }),
+        }
+    }
+}
