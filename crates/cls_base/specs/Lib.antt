@@ -1,6 +1,7 @@
 pub mod Memory
 pub mod Outside
 pub mod Pages
+pub mod Pools
 pub mod Spines
 pub mod Subtyping
 pub mod Taxa

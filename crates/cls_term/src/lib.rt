@@ -9,7 +9,9 @@
 //! Each of these calls goes down the term, so the depth of a term bounds the stack that it takes.
 #![tactic(auto)]
 
+mod bank;
 pub mod laws;
 mod term;
 
+pub use bank::Bank;
 pub use term::{Term, Terms};
