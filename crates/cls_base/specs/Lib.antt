@@ -1,7 +1,9 @@
+pub mod Languages
 pub mod Memory
 pub mod Outside
 pub mod Pages
 pub mod Pools
+pub mod Rules
 pub mod Spines
 pub mod Subtyping
 pub mod Taxa
