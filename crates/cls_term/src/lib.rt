@@ -11,7 +11,9 @@
 
 mod bank;
 pub mod laws;
+mod spine_set;
 mod term;
 
 pub use bank::Bank;
+pub use spine_set::SpineSet;
 pub use term::{Term, Terms};
