@@ -1,0 +1,57 @@
+-- Rules as they are kept while a page is made.
+use Rattle.std.specs.Prelude.{ℕ, ◌≡◌, ◌≤◌, ◌<◌, ◌+◌, ◌⊎◌, List, [], ◌∷◌, length, map, slice_index, slice_index_or}
+use Rattle.cls_base.specs.Terms.{Applicative, length_of, size_of}
+use Rattle.cls_base.specs.Rules as rules
+use Rattle.cls_base.specs.Languages.{Applies, NodeRule}
+use Rattle.cls_enum.specs.Candidates.{fills}
+use Rattle.cls_enum.specs.declared.plan.Place.{Place}
+use Rattle.cls_enum.specs.declared.plan.Plan.{Plan}
+use Rattle.cls_enum.specs.declared.plan.Plan.TheVariants.{Head, Any}
+
+abbrev pub nodes_of : List Place → List ℕ
+nodes_of places = map (λ p. p.node) places
+
+-- the rule that a plan is of
+abbrev pub rule_of : Plan → rules.Rule ℕ
+rule_of (Head x c places) = rules.head x (nodes_of places.items)
+rule_of (Any l places) = rules.any l (slice_index_or (nodes_of places.items) 0 0)
+
+abbrev pub rules_of : List Plan → List (rules.Rule ℕ)
+rules_of plans = map rule_of plans
+
+-- a head has its cost beside it, and for any term applied to any there is one place
+abbrev pub IsPlan : (ℕ → ℕ) → Plan → Type 0
+IsPlan cost (Head x c places) = c ≡ cost x
+IsPlan cost (Any l places) = length places.items ≡ 1
+
+abbrev pub places_of : Plan → List Place
+places_of (Head x c places) = places.items
+places_of (Any l places) = places.items
+
+-- too many occurrences, with the fewest that are still to come
+abbrev pub IsBarren : List Place → ℕ → ℕ → Type 0
+IsBarren [] rest occurrences = (0 < rest) ⊎ (64 < occurrences)
+IsBarren (p ∷ places) rest occurrences = 64 < occurrences + slice_index p.least.items rest
+
+-- where the places say so, no short term is found
+abbrev pub ArePruned : (ℕ → ℕ → List Applicative) → List Place → Type 0
+ArePruned cell [] = Unit {0}
+ArePruned cell (p ∷ places) = ((rest : ℕ) (f : Applicative) → 64 < length_of f + slice_index p.least.items rest → fills cell f (p.node ∷ nodes_of places) rest ≡ []) × ArePruned cell places
+
+module _ (book : List (List (rules.Rule ℕ))) (cost : ℕ → ℕ) (s : ℕ) where
+  -- terms of the nodes in turn, whose sizes come to `rest`, have at least so many occurrences, or the whole has more than 64
+  abbrev pub IsBound : List ℕ → ℕ → ℕ → Type 0
+  IsBound nodes rest bound = (f e : Applicative) → Applies ℕ (NodeRule book) f nodes e → size_of cost e ≡ size_of cost f + rest → (length_of f + bound ≤ length_of e) ⊎ (64 < length_of e)
+
+  -- each place has such bounds for rests below s
+  abbrev pub AreBounds : List Place → Type 0
+  AreBounds [] = Unit {0}
+  AreBounds (p ∷ places) = (length p.least.items ≤ s) × ((rest : ℕ) → IsBound (p.node ∷ nodes_of places) rest (slice_index p.least.items rest)) × AreBounds places
+
+  pub record IsReady (plan : Plan) : Type 0 where
+    pub planned : IsPlan cost plan
+    pub bounds : AreBounds (places_of plan)
+
+  abbrev pub AreReady : List Plan → Type 0
+  AreReady [] = Unit {0}
+  AreReady (p ∷ plans) = IsReady p × AreReady plans
