@@ -124,7 +124,7 @@ pub over-none : {A : Type 0} (n : ℕ) (f : ℕ → List A) → ((t : ℕ) → t
 over-none zero f h = refl
 over-none (suc n) f h = (λ i. over-none n f (λ t l. h t (omega arith)) i ++ h n (omega arith) i)
 
-flat_map-none : {A B : Type 0} (f : A → List B) (xs : List A) → ((x : A) → f x ≡ []) → flat_map f xs ≡ []
+pub flat_map-none : {A B : Type 0} (f : A → List B) (xs : List A) → ((x : A) → f x ≡ []) → flat_map f xs ≡ []
 flat_map-none f [] h = refl
 flat_map-none f (x ∷ xs) h = (λ i. h x i ++ flat_map-none f xs h i)
 

@@ -80,3 +80,9 @@ take-whole zero [] l = refl
 take-whole zero (x ∷ xs) l = absurd (omega arith)
 take-whole (suc n) [] l = refl
 take-whole (suc n) (x ∷ xs) l = ap (λ ys. x ∷ ys) (take-whole n xs (omega arith))
+
+pub in-take : {A : Type 0} (n : ℕ) (e : A) (xs : List A) → IsIn (take n xs) e → IsIn xs e
+in-take zero e xs i = absurd i
+in-take (suc n) e [] i = absurd i
+in-take (suc n) e (x ∷ xs) (inl p) = inl p
+in-take (suc n) e (x ∷ xs) (inr i) = inr (in-take n e xs i)

@@ -1,7 +1,7 @@
 -- Membership by recursion on the list, and lists that are joined.
 use Rattle.std.specs.Prelude.{ℕ, ◌≡◌, ◌≤◌, ◌<◌, ◌↔◌, ◌⊎◌, List, [], ◌∷◌, ◌++◌, length, map}
 use Rattle.cls_base.specs.Pools.{NoneTwice}
-use Rattle.cls_base.specs.Terms.{Applicative, length_of}
+use Rattle.cls_base.specs.Terms.{Applicative, length_of, code_of, Precedes}
 use Rattle.cls_term.specs.Banks.{at, term_by, AreBelow}
 
 abbrev pub IsIn : {A : Type 0} → List A → A → Type 0
@@ -34,3 +34,15 @@ pub record IsAdded (terms : List Applicative) (old : List (ℕ × List ℕ)) (mo
 -- the terms stay, and further ones come behind them
 abbrev pub IsGrown : List Applicative → List Applicative → Type 0
 IsGrown old new = (more : List Applicative) × (new ≡ old ++ more)
+
+-- each code comes before the next
+abbrev pub CodesRise : List Applicative → Type 0
+CodesRise [] = Unit {0}
+CodesRise (e ∷ []) = Unit {0}
+CodesRise (e ∷ f ∷ es) = Precedes (code_of e) (code_of f) × CodesRise (f ∷ es)
+
+-- the numbers are of exactly the candidates, each once, in the order of their codes
+pub record IsCell (terms : List Applicative) (candidates : List Applicative) (numbers : List ℕ) : Type 0 where
+  pub below : AreBelow (length terms) numbers
+  pub rises : CodesRise (map (at terms) numbers)
+  pub exact : (e : Applicative) → IsIn (map (at terms) numbers) e ↔ IsIn candidates e

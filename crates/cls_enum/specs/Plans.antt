@@ -1,9 +1,10 @@
 -- Rules as they are kept while a page is made.
-use Rattle.std.specs.Prelude.{ℕ, ◌≡◌, ◌≤◌, ◌<◌, ◌+◌, ◌⊎◌, List, [], ◌∷◌, length, map, slice_index, slice_index_or}
-use Rattle.cls_base.specs.Terms.{Applicative, length_of, size_of}
+use Rattle.std.specs.Prelude.{ℕ, ◌≡◌, ◌≤◌, ◌<◌, ◌+◌, ◌-◌, ◌⊎◌, List, [], ◌∷◌, length, map, nat_le, if◌then◌else◌, slice_index, slice_index_or}
+use Rattle.std.specs.List.{flat_map}
+use Rattle.cls_base.specs.Terms.{Applicative, component, length_of, size_of}
 use Rattle.cls_base.specs.Rules as rules
 use Rattle.cls_base.specs.Languages.{Applies, NodeRule}
-use Rattle.cls_enum.specs.Candidates.{fills}
+use Rattle.cls_enum.specs.Candidates.{over, fills}
 use Rattle.cls_enum.specs.declared.plan.Place.{Place}
 use Rattle.cls_enum.specs.declared.plan.Plan.{Plan}
 use Rattle.cls_enum.specs.declared.plan.Plan.TheVariants.{Head, Any}
@@ -55,3 +56,16 @@ module _ (book : List (List (rules.Rule ℕ))) (cost : ℕ → ℕ) (s : ℕ) wh
   abbrev pub AreReady : List Plan → Type 0
   AreReady [] = Unit {0}
   AreReady (p ∷ plans) = IsReady p × AreReady plans
+
+module _ (cell : ℕ → ℕ → List Applicative) where
+  -- the terms of size s that a plan makes
+  abbrev pub plan_terms : ℕ → Plan → List Applicative
+  plan_terms s (Head x c places) = if nat_le c s then fills cell (component x) (nodes_of places.items) (s - c) else []
+  plan_terms s (Any l places) = over s (λ t. flat_map (λ f. fills cell f (nodes_of places.items) (s - t)) (cell t l))
+
+  abbrev pub plan_candidates : ℕ → List Plan → List Applicative
+  plan_candidates s plans = flat_map (plan_terms s) plans
+
+  abbrev pub PlansPruned : List Plan → Type 0
+  PlansPruned [] = Unit {0}
+  PlansPruned (p ∷ plans) = ArePruned cell (places_of p) × PlansPruned plans

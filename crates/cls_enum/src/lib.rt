@@ -4,6 +4,8 @@
 mod cells;
 mod fault;
 mod fill;
+mod find;
+mod make;
 mod plan;
 
 pub use fault::PageFault;
