@@ -5,4 +5,5 @@ pub mod FillSteps
 pub mod Members
 pub mod PageLaws
 pub mod StateLaws
+pub mod StateSteps
 pub mod Storing

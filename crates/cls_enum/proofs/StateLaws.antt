@@ -143,3 +143,7 @@ module _ (book : List (List (Rule ℕ))) (r : Request) where
       let c = no_more_than q.0 ps q.1 (λ p i. in_from ps p ((h.made p).1 (made-later d s p m ((q.2 p).0 (in_to q.0 p i))))) in
       let z = q.3 in
       omega arith
+
+pub IfErr-weaker : {T E : Type 0} (x : Result T E) (P Q : E → Type 0) → ((e : E) → P e → Q e) → IfErr x P → IfErr x Q
+IfErr-weaker (Ok x) P Q f h = tt
+IfErr-weaker (Err e) P Q f h = f e h

@@ -3,4 +3,5 @@ pub mod CellTables
 pub mod Faults
 pub mod Members
 pub mod Plans
+pub mod Requests
 pub mod States

@@ -39,6 +39,11 @@ abbrev pub ArePruned : (ℕ → ℕ → List Applicative) → List Place → Typ
 ArePruned cell [] = Unit {0}
 ArePruned cell (p ∷ places) = ((rest : ℕ) (f : Applicative) → 64 < length_of f + slice_index p.least.items rest → fills cell f (p.node ∷ nodes_of places) rest ≡ []) × ArePruned cell places
 
+-- the places say nothing yet
+abbrev pub AreFree : List Place → Type 0
+AreFree [] = Unit {0}
+AreFree (p ∷ places) = (p.least.items ≡ []) × AreFree places
+
 module _ (book : List (List (rules.Rule ℕ))) (cost : ℕ → ℕ) (s : ℕ) where
   -- terms of the nodes in turn, whose sizes come to `rest`, have at least so many occurrences, or the whole has more than 64
   abbrev pub IsBound : List ℕ → ℕ → ℕ → Type 0
@@ -69,3 +74,11 @@ module _ (cell : ℕ → ℕ → List Applicative) where
   abbrev pub PlansPruned : List Plan → Type 0
   PlansPruned [] = Unit {0}
   PlansPruned (p ∷ plans) = ArePruned cell (places_of p) × PlansPruned plans
+
+-- the rules of each node
+abbrev pub book_of : List (List Plan) → List (List (rules.Rule ℕ))
+book_of plans = map (λ ps. map rule_of ps) plans
+
+abbrev pub AllReady : List (List (rules.Rule ℕ)) → (ℕ → ℕ) → ℕ → List (List Plan) → Type 0
+AllReady book cost s [] = Unit {0}
+AllReady book cost s (ps ∷ plans) = AreReady book cost s ps × AllReady book cost s plans

@@ -1,5 +1,5 @@
 -- How far the terms are made, and what that says of the page.
-use Rattle.std.specs.Prelude.{ℕ, ◌≡◌, ◌≤◌, ◌<◌, ◌*◌, ◌+◌, ◌↔◌, ◌⊎◌, List, length, map, Contains}
+use Rattle.std.specs.Prelude.{ℕ, ◌≡◌, ◌≤◌, ◌<◌, ◌*◌, ◌+◌, ◌↔◌, ◌⊎◌, List, [], length, map, slice_index_or, Contains}
 use Rattle.cls_base.specs.Terms.{Applicative, length_of, size_of}
 use Rattle.cls_base.specs.Rules.{Rule}
 use Rattle.cls_base.specs.Languages.{IsGenerated}
@@ -8,7 +8,7 @@ use Rattle.cls_base.specs.Pools.{NoneTwice, IsMade, PoolIs, IsDecidingSize}
 use Rattle.cls_term.specs.Banks.{at, AreBelow}
 use Rattle.cls_enum.specs.Members.{IsIn}
 use Rattle.cls_enum.specs.Candidates.{IsInCell}
-use Rattle.cls_enum.specs.CellTables.{cell_at, cell_of}
+use Rattle.cls_enum.specs.CellTables.{cell_of}
 
 module _ (book : List (List (Rule ℕ))) (r : Request) where
   abbrev pub IsTerm : Applicative → Type 0
@@ -39,6 +39,15 @@ module _ (book : List (List (Rule ℕ))) (r : Request) where
     pub counted : length pairs ≡ total
     pub width : cells.0 ≡ length book
     pub cells_made : length cells.1 ≡ s * cells.0 + i
-    pub below : (t n : ℕ) → AreBelow (length terms) (cell_at cells t n)
+    pub below : (j : ℕ) → AreBelow (length terms) (slice_index_or cells.1 j [])
     pub exact : (t n : ℕ) → (t < s) ⊎ ((n < i) × (t ≡ s)) → (e : Applicative) → IsIn (cell_of terms cells t n) e ↔ IsInCell book r.cost n t e
     pub due_below : AreBelow (length terms) due
+
+  -- The page is known: for a size, the terms of node 0 of this size are made, too, and there is a due one more than is taken, or the size is the greatest.
+  pub record IsDone (terms : List Applicative) (due : List ℕ) (pool : ℕ) : Type 0 where
+    pub size : ℕ
+    pub pairs : List (ℕ × Applicative)
+    pub state : IsState size 1 pairs (map (at terms) due)
+    pub within_max : size ≤ r.max
+    pub within_pool : length pairs ≤ pool
+    pub decides : (r.take < length due) ⊎ (size ≡ r.max)

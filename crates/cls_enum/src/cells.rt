@@ -1,7 +1,7 @@
 ghost use Rattle.std.specs.Prelude.{◌≡◌, [], ◌∷◌, ◌++◌, OnOk, OnErr};
 ghost use Rattle.cls_enum.specs.CellTables.{cell_at};
 
-use crate::PageFault;
+use cls_base::OutOfMemory;
 use std::alloc::Global;
 use std::marker::Model;
 
@@ -45,7 +45,7 @@ impl Cells {
     }
 
     /// Adds the numbers of the next node's terms.
-    pub(crate) fn push(&mut self, numbers: Vec<u32>) -> Result<(), PageFault>
+    pub(crate) fn push(&mut self, numbers: Vec<u32>) -> Result<(), OutOfMemory>
         ensures ok { OnOk result (self.new ≡ (self.old.0, self.old.1 ++ numbers.items ∷ [])) }
     {
         self.lists.push(numbers)?;

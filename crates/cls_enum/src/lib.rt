@@ -2,10 +2,14 @@
 #![tactic(auto)]
 
 mod cells;
+mod due;
 mod fault;
 mod fill;
 mod find;
 mod make;
+mod paging;
 mod plan;
+mod shelf;
 
 pub use fault::PageFault;
+pub use paging::{page, Page};

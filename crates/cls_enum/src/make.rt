@@ -1,4 +1,4 @@
-ghost use Rattle.std.specs.Prelude.{◌≡◌, ℕ, ◌<◌, ◌^◌, IfOk, IfErr, [], length, map};
+ghost use Rattle.std.specs.Prelude.{◌≡◌, ℕ, ◌<◌, ◌≤◌, ◌^◌, IfOk, IfErr, [], length, map};
 ghost use Rattle.cls_term.specs.Banks.{at, term_by, AreBelow};
 ghost use Rattle.cls_enum.specs.CellTables.{cell_at, cell_of};
 ghost use Rattle.cls_enum.specs.Faults.{IfTooMany};
@@ -27,6 +27,7 @@ pub(crate) fn make(
     requires pruned { PlansPruned (cell_of bank.old cells.now) plans.now }
     ensures grown { IfOk result (λ _. IsGrown bank.old bank.new) }
     ensures cell { IfOk result (λ numbers. IsCell bank.new (plan_candidates (cell_of bank.old cells.now) size plans.now) numbers.items) }
+    ensures within { IfOk result (λ numbers. length numbers.items ≤ limit) }
     ensures over { IfErr result (λ fault. IfTooMany fault (IsOverfull limit [] (plan_candidates (cell_of bank.old cells.now) size plans.now))) }
 {
     let _count = bank.count();
@@ -34,6 +35,9 @@ pub(crate) fn make(
         Ok(found) => found,
         Err(fault) => return Err(fault),
     };
+    if found.len() as u64 > limit {
+        return Err(PageFault::TooManyTerms);
+    }
     let mut numbers = put_all(alloc, bank, &found)?;
     bank.sort_by_code(&mut numbers);
     Ok(numbers)

@@ -1,0 +1,61 @@
+use Rattle.std.proofs.Common.{◌≡◌, ◌+◌, ℕ, List, length, map, arith, subst}
+use Rattle.std.specs.Prelude.{option_copied}
+use Rattle.std.proofs.lemmas.List.{length-map}
+use Rattle.cls_term.specs.Banks.{at}
+use Rattle.cls_enum.specs.Faults.{IfTooMany}
+use Rattle.cls_enum.specs.Plans.{book_of}
+use Rattle.cls_enum.specs.Requests.{request}
+use Rattle.cls_enum.specs.States.{IsOver, IsTooMuch, IsState}
+use Rattle.cls_enum.specs.declared.fault.PageFault.{PageFault}
+use Rattle.cls_enum.proofs.FillSteps.{IfTooMany-weaker}
+use Rattle.cls_enum.proofs.StateLaws.{none-at_first, few-before, few-upto, over-at, over-next, IfErr-weaker}
+use Rattle.cls_enum.proofs.paging.collect.Goals as goal
+
+pub loop-size-init : goal.loop-size-init
+loop-size-init c =
+    let ts = c.args.shelf.now.bank in
+    let due = c.args.shelf.now.due.items in
+    record {
+      kept = c.requires.kept;
+      within = c.requires.within;
+      few = omega (arith, length-map due (at ts), none-at_first (book_of c.args.plans.now) (request c.args.costs.now (option_copied c.args.after) c.args.max c.args.take) c.requires.kept.pairs (map (at ts) due) c.args.take c.requires.kept.state);
+    }
+
+pub make_node-requires-clause-ready : goal.make_node-requires-clause-ready
+make_node-requires-clause-ready c = c.requires.ready c.loop-size.size
+
+pub make_others-requires-clause-ready : goal.make_others-requires-clause-ready
+make_others-requires-clause-ready c = c.requires.ready c.loop-size.size
+
+pub make_node-requires-2-clause-ready : goal.make_node-requires-2-clause-ready
+make_node-requires-2-clause-ready c = c.requires.ready c.args.max
+
+pub returns-in-Err-clause-over : goal.returns-in-Err-clause-over
+returns-in-Err-clause-over c =
+    let book = book_of c.args.plans.now in
+    let r = request c.args.costs.now (option_copied c.args.after) c.args.max c.args.take in
+    let ts = c.loop-size.shelf.bank in
+    let due = c.loop-size.shelf.due.items in
+    let few = few-before book r c.loop-size.size c.loop-size.invariant.kept.pairs (map (at ts) due) c.loop-size.invariant.kept.state (omega (arith, length-map due (at ts), c.loop-size.invariant.few)) in
+    IfTooMany-weaker c.in-Err.fault _ _ (λ h. over-at book r c.loop-size.size c.args.pool h (omega (arith, c.loop-size-test.true)) few) c.in-Err.ensures.over
+
+pub returns-in-Err-make_others-clause-over : goal.returns-in-Err-make_others-clause-over
+returns-in-Err-make_others-clause-over c =
+    let book = book_of c.args.plans.now in
+    let r = request c.args.costs.now (option_copied c.args.after) c.args.max c.args.take in
+    let ts = c.make_node.new.shelf.bank in
+    let due = c.make_node.new.shelf.due.items in
+    let few = few-upto book r c.loop-size.size c.in_default.ensures.kept.pairs (map (at ts) due) c.in_default.ensures.kept.state (omega (arith, length-map due (at ts), c.if-len-take.false, c.len.ensures, c.make_node.new.shelf.due.ok.0)) in
+    IfTooMany-weaker c.in-Err-make_others.fault _ _ (λ h. over-next book r c.loop-size.size c.args.pool h (omega (arith, c.loop-size-test.true)) few) c.in-Err-make_others.ensures.over
+
+pub returns-clause-over : goal.returns-clause-over
+returns-clause-over c =
+    let book = book_of c.args.plans.now in
+    let r = request c.args.costs.now (option_copied c.args.after) c.args.max c.args.take in
+    let ts = c.loop-size.shelf.bank in
+    let due = c.loop-size.shelf.due.items in
+    let z : c.loop-size.size ≡ c.args.max = omega (arith, c.loop-size-test.false, c.loop-size.auto.size-end) in
+    let few = few-before book r c.args.max c.loop-size.invariant.kept.pairs (map (at ts) due) (subst (λ (n : ℕ). IsState book r n 0 c.loop-size.invariant.kept.pairs (map (at ts) due)) z c.loop-size.invariant.kept.state) (omega (arith, length-map due (at ts), c.loop-size.invariant.few)) in
+    IfErr-weaker c.make_node-2.result (λ fault. IfTooMany fault (IsTooMuch book r c.args.max 1 c.args.pool)) (λ fault. IfTooMany fault (IsOver book r c.args.pool))
+    (λ fault h. IfTooMany-weaker fault _ _ (λ h. over-at book r c.args.max c.args.pool h (omega arith) few) h)
+    c.make_node-2.ensures.over
