@@ -1,8 +1,8 @@
 -- Steps of finding the terms of a cell.
-use Rattle.std.proofs.Common.{◌≡◌, ℕ, zero, suc, ◌+◌, ◌-◌, ◌<◌, ◌≤◌, List, [], ◌∷◌, ◌++◌, length, map, take, drop, get_or, refl, sym, ap, ◌∙◌, subst, inl, inr, arith, add-one, append-nil, take-append-drop, Bool, true, false}
-use Rattle.std.specs.Prelude.{◌⊎◌, Contains, slice_index, nat_eq, nat_le, ◌&&◌, if◌then◌else◌}
+use Rattle.std.proofs.Common.{◌≡◌, ℕ, zero, suc, ◌+◌, ◌-◌, ◌<◌, ◌≤◌, List, [], ◌∷◌, ◌++◌, length, map, take, get_or, refl, sym, ap, ◌∙◌, subst, inl, inr, arith, add-one, append-nil, Bool, true, false}
+use Rattle.std.specs.Prelude.{◌⊎◌, Contains, nat_eq, nat_le, ◌&&◌, if◌then◌else◌}
 use Rattle.std.specs.List.{flat_map}
-use Rattle.std.proofs.lemmas.List.{take_more, length_push, length-map, map-append}
+use Rattle.std.proofs.lemmas.List.{take_more, length-map, map-append}
 use Rattle.std.proofs.lemmas.List.Concat.{flat_map-append}
 use Rattle.std.proofs.lemmas.Bool.Decides.{nat_tests}
 use Rattle.std.proofs.lemmas.Bool.{cases_lt}
@@ -13,10 +13,10 @@ use Rattle.cls_term.proofs.Banks.{NoneTwice-push, term_by-one_to_one}
 use Rattle.cls_term.proofs.Spines.{spine-append, length_at_least_one}
 use Rattle.cls_term.specs.Banks.{at, term_by, AreBelow, IsJoined}
 use Rattle.cls_enum.specs.Candidates.{over, fills}
-use Rattle.cls_enum.specs.Members.{IsIn, Joins, AreFound, IsAdded, IsOverfull, SpinesBelow}
+use Rattle.cls_enum.specs.Members.{IsIn, AreFound, IsAdded, IsOverfull, SpinesBelow}
 use Rattle.cls_enum.specs.Plans.{nodes_of, IsBarren, ArePruned}
 use Rattle.cls_enum.specs.declared.plan.Place.{Place}
-use Rattle.cls_enum.proofs.Members.{in_from, in_to, in_left, in_right, in_cases, in_over, over_in, in_flat_map, flat_map_in, none_in, in_map}
+use Rattle.cls_enum.proofs.Members.{in_from, in_to, in_left, in_right, in_cases, in_map}
 
 -- a spine with one more argument
 pub term_by-push : (ts : List Applicative) (x : ℕ) (args : List ℕ) (a : ℕ) → term_by ts (x, args ++ a ∷ []) ≡ apply (term_by ts (x, args)) (at ts a)
@@ -96,10 +96,10 @@ module _ (ts : List Applicative) where
       let e = map-append (term_by ts) old (k ∷ []) in
       let T : List Applicative → Type 0 = λ xs. NoneTwice xs in
       let fresh : Contains (map (term_by ts) old) (term_by ts k) → ⊥ = λ q.
-          let r = in_map (term_by ts) old (term_by ts k) (in_from (map (term_by ts) old) (term_by ts k) q) in
-          let s = term_by-one_to_one ts r.0 k n (SpinesBelow-in (length ts) old r.0 h.below r.1) b r.2 in
-          let P : ℕ × List ℕ → Type 0 = λ z. IsIn old z in
-          c (in_to old k (subst P s r.1)) in
+      let r = in_map (term_by ts) old (term_by ts k) (in_from (map (term_by ts) old) (term_by ts k) q) in
+      let s = term_by-one_to_one ts r.0 k n (SpinesBelow-in (length ts) old r.0 h.below r.1) b r.2 in
+      let P : ℕ × List ℕ → Type 0 = λ z. IsIn old z in
+      c (in_to old k (subst P s r.1)) in
       let J : List Applicative → Type 0 = λ xs. (x : Applicative) → IsIn xs x → length_of x ≤ 64 in
       let short : J (map (term_by ts) old ++ term_by ts k ∷ []) = λ x i. elim (in_cases (map (term_by ts) old) (term_by ts k ∷ []) x i) [
         | inl j ↦ h.short x j
@@ -180,5 +180,6 @@ leaf-found cell f rest n p h = fills-leaf cell f rest (zero_of rest (λ l. h (in
     zero_of : (r : ℕ) → (0 < r → ⊥) → r ≡ 0
     zero_of zero h = refl
     zero_of (suc r) h = absurd (h (omega arith))
+
     at_most_of : (n m : ℕ) → n ≡ m → (64 < n → ⊥) → m ≤ 64
     at_most_of n m p h = elim (cases_lt 64 n) [ inl l ↦ absurd (h l) | inr l ↦ omega arith ]

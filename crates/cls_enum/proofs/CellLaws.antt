@@ -1,17 +1,16 @@
 -- The candidates of a node and a size are exactly its terms of this size that may stand on a page.
-use Rattle.std.proofs.Common.{◌≡◌, ℕ, zero, suc, get_or, ◌+◌, ◌-◌, ◌<◌, ◌≤◌, List, [], ◌∷◌, ◌++◌, refl, sym, ap, ◌∙◌, subst, inl, inr, arith, Bool, true, false, length, map}
-use Rattle.std.specs.Prelude.{Contains, ◌↔◌, ◌⊎◌, nat_le, nat_eq, if◌then◌else◌, ◌&&◌, slice_index, slice_index_or}
+use Rattle.std.proofs.Common.{◌≡◌, ℕ, zero, suc, get_or, ◌+◌, ◌-◌, ◌<◌, ◌≤◌, List, [], ◌∷◌, ◌++◌, refl, sym, ap, subst, inl, inr, arith, Bool, true, false, length}
+use Rattle.std.specs.Prelude.{◌↔◌, nat_le, nat_eq, if◌then◌else◌, ◌&&◌, slice_index, slice_index_or}
 use Rattle.std.specs.List.{flat_map}
 use Rattle.std.proofs.lemmas.Bool.Decides.{nat_tests}
 use Rattle.std.proofs.lemmas.Bool.{cases_lt}
 use Rattle.std.proofs.lemmas.List.{get_or_past}
 use Rattle.cls_base.specs.Terms.{Applicative, component, apply, length_of, size_of}
 use Rattle.cls_base.specs.Rules.{Rule, head, any}
-use Rattle.cls_base.specs.Languages.{Generates, by_head, by_any, Applies, done, next, NodeRule, IsGenerated, rules_at}
-use Rattle.cls_term.proofs.Spines.{length_at_least_one}
+use Rattle.cls_base.specs.Languages.{by_head, by_any, Applies, done, next, NodeRule, IsGenerated, rules_at}
 use Rattle.cls_enum.specs.Candidates.{over, fills, rule_terms, candidates, IsInCell}
 use Rattle.cls_enum.specs.Members.{IsIn}
-use Rattle.cls_enum.specs.Plans.{nodes_of, rule_of, rules_of, IsPlan, places_of, ArePruned, IsBound, AreBounds, IsReady, AreReady, plan_terms, plan_candidates, PlansPruned}
+use Rattle.cls_enum.specs.Plans.{nodes_of, rule_of, rules_of, IsPlan, places_of, ArePruned, AreBounds, AreReady, plan_terms, plan_candidates, PlansPruned}
 use Rattle.cls_enum.specs.declared.plan.Place.{Place}
 use Rattle.cls_enum.specs.declared.plan.Plan.{Plan}
 use Rattle.cls_enum.specs.declared.plan.Plan.TheVariants.{Head, Any}

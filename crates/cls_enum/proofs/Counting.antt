@@ -1,6 +1,5 @@
 -- Counting: different elements of a list are no more than it has.
 use Rattle.std.proofs.Common.{◌≡◌, suc, ◌≤◌, List, [], ◌∷◌, ◌++◌, length, refl, sym, ◌∙◌, subst, inl, inr, arith}
-use Rattle.std.specs.Prelude.{Contains}
 use Rattle.cls_base.specs.Pools.{NoneTwice}
 use Rattle.cls_enum.specs.Members.{IsIn}
 use Rattle.cls_enum.proofs.Members.{in_from, in_to, in_cases}
@@ -55,17 +54,16 @@ module _ {A : Type 0} where
       let i = g y (inl refl) in
       let m = length-without xs y i in
       let fresh : IsIn ys y → ⊥ = λ j.
-          let r = no_more_than xs ys n (λ x k. elim (f x k) [ inl p ↦ (let P : A → Type 0 = λ w. IsIn ys w in subst P p j) | inr h ↦ h ]) in
-          omega (arith, r, l) in
-      (
+      let r = no_more_than xs ys n (λ x k. elim (f x k) [ inl p ↦ (let P : A → Type 0 = λ w. IsIn ys w in subst P p j) | inr h ↦ h ]) in
+      omega (arith, r, l) in (
         (λ c. fresh (in_from ys y c)),
         once-by_count (without xs y i) ys (once-without xs y i n)
-        (λ x k. elim (f x (in_without xs y x i k)) [
-          | inl p ↦ absurd (gone-without xs y i n (let P : A → Type 0 = λ w. IsIn (without xs y i) w in subst P (sym p) k))
-          | inr h ↦ h
-        ])
-        (λ x k. still_in xs y x i (λ p. fresh (let P : A → Type 0 = λ w. IsIn ys w in subst P (sym p) k)) (g x (inr k)))
-        (omega (arith, m, l)),
+            (λ x k. elim (f x (in_without xs y x i k)) [
+              | inl p ↦ absurd (gone-without xs y i n (let P : A → Type 0 = λ w. IsIn (without xs y i) w in subst P (sym p) k))
+              | inr h ↦ h
+            ])
+            (λ x k. still_in xs y x i (λ p. fresh (let P : A → Type 0 = λ w. IsIn ys w in subst P (sym p) k)) (g x (inr k)))
+            (omega (arith, m, l)),
       )
 
   -- of two lists that have nothing in common

@@ -1,5 +1,5 @@
 -- Steps of the two loops that find terms.
-use Rattle.std.proofs.Common.{◌≡◌, ℕ, zero, suc, ◌+◌, ◌-◌, ◌<◌, ◌≤◌, List, [], ◌∷◌, ◌++◌, length, map, take, get_or, refl, sym, ap, ◌∙◌, subst, inl, inr, arith, length-append, append-nil}
+use Rattle.std.proofs.Common.{◌≡◌, ℕ, ◌+◌, ◌-◌, ◌<◌, List, [], ◌∷◌, ◌++◌, length, map, take, get_or, sym, ap, ◌∙◌, subst, inl, inr, arith, length-append, append-nil}
 use Rattle.std.specs.Prelude.{◌⊎◌}
 use Rattle.std.specs.List.{flat_map}
 use Rattle.std.proofs.lemmas.List.{take_more}
@@ -59,7 +59,7 @@ module _ (ts : List Applicative) (cells : ℕ × List (List ℕ)) (x : ℕ) (arg
   pub size-step : (n : ℕ) (ns numbers : List ℕ) (rest t : ℕ) → args' ≡ args → numbers ≡ cell_at cells t n → IsAdded ts old (over t (at_size n ns rest)) mid → IsAdded ts mid (flat_map (λ a. fills (cell_of ts cells) (apply (term_by ts (x, args')) a) ns (rest - t)) (map (at ts) numbers)) new → IsAdded ts old (over (t + 1) (at_size n ns rest)) new
   size-step n ns numbers rest t p q h k =
       let e : flat_map (λ a. fills (cell_of ts cells) (apply (term_by ts (x, args')) a) ns (rest - t)) (map (at ts) numbers) ≡ at_size n ns rest t =
-          λ i. flat_map (λ a. fills (cell_of ts cells) (apply (term_by ts (x, p i)) a) ns (rest - t)) (map (at ts) (q i)) in
+      λ i. flat_map (λ a. fills (cell_of ts cells) (apply (term_by ts (x, p i)) a) ns (rest - t)) (map (at ts) (q i)) in
       IsAdded-same ts old new (over t (at_size n ns rest) ++ at_size n ns rest t) (over (t + 1) (at_size n ns rest)) (sym (over-next t (at_size n ns rest)))
       (IsAdded-append ts old mid new (over t (at_size n ns rest)) (at_size n ns rest t) h (IsAdded-same ts mid new _ (at_size n ns rest t) e k))
 

@@ -4,6 +4,7 @@ pub mod Counting
 pub mod FillSteps
 pub mod Members
 pub mod PageLaws
+pub mod Planning
 pub mod StateLaws
 pub mod StateSteps
 pub mod Storing

@@ -1,5 +1,5 @@
 -- The first terms of all due ones up to a size are the page.
-use Rattle.std.proofs.Common.{◌≡◌, ℕ, zero, suc, ◌<◌, ◌≤◌, List, [], ◌∷◌, ◌++◌, length, take, refl, sym, ap, subst, inl, inr, arith, Bool, true, false}
+use Rattle.std.proofs.Common.{◌≡◌, ℕ, zero, suc, ◌<◌, ◌≤◌, List, [], ◌∷◌, ◌++◌, length, take, refl, subst, inl, inr, arith, Bool, true, false}
 use Rattle.std.specs.Prelude.{◌⊎◌, Contains, ◌↔◌, IsTrue, nat_lt}
 use Rattle.std.proofs.lemmas.Bool.{cases_lt}
 use Rattle.std.proofs.lemmas.Bool.Decides.{nat_tests}
@@ -26,8 +26,8 @@ module _ (cost : ℕ → ℕ) where
   pub rises-append : (xs ys : List Applicative) → Rises cost xs → Rises cost ys → ((x y : Applicative) → IsIn xs x → IsIn ys y → Before cost x y) → Rises cost (xs ++ ys)
   rises-append [] ys h i f = i
   rises-append (x ∷ xs) ys h i f = rises-cons x (xs ++ ys)
-    (λ e j. elim (in_cases xs ys e j) [ inl k ↦ rises-before x e xs h k | inr k ↦ f x e (inl refl) k ])
-    (rises-append xs ys (rises-tail x xs h) i (λ a b j k. f a b (inr j) k))
+      (λ e j. elim (in_cases xs ys e j) [ inl k ↦ rises-before x e xs h k | inr k ↦ f x e (inl refl) k ])
+      (rises-append xs ys (rises-tail x xs h) i (λ a b j k. f a b (inr j) k))
 
   pub rises-take : (n : ℕ) (xs : List Applicative) → Rises cost xs → Rises cost (take n xs)
   rises-take zero xs h = tt

@@ -1,5 +1,5 @@
 -- One more cell.
-use Rattle.std.proofs.Common.{◌≡◌, ℕ, zero, suc, ◌+◌, ◌-◌, ◌*◌, ◌<◌, ◌≤◌, List, [], ◌∷◌, ◌++◌, length, map, get_or, refl, sym, ap, ◌∙◌, subst, inl, inr, arith, length-append, Bool, true, false, cond, IsTrue}
+use Rattle.std.proofs.Common.{◌≡◌, ℕ, zero, suc, ◌+◌, ◌-◌, ◌*◌, ◌<◌, ◌≤◌, List, [], ◌∷◌, ◌++◌, length, map, get_or, refl, sym, ap, ◌∙◌, subst, inl, inr, arith, length-append, Bool, true, false, cond}
 use Rattle.std.specs.Prelude.{Contains, ◌↔◌, ◌⊎◌, Option, None, Some, IfSome, nat_lt, if◌then◌else◌, slice_index_or}
 use Rattle.std.specs.List.{filter}
 use Rattle.std.specs.Ordering.{is_gt}
@@ -9,13 +9,12 @@ use Rattle.std.proofs.Math.Nat.{suc-mul}
 use Rattle.std.proofs.lemmas.Bool.{cases_lt}
 use Rattle.std.proofs.lemmas.Bool.Decides.{nat_tests}
 use Rattle.std.proofs.lemmas.List.{length_push, map-append, length-map, get_or_past}
-use Rattle.cls_base.specs.Terms.{Applicative, length_of, size_of, code_of, Before}
+use Rattle.cls_base.specs.Terms.{Applicative, size_of, Before}
 use Rattle.cls_base.specs.Rules.{Rule}
 use Rattle.cls_base.specs.Languages.{IsGenerated, rules_at, by_head, by_any}
-use Rattle.cls_base.specs.Pages.{Request, IsDue, Rises}
+use Rattle.cls_base.specs.Pages.{Request, Rises}
 use Rattle.cls_base.specs.Pools.{NoneTwice, IsMade}
 use Rattle.cls_term.proofs.Orders.{greater_exactly}
-use Rattle.cls_term.proofs.BankSteps.{AreBelow-at}
 use Rattle.cls_term.specs.Banks.{at, AreBelow}
 use Rattle.cls_term.specs.Order.{order_of}
 use Rattle.cls_enum.specs.Candidates.{candidates, IsInCell}
@@ -23,7 +22,7 @@ use Rattle.cls_enum.specs.CellTables.{cell_at, cell_of}
 use Rattle.cls_enum.specs.Members.{IsIn, IsGrown, IsCell, CodesRise, IsOverfull}
 use Rattle.cls_enum.specs.Plans.{AreReady, AllReady, book_of, rules_of, plan_candidates}
 use Rattle.cls_enum.specs.Requests.{later, due_after}
-use Rattle.cls_enum.specs.States.{IsState, IsKept, IsTerm, IsTooMuch}
+use Rattle.cls_enum.specs.States.{IsState, IsKept, IsTooMuch}
 use Rattle.cls_enum.specs.declared.plan.Plan.{Plan}
 use Rattle.cls_enum.proofs.CellLaws.{candidates_exact, plan_candidates-rules}
 use Rattle.cls_enum.proofs.Counting.{once-append}
@@ -31,7 +30,6 @@ use Rattle.cls_enum.proofs.Members.{in_from, in_to, in_left, in_right, in_cases}
 use Rattle.cls_enum.proofs.PageLaws.{rises-tail, rises-before, rises-cons, rises-append}
 use Rattle.cls_enum.proofs.StateLaws.{rising-once, state-next}
 use Rattle.cls_enum.proofs.Storing.{map-at-grown, AreBelow-grown}
-use Rattle.cls_term.proofs.Banks.{AreBelow-more}
 
 -- the terms with their node
 abbrev pub paired : ℕ → List Applicative → List (ℕ × Applicative)
@@ -160,9 +158,9 @@ module _ (book : List (List (Rule ℕ))) (r : Request) where
         once = once-more s 0 ps es h.made (λ e j. (k e).0 j) h.once (rising-once r.cost es up);
         rises = rises-append r.cost due fs h.rises (filter-rises r.cost (later r.cost r.after) es up)
             (λ x y i j.
-                let a = (h.listed x).0 (in_to due x i) in
-                let b = ((k y).0 ((filter-in (later r.cost r.after) es y).0 j).0).1 in
-                inl (elim a.1 [ inl m ↦ omega arith | inr m ↦ absurd (let q = m.0 in omega arith) ]));
+            let a = (h.listed x).0 (in_to due x i) in
+            let b = ((k y).0 ((filter-in (later r.cost r.after) es y).0 j).0).1 in
+            inl (elim a.1 [ inl m ↦ omega arith | inr m ↦ absurd (let q = m.0 in omega arith) ]));
         listed = λ e. (
           (λ d. elim (in_cases due fs e (in_from (due ++ fs) e d)) [
             | inl i ↦ let q = (h.listed e).0 (in_to due e i) in (q.0, elim q.1 [ inl m ↦ inl m | inr m ↦ absurd (let y = m.0 in omega arith) ])
@@ -181,8 +179,7 @@ module _ (book : List (List (Rule ℕ))) (r : Request) where
   -- too many terms of one more node
   pub too_much-cell : (s i pool total : ℕ) (ps : List (ℕ × Applicative)) (due es : List Applicative) → i < length book → IsState book r s i ps due → length ps ≡ total → total ≤ pool → ((e : Applicative) → IsIn es e → IsInCell book r.cost i s e) → IsOverfull (pool - total) [] es → IsTooMuch book r s (i + 1) pool
   too_much-cell s i pool total ps due es l h c w k o =
-      let f : (e : Applicative) → IsIn o.0 e → IsInCell book r.cost i s e = λ e j. elim (o.2 e j) [ inl z ↦ absurd z | inr z ↦ k e z ] in
-      (
+      let f : (e : Applicative) → IsIn o.0 e → IsInCell book r.cost i s e = λ e j. elim (o.2 e j) [ inl z ↦ absurd z | inr z ↦ k e z ] in (
         ps ++ paired i o.0,
         once-more s i ps o.0 h.made f h.once o.1,
         (λ p d. elim (in_cases ps (paired i o.0) p (in_from (ps ++ paired i o.0) p d)) [
@@ -270,7 +267,7 @@ module _ (book : List (List (Rule ℕ))) (r : Request) (positive : (x : ℕ) →
   pub plans-exact : (e : Applicative) → IsIn (plan_candidates (cell_of ts cells) s plans) e ↔ IsInCell book r.cost i s e
   plans-exact e =
       let p : plan_candidates (cell_of ts cells) s plans ≡ candidates (cell_of ts cells) r.cost s (rules_at book i) =
-          plan_candidates-rules book (cell_of ts cells) r.cost s plans ready ∙ ap (candidates (cell_of ts cells) r.cost s) ruled in
+      plan_candidates-rules book (cell_of ts cells) r.cost s plans ready ∙ ap (candidates (cell_of ts cells) r.cost s) ruled in
       let P : List Applicative → Type 0 = λ es. IsIn es e ↔ IsInCell book r.cost i s e in
       subst P (sym p) (candidates_exact book r.cost positive (cell_of ts cells) s exact-below i e)
 
@@ -289,7 +286,7 @@ state-cell : (book : List (List (Rule ℕ))) (r : Request) (s i : ℕ) (ts us : 
 state-cell book r s zero ts us due ms ps l w h p c k =
     let es = map (at us) ms in
     let q : map (at us) (due ++ filter (λ n. later r.cost r.after (at us n)) ms) ≡ map (at ts) due ++ filter (later r.cost r.after) es =
-        map-append (at us) due (filter (λ n. later r.cost r.after (at us n)) ms) ∙ (λ j. p j ++ map-filter (at us) (later r.cost r.after) ms j) in
+    map-append (at us) due (filter (λ n. later r.cost r.after (at us n)) ms) ∙ (λ j. p j ++ map-filter (at us) (later r.cost r.after) ms j) in
     let z : 1 ≡ 0 + 1 = omega arith in
     subst (λ (n : ℕ). IsState book r s n (ps ++ paired 0 es) (map (at us) (due ++ filter (λ n. later r.cost r.after (at us n)) ms))) z
     (subst (λ (ds : List Applicative). IsState book r s 1 (ps ++ paired 0 es) ds) (sym q) (state-start book r s ps (map (at ts) due) es l w h c k))
@@ -315,6 +312,7 @@ kept-step book r s i ts us cells due ms total l w h g b c k = record {
         let m = map-at-grown ts us (cell_at cells t n) g (cells-below (length ts) cells h.below t n) in
         let P : List Applicative → Type 0 = λ xs. IsIn xs e ↔ IsInCell book r.cost n t e in
         subst P (sym (ap (map (at us)) d ∙ m)) (h.exact t n q e)
+
     new-cell : (t n : ℕ) (e : Applicative) → i ≡ n → s ≡ t → IsIn (cell_of us (cells.0, cells.1 ++ ms ∷ []) t n) e ↔ IsInCell book r.cost n t e
     new-cell t n e p q =
         let d = cell_at-new cells.0 cells.1 ms s i h.cells_made (omega (arith, h.width, l)) in
@@ -322,6 +320,7 @@ kept-step book r s i ts us cells due ms total l w h g b c k = record {
         let z : IsIn (cell_of us (cells.0, cells.1 ++ ms ∷ []) s i) e ↔ IsInCell book r.cost i s e = subst P (sym (ap (map (at us)) d)) (k e) in
         subst (λ (m : ℕ). IsIn (cell_of us (cells.0, cells.1 ++ ms ∷ []) t m) e ↔ IsInCell book r.cost m t e) p
         (subst (λ (m : ℕ). IsIn (cell_of us (cells.0, cells.1 ++ ms ∷ []) m i) e ↔ IsInCell book r.cost i m e) q z)
+
     exact-cases : (t n : ℕ) (e : Applicative) → (t < s) ⊎ ((n < i + 1) × (t ≡ s)) → IsIn (cell_of us (cells.0, cells.1 ++ ms ∷ []) t n) e ↔ IsInCell book r.cost n t e
     exact-cases t n e (inl m) = old-cell t n e (inl m)
     exact-cases t n e (inr m) = elim (cases_lt n i) [
@@ -357,8 +356,10 @@ kept-next book r s i ts cells due total l p h = record {
   where
     none-past : (rs : List (List (Rule ℕ))) (n : ℕ) → length rs ≤ n → rules_at rs n ≡ []
     none-past rs n l = get_or_past rs n [] l
+
     no-member : (n : ℕ) (x : Rule ℕ) → length book ≤ n → Contains (rules_at book n) x → ⊥
     no-member n x l c = let q : length (rules_at book n) ≡ 0 = ap length (get_or_past book n [] l) in omega (arith, c.1, q)
+
     no_rules : (b : List (List (Rule ℕ))) (n : ℕ) (e : Applicative) → length book ≤ n → IsGenerated book n e → ⊥
     no_rules b n e l (by_head c g) = no-member n _ l c
     no_rules b n e l (by_any c g h) = no-member n _ l c
@@ -373,3 +374,27 @@ pub book_of-at : (plans : List (List Plan)) (i : ℕ) (ps : List Plan) → i < l
 book_of-at [] i ps l e = absurd (omega arith)
 book_of-at (q ∷ plans) zero ps l e = ap rules_of e
 book_of-at (q ∷ plans) (suc i) ps l e = book_of-at plans i ps (omega arith) e
+
+-- nothing is made at first
+state-initial : (book : List (List (Rule ℕ))) (r : Request) → IsState book r 0 0 [] []
+state-initial book r = record {
+  made = λ p. ((λ c. absurd (omega (arith, c.1))), (λ m. elim m.so_far [ inl l ↦ absurd (omega arith) | inr l ↦ absurd (let y = l.0 in omega arith) ]));
+  once = tt;
+  rises = tt;
+  listed = λ e. ((λ c. absurd (omega (arith, c.1))), (λ q. elim q.1 [ inl l ↦ absurd (omega arith) | inr l ↦ absurd (let y = l.0 in omega arith) ]));
+}
+
+pub kept-initial : (book : List (List (Rule ℕ))) (r : Request) (w : ℕ) (ts : List Applicative) (cells : ℕ × List (List ℕ)) (due : List ℕ) → w ≡ length book → ts ≡ [] → cells ≡ (w, []) → due ≡ [] → IsKept book r 0 0 ts cells due 0
+kept-initial book r w ts cells due l p q z =
+    subst (λ (xs : List Applicative). IsKept book r 0 0 xs cells due 0) (sym p)
+    (subst (λ (xs : ℕ × List (List ℕ)). IsKept book r 0 0 [] xs due 0) (sym q)
+    (subst (λ (xs : List ℕ). IsKept book r 0 0 [] (w, []) xs 0) (sym z) (record {
+      pairs = [];
+      state = state-initial book r;
+      counted = refl;
+      width = l;
+      cells_made = omega arith;
+      below = λ j. tt;
+      exact = λ t n h e. absurd (elim h [ inl m ↦ omega arith | inr m ↦ (let y = m.0 in omega arith) ]);
+      due_below = tt;
+    })))

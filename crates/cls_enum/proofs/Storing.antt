@@ -1,19 +1,19 @@
 -- Steps of putting what is found into the bank, and of sorting it.
-use Rattle.std.proofs.Common.{◌≡◌, ℕ, zero, suc, ◌+◌, ◌<◌, ◌≤◌, List, [], ◌∷◌, ◌++◌, length, map, take, get_or, refl, sym, ap, ◌∙◌, subst, inl, inr, arith, append_assoc, append-nil, length-append, Bool, true, false, true≢false}
-use Rattle.std.specs.Prelude.{◌⊎◌, ◌↔◌, Contains, slice_get, Some}
+use Rattle.std.proofs.Common.{◌≡◌, ℕ, zero, suc, ◌+◌, ◌<◌, ◌≤◌, List, [], ◌∷◌, ◌++◌, length, map, take, get_or, refl, sym, ap, ◌∙◌, subst, inl, inr, arith, append_assoc, append-nil, length-append, Bool, false, true≢false}
+use Rattle.std.specs.Prelude.{slice_get, Some}
 use Rattle.std.specs.Ordering.{nat_cmp, is_lt}
 use Rattle.std.specs.Cmp.Lexicographic.{slice_cmp}
 use Rattle.std.specs.List.Sorted.{IsPermutation, IsSortedBy}
 use Rattle.std.proofs.lemmas.List.{take_more, length-map, map-append}
 use Rattle.std.proofs.lemmas.List.Sorted.{Contains-permutation, IsPermutation-sym, length_permutation}
 use Rattle.cls_base.specs.Pools.{NoneTwice}
-use Rattle.cls_base.specs.Terms.{Applicative, component, length_of, code_of, Precedes}
+use Rattle.cls_base.specs.Terms.{Applicative, component, length_of, code_of}
 use Rattle.cls_base.specs.Spines.{spine}
-use Rattle.cls_term.proofs.Banks.{at-append, map-at-append, AreBelow-more}
+use Rattle.cls_term.proofs.Banks.{map-at-append, AreBelow-more}
 use Rattle.cls_term.proofs.Codes.{code_of-one_to_one}
 use Rattle.cls_term.proofs.Orders.{Precedes-total, slice_cmp-less}
 use Rattle.cls_term.specs.Banks.{at, term_by, AreBelow, IsPut}
-use Rattle.cls_enum.specs.Members.{IsIn, Joins, SpinesBelow, AreFound, IsAdded, IsGrown, CodesRise, IsCell}
+use Rattle.cls_enum.specs.Members.{IsIn, SpinesBelow, AreFound, IsAdded, IsGrown, CodesRise, IsCell}
 use Rattle.cls_enum.proofs.Additions.{AreBelow-push}
 use Rattle.cls_enum.proofs.Counting.{once-by_count}
 use Rattle.cls_enum.proofs.Members.{in_from, in_to, in_map}
@@ -67,10 +67,9 @@ put-step ts us vs ks numbers i a h l g p b q =
     let k = get_or ks i (0, []) in
     let w = IsGrown-put us vs (term_by us k) a q in
     let r = got_at vs a (term_by us k) q.there in
-    let e : at vs a ≡ term_by ts k = r.0 ∙ term_by-grown ts us k g (SpinesBelow-at (length ts) ks i (0, []) h.below l) in
-    (
+    let e : at vs a ≡ term_by ts k = r.0 ∙ term_by-grown ts us k g (SpinesBelow-at (length ts) ks i (0, []) h.below l) in (
       map-append (at vs) numbers (a ∷ []) ∙ (λ j. (map-at-grown us vs numbers w b ∙ p) j ++ e j ∷ [])
-      ∙ sym (ap (map (term_by ts)) (take_more ks i (0, []) l) ∙ map-append (term_by ts) (take i ks) (k ∷ [])),
+          ∙ sym (ap (map (term_by ts)) (take_more ks i (0, []) l) ∙ map-append (term_by ts) (take i ks) (k ∷ [])),
       AreBelow-push (length vs) numbers a (AreBelow-grown us vs numbers w b) r.1,
     )
 

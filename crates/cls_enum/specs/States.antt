@@ -1,6 +1,6 @@
 -- How far the terms are made, and what that says of the page.
 use Rattle.std.specs.Prelude.{ℕ, ◌≡◌, ◌≤◌, ◌<◌, ◌*◌, ◌+◌, ◌↔◌, ◌⊎◌, List, [], length, map, slice_index_or, Contains}
-use Rattle.cls_base.specs.Terms.{Applicative, length_of, size_of}
+use Rattle.cls_base.specs.Terms.{Applicative, size_of}
 use Rattle.cls_base.specs.Rules.{Rule}
 use Rattle.cls_base.specs.Languages.{IsGenerated}
 use Rattle.cls_base.specs.Pages.{Request, IsDue, Rises}

@@ -9,9 +9,9 @@ ghost use Rattle.cls_enum.specs.Faults.{IfTooMany};
 ghost use Rattle.cls_enum.specs.Members.{AreFound, IsAdded, IsOverfull};
 ghost use Rattle.cls_enum.specs.Plans.{nodes_of, ArePruned};
 
-use crate::cells::Cells;
-use crate::plan::{is_barren, Place};
 use crate::PageFault;
+use crate::cells::Cells;
+use crate::plan::{Place, is_barren};
 use cls_term::{Bank, SpineSet};
 use std::alloc::Global;
 

@@ -9,10 +9,10 @@ ghost use Rattle.cls_enum.specs.Faults.{IfTooMany};
 ghost use Rattle.cls_enum.specs.Members.{AreFound, IsAdded, IsOverfull};
 ghost use Rattle.cls_enum.specs.Plans.{nodes_of, places_of, ArePruned, PlansPruned, plan_terms, plan_candidates};
 
+use crate::PageFault;
 use crate::cells::Cells;
 use crate::fill::fill;
-use crate::plan::{is_barren, Place, Plan};
-use crate::PageFault;
+use crate::plan::{Place, Plan, is_barren};
 use cls_term::{Bank, SpineSet};
 use std::alloc::Global;
 
@@ -64,10 +64,28 @@ fn find_of(
             if *cost > size {
                 return Ok(());
             }
-            find_applied_head(alloc, bank, cells, *head, places.as_slice(), size - *cost, limit, found)
+            find_applied_head(
+                alloc,
+                bank,
+                cells,
+                *head,
+                places.as_slice(),
+                size - *cost,
+                limit,
+                found,
+            )
         }
         Plan::Any(left, places) => {
-            find_applied_node(alloc, bank, cells, *left, places.as_slice(), size, limit, found)
+            find_applied_node(
+                alloc,
+                bank,
+                cells,
+                *left,
+                places.as_slice(),
+                size,
+                limit,
+                found,
+            )
         }
     }
 }
@@ -91,7 +109,9 @@ fn find_applied_head(
     ensures over { IfErr result (λ fault. IfTooMany fault (IsOverfull limit (map (term_by bank.now) found.old) (fills (cell_of bank.now cells.now) (component head) (nodes_of places.now) rest))) }
 {
     let mut args = Vec::new(alloc);
-    fill(alloc, bank, cells, head, &mut args, 1, places, rest, limit, found)
+    fill(
+        alloc, bank, cells, head, &mut args, 1, places, rest, limit, found,
+    )
 }
 
 /// The terms of a node of all smaller sizes, each applied to terms at the places.

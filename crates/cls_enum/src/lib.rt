@@ -6,10 +6,12 @@ mod due;
 mod fault;
 mod fill;
 mod find;
+mod listed;
 mod make;
 mod paging;
 mod plan;
 mod shelf;
 
 pub use fault::PageFault;
-pub use paging::{page, Page};
+pub use listed::Page;
+pub use paging::page;

@@ -5,10 +5,10 @@ ghost use Rattle.cls_enum.specs.Faults.{IfTooMany};
 ghost use Rattle.cls_enum.specs.Members.{AreFound, IsCell, IsGrown, IsOverfull};
 ghost use Rattle.cls_enum.specs.Plans.{PlansPruned, plan_candidates};
 
+use crate::PageFault;
 use crate::cells::Cells;
 use crate::find::find;
 use crate::plan::Plan;
-use crate::PageFault;
 use cls_base::OutOfMemory;
 use cls_term::{Bank, SpineSet};
 use std::alloc::Global;

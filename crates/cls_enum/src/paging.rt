@@ -1,4 +1,5 @@
 ghost use Rattle.std.specs.Prelude.{◌≡◌, ℕ, ◌+◌, ◌<◌, ◌≤◌, ◌^◌, IfOk, IfErr, IfSome, All, length, map, nat_lt, option_copied, take};
+ghost use Rattle.cls_base.specs.Languages.{IsGenerated};
 ghost use Rattle.cls_base.specs.Pages.{IsPage};
 ghost use Rattle.cls_base.specs.Terms.{length_of, size_of};
 ghost use Rattle.cls_term.specs.Banks.{at};
@@ -6,25 +7,17 @@ ghost use Rattle.cls_term.specs.Costs.{cost_of};
 ghost use Rattle.cls_enum.specs.Faults.{IfTooMany};
 ghost use Rattle.cls_enum.specs.Plans.{book_of, AllReady};
 ghost use Rattle.cls_enum.specs.Requests.{request};
-ghost use Rattle.cls_enum.specs.States.{IsDone, IsKept, IsOver, IsTerm, IsTooMuch, IsWithin};
+ghost use Rattle.cls_enum.specs.States.{IsDone, IsKept, IsOver, IsTooMuch, IsWithin};
 
-use crate::cells::Cells;
-use crate::plan::{plans, NodePlans};
-use crate::shelf::{make_node, Shelf};
 use crate::PageFault;
+use crate::cells::Cells;
+use crate::listed::Page;
+use crate::plan::{NodePlans, plans};
+use crate::shelf::{Shelf, make_node};
 use cls_base::{Numbers, OutOfMemory};
 use cls_grammar::RuleBook;
-use cls_term::{Bank, Term, Terms};
+use cls_term::{Bank, Term};
 use std::alloc::Global;
-
-/// A page of terms, and whether more terms follow.
-#[derive(Drop)]
-pub struct Page {
-    /// The terms in their order.
-    pub terms: Terms,
-    /// Whether a further term would have stood on a longer page.
-    pub more: bool,
-}
 
 /// Makes terms, size after size, until the page is known.
 fn collect(
@@ -126,7 +119,7 @@ pub fn page<B: RuleBook>(
     requires some { 1 ≤ take }
     requires costs { (x : ℕ) → 1 ≤ cost_of costs.now x }
     requires token { IfSome (option_copied after) (λ a. length_of a < 2 ^ 32) }
-    ensures page { IfOk result (λ p. IsPage (IsTerm (B.book book.now)) (request costs.now (option_copied after.entry) max_size take) p.terms p.more) }
+    ensures page { IfOk result (λ p. IsPage (IsGenerated (B.book book.now) 0) (request costs.now (option_copied after.entry) max_size take) p.terms p.more) }
     ensures within { IfOk result (λ _. IsWithin (B.book book.now) (request costs.now (option_copied after.entry) max_size take) pool) }
     ensures over { IfErr result (λ fault. IfTooMany fault (IsOver (B.book book.now) (request costs.now (option_copied after.entry) max_size take) pool)) }
 {
@@ -151,7 +144,7 @@ fn list(
     requires some { 0 < length plans.now }
     requires few { length plans.now < 2 ^ 32 }
     requires ready { (s : ℕ) → AllReady (book_of plans.now) (cost_of costs.now) s plans.now }
-    ensures page { IfOk result (λ p. IsPage (IsTerm (book_of plans.now)) (request costs.now (option_copied after.entry) max take) p.terms p.more) }
+    ensures page { IfOk result (λ p. IsPage (IsGenerated (book_of plans.now) 0) (request costs.now (option_copied after.entry) max take) p.terms p.more) }
     ensures within { IfOk result (λ _. IsWithin (book_of plans.now) (request costs.now (option_copied after.entry) max take) pool) }
     ensures over { IfErr result (λ fault. IfTooMany fault (IsOver (book_of plans.now) (request costs.now (option_copied after.entry) max take) pool)) }
 {

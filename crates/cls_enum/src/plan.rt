@@ -1,5 +1,5 @@
-ghost use Rattle.std.specs.Prelude.{◌≡◌, ℕ, List, ◌<◌, ◌^◌, ◌↔◌, IfOk, IsTrue, map, slice_index};
-ghost use Rattle.cls_base.specs.Rules as rules;
+ghost use Rattle.std.specs.Prelude.{◌≡◌, ℕ, List, ◌<◌, ◌^◌, ◌↔◌, IfOk, IsTrue, length, map, slice_index};
+ghost use Rattle.cls_base.specs.Rules as generic;
 ghost use Rattle.cls_grammar.specs.NodeRules.{node_rule};
 ghost use Rattle.cls_term.specs.Costs.{cost_of};
 ghost use Rattle.cls_enum.specs.Plans.{IsBarren, AllReady, AreReady, AreFree, IsReady, book_of, nodes_of, rule_of, rules_of};
@@ -81,6 +81,8 @@ pub(crate) fn plans<B: RuleBook>(
     costs: &Numbers,
 ) -> Result<Vec<NodePlans>, OutOfMemory>
     ensures book { IfOk result (λ plans. book_of plans.items ≡ B.book book.now) }
+    ensures some { IfOk result (λ plans. 0 < length plans.items) }
+    ensures few { IfOk result (λ plans. length plans.items < 2 ^ 32) }
     ensures ready { IfOk result (λ plans. (s : ℕ) → AllReady (B.book book.now) (cost_of costs.now) s plans.items) }
 {
     let mut plans = Vec::new(alloc);
@@ -93,23 +95,23 @@ pub(crate) fn plans<B: RuleBook>(
 /// The plans of rules.
 fn node_plans(alloc: Global, rules: &[Rule<u32>], costs: &Numbers) -> Result<Vec<Plan>, OutOfMemory>
     ensures rules { IfOk result (λ plans. rules_of plans.items ≡ map node_rule rules.now) }
-    ensures ready { IfOk result (λ plans. (b : List (List (rules.Rule ℕ))) (s : ℕ) → AreReady b (cost_of costs.now) s plans.items) }
+    ensures ready { IfOk result (λ plans. (b : List (List (generic.Rule ℕ))) (s : ℕ) → AreReady b (cost_of costs.now) s plans.items) }
 {
     let mut plans = Vec::new(alloc);
     for rule in rules {
-        plans.push(plan(alloc, rule, costs)?)?;
+        plans.push(rule_plan(alloc, rule, costs)?)?;
     }
     Ok(plans)
 }
 
 /// The plan of a rule.
-fn plan(alloc: Global, rule: &Rule<u32>, costs: &Numbers) -> Result<Plan, OutOfMemory>
+fn rule_plan(alloc: Global, rule: &Rule<u32>, costs: &Numbers) -> Result<Plan, OutOfMemory>
     ensures rule { IfOk result (λ plan. rule_of plan ≡ node_rule rule.now) }
-    ensures ready { IfOk result (λ plan. (b : List (List (rules.Rule ℕ))) (s : ℕ) → IsReady b (cost_of costs.now) s plan) }
+    ensures ready { IfOk result (λ plan. (b : List (List (generic.Rule ℕ))) (s : ℕ) → IsReady b (cost_of costs.now) s plan) }
 {
     match rule {
         Rule::Head { component, args } => {
-            let cost = costs.as_slice().get(*component as usize).copied().unwrap_or(1);
+            let cost = cost_at(costs, *component);
             let places = places(alloc, args.as_slice())?;
             Ok(Plan::Head(*component, cost, places))
         }
@@ -118,6 +120,17 @@ fn plan(alloc: Global, rule: &Rule<u32>, costs: &Numbers) -> Result<Plan, OutOfM
             Ok(Plan::Any(*left, places))
         }
     }
+}
+
+/// The component's cost in the list, and 1 where it has none there.
+fn cost_at(costs: &Numbers, component: u32) -> u32
+    ensures { result ≡ cost_of costs.now component }
+{
+    costs
+        .as_slice()
+        .get(component as usize)
+        .copied()
+        .unwrap_or(1)
 }
 
 /// Places of these nodes, without bounds.

@@ -7,11 +7,11 @@ ghost use Rattle.cls_enum.specs.Plans.{book_of, AllReady};
 ghost use Rattle.cls_enum.specs.Requests.{request};
 ghost use Rattle.cls_enum.specs.States.{IsKept, IsTooMuch};
 
+use crate::PageFault;
 use crate::cells::Cells;
 use crate::due::add_due;
 use crate::make::make;
 use crate::plan::NodePlans;
-use crate::PageFault;
 use cls_base::Numbers;
 use cls_term::{Bank, Term};
 use std::alloc::Global;

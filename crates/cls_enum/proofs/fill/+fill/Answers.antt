@@ -1,17 +1,17 @@
-use Rattle.std.proofs.Common.{◌≡◌, ℕ, List, [], ◌∷◌, ◌++◌, ◌+◌, ◌-◌, ◌<◌, ◌∙◌, ap, sym, length, arith, get_or, vec_len, map, inl, inr, subst}
+use Rattle.std.proofs.Common.{◌≡◌, ℕ, List, [], ◌∷◌, ◌++◌, ◌<◌, ◌∙◌, ap, sym, length, arith, get_or, vec_len, map, inl, inr, subst}
 use Rattle.std.proofs.lemmas.Bool.{eqb-true}
 use Rattle.std.specs.List.{flat_map}
 use Rattle.cls_base.specs.Terms.{Applicative, apply, length_of}
-use Rattle.cls_term.specs.Banks.{at, term_by, AreBelow}
+use Rattle.cls_term.specs.Banks.{at, term_by}
 use Rattle.cls_term.proofs.BankSteps.{AreBelow-at}
 use Rattle.cls_enum.specs.Candidates.{fills}
 use Rattle.cls_enum.specs.CellTables.{cell_of}
-use Rattle.cls_enum.specs.Members.{IsOverfull, IsAdded}
+use Rattle.cls_enum.specs.Members.{IsOverfull}
 use Rattle.cls_enum.specs.Plans.{nodes_of}
 use Rattle.cls_enum.specs.declared.plan.Place.{Place}
-use Rattle.cls_enum.proofs.Additions.{term_by-push, AreBelow-push, IsAdded-none, IsAdded-same, fills-barren, each-barren}
+use Rattle.cls_enum.proofs.Additions.{term_by-push, AreBelow-push, IsAdded-none, IsAdded-same, each-barren}
 use Rattle.cls_enum.proofs.Members.{take-whole}
-use Rattle.cls_enum.proofs.FillSteps.{IfTooMany-weaker, popped, each-step, each-over, size-step, size-over, first-size, at_size}
+use Rattle.cls_enum.proofs.FillSteps.{IfTooMany-weaker, popped, each-step, each-over, size-step, size-over, first-size}
 use Rattle.cls_enum.proofs.fill.+fill.Goals as goal
 use Rattle.cls_enum.proofs.fill.+fill.Goals.{fill-then-is_empty, fill-else-is_empty}
 
@@ -19,10 +19,10 @@ pub fill-loop-size-init : goal.fill-loop-size-init
 fill-loop-size-init t c =
     let ts = c.args.bank.now in
     let e = first-size ts c.args.cells.now c.args.head c.args.args.now.items c.args.args.now.items c.args.found.now c.args.found.now c.args.found.now c.in-Some.place.now.node c.in-Some.others.now c.args.rest c.if-is_empty.first
-        (elim c.if-is_empty.branch [
-          | fill-then-is_empty w ↦ inl (eqb-true (length c.in-Some.others.now) 0 (sym c.is_empty.ensures ∙ w.if-is_empty.true), w.first-is)
-          | fill-else-is_empty w ↦ inr w.first-is
-        ]) in
+    (elim c.if-is_empty.branch [
+      | fill-then-is_empty w ↦ inl (eqb-true (length c.in-Some.others.now) 0 (sym c.is_empty.ensures ∙ w.if-is_empty.true), w.first-is)
+      | fill-else-is_empty w ↦ inr w.first-is
+    ]) in
     record {
       args = λ i. c.args.args.now.items;
       added = IsAdded-same ts c.args.found.now c.args.found.now [] _ (sym e) (IsAdded-none ts c.args.found.now c.requires.found);
@@ -38,7 +38,7 @@ pub fill-returns-in-Err-clause-over : goal.fill-returns-in-Err-clause-over
 fill-returns-in-Err-clause-over t c =
     IfTooMany-weaker c.in-Err.fault _ _
     (λ h. let r = size-over c.args.bank.now c.args.cells.now c.args.head c.args.args.now.items c.loop-size.args.items c.args.found.now c.loop-size.found c.fill_each.new.found c.in-Some.place.now.node (nodes_of c.in-Some.others.now) c.get-numbers.result.now c.args.rest c.loop-size.size c.args.limit (omega (arith, c.loop-size-test.true)) c.loop-size.invariant.args c.get-numbers.ensures c.loop-size.invariant.added h in
-        subst (λ (ps : List Place). IsOverfull c.args.limit (map (term_by c.args.bank.now) c.args.found.now) (fills (cell_of c.args.bank.now c.args.cells.now) (term_by c.args.bank.now (c.args.head, c.args.args.now.items)) (nodes_of ps) c.args.rest)) (sym c.in-Some.ensures.cases.0) r)
+    subst (λ (ps : List Place). IsOverfull c.args.limit (map (term_by c.args.bank.now) c.args.found.now) (fills (cell_of c.args.bank.now c.args.cells.now) (term_by c.args.bank.now (c.args.head, c.args.args.now.items)) (nodes_of ps) c.args.rest)) (sym c.in-Some.ensures.cases.0) r)
     c.in-Err.ensures.over
 
 pub fill_each-returns-then-is_barren-clause-added : goal.fill_each-returns-then-is_barren-clause-added
@@ -59,8 +59,7 @@ fill_each-fill-requires t c =
     let a = get_or c.args.numbers.now i 0 in
     let l : i < length c.args.numbers.now = omega (arith, c.loop-number-test.true) in
     let q : c.push.new.self.items ≡ c.args.args.now.items ++ a ∷ [] = c.in_ok-push.ensures.items ∙ ap (λ (l : List ℕ). l ++ a ∷ []) c.loop-number.invariant.args in
-    let d : term_by ts (c.args.head, c.push.new.self.items) ≡ apply (term_by ts (c.args.head, c.args.args.now.items)) (at ts a) = ap (λ (l : List ℕ). term_by ts (c.args.head, l)) q ∙ term_by-push ts c.args.head c.args.args.now.items a in
-    (
+    let d : term_by ts (c.args.head, c.push.new.self.items) ≡ apply (term_by ts (c.args.head, c.args.args.now.items)) (at ts a) = ap (λ (l : List ℕ). term_by ts (c.args.head, l)) q ∙ term_by-push ts c.args.head c.args.args.now.items a in (
       omega (arith, c.decreases),
       (
         c.requires.different,

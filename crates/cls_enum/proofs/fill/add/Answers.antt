@@ -1,4 +1,4 @@
-use Rattle.std.proofs.Common.{arith, length}
+use Rattle.std.proofs.Common.{arith}
 use Rattle.cls_enum.proofs.Additions.{IsAdded-spine, IsOverfull-found}
 use Rattle.cls_enum.proofs.fill.add.Goals as goal
 

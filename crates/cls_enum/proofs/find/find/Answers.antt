@@ -1,4 +1,4 @@
-use Rattle.std.proofs.Common.{◌≡◌, ℕ, List, [], ◌<◌, arith}
+use Rattle.std.proofs.Common.{[], arith}
 use Rattle.cls_enum.specs.CellTables.{cell_of}
 use Rattle.cls_enum.specs.Plans.{plan_terms}
 use Rattle.cls_enum.proofs.CellLaws.{PlansPruned-at}

@@ -1,14 +1,11 @@
-use Rattle.std.proofs.Common.{◌≡◌, ℕ, List, [], ◌∷◌, ◌<◌, ◌+◌, ap, sym, ◌∙◌, subst, length, arith, get_or, map}
-use Rattle.std.specs.List.{flat_map}
-use Rattle.cls_base.specs.Terms.{Applicative, component, length_of}
-use Rattle.cls_base.specs.Spines.{spine}
+use Rattle.std.proofs.Common.{◌≡◌, ℕ, List, [], ap, sym, ◌∙◌, length, arith, get_or, map}
+use Rattle.cls_base.specs.Terms.{Applicative, length_of}
 use Rattle.cls_term.proofs.BankSteps.{AreBelow-at, spine-found}
 use Rattle.cls_term.proofs.Banks.{AreBelow-more}
 use Rattle.cls_term.proofs.Spines.{length_at_least_one}
-use Rattle.cls_term.specs.Banks.{at, term_by, AreBelow, arguments_of}
+use Rattle.cls_term.specs.Banks.{at, term_by}
 use Rattle.cls_enum.specs.Candidates.{fills}
 use Rattle.cls_enum.specs.CellTables.{cell_of}
-use Rattle.cls_enum.specs.Members.{IsOverfull, IsAdded}
 use Rattle.cls_enum.specs.Plans.{nodes_of}
 use Rattle.cls_enum.proofs.Additions.{IsAdded-none, IsAdded-same, fills-barren, flat_map-none}
 use Rattle.cls_enum.proofs.FillSteps.{IfTooMany-weaker, number-step, number-over}

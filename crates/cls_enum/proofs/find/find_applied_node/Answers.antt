@@ -1,4 +1,4 @@
-use Rattle.std.proofs.Common.{◌≡◌, ℕ, List, ◌<◌, ◌-◌, ap, sym, arith, map}
+use Rattle.std.proofs.Common.{ℕ, List, ◌-◌, ap, arith, map}
 use Rattle.std.specs.List.{flat_map}
 use Rattle.cls_base.specs.Terms.{Applicative}
 use Rattle.cls_term.specs.Banks.{at}

@@ -1,8 +1,8 @@
-use Rattle.std.proofs.Common.{◌≡◌, ℕ, List, ◌-◌, ap, sym, subst, map}
+use Rattle.std.proofs.Common.{List, ◌-◌, sym, subst, map}
 use Rattle.std.specs.Prelude.{IfOk, IfErr}
 use Rattle.std.specs.List.{flat_map}
 use Rattle.cls_base.specs.Terms.{Applicative}
-use Rattle.cls_term.specs.Banks.{at, term_by}
+use Rattle.cls_term.specs.Banks.{term_by}
 use Rattle.cls_enum.specs.Candidates.{over, fills}
 use Rattle.cls_enum.specs.CellTables.{cell_of}
 use Rattle.cls_enum.specs.Faults.{IfTooMany}

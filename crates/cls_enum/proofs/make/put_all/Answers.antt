@@ -1,6 +1,6 @@
-use Rattle.std.proofs.Common.{◌≡◌, ℕ, List, [], ◌<◌, ◌+◌, ap, sym, ◌∙◌, subst, length, arith, get_or}
+use Rattle.std.proofs.Common.{◌≡◌, ℕ, List, [], ap, subst, length, arith, get_or}
 use Rattle.cls_base.specs.Terms.{length_of}
-use Rattle.cls_term.specs.Banks.{AreBelow, term_by, IsPut}
+use Rattle.cls_term.specs.Banks.{term_by, IsPut}
 use Rattle.cls_enum.proofs.Storing.{SpinesBelow-at, length-grown, found-short, put-step, IsGrown-put, IsGrown-trans}
 use Rattle.cls_term.proofs.Banks.{AreBelow-more}
 use Rattle.cls_enum.proofs.make.put_all.Goals as goal

@@ -1,4 +1,4 @@
-use Rattle.std.proofs.Common.{◌≡◌, ◌+◌, ℕ, List, length, map, arith, subst}
+use Rattle.std.proofs.Common.{◌≡◌, ℕ, map, arith, subst}
 use Rattle.std.specs.Prelude.{option_copied}
 use Rattle.std.proofs.lemmas.List.{length-map}
 use Rattle.cls_term.specs.Banks.{at}
@@ -6,7 +6,6 @@ use Rattle.cls_enum.specs.Faults.{IfTooMany}
 use Rattle.cls_enum.specs.Plans.{book_of}
 use Rattle.cls_enum.specs.Requests.{request}
 use Rattle.cls_enum.specs.States.{IsOver, IsTooMuch, IsState}
-use Rattle.cls_enum.specs.declared.fault.PageFault.{PageFault}
 use Rattle.cls_enum.proofs.FillSteps.{IfTooMany-weaker}
 use Rattle.cls_enum.proofs.StateLaws.{none-at_first, few-before, few-upto, over-at, over-next, IfErr-weaker}
 use Rattle.cls_enum.proofs.paging.collect.Goals as goal

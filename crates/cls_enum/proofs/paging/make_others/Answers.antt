@@ -1,4 +1,4 @@
-use Rattle.std.proofs.Common.{◌≡◌, ◌+◌, List, length, map, arith}
+use Rattle.std.proofs.Common.{◌+◌, List, map, arith}
 use Rattle.std.specs.Prelude.{option_copied}
 use Rattle.std.proofs.lemmas.List.{length-map}
 use Rattle.cls_enum.specs.Plans.{book_of, rule_of}

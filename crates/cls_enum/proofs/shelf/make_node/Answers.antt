@@ -2,7 +2,6 @@ use Rattle.std.proofs.Common.{◌≡◌, ℕ, List, [], ◌∷◌, ◌++◌, ◌
 use Rattle.std.specs.Prelude.{option_copied}
 use Rattle.std.proofs.lemmas.List.{length-map}
 use Rattle.cls_base.specs.Languages.{rules_at}
-use Rattle.cls_base.specs.Terms.{Applicative}
 use Rattle.cls_term.specs.Banks.{at}
 use Rattle.cls_term.specs.Costs.{cost_of}
 use Rattle.cls_enum.specs.CellTables.{cell_of}
@@ -63,7 +62,7 @@ returns-clause-kept c =
     let h = kept-step book r c.args.size c.args.node c.args.shelf.now.bank c.make.new.bank c.args.shelf.now.cells c.args.shelf.now.due.items c.in-Ok.numbers.items c.args.shelf.now.total node c.requires.size c.requires.kept c.in-Ok.ensures.grown c.in-Ok.ensures.cell.below c.in-Ok.ensures.cell.rises exact in
     let K : ℕ × List (List ℕ) → List ℕ → ℕ → Type 0 = λ cells due n. IsKept book r c.args.size (c.args.node + 1) c.make.new.bank cells due (c.args.shelf.now.total + n) in
     let d : c.add_due.new.due.items ≡ due_after c.args.node (λ n. later r.cost r.after (at c.make.new.bank n)) c.args.shelf.now.due.items c.in-Ok.numbers.items =
-        c.in_ok-add_due.ensures ∙ ap (due_after c.args.node (λ n. later r.cost r.after (at c.make.new.bank n)) c.args.shelf.now.due.items) c.as_slice-2.ensures.value in
+    c.in_ok-add_due.ensures ∙ ap (due_after c.args.node (λ n. later r.cost r.after (at c.make.new.bank n)) c.args.shelf.now.due.items) c.as_slice-2.ensures.value in
     let l : c.len.result ≡ length c.in-Ok.numbers.items = omega (arith, c.len.ensures, c.in-Ok.numbers.ok.0) in
     subst (λ (x : ℕ × List (List ℕ)). K x c.add_due.new.due.items c.len.result) (sym c.in_ok-push.ensures.ok)
     (subst (λ (x : List ℕ). K (c.args.shelf.now.cells.0, c.args.shelf.now.cells.1 ++ c.in-Ok.numbers.items ∷ []) x c.len.result) (sym d)
