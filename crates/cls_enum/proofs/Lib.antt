@@ -1,6 +1,7 @@
 pub mod Additions
 pub mod CellLaws
 pub mod Counting
+pub mod Existence
 pub mod FillSteps
 pub mod Members
 pub mod PageLaws

@@ -137,7 +137,7 @@ module _ (book : List (List (Rule ℕ))) (r : Request) where
       elim d.so_far [ inl z ↦ (let y = c.1 in omega arith) | inr z ↦ (let y = z.0 in omega (arith, q.0)) ])
 
   -- a state with the terms of one more node
-  state-more : (s i : ℕ) (ps : List (ℕ × Applicative)) (due es : List Applicative) → 0 < i → i < length book → IsState book r s i ps due → CodesRise es → ((e : Applicative) → IsIn es e ↔ IsInCell book r.cost i s e) → IsState book r s (i + 1) (ps ++ paired i es) due
+  pub state-more : (s i : ℕ) (ps : List (ℕ × Applicative)) (due es : List Applicative) → 0 < i → i < length book → IsState book r s i ps due → CodesRise es → ((e : Applicative) → IsIn es e ↔ IsInCell book r.cost i s e) → IsState book r s (i + 1) (ps ++ paired i es) due
   state-more s i ps due es z l h c k = record {
     made = made-more s i ps es l h.made k;
     once = once-more s i ps es h.made (λ e j. (k e).0 j) h.once (rising-once r.cost es (codes-rises r.cost s es (λ e j. ((k e).0 j).1) c));
@@ -149,7 +149,7 @@ module _ (book : List (List (Rule ℕ))) (r : Request) where
   }
 
   -- a state with the terms of the start
-  state-start : (s : ℕ) (ps : List (ℕ × Applicative)) (due es : List Applicative) → 0 < length book → s ≤ r.max → IsState book r s 0 ps due → CodesRise es → ((e : Applicative) → IsIn es e ↔ IsInCell book r.cost 0 s e) → IsState book r s 1 (ps ++ paired 0 es) (due ++ filter (later r.cost r.after) es)
+  pub state-start : (s : ℕ) (ps : List (ℕ × Applicative)) (due es : List Applicative) → 0 < length book → s ≤ r.max → IsState book r s 0 ps due → CodesRise es → ((e : Applicative) → IsIn es e ↔ IsInCell book r.cost 0 s e) → IsState book r s 1 (ps ++ paired 0 es) (due ++ filter (later r.cost r.after) es)
   state-start s ps due es l w h c k =
       let up = codes-rises r.cost s es (λ e j. ((k e).0 j).1) c in
       let fs = filter (later r.cost r.after) es in
@@ -376,7 +376,7 @@ book_of-at (q ∷ plans) zero ps l e = ap rules_of e
 book_of-at (q ∷ plans) (suc i) ps l e = book_of-at plans i ps (omega arith) e
 
 -- nothing is made at first
-state-initial : (book : List (List (Rule ℕ))) (r : Request) → IsState book r 0 0 [] []
+pub state-initial : (book : List (List (Rule ℕ))) (r : Request) → IsState book r 0 0 [] []
 state-initial book r = record {
   made = λ p. ((λ c. absurd (omega (arith, c.1))), (λ m. elim m.so_far [ inl l ↦ absurd (omega arith) | inr l ↦ absurd (let y = l.0 in omega arith) ]));
   once = tt;

@@ -6,11 +6,14 @@ mod due;
 mod fault;
 mod fill;
 mod find;
+pub mod laws;
 mod listed;
 mod make;
 mod paging;
 mod plan;
 mod shelf;
+#[cfg(test)]
+mod tests;
 
 pub use fault::PageFault;
 pub use listed::Page;
