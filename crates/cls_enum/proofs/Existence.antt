@@ -1,22 +1,22 @@
 -- A page has a deciding size and a pool at it: the states are made size by size.
-use Rattle.std.proofs.Common.{◌≡◌, ℕ, zero, suc, ◌+◌, ◌-◌, ◌<◌, ◌≤◌, List, [], ◌∷◌, ◌++◌, length, refl, sym, ap, ◌∙◌, subst, inl, inr, arith, Bool, true, false}
+use Rattle.std.proofs.Common.{◌≡◌, ℕ, zero, suc, ◌+◌, ◌-◌, ◌<◌, ◌≤◌, List, [], ◌∷◌, ◌++◌, length, refl, sym, ◌∙◌, subst, inl, inr, arith, Bool, true, false}
 use Rattle.std.specs.Prelude.{◌⊎◌, ◌↔◌, nat_eq, if◌then◌else◌}
 use Rattle.std.specs.List.{filter}
 use Rattle.std.proofs.lemmas.Bool.{cases_lt}
 use Rattle.std.proofs.lemmas.Bool.Decides.{nat_tests}
 use Rattle.cls_base.specs.Terms.{Applicative, code_of, Precedes}
 use Rattle.cls_base.specs.Rules.{Rule}
-use Rattle.cls_base.specs.Languages.{IsGenerated, rules_at}
+use Rattle.cls_base.specs.Languages.{rules_at}
 use Rattle.cls_base.specs.Pages.{Request, IsDue}
 use Rattle.cls_base.specs.Pools.{PoolIs, IsDecidingSize}
 use Rattle.cls_term.proofs.Codes.{code_of-one_to_one}
-use Rattle.cls_term.proofs.Orders.{Precedes-total, Precedes-trans}
+use Rattle.cls_term.proofs.Orders.{Precedes-total}
 use Rattle.cls_enum.specs.Candidates.{candidates, IsInCell}
 use Rattle.cls_enum.specs.Members.{IsIn, CodesRise}
 use Rattle.cls_enum.specs.Requests.{later}
 use Rattle.cls_enum.specs.States.{IsState, IsTerm}
 use Rattle.cls_enum.proofs.CellLaws.{candidates_exact}
-use Rattle.cls_enum.proofs.StateLaws.{none-at_first, few-before, enough-is, state-next}
+use Rattle.cls_enum.proofs.StateLaws.{few-before, enough-is, state-next}
 use Rattle.cls_enum.proofs.StateSteps.{state-more, state-start, state-initial, paired}
 
 -- a list of the same terms in the order of their codes

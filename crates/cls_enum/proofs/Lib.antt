@@ -1,4 +1,5 @@
 pub mod Additions
+pub mod BoundLaws
 pub mod CellLaws
 pub mod Counting
 pub mod Existence

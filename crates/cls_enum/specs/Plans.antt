@@ -1,10 +1,11 @@
 -- Rules as they are kept while a page is made.
-use Rattle.std.specs.Prelude.{ℕ, ◌≡◌, ◌≤◌, ◌<◌, ◌+◌, ◌-◌, ◌⊎◌, List, [], ◌∷◌, length, map, nat_le, if◌then◌else◌, slice_index, slice_index_or}
+use Rattle.std.specs.Prelude.{ℕ, zero, suc, ◌≡◌, ◌≤◌, ◌<◌, ◌+◌, ◌-◌, ◌⊎◌, List, [], ◌∷◌, ◌++◌, length, map, nat_le, if◌then◌else◌, slice_index, slice_index_or}
 use Rattle.std.specs.List.{flat_map}
 use Rattle.cls_base.specs.Terms.{Applicative, component, length_of, size_of}
 use Rattle.cls_base.specs.Rules as rules
 use Rattle.cls_base.specs.Languages.{Applies, NodeRule}
-use Rattle.cls_enum.specs.Candidates.{over, fills}
+use Rattle.cls_enum.specs.Candidates.{over, fills, IsInCell}
+use Rattle.cls_enum.specs.Members.{IsIn}
 use Rattle.cls_enum.specs.declared.plan.Place.{Place}
 use Rattle.cls_enum.specs.declared.plan.Plan.{Plan}
 use Rattle.cls_enum.specs.declared.plan.Plan.TheVariants.{Head, Any}
@@ -82,3 +83,17 @@ book_of plans = map (λ ps. map rule_of ps) plans
 abbrev pub AllReady : List (List (rules.Rule ℕ)) → (ℕ → ℕ) → ℕ → List (List Plan) → Type 0
 AllReady book cost s [] = Unit {0}
 AllReady book cost s (ps ∷ plans) = AreReady book cost s ps × AllReady book cost s plans
+
+-- how many occurrences the terms at the places have at least, as far as the places say
+abbrev pub after : List Place → ℕ → ℕ
+after [] zero = 0
+after [] (suc rest) = 65
+after (p ∷ places) rest = slice_index p.least.items rest
+
+-- the cells have every short term of their node and size
+abbrev pub AreWhole : List (List (rules.Rule ℕ)) → (ℕ → ℕ) → (ℕ → ℕ → List Applicative) → ℕ → Type 0
+AreWhole book cost cell s = (t : ℕ) → t ≤ s → (n : ℕ) (e : Applicative) → IsInCell book cost n t e → IsIn (cell t n) e
+
+-- what the place says stays, or it says one more
+abbrev pub IsExtended : (ℕ → ℕ → List Applicative) → ℕ → List Place → ℕ → List ℕ → List ℕ → Type 0
+IsExtended cell node others s old new = (new ≡ old) ⊎ ((length old ≡ s) × (b : ℕ) × (new ≡ old ++ b ∷ []) × ((t : ℕ) → t ≤ s → (a : Applicative) → IsIn (cell t node) a → b ≤ length_of a + after others (s - t)) × (b ≤ 65))

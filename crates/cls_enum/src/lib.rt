@@ -1,6 +1,7 @@
 //! Pages: the next terms of a rule book's start, each once, in order.
 #![tactic(auto)]
 
+mod bounds;
 mod cells;
 mod due;
 mod fault;

@@ -10,6 +10,7 @@ ghost use Rattle.cls_enum.specs.Requests.{request};
 ghost use Rattle.cls_enum.specs.States.{IsDone, IsKept, IsOver, IsTooMuch, IsWithin};
 
 use crate::PageFault;
+use crate::bounds::{is_wide, next_plans};
 use crate::cells::Cells;
 use crate::listed::Page;
 use crate::plan::{NodePlans, plans};
@@ -22,7 +23,7 @@ use std::alloc::Global;
 /// Makes terms, size after size, until the page is known.
 fn collect(
     alloc: Global,
-    plans: &[NodePlans],
+    plans: Vec<NodePlans>,
     costs: &Numbers,
     after: Option<&Term>,
     after_size: u64,
@@ -34,17 +35,20 @@ fn collect(
     requires positive { (x : ℕ) → 1 ≤ cost_of costs.now x }
     requires token { IfSome (option_copied after) (λ a. after_size ≡ size_of (cost_of costs.now) a) }
     requires max { max ≤ 1024 }
-    requires some { 0 < length plans.now }
-    requires few { length plans.now < 2 ^ 32 }
-    requires ready { (s : ℕ) → AllReady (book_of plans.now) (cost_of costs.now) s plans.now }
-    requires kept { IsKept (book_of plans.now) (request costs.now (option_copied after) max take) 0 0 shelf.old.bank shelf.old.cells shelf.old.due.items shelf.old.total }
+    requires some { 0 < length plans.items }
+    requires few { length plans.items < 2 ^ 32 }
+    requires ready { AllReady (book_of plans.items) (cost_of costs.now) 0 plans.items }
+    requires kept { IsKept (book_of plans.items) (request costs.now (option_copied after) max take) 0 0 shelf.old.bank shelf.old.cells shelf.old.due.items shelf.old.total }
     requires within { shelf.old.total ≤ pool }
-    ensures done { IfOk result (λ _. IsDone (book_of plans.now) (request costs.now (option_copied after.entry) max take) shelf.new.bank shelf.new.due.items pool) }
-    ensures over { IfErr result (λ fault. IfTooMany fault (IsOver (book_of plans.now) (request costs.now (option_copied after.entry) max take) pool)) }
+    ensures done { IfOk result (λ _. IsDone (book_of plans.items) (request costs.now (option_copied after.entry) max take) shelf.new.bank shelf.new.due.items pool) }
+    ensures over { IfErr result (λ fault. IfTooMany fault (IsOver (book_of plans.items) (request costs.now (option_copied after.entry) max take) pool)) }
 {
+    let wide = is_wide(plans.as_slice());
+    let mut current = plans;
     for size in 0..max {
+        let rules = current.as_slice();
         if let Err(fault) = make_node(
-            alloc, plans, costs, after, after_size, max, take, pool, 0, size, shelf,
+            alloc, rules, costs, after, after_size, max, take, pool, 0, size, shelf,
         ) {
             return Err(fault);
         }
@@ -52,13 +56,15 @@ fn collect(
             return Ok(());
         }
         if let Err(fault) = make_others(
-            alloc, plans, costs, after, after_size, max, take, pool, size, shelf,
+            alloc, rules, costs, after, after_size, max, take, pool, size, shelf,
         ) {
             return Err(fault);
         }
+        current = next_plans(alloc, &shelf.bank, &shelf.cells, size, current, wide)?;
     }
+    let rules = current.as_slice();
     make_node(
-        alloc, plans, costs, after, after_size, max, take, pool, 0, max, shelf,
+        alloc, rules, costs, after, after_size, max, take, pool, 0, max, shelf,
     )
 }
 
@@ -124,13 +130,13 @@ pub fn page<B: RuleBook>(
     ensures over { IfErr result (λ fault. IfTooMany fault (IsOver (B.book book.now) (request costs.now (option_copied after.entry) max_size take) pool)) }
 {
     let plans = plans(alloc, book, costs)?;
-    list(alloc, plans.as_slice(), costs, after, max_size, take, pool)
+    list(alloc, plans, costs, after, max_size, take, pool)
 }
 
 /// The page of the rules of these plans.
 fn list(
     alloc: Global,
-    plans: &[NodePlans],
+    plans: Vec<NodePlans>,
     costs: &Numbers,
     after: Option<&Term>,
     max: u32,
@@ -141,12 +147,12 @@ fn list(
     requires max { max ≤ 1024 }
     requires taken { 1 ≤ take }
     requires token { IfSome (option_copied after) (λ a. length_of a < 2 ^ 32) }
-    requires some { 0 < length plans.now }
-    requires few { length plans.now < 2 ^ 32 }
-    requires ready { (s : ℕ) → AllReady (book_of plans.now) (cost_of costs.now) s plans.now }
-    ensures page { IfOk result (λ p. IsPage (IsGenerated (book_of plans.now) 0) (request costs.now (option_copied after.entry) max take) p.terms p.more) }
-    ensures within { IfOk result (λ _. IsWithin (book_of plans.now) (request costs.now (option_copied after.entry) max take) pool) }
-    ensures over { IfErr result (λ fault. IfTooMany fault (IsOver (book_of plans.now) (request costs.now (option_copied after.entry) max take) pool)) }
+    requires some { 0 < length plans.items }
+    requires few { length plans.items < 2 ^ 32 }
+    requires ready { AllReady (book_of plans.items) (cost_of costs.now) 0 plans.items }
+    ensures page { IfOk result (λ p. IsPage (IsGenerated (book_of plans.items) 0) (request costs.now (option_copied after.entry) max take) p.terms p.more) }
+    ensures within { IfOk result (λ _. IsWithin (book_of plans.items) (request costs.now (option_copied after.entry) max take) pool) }
+    ensures over { IfErr result (λ fault. IfTooMany fault (IsOver (book_of plans.items) (request costs.now (option_copied after.entry) max take) pool)) }
 {
     let after_size = token_size(costs, after);
     let mut shelf = Shelf {

@@ -72,6 +72,18 @@ impl NodePlans {
     {
         self.plans.as_slice()
     }
+
+    /// Whether some rule has more than two arguments.
+    pub(crate) fn is_wide(&self) -> bool {
+        for plan in &self.plans {
+            if let Plan::Head(_, _, places) = plan {
+                if places.len() > 2 {
+                    return true;
+                }
+            }
+        }
+        false
+    }
 }
 
 /// The plans of all nodes of a rule book.

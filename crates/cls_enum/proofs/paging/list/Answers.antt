@@ -14,12 +14,12 @@ use Rattle.cls_enum.proofs.paging.list.Goals as goal
 
 pub collect-requires-clause-kept : goal.collect-requires-clause-kept
 collect-requires-clause-kept c =
-    kept-initial (book_of c.args.plans.now) (request c.args.costs.now (option_copied c.args.after) c.args.max c.args.take) (length c.args.plans.now) c.new.result c.new-2.result c.new-3.result.items
-    (sym (length-map c.args.plans.now (λ (x : List Plan). map rule_of x))) c.new.ensures c.new-2.ensures c.new-3.ensures.items
+    kept-initial (book_of c.args.plans.items) (request c.args.costs.now (option_copied c.args.after) c.args.max c.args.take) c.len.result c.new.result c.new-2.result c.new-3.result.items
+    (omega (arith, c.len.ensures, c.args.plans.ok.0, length-map c.args.plans.items (λ (x : List Plan). map rule_of x))) c.new.ensures c.new-2.ensures c.new-3.ensures.items
 
 pub returns-clause-page : goal.returns-clause-page
 returns-clause-page c =
-    let book = book_of c.args.plans.now in
+    let book = book_of c.args.plans.items in
     let r = request c.args.costs.now (option_copied c.args.after) c.args.max c.args.take in
     let ts = c.collect.new.shelf.bank in
     let due = c.collect.new.shelf.due.items in
@@ -33,7 +33,7 @@ returns-clause-page c =
 
 pub returns-clause-within : goal.returns-clause-within
 returns-clause-within c =
-    let book = book_of c.args.plans.now in
+    let book = book_of c.args.plans.items in
     let r = request c.args.costs.now (option_copied c.args.after) c.args.max c.args.take in
     let ts = c.collect.new.shelf.bank in
     let due = c.collect.new.shelf.due.items in
