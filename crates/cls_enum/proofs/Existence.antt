@@ -1,13 +1,13 @@
 -- A page has a deciding size and a pool at it: the states are made size by size.
-use Rattle.std.proofs.Common.{◌≡◌, ℕ, zero, suc, ◌+◌, ◌-◌, ◌<◌, ◌≤◌, List, [], ◌∷◌, ◌++◌, length, refl, sym, ◌∙◌, subst, inl, inr, arith, Bool, true, false}
-use Rattle.std.specs.Prelude.{◌⊎◌, ◌↔◌, nat_eq, if◌then◌else◌}
+use Rattle.std.proofs.Common.{◌≡◌, ℕ, zero, suc, ◌+◌, ◌-◌, ◌<◌, ◌≤◌, List, [], ◌∷◌, ◌++◌, length, take, refl, sym, ◌∙◌, subst, inl, inr, arith, Bool, true, false}
+use Rattle.std.specs.Prelude.{◌⊎◌, ◌↔◌, nat_eq, nat_lt, if◌then◌else◌}
 use Rattle.std.specs.List.{filter}
 use Rattle.std.proofs.lemmas.Bool.{cases_lt}
 use Rattle.std.proofs.lemmas.Bool.Decides.{nat_tests}
 use Rattle.cls_base.specs.Terms.{Applicative, code_of, Precedes}
 use Rattle.cls_base.specs.Rules.{Rule}
 use Rattle.cls_base.specs.Languages.{rules_at}
-use Rattle.cls_base.specs.Pages.{Request, IsDue}
+use Rattle.cls_base.specs.Pages.{Request, IsDue, IsPage}
 use Rattle.cls_base.specs.Pools.{PoolIs, IsDecidingSize}
 use Rattle.cls_term.proofs.Codes.{code_of-one_to_one}
 use Rattle.cls_term.proofs.Orders.{Precedes-total}
@@ -16,7 +16,7 @@ use Rattle.cls_enum.specs.Members.{IsIn, CodesRise}
 use Rattle.cls_enum.specs.Requests.{later}
 use Rattle.cls_enum.specs.States.{IsState, IsTerm}
 use Rattle.cls_enum.proofs.CellLaws.{candidates_exact}
-use Rattle.cls_enum.proofs.StateLaws.{few-before, enough-is, state-next}
+use Rattle.cls_enum.proofs.StateLaws.{few-before, enough-is, state-next, page-is}
 use Rattle.cls_enum.proofs.StateSteps.{state-more, state-start, state-initial, paired}
 
 -- a list of the same terms in the order of their codes
@@ -107,7 +107,7 @@ module _ (book : List (List (Rule ℕ))) (r : Request) (positive : (x : ℕ) →
   ]
 
   abbrev Decided : Type 0
-  Decided = (s : ℕ) × IsDecidingSize (IsDue (IsTerm book r) r) r.cost r.take r.max s × ((n : ℕ) × PoolIs book r.cost s n)
+  Decided = (s : ℕ) × IsDecidingSize (IsDue (IsTerm book r) r) r.cost r.take r.max s × ((n : ℕ) × PoolIs book r.cost s n) × (0 < r.take → (terms : List Applicative) × ((more : Bool) × IsPage (IsTerm book r) r terms more))
 
   decided-here : (s : ℕ) (ps qs : List (ℕ × Applicative)) (due ds : List Applicative) → s ≤ r.max → IsState book r s 0 ps due → length due ≤ r.take → IsState book r s 1 qs ds → (r.take < length ds) ⊎ (s ≡ r.max) → Decided
   decided-here s ps qs due ds w h few k d = (
@@ -118,6 +118,7 @@ module _ (book : List (List (Rule ℕ))) (r : Request) (positive : (x : ℕ) →
       enough_or_all = elim d [ inl l ↦ inl (enough-is book r s qs ds k l) | inr p ↦ inr p ];
     },
     (length qs, (qs, k.once, k.made, refl)),
+    (λ some. (take r.take ds, (nat_lt r.take (length ds), page-is book r s qs ds k some w d))),
   )
 
   decided-from : (fuel s : ℕ) (cell : ℕ → ℕ → List Applicative) → 0 < length book → s + fuel ≡ r.max → Exact s cell → (ps : List (ℕ × Applicative)) (due : List Applicative) → IsState book r s 0 ps due → length due ≤ r.take → Decided
@@ -135,6 +136,12 @@ module _ (book : List (List (Rule ℕ))) (r : Request) (positive : (x : ℕ) →
             decided-from fuel (s + 1) (λ t n. if nat_eq t s then candidates cell r.cost s (rules_at book n) else cell t n) l (omega arith) (exact-next s cell x) o.0 ds (state-next book r s (length book) o.0 ds l refl o.1) m
       ]
 
-pub each_page-decided : (book : List (List (Rule ℕ))) (r : Request) → 0 < length book → ((x : ℕ) → 1 ≤ r.cost x) → (s : ℕ) × IsDecidingSize (IsDue (IsTerm book r) r) r.cost r.take r.max s × ((n : ℕ) × PoolIs book r.cost s n)
-each_page-decided book r l positive =
+decided : (book : List (List (Rule ℕ))) (r : Request) → 0 < length book → (positive : (x : ℕ) → 1 ≤ r.cost x) → Decided book r positive
+decided book r l positive =
     decided-from book r positive r.max 0 (λ t n. []) l (omega arith) (λ t m n e. absurd (omega arith)) [] [] (state-initial book r) (omega arith)
+
+pub each_page-decided : (book : List (List (Rule ℕ))) (r : Request) → 0 < length book → ((x : ℕ) → 1 ≤ r.cost x) → (s : ℕ) × IsDecidingSize (IsDue (IsTerm book r) r) r.cost r.take r.max s × ((n : ℕ) × PoolIs book r.cost s n)
+each_page-decided book r l positive = let d = decided book r l positive in (d.0, d.1, d.2)
+
+pub each_page-exists : (book : List (List (Rule ℕ))) (r : Request) → 0 < length book → ((x : ℕ) → 1 ≤ r.cost x) → 0 < r.take → (terms : List Applicative) × ((more : Bool) × IsPage (IsTerm book r) r terms more)
+each_page-exists book r l positive some = (decided book r l positive).3 some
