@@ -1,7 +1,10 @@
+pub mod Languages
 pub mod Measures
 pub mod Memory
 pub mod Outside
 pub mod Pages
+pub mod Pools
+pub mod Rules
 pub mod Schemas
 pub mod Spines
 pub mod Subtyping

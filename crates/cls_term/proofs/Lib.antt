@@ -1,3 +1,6 @@
+pub mod BankColumns
+pub mod BankSteps
+pub mod Banks
 pub mod Codes
 pub mod Costs
 pub mod Orders

@@ -1,3 +1,5 @@
+pub mod BankColumns
+pub mod Banks
 pub mod Components
 pub mod Costs
 pub mod Laws

@@ -9,7 +9,11 @@
 //! Each of these calls goes down the term, so the depth of a term bounds the stack that it takes.
 #![tactic(auto)]
 
+mod bank;
 pub mod laws;
+mod spine_set;
 mod term;
 
+pub use bank::Bank;
+pub use spine_set::SpineSet;
 pub use term::{Term, Terms};

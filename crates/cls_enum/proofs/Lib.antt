@@ -1,0 +1,12 @@
+pub mod Additions
+pub mod BoundLaws
+pub mod CellLaws
+pub mod Counting
+pub mod Existence
+pub mod FillSteps
+pub mod Members
+pub mod PageLaws
+pub mod Planning
+pub mod StateLaws
+pub mod StateSteps
+pub mod Storing

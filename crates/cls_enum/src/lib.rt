@@ -1,0 +1,28 @@
+//! Pages: the next terms of the start of a rule book, each once, in order.
+//!
+//! - [`page`] gives a [`Page`] of the terms of any rule book after any term, or says that more terms would have to be held
+//!   than are allowed.
+//! - [`laws`] says that each request has its page, and a size that decides it.
+//!
+//! Terms are made size after size, those of the start first. The terms of one size of a node are found as spines over the
+//! numbers of a bank of terms, then put into the bank, and sorted by their codes.
+#![tactic(auto)]
+
+mod bounds;
+mod cells;
+mod due;
+mod fault;
+mod fill;
+mod find;
+pub mod laws;
+mod listed;
+mod make;
+mod paging;
+mod plan;
+mod shelf;
+#[cfg(test)]
+mod tests;
+
+pub use fault::PageFault;
+pub use listed::Page;
+pub use paging::page;

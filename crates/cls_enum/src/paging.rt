@@ -1,0 +1,194 @@
+ghost use Rattle.std.specs.Prelude.{◌≡◌, ℕ, ◌+◌, ◌<◌, ◌≤◌, ◌^◌, IfOk, IfErr, IfSome, All, length, map, nat_lt, option_copied, take};
+ghost use Rattle.cls_base.specs.Languages.{IsGenerated};
+ghost use Rattle.cls_base.specs.Pages.{IsPage};
+ghost use Rattle.cls_base.specs.Terms.{length_of, size_of};
+ghost use Rattle.cls_term.specs.Banks.{at};
+ghost use Rattle.cls_term.specs.Costs.{cost_of};
+ghost use Rattle.cls_enum.specs.Faults.{IfTooMany};
+ghost use Rattle.cls_enum.specs.Plans.{book_of, AllReady};
+ghost use Rattle.cls_enum.specs.Requests.{request};
+ghost use Rattle.cls_enum.specs.States.{IsDone, IsKept, IsOver, IsTooMuch, IsWithin};
+
+use crate::PageFault;
+use crate::bounds::{is_wide, next_plans};
+use crate::cells::Cells;
+use crate::listed::Page;
+use crate::plan::{NodePlans, plans};
+use crate::shelf::{Shelf, make_node};
+use cls_base::{Numbers, OutOfMemory};
+use cls_grammar::RuleBook;
+use cls_term::{Bank, Term};
+use std::alloc::Global;
+
+/// Makes terms, size after size, until the page is known.
+fn collect(
+    alloc: Global,
+    plans: Vec<NodePlans>,
+    costs: &Numbers,
+    after: Option<&Term>,
+    after_size: u64,
+    max: u32,
+    take: u32,
+    pool: u64,
+    shelf: &mut Shelf,
+) -> Result<(), PageFault>
+    requires positive { (x : ℕ) → 1 ≤ cost_of costs.now x }
+    requires token { IfSome (option_copied after) (λ a. after_size ≡ size_of (cost_of costs.now) a) }
+    requires max { max ≤ 1024 }
+    requires some { 0 < length plans.items }
+    requires few { length plans.items < 2 ^ 32 }
+    requires ready { AllReady (book_of plans.items) (cost_of costs.now) 0 plans.items }
+    requires kept { IsKept (book_of plans.items) (request costs.now (option_copied after) max take) 0 0 shelf.old.bank shelf.old.cells shelf.old.due.items shelf.old.total }
+    requires within { shelf.old.total ≤ pool }
+    ensures done { IfOk result (λ _. IsDone (book_of plans.items) (request costs.now (option_copied after.entry) max take) shelf.new.bank shelf.new.due.items pool) }
+    ensures over { IfErr result (λ fault. IfTooMany fault (IsOver (book_of plans.items) (request costs.now (option_copied after.entry) max take) pool)) }
+{
+    let wide = is_wide(plans.as_slice());
+    let mut current = plans;
+    for size in 0..max {
+        let rules = current.as_slice();
+        if let Err(fault) = make_node(
+            alloc, rules, costs, after, after_size, max, take, pool, 0, size, shelf,
+        ) {
+            return Err(fault);
+        }
+        if shelf.due.len() > take as usize {
+            return Ok(());
+        }
+        if let Err(fault) = make_others(
+            alloc, rules, costs, after, after_size, max, take, pool, size, shelf,
+        ) {
+            return Err(fault);
+        }
+        current = next_plans(alloc, &shelf.bank, &shelf.cells, size, current, wide)?;
+    }
+    let rules = current.as_slice();
+    make_node(
+        alloc, rules, costs, after, after_size, max, take, pool, 0, max, shelf,
+    )
+}
+
+/// Makes the terms of one size of all nodes but the start.
+fn make_others(
+    alloc: Global,
+    plans: &[NodePlans],
+    costs: &Numbers,
+    after: Option<&Term>,
+    after_size: u64,
+    max: u32,
+    take: u32,
+    pool: u64,
+    size: u32,
+    shelf: &mut Shelf,
+) -> Result<(), PageFault>
+    requires positive { (x : ℕ) → 1 ≤ cost_of costs.now x }
+    requires token { IfSome (option_copied after) (λ a. after_size ≡ size_of (cost_of costs.now) a) }
+    requires max { max ≤ 1024 }
+    requires size { size ≤ max }
+    requires some { 0 < length plans.now }
+    requires few { length plans.now < 2 ^ 32 }
+    requires ready { AllReady (book_of plans.now) (cost_of costs.now) size plans.now }
+    requires kept { IsKept (book_of plans.now) (request costs.now (option_copied after) max take) size 1 shelf.old.bank shelf.old.cells shelf.old.due.items shelf.old.total }
+    requires within { shelf.old.total ≤ pool }
+    ensures kept { IfOk result (λ _. IsKept (book_of plans.now) (request costs.now (option_copied after.entry) max take) (size + 1) 0 shelf.new.bank shelf.new.cells shelf.new.due.items shelf.new.total) }
+    ensures within { IfOk result (λ _. shelf.new.total ≤ pool) }
+    ensures same { IfOk result (λ _. length shelf.new.due.items ≡ length shelf.old.due.items) }
+    ensures over { IfErr result (λ fault. IfTooMany fault (IsTooMuch (book_of plans.now) (request costs.now (option_copied after.entry) max take) (size + 1) 0 pool)) }
+{
+    for node in 1..plans.len() as u32 {
+        if let Err(fault) = make_node(
+            alloc, plans, costs, after, after_size, max, take, pool, node, size, shelf,
+        ) {
+            return Err(fault);
+        }
+    }
+    Ok(())
+}
+
+/// The first `take` terms of the start of a rule book that come after the token, where there is one, and have size at most
+/// `max_size` and length at most 64, in the order by size and code, each once; and whether there is a further one. A component
+/// that has no cost in the list costs 1. The token needn't be a term of the book.
+///
+/// `TooManyTerms` comes exactly where more than `pool` terms have to be held: all of all nodes that are smaller than the
+/// deciding size, with those of the start that have it. The deciding size is the least one at which the page is known to
+/// be full with a further term behind it, or `max_size`.
+pub fn page<B: RuleBook>(
+    alloc: Global,
+    book: &B,
+    costs: &Numbers,
+    after: Option<&Term>,
+    max_size: u32,
+    take: u32,
+    pool: u64,
+) -> Result<Page, PageFault>
+    requires max { max_size ≤ 1024 }
+    requires some { 1 ≤ take }
+    requires costs { (x : ℕ) → 1 ≤ cost_of costs.now x }
+    requires token { IfSome (option_copied after) (λ a. length_of a < 2 ^ 32) }
+    ensures page { IfOk result (λ p. IsPage (IsGenerated (B.book book.now) 0) (request costs.now (option_copied after.entry) max_size take) p.terms p.more) }
+    ensures within { IfOk result (λ _. IsWithin (B.book book.now) (request costs.now (option_copied after.entry) max_size take) pool) }
+    ensures over { IfErr result (λ fault. IfTooMany fault (IsOver (B.book book.now) (request costs.now (option_copied after.entry) max_size take) pool)) }
+{
+    let plans = plans(alloc, book, costs)?;
+    list(alloc, plans, costs, after, max_size, take, pool)
+}
+
+/// The page of the rules of these plans.
+fn list(
+    alloc: Global,
+    plans: Vec<NodePlans>,
+    costs: &Numbers,
+    after: Option<&Term>,
+    max: u32,
+    take: u32,
+    pool: u64,
+) -> Result<Page, PageFault>
+    requires positive { (x : ℕ) → 1 ≤ cost_of costs.now x }
+    requires max { max ≤ 1024 }
+    requires taken { 1 ≤ take }
+    requires token { IfSome (option_copied after) (λ a. length_of a < 2 ^ 32) }
+    requires some { 0 < length plans.items }
+    requires few { length plans.items < 2 ^ 32 }
+    requires ready { AllReady (book_of plans.items) (cost_of costs.now) 0 plans.items }
+    ensures page { IfOk result (λ p. IsPage (IsGenerated (book_of plans.items) 0) (request costs.now (option_copied after.entry) max take) p.terms p.more) }
+    ensures within { IfOk result (λ _. IsWithin (book_of plans.items) (request costs.now (option_copied after.entry) max take) pool) }
+    ensures over { IfErr result (λ fault. IfTooMany fault (IsOver (book_of plans.items) (request costs.now (option_copied after.entry) max take) pool)) }
+{
+    let after_size = token_size(costs, after);
+    let mut shelf = Shelf {
+        bank: Bank::new(alloc),
+        cells: Cells::new(alloc, plans.len() as u32),
+        due: Vec::new(alloc),
+        total: 0,
+    };
+    if let Err(fault) = collect(
+        alloc, plans, costs, after, after_size, max, take, pool, &mut shelf,
+    ) {
+        return Err(fault);
+    }
+    Ok(first_due(alloc, &shelf.bank, shelf.due.as_slice(), take)?)
+}
+
+/// The first of the due terms.
+fn first_due(alloc: Global, bank: &Bank, due: &[u32], wanted: u32) -> Result<Page, OutOfMemory>
+    ensures terms { IfOk result (λ p. p.terms ≡ take wanted (map (at bank.now) due.now)) }
+    ensures more { IfOk result (λ p. p.more ≡ nat_lt wanted (length due.now)) }
+{
+    let listed = due.len().min(wanted as usize);
+    let terms = bank.terms(alloc, &due[..listed])?;
+    Ok(Page {
+        terms,
+        more: due.len() > wanted as usize,
+    })
+}
+
+/// The size of the token, 0 where there is none.
+fn token_size(costs: &Numbers, after: Option<&Term>) -> u64
+    requires { IfSome (option_copied after) (λ a. length_of a < 2 ^ 32) }
+    ensures { IfSome (option_copied after.entry) (λ a. result ≡ size_of (cost_of costs.now) a) }
+{
+    match after {
+        None => 0,
+        Some(token) => token.size(costs),
+    }
+}
