@@ -1,0 +1,5 @@
+#![tactic(auto)]
+
+mod spans;
+
+pub use spans::{Span, Spans};
