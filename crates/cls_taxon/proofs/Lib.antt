@@ -1,1 +1,3 @@
+pub mod MarkedRows
+pub mod Rows
 pub mod SpanSets

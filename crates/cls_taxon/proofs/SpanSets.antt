@@ -5,10 +5,12 @@ use Rattle.std.specs.List.{AllByRecursion}
 use Rattle.std.specs.List.Sorted.{IsNonDecreasingBy, IsPermutation, IsPartitionPoint}
 use Rattle.std.proofs.lemmas.Bool.{cases_lt, le-leb, lt-leb}
 use Rattle.std.proofs.lemmas.List.{drop_more, drop_all, get_or_default}
-use Rattle.std.proofs.lemmas.List.Elements.{All-from_recursion, recursion_from_All}
+use Rattle.std.proofs.lemmas.List.Elements.{All-from_recursion, recursion_from_All, Contains-push, Contains-push_cases, Contains-append_left}
+use Rattle.std.proofs.Math.ListN.{get_or-eq_default}
 use Rattle.std.proofs.lemmas.List.Sorted.{IsNonDecreasingBy-drop, IsPermutation-sym, Contains-permutation, All-permutation}
 use Rattle.cls_taxon.specs.declared.spans.Span.{Span}
 use Rattle.cls_taxon.specs.Decisions.{Contains-here, Contains-cons, Contains-cases}
+use Rattle.cls_taxon.specs.Graphs.{IsMarked}
 use Rattle.cls_taxon.specs.Spans.{InSpans, IsSpan, IsRising, start_of, joined}
 
 -- starts that rise from here on
@@ -183,3 +185,51 @@ module _ (spans : List Span) (rises : IsRising spans) (n place : ℕ) (point : I
 
   pub found_none : length spans ≤ place → InSpans spans n → ⊥
   found_none beyond (t, (k, short, at), from, to) = absurd (let l = leb-true t.end n (subst (λ (x : Span). leb x.end n ≡ true) at (point.0 k t (omega arith) (omega arith))) in omega arith)
+
+-- one number more
+pub InSpans-push : (spans : List Span) (s : Span) (n i : ℕ) → s ≡ record { start = n; end = n + 1 } → InSpans (spans ++ s ∷ []) i ↔ (InSpans spans i ⊎ (n ≡ i))
+InSpans-push spans s n i e = (
+  λ h. elim (Contains-push_cases spans s h.0 h.1) [
+    | inl old ↦ inl (h.0, old, h.2, h.3)
+    | inr new ↦ (let a : h.0.start ≡ n = ap (λ (x : Span). x.start) (sym new ∙ e) in let b : h.0.end ≡ n + 1 = ap (λ (x : Span). x.end) (sym new ∙ e) in inr (omega (arith, h.2, h.3)))
+  ],
+  λ h. elim h [
+    | inl old ↦ (old.0, Contains-append_left spans (s ∷ []) old.0 old.1, old.2, old.3)
+    | inr is ↦ (s, Contains-push spans s, (let a : s.start ≡ n = ap (λ (x : Span). x.start) e in omega arith), (let b : s.end ≡ n + 1 = ap (λ (x : Span). x.end) e in omega arith))
+  ],
+)
+
+pub InSpans-none : (i : ℕ) → InSpans [] i → ⊥
+InSpans-none i h = absurd (omega (arith, h.1.1))
+
+-- The marked numbers below a place are in the spans.
+module _ (marks : List Bool) (spans spans' : List Span) (n : ℕ) (so_far : (i : ℕ) → InSpans spans i ↔ ((i < n) × IsMarked marks i)) where
+  pub spans_pushed : (s : Span) → IsMarked marks n → spans' ≡ spans ++ s ∷ [] → s ≡ record { start = n; end = n + 1 } → (i : ℕ) → InSpans spans' i ↔ ((i < n + 1) × IsMarked marks i)
+  spans_pushed s marked e f i = subst (λ (x : List Span). InSpans x i ↔ ((i < n + 1) × IsMarked marks i)) (sym e) (
+    λ h. elim ((InSpans-push spans s n i f).0 h) [
+      | inl old ↦ (let m = (so_far i).0 old in (omega (arith, m.0), m.1))
+      | inr is ↦ (omega arith, subst (IsMarked marks) is marked)
+    ],
+    λ h. (InSpans-push spans s n i f).1 (elim (cases_lt i n) [ | inl l ↦ inl ((so_far i).1 (l, h.1)) | inr m ↦ inr (omega (arith, h.0)) ]),
+  )
+
+  pub spans_kept : (IsMarked marks n → ⊥) → spans' ≡ spans → (i : ℕ) → InSpans spans' i ↔ ((i < n + 1) × IsMarked marks i)
+  spans_kept free e i = subst (λ (x : List Span). InSpans x i ↔ ((i < n + 1) × IsMarked marks i)) (sym e) (
+    λ h. (let m = (so_far i).0 h in (omega (arith, m.0), m.1)),
+    λ h. elim (cases_lt i n) [ | inl l ↦ (so_far i).1 (l, h.1) | inr m ↦ absurd (free (subst (IsMarked marks) (ends i n (omega (arith, h.0))) h.1)) ],
+  )
+    where
+      ends : (i n : ℕ) → i ≡ n → i ≡ n
+      ends i n e = e
+
+  pub spans_whole : length marks ≤ n → (i : ℕ) → InSpans spans i ↔ IsMarked marks i
+  spans_whole all i = (
+    λ h. ((so_far i).0 h).1,
+    λ m. elim (cases_lt i n) [
+      | inl l ↦ (so_far i).1 (l, m)
+      | inr g ↦ absurd (differs (sym (get_or-eq_default marks false (omega (arith, all))) ∙ m))
+    ],
+  )
+    where
+      differs : false ≡ true → ⊥
+      differs e = cc

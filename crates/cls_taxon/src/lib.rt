@@ -1,5 +1,5 @@
 #![tactic(auto)]
 
+mod descent;
+mod graph;
 mod spans;
-
-pub use spans::{Span, Spans};
