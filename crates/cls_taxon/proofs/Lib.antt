@@ -1,3 +1,7 @@
+pub mod Chains
+pub mod Gathering
 pub mod MarkedRows
+pub mod PlaceLaws
+pub mod Positions
 pub mod Rows
 pub mod SpanSets

@@ -132,7 +132,7 @@ pub record IsDescent (graph : List (List ℕ)) (top : ℕ) (marks : List Bool) (
   pub under : (i : ℕ) → IsMarked marks i → Under graph i top
   pub closed : (k i : ℕ) → k < next → Contains (row graph (slice_index_or reached k 0)) i → IsMarked marks i
 
-Under-trans : (graph : List (List ℕ)) (i j k : ℕ) → Under graph i j → Under graph j k → Under graph i k
+pub Under-trans : (graph : List (List ℕ)) (i j k : ℕ) → Under graph i j → Under graph j k → Under graph i k
 Under-trans graph i j k p same = p
 Under-trans graph i j k p (lower {k = l} c q) = lower c (Under-trans graph i j l p q)
 

@@ -1,5 +1,9 @@
+pub mod Closures
+pub mod Cycles
 pub mod Decisions
 pub mod Graphs
 pub mod Marks
 pub mod Orders
+pub mod PairGraphs
+pub mod Places
 pub mod Spans

@@ -1,5 +1,9 @@
 #![tactic(auto)]
 
+mod closure;
+mod cycles;
 mod descent;
 mod graph;
+mod pairs;
+mod places;
 mod spans;
