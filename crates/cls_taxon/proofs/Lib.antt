@@ -1,5 +1,6 @@
 pub mod Chains
 pub mod Gathering
+pub mod Loops
 pub mod MarkedRows
 pub mod PairLaws
 pub mod PlaceLaws
