@@ -7,3 +7,4 @@ pub mod PlaceLaws
 pub mod Positions
 pub mod Rows
 pub mod SpanSets
+pub mod VarianceLaws

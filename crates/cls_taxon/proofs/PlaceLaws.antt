@@ -9,10 +9,10 @@ use Rattle.cls_taxon.specs.Decisions.{Contains-here, Contains-cons, Contains-cas
 use Rattle.cls_taxon.specs.Places.{place_of, with_name, AreDifferent}
 use Rattle.cls_taxon.proofs.Rows.{Contains-none}
 
-same_name : (a b : ℕ) → (a == b) ≡ true → a ≡ b
+pub same_name : (a b : ℕ) → (a == b) ≡ true → a ≡ b
 same_name a b e = grind (arith, nat_tests)
 
-name_same : (a b : ℕ) → a ≡ b → (a == b) ≡ true
+pub name_same : (a b : ℕ) → a ≡ b → (a == b) ≡ true
 name_same a b e = grind (arith, nat_tests)
 
 place-here : (a b : ℕ) (names : List ℕ) → a ≡ b → place_of (b ∷ names) a ≡ 0

@@ -7,3 +7,5 @@ pub mod Orders
 pub mod PairGraphs
 pub mod Places
 pub mod Spans
+pub mod Variances
+pub mod Walks

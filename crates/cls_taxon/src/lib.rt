@@ -7,3 +7,5 @@ mod graph;
 mod pairs;
 mod places;
 mod spans;
+mod variances;
+mod walk;
