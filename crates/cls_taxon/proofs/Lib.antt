@@ -8,3 +8,4 @@ pub mod Positions
 pub mod Rows
 pub mod SpanSets
 pub mod VarianceLaws
+pub mod Walks
