@@ -1,7 +1,9 @@
 pub mod Closures
 pub mod Cycles
 pub mod Decisions
+pub mod Faults
 pub mod Graphs
+pub mod Kept
 pub mod Marks
 pub mod Orders
 pub mod PairGraphs
