@@ -13,7 +13,7 @@ use Rattle.cls_taxon.proofs.Rows.{Contains-none}
 
 InSpans-append : (xs ys : List Span) (i : ℕ) → InSpans (xs ++ ys) i ↔ (InSpans xs i ⊎ InSpans ys i)
 InSpans-append xs ys i = (
-  λ h. elim (Contains-append_cases xs ys h.0 h.1) [ | inl c ↦ inl (h.0, c, h.2, h.3) | inr c ↦ inr (h.0, c, h.2, h.3) ],
+  λ h. elim (Contains-append_cases xs ys h.0 h.1) [ inl c ↦ inl (h.0, c, h.2, h.3) | inr c ↦ inr (h.0, c, h.2, h.3) ],
   λ h. elim h [
     | inl a ↦ (a.0, Contains-append_left xs ys a.0 a.1, a.2, a.3)
     | inr b ↦ (b.0, Contains-append_right xs ys b.0 b.1, b.2, b.3)
@@ -28,8 +28,8 @@ pub record AreGathered (number : ℕ) (done : List ℕ) (below : List (List Span
 pub gathered_first : (number : ℕ) (below : List (List Span)) (spans : List Span) (s : Span) → spans ≡ [] ++ s ∷ [] → s ≡ record { start = number; end = number + 1 } → AreGathered number [] below spans
 gathered_first number below spans s e f = record {
   same = λ i. subst (λ (x : List Span). InSpans x i ↔ ((number ≡ i) ⊎ UnderSome [] below i)) (sym e) (
-    λ h. elim ((InSpans-push [] s number i f).0 h) [ | inl none ↦ absurd (InSpans-none i none) | inr is ↦ inl is ],
-    λ h. (InSpans-push [] s number i f).1 (elim h [ | inl is ↦ inr is | inr u ↦ absurd (Contains-none u.0 u.1) ]),
+    λ h. elim ((InSpans-push [] s number i f).0 h) [ inl none ↦ absurd (InSpans-none i none) | inr is ↦ inl is ],
+    λ h. (InSpans-push [] s number i f).1 (elim h [ inl is ↦ inr is | inr u ↦ absurd (Contains-none u.0 u.1) ]),
   );
   proper = subst (All IsSpan) (sym e) (All-push IsSpan [] s (λ k d l. absurd (omega arith)) (let a : s.start ≡ number = ap (λ (x : Span). x.start) f in let b : s.end ≡ number + 1 = ap (λ (x : Span). x.end) f in omega arith));
 }
@@ -42,7 +42,7 @@ module _ (number : ℕ) (done : List ℕ) (below : List (List Span)) (spans span
       record {
         same = λ i. subst (λ (x : List Span). InSpans x i ↔ ((number ≡ i) ⊎ UnderSome (done ++ k ∷ []) below i)) (sym e) (
           λ h. elim ((InSpans-append spans under i).0 h) [
-            | inl old ↦ elim ((g.same i).0 old) [ | inl n ↦ inl n | inr u ↦ inr (u.0, Contains-append_left done (k ∷ []) u.0 u.1, u.2, u.3) ]
+            | inl old ↦ elim ((g.same i).0 old) [ inl n ↦ inl n | inr u ↦ inr (u.0, Contains-append_left done (k ∷ []) u.0 u.1, u.2, u.3) ]
             | inr new ↦ inr (k, Contains-push done k, within, subst (λ (x : List Span). InSpans x i) is new)
           ],
           λ h. (InSpans-append spans under i).1 (elim h [
@@ -60,7 +60,7 @@ module _ (number : ℕ) (done : List ℕ) (below : List (List Span)) (spans span
   pub gathered_same : length below ≤ k → spans' ≡ spans → AreGathered number (done ++ k ∷ []) below spans'
   gathered_same beyond e = record {
     same = λ i. subst (λ (x : List Span). InSpans x i ↔ ((number ≡ i) ⊎ UnderSome (done ++ k ∷ []) below i)) (sym e) (
-      λ h. elim ((g.same i).0 h) [ | inl n ↦ inl n | inr u ↦ inr (u.0, Contains-append_left done (k ∷ []) u.0 u.1, u.2, u.3) ],
+      λ h. elim ((g.same i).0 h) [ inl n ↦ inl n | inr u ↦ inr (u.0, Contains-append_left done (k ∷ []) u.0 u.1, u.2, u.3) ],
       λ h. (g.same i).1 (elim h [
         | inl n ↦ inl n
         | inr u ↦ elim (Contains-push_cases done k u.0 u.1) [
@@ -98,7 +98,7 @@ module _ (graph : List (List ℕ)) (below : List (List Span)) (number : ℕ) (be
   )
     where
       less : (k n m : ℕ) → k ≤ n → (k ≡ n → ⊥) → m ≡ n → k < m
-      less k n m l d e = elim (cases_lt k n) [ | inl s ↦ omega arith | inr g ↦ absurd (d (omega arith)) ]
+      less k n m l d e = elim (cases_lt k n) [ inl s ↦ omega arith | inr g ↦ absurd (d (omega arith)) ]
 
   -- one number more
   pub AreClosed-push : (s : List Span) → ((i : ℕ) → InSpans s i ↔ Under graph i number) → AreClosed graph (below ++ s ∷ [])

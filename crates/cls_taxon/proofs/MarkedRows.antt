@@ -15,10 +15,13 @@ use Rattle.cls_taxon.proofs.Rows.{Contains-none}
 IsMarked-set : (marks : List Bool) (k i : ℕ) → k < length marks → IsMarked (slice_set marks k true) i ↔ (IsMarked marks i ⊎ (k ≡ i))
 IsMarked-set marks k i within = elim (cases_eq i k) [
   | inl e ↦ (λ m. inr (sym e), λ h. subst (λ x. IsMarked (slice_set marks k true) x) (sym e) (get_or-set_same marks k true false within))
-  | inr n ↦ (λ m. inl (sym (get_or-set_other marks k i true false n) ∙ m), λ h. elim h [
-    | inl m ↦ get_or-set_other marks k i true false n ∙ m
-    | inr e ↦ absurd (n (sym e))
-  ])
+  | inr n ↦ (
+    λ m. inl (sym (get_or-set_other marks k i true false n) ∙ m),
+    λ h. elim h [
+      | inl m ↦ get_or-set_other marks k i true false n ∙ m
+      | inr e ↦ absurd (n (sym e))
+    ],
+  )
 ]
 
 abbrev weight : Bool → ℕ
@@ -43,7 +46,7 @@ module _ (done : List ℕ) (marks marks' : List Bool) (reached reached' : List �
     more = m.more;
     reaches = m.reaches;
     new = λ i c. Contains-append_left done (k ∷ []) i (m.new i c);
-    all = λ i c. elim (Contains-push_cases done k i c) [ | inl old ↦ m.all i old | inr e ↦ subst (IsMarked marks') e known ];
+    all = λ i c. elim (Contains-push_cases done k i c) [ inl old ↦ m.all i old | inr e ↦ subst (IsMarked marks') e known ];
   }
 
   pub row_marked : k < length marks → (IsMarked marks' k → ⊥) → MarksRow (done ++ k ∷ []) marks (slice_set marks' k true) reached (reached' ++ k ∷ [])
@@ -56,7 +59,7 @@ module _ (done : List ℕ) (marks marks' : List Bool) (reached reached' : List �
               | inl old ↦ Contains-append_left reached' (k ∷ []) i ((m.marked.same i).0 old)
               | inr e ↦ subst (λ x. Contains (reached' ++ k ∷ []) x) e (Contains-push reached' k)
             ],
-            λ c. (IsMarked-set marks' k i within').1 (elim (Contains-push_cases reached' k i c) [ | inl old ↦ inl ((m.marked.same i).1 old) | inr e ↦ inr e ]),
+            λ c. (IsMarked-set marks' k i within').1 (elim (Contains-push_cases reached' k i c) [ inl old ↦ inl ((m.marked.same i).1 old) | inr e ↦ inr e ]),
           );
           count = count-set marks' k within' free ∙ (ap (λ n. n + 1) m.marked.count ∙ sym (length-append reached' (k ∷ [])));
         };
@@ -67,7 +70,7 @@ module _ (done : List ℕ) (marks marks' : List Bool) (reached reached' : List �
           | inl old ↦ Contains-append_left done (k ∷ []) i (m.new i old)
           | inr e ↦ subst (λ x. Contains (done ++ k ∷ []) x) e (Contains-push done k)
         ];
-        all = λ i c. (IsMarked-set marks' k i within').1 (elim (Contains-push_cases done k i c) [ | inl old ↦ inl (m.all i old) | inr e ↦ inr e ]);
+        all = λ i c. (IsMarked-set marks' k i within').1 (elim (Contains-push_cases done k i c) [ inl old ↦ inl (m.all i old) | inr e ↦ inr e ]);
       }
 
 module _ (done : List ℕ) (marks marks' marks'' : List Bool) (reached reached' reached'' : List ℕ) (m : MarksRow done marks marks' reached reached') (k : ℕ) (within : k < length marks)
@@ -108,18 +111,20 @@ first_marked n top within =
           | inl old ↦ absurd (unmarked n i old)
           | inr e ↦ subst (λ x. Contains (top ∷ []) x) e (Contains-push [] top)
         ],
-        λ c. (IsMarked-set (replicate n false) top i within').1 (elim (Contains-push_cases [] top i c) [ | inl old ↦ absurd (Contains-none i old) | inr e ↦ inr e ]),
+        λ c. (IsMarked-set (replicate n false) top i within').1 (elim (Contains-push_cases [] top i c) [ inl old ↦ absurd (Contains-none i old) | inr e ↦ inr e ]),
       );
       count = count-set (replicate n false) top within' (unmarked n top) ∙ ap (λ k. k + 1) (none_counted n);
     }
   where
     false_true : false ≡ true → ⊥
     false_true e = cc
+
     unmarked : (n i : ℕ) → IsMarked (replicate n false) i → ⊥
     unmarked n i h = elim (cases_lt i n) [
       | inl l ↦ false_true (sym (get_or-replicate n i false false l) ∙ h)
       | inr m ↦ false_true (sym (get_or-eq_default (replicate n false) false (subst (λ k. k ≤ i) (sym (length-replicate n false)) m)) ∙ h)
     ]
+
     none_counted : (n : ℕ) → count_by (λ b. b) (replicate n false) ≡ 0
     none_counted zero = refl
     none_counted (suc n) = none_counted n
@@ -143,7 +148,7 @@ descent_begins graph top within =
       marked = m;
       long = length-set (replicate (length graph) false) top true ∙ length-replicate (length graph) false;
       begun = (m.same top).1 (Contains-push [] top);
-      under = λ i h. elim (Contains-push_cases [] top i ((m.same i).0 h)) [ | inl old ↦ absurd (Contains-none i old) | inr e ↦ subst (λ x. Under graph x top) e same ];
+      under = λ i h. elim (Contains-push_cases [] top i ((m.same i).0 h)) [ inl old ↦ absurd (Contains-none i old) | inr e ↦ subst (λ x. Under graph x top) e same ];
       closed = λ k i l c. absurd (omega arith);
     }
 
@@ -182,6 +187,7 @@ module _ (graph : List (List ℕ)) (top : ℕ) (marks : List Bool) (reached : Li
     where
       sooner : (k : ℕ) → k < length reached → slice_index_or reached' k 0 ≡ slice_index_or reached k 0
       sooner k l = ap (λ (x : List ℕ). slice_index_or x k 0) m.reaches ∙ get_or_append_left reached m.more 0 k l
+
       the_same : (k : ℕ) → k ≡ next → k ≡ next
       the_same k e = e
 

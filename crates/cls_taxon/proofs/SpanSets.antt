@@ -210,13 +210,13 @@ module _ (marks : List Bool) (spans spans' : List Span) (n : ℕ) (so_far : (i :
       | inl old ↦ (let m = (so_far i).0 old in (omega (arith, m.0), m.1))
       | inr is ↦ (omega arith, subst (IsMarked marks) is marked)
     ],
-    λ h. (InSpans-push spans s n i f).1 (elim (cases_lt i n) [ | inl l ↦ inl ((so_far i).1 (l, h.1)) | inr m ↦ inr (omega (arith, h.0)) ]),
+    λ h. (InSpans-push spans s n i f).1 (elim (cases_lt i n) [ inl l ↦ inl ((so_far i).1 (l, h.1)) | inr m ↦ inr (omega (arith, h.0)) ]),
   )
 
   pub spans_kept : (IsMarked marks n → ⊥) → spans' ≡ spans → (i : ℕ) → InSpans spans' i ↔ ((i < n + 1) × IsMarked marks i)
   spans_kept free e i = subst (λ (x : List Span). InSpans x i ↔ ((i < n + 1) × IsMarked marks i)) (sym e) (
     λ h. (let m = (so_far i).0 h in (omega (arith, m.0), m.1)),
-    λ h. elim (cases_lt i n) [ | inl l ↦ (so_far i).1 (l, h.1) | inr m ↦ absurd (free (subst (IsMarked marks) (ends i n (omega (arith, h.0))) h.1)) ],
+    λ h. elim (cases_lt i n) [ inl l ↦ (so_far i).1 (l, h.1) | inr m ↦ absurd (free (subst (IsMarked marks) (ends i n (omega (arith, h.0))) h.1)) ],
   )
     where
       ends : (i n : ℕ) → i ≡ n → i ≡ n

@@ -38,7 +38,7 @@ Contains-cons x xs y h = Contains-append_right (x ∷ []) xs y h
 
 pub Contains-cases : {A : Type 0} → (x : A) (xs : List A) (y : A) → Contains (x ∷ xs) y → (x ≡ y) ⊎ Contains xs y
 Contains-cases x xs y h = elim (Contains-append_cases (x ∷ []) xs y h) [
-  | inl here ↦ elim (Contains-push_cases [] x y here) [ | inl none ↦ absurd (Contains-none y none) | inr e ↦ inl e ]
+  | inl here ↦ elim (Contains-push_cases [] x y here) [ inl none ↦ absurd (Contains-none y none) | inr e ↦ inl e ]
   | inr there ↦ inr there
 ]
   where
@@ -81,9 +81,9 @@ decide_chain ((c, d) ∷ pairs) a b = elim (decide_chain pairs a b) [
   | inr n ↦ elim (decide_chain pairs a c) [
     | inl to ↦ elim (decide_chain pairs d b) [
       | inl from ↦ inl (Chain-trans ((c, d) ∷ pairs) a c b (Chain-more (c, d) pairs a c to) (step (Contains-here (c, d) pairs) (Chain-more (c, d) pairs d b from)))
-      | inr m ↦ inr (λ h. elim (Chain-split c d pairs a b h) [ | inl direct ↦ n direct | inr through ↦ m through.1 ])
+      | inr m ↦ inr (λ h. elim (Chain-split c d pairs a b h) [ inl direct ↦ n direct | inr through ↦ m through.1 ])
     ]
-    | inr m ↦ inr (λ h. elim (Chain-split c d pairs a b h) [ | inl direct ↦ n direct | inr through ↦ m through.0 ])
+    | inr m ↦ inr (λ h. elim (Chain-split c d pairs a b h) [ inl direct ↦ n direct | inr through ↦ m through.0 ])
   ]
 ]
 
@@ -106,7 +106,7 @@ decide_all P each (x ∷ xs) = elim (each x) [
   | inr n ↦ inr (λ all. n (all x (Contains-here x xs)))
   | inl p ↦ elim (decide_all P each xs) [
     | inr n ↦ inr (λ all. n (λ y h. all y (Contains-cons x xs y h)))
-    | inl ps ↦ inl (λ y h. elim (Contains-cases x xs y h) [ | inl e ↦ subst P e p | inr there ↦ ps y there ])
+    | inl ps ↦ inl (λ y h. elim (Contains-cases x xs y h) [ inl e ↦ subst P e p | inr there ↦ ps y there ])
   ]
 ]
 
@@ -118,7 +118,7 @@ decide_forward : (pairs : List (ℕ × ℕ)) (p : ℕ × ℕ) → Decision (IsFo
 decide_forward pairs p = elim (cases_eq p.0 p.1) [
   | inl e ↦ inl (inl e)
   | inr n ↦ elim (decide_chain pairs p.1 p.0) [
-    | inl back ↦ inr (λ f. elim f [ | inl e ↦ n e | inr m ↦ m back ])
+    | inl back ↦ inr (λ f. elim f [ inl e ↦ n e | inr m ↦ m back ])
     | inr m ↦ inl (inr m)
   ]
 ]

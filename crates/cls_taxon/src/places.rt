@@ -63,7 +63,8 @@ impl Places {
 
     /// The names in order.
     pub fn as_slice(&self) -> &[u32]
-        ensures { result.now ≡ self.now }
+        ensures names { result.now ≡ self.now }
+        ensures different { AreDifferent self.now }
     {
         self.names.as_slice()
     }

@@ -96,6 +96,31 @@ impl Taxonomy {
     }
 }
 
+impl Taxa for Taxonomy {
+    ghost use Rattle.cls_taxon.specs.Decisions.{is_below, is_below-reflexive, is_below-transitive, is_below-antisymmetric, is_below-one_variance};
+    ghost use Rattle.cls_taxon.specs.Orders.{variance_in};
+
+    ghost is_below = { λ t a b. is_below t a b };
+
+    ghost kind = { λ t a. variance_in t.variances a };
+
+    fn below(&self, lower: Name, upper: Name) -> bool {
+        Taxonomy::below(self, lower, upper)
+    }
+
+    fn variance(&self, name: Name) -> Variance {
+        self.variances.of(name)
+    }
+
+    ghost reflexive = { is_below-reflexive };
+
+    ghost transitive = { is_below-transitive };
+
+    ghost antisymmetric = { is_below-antisymmetric };
+
+    ghost one_variance = { is_below-one_variance };
+}
+
 /// Whether the spans at the second place have the first.
 fn is_under(below: &[Spans], lower: usize, upper: usize) -> bool
     ensures { IsTrue result ↔ ((upper < length below.now) × InSpans (spans_at below.now upper) lower) }

@@ -28,10 +28,7 @@ impl Model for Variances {
 
 impl Variances {
     /// These names with their variances. No name stands twice.
-    pub fn new(
-        alloc: Global,
-        declared: &[(Name, Variance)],
-    ) -> Result<Variances, OutOfMemory>
+    pub fn new(alloc: Global, declared: &[(Name, Variance)]) -> Result<Variances, OutOfMemory>
         requires { AreDifferent (map (λ d. d.0.0) declared.now) }
         ensures { IfOk result (λ v. v ≡ map declared_of declared.now) }
     {

@@ -54,7 +54,9 @@ fn unmark(row: &[usize], upper: usize, tops: &mut [bool])
     ensures { length tops.new ≡ length tops.old }
 {
     for lower in row {
-        if *lower != upper && let Some(top) = tops.get_mut(*lower) {
+        if *lower != upper
+            && let Some(top) = tops.get_mut(*lower)
+        {
             *top = false;
         }
     }

@@ -17,7 +17,7 @@ not_false t = search rules
 pub returns-in-Some : goal.returns-in-Some
 returns-in-Some c =
     let point = IsPartitionPoint-from_clause (λ (s : Span). leb s.end c.args.number) c.args.spans.now c.partition_point-place.result c.partition_point-place.ensures.partitioned
-        (IsPartitionedBy-leb (λ (s : Span). s.end) c.args.spans.now c.args.number (IsRising-ends c.args.spans.now c.requires)) (λ a r q k. search rules) in
+    (IsPartitionedBy-leb (λ (s : Span). s.end) c.args.spans.now c.args.number (IsRising-ends c.args.spans.now c.requires)) (λ a r q k. search rules) in
     let within = ltb-true _ _ (sym c.in-Some.ensures.lookup.0) in
     let at = sym c.in-Some.ensures.lookup.1 in (
       λ t. found c.args.spans.now c.requires c.args.number c.partition_point-place.result point c.in-Some.span.now within at (le_of_test c.in-Some.span.now.start c.args.number t),
@@ -27,5 +27,5 @@ returns-in-Some c =
 pub returns-in-None : goal.returns-in-None
 returns-in-None c =
     let point = IsPartitionPoint-from_clause (λ (s : Span). leb s.end c.args.number) c.args.spans.now c.partition_point-place.result c.partition_point-place.ensures.partitioned
-        (IsPartitionedBy-leb (λ (s : Span). s.end) c.args.spans.now c.args.number (IsRising-ends c.args.spans.now c.requires)) (λ a r q k. search rules) in
+    (IsPartitionedBy-leb (λ (s : Span). s.end) c.args.spans.now c.args.number (IsRising-ends c.args.spans.now c.requires)) (λ a r q k. search rules) in
     (λ t. absurd (not_false t), λ h. absurd (found_none c.args.spans.now c.requires c.args.number c.partition_point-place.result point (ltb-false _ _ (sym c.in-None.ensures.lookup.0)) h))
