@@ -1,0 +1,158 @@
+//! The order of names that declared pairs make.
+ghost use Rattle.std.specs.Prelude.{◌≡◌, ◌<◌, ◌↔◌, map, IsTrue, IfOk, OnOk, IfErr, length};
+ghost use Rattle.cls_base.specs.Taxonomies.{Chain};
+ghost use Rattle.cls_taxon.specs.Closures.{spans_at};
+ghost use Rattle.cls_taxon.specs.Faults.{Means};
+ghost use Rattle.cls_taxon.specs.Orders.{IsOrder};
+ghost use Rattle.cls_taxon.specs.PairGraphs.{pair_of, AreHeld};
+ghost use Rattle.cls_taxon.specs.Places.{AreDifferent};
+ghost use Rattle.cls_taxon.specs.Spans.{InSpans};
+ghost use Rattle.cls_taxon.specs.Variances.{declared_of};
+
+use crate::closure::close;
+use crate::cycles::least_on_cycle;
+use crate::fault::TaxonFault;
+use crate::mix::first_mixed;
+use crate::pairs::{graph_of, hold_names};
+use crate::places::Places;
+use crate::spans::Spans;
+use crate::variances::Variances;
+use crate::walk::order_left;
+use cls_base::{Name, OutOfMemory, Taxa, Variance};
+use std::alloc::Global;
+use std::marker::Model;
+
+/// A partial order of names that keeps their variance, seen as the pairs and variances that were declared.
+///
+/// A name is below another one where a chain of declared pairs leads from it to that one. For each name the set of those
+/// below it is kept.
+#[derive(Drop)]
+pub struct Taxonomy {
+    pairs: Vec<(Name, Name)>,
+    variances: Variances,
+    places: Places,
+    below: Vec<Spans>,
+}
+
+impl Model for Taxonomy {
+    ghost use Rattle.std.specs.Prelude.{map};
+    ghost use Rattle.cls_taxon.specs.Kept.{IsTaxonomy};
+    ghost use Rattle.cls_taxon.specs.Orders.{Declared};
+    ghost use Rattle.cls_taxon.specs.PairGraphs.{pair_of};
+
+    ghost Value = { Declared };
+
+    ghost view = { λ t. record { pairs = map pair_of t.pairs.items; variances = t.variances } };
+
+    ghost invariant = { λ t. IsTaxonomy (record { pairs = map pair_of t.pairs.items; variances = t.variances }) t.places t.below.items };
+}
+
+impl Taxonomy {
+    /// The order that these pairs make, the first name of each below the second. A name without a variance is covariant,
+    /// and no name has two.
+    ///
+    /// `Cycle` names the least name that another one is above and below. Else `Mix` names the first name of the first pair
+    /// whose names differ in variance.
+    pub fn new(
+        alloc: Global,
+        pairs: &[(Name, Name)],
+        variances: &[(Name, Variance)],
+    ) -> Result<Taxonomy, TaxonFault>
+        requires { AreDifferent (map (λ v. v.0.0) variances.now) }
+        ensures declared { IfOk result (λ t. t ≡ record { pairs = map pair_of pairs.now; variances = map declared_of variances.now }) }
+        ensures order { OnOk result (IsOrder (record { pairs = map pair_of pairs.now; variances = map declared_of variances.now })) }
+        ensures fault { IfErr result (Means (record { pairs = map pair_of pairs.now; variances = map declared_of variances.now })) }
+    {
+        let variances = Variances::new(alloc, variances)?;
+        let places = places_of(alloc, pairs)?;
+        let graph = graph_of(alloc, &places, pairs)?;
+        let below = close(alloc, &graph)?;
+        if let Some(name) = least_on_cycle(places.as_slice(), &graph, &below) {
+            return Err(TaxonFault::Cycle(Name(name)));
+        }
+        if let Some(name) = first_mixed(pairs, &variances) {
+            return Err(TaxonFault::Mix(name));
+        }
+        let pairs = copy_of(alloc, pairs)?;
+        Ok(Taxonomy {
+            pairs,
+            variances,
+            places,
+            below,
+        })
+    }
+
+    /// Whether a chain of declared pairs leads from the one name to the other.
+    pub fn below(&self, lower: Name, upper: Name) -> bool
+        ensures chain { IsTrue result ↔ Chain self.now.pairs lower.0 upper.0 }
+        ensures order { IsOrder self.now }
+    {
+        lower.0 == upper.0
+            || is_under(
+                &self.below,
+                self.places.place(lower.0),
+                self.places.place(upper.0),
+            )
+    }
+}
+
+impl Taxa for Taxonomy {
+    ghost use Rattle.cls_taxon.specs.Decisions.{is_below, is_below-reflexive, is_below-transitive, is_below-antisymmetric, is_below-one_variance};
+    ghost use Rattle.cls_taxon.specs.Orders.{variance_in};
+
+    ghost is_below = { λ t a b. is_below t a b };
+
+    ghost kind = { λ t a. variance_in t.variances a };
+
+    fn below(&self, lower: Name, upper: Name) -> bool {
+        Taxonomy::below(self, lower, upper)
+    }
+
+    fn variance(&self, name: Name) -> Variance {
+        self.variances.of(name)
+    }
+
+    ghost reflexive = { is_below-reflexive };
+
+    ghost transitive = { is_below-transitive };
+
+    ghost antisymmetric = { is_below-antisymmetric };
+
+    ghost one_variance = { is_below-one_variance };
+}
+
+/// Whether the spans at the second place have the first.
+fn is_under(below: &[Spans], lower: usize, upper: usize) -> bool
+    ensures { IsTrue result ↔ ((upper < length below.now) × InSpans (spans_at below.now upper) lower) }
+{
+    match below.get(upper) {
+        Some(spans) => spans.contains(lower),
+        None => false,
+    }
+}
+
+/// The pairs once more.
+fn copy_of(alloc: Global, pairs: &[(Name, Name)]) -> Result<Vec<(Name, Name)>, OutOfMemory>
+    ensures { IfOk result (λ copy. copy.items ≡ pairs.now) }
+{
+    let mut copy = Vec::new(alloc);
+    copy.extend_from_slice(pairs)?;
+    Ok(copy)
+}
+
+/// The names of the pairs, in the order in which a walk down from the uppermost ones leaves them.
+fn places_of(alloc: Global, pairs: &[(Name, Name)]) -> Result<Places, OutOfMemory>
+    ensures { IfOk result (AreHeld (map pair_of pairs.now)) }
+{
+    let mut first = Places::new(alloc);
+    hold_names(&mut first, pairs)?;
+    let graph = graph_of(alloc, &first, pairs)?;
+    let mut places = Places::new(alloc);
+    for number in order_left(alloc, &graph)?.as_slice() {
+        if let Some(name) = first.as_slice().get(*number) {
+            places.insert(*name)?;
+        }
+    }
+    hold_names(&mut places, pairs)?;
+    Ok(places)
+}
