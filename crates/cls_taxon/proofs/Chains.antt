@@ -1,14 +1,13 @@
 -- Chains of declared pairs are what is under what in the graph of the places.
-use Rattle.std.proofs.Common.{◌≡◌, ℕ, ◌+◌, ◌<◌, ◌≤◌, ◌⊎◌, ◌↔◌, List, [], ◌∷◌, ◌++◌, length, refl, sym, ap, ◌∙◌, subst, inl, inr, arith}
-use Rattle.std.specs.Prelude.{Contains, slice_index_or}
-use Rattle.std.proofs.lemmas.Bool.{cases_eq, cases_lt}
+use Rattle.std.proofs.Common.{◌≡◌, ℕ, ◌<◌, ◌⊎◌, List, length, refl, sym, ap, ◌∙◌, subst, inl, inr}
+use Rattle.std.specs.Prelude.{Contains}
 use Rattle.cls_base.specs.Taxonomies.{Chain, stay, step}
 use Rattle.cls_taxon.specs.Decisions.{Chain-trans}
-use Rattle.cls_taxon.specs.Graphs.{row, Under, same, lower, IsGraph}
+use Rattle.cls_taxon.specs.Graphs.{row, Under, same, lower}
 use Rattle.cls_taxon.specs.Orders.{IsOnCycle}
 use Rattle.cls_taxon.specs.Places.{place_of}
 use Rattle.cls_taxon.specs.PairGraphs.{AreHeld, IsGraphOf}
-use Rattle.cls_taxon.proofs.PlaceLaws.{place-within, place-held, place-unique}
+use Rattle.cls_taxon.proofs.PlaceLaws.{place-within, place-unique}
 use Rattle.cls_taxon.proofs.Gathering.{Under-step}
 use Rattle.cls_taxon.proofs.MarkedRows.{Under-trans}
 

@@ -1,12 +1,11 @@
 -- What is kept of declared pairs tells which name is below which, and which is on a cycle.
-use Rattle.std.proofs.Common.{◌≡◌, ℕ, ◌+◌, ◌<◌, ◌≤◌, ◌⊎◌, ◌↔◌, List, [], ◌∷◌, ◌++◌, length, Option, None, Some, refl, sym, ap, ◌∙◌, subst, inl, inr, arith}
+use Rattle.std.proofs.Common.{◌≡◌, ℕ, ◌<◌, ◌≤◌, ◌⊎◌, List, length, None, Some, refl, sym, ap, ◌∙◌, subst, inl, inr, arith}
 use Rattle.std.specs.Prelude.{Contains, slice_index_or}
-use Rattle.std.proofs.lemmas.Bool.{cases_eq, cases_lt}
 use Rattle.cls_base.specs.Taxonomies.{Chain, stay, step}
 use Rattle.cls_taxon.specs.declared.spans.Span.{Span}
 use Rattle.cls_taxon.specs.Closures.{spans_at, AreClosed}
 use Rattle.cls_taxon.specs.Cycles.{IsLoop, IsLeastLoop}
-use Rattle.cls_taxon.specs.Graphs.{row, Under, IsGraph}
+use Rattle.cls_taxon.specs.Graphs.{row}
 use Rattle.cls_taxon.specs.Kept.{IsClosure}
 use Rattle.cls_taxon.specs.Orders.{IsOnCycle, IsLeastOnCycle}
 use Rattle.cls_taxon.specs.PairGraphs.{AreHeld, IsGraphOf}

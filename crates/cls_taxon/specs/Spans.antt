@@ -1,5 +1,5 @@
 -- Sets of numbers as spans.
-use Rattle.std.specs.Prelude.{ℕ, ◌≤◌, ◌<◌, ◌&&◌, List, [], ◌∷◌, Contains, nat_le, max, if◌then◌else◌}
+use Rattle.std.specs.Prelude.{ℕ, ◌≤◌, ◌<◌, List, [], ◌∷◌, Contains, nat_le, max, if◌then◌else◌}
 use Rattle.std.specs.List.{AllByRecursion}
 use Rattle.cls_taxon.specs.declared.spans.Span.{Span}
 
