@@ -71,7 +71,7 @@ PROOF = '''use Rattle.cls_taxon.proofs.PlaceLaws.{AreDifferent-none}
 use Rattle.bench_taxonomy.proofs.main.Goals as goal
 
 pub new-requires : goal.new-requires
-new-requires c d = AreDifferent-none
+new-requires c = AreDifferent-none
 '''
 
 
