@@ -42,8 +42,8 @@ module _ {G : Type 0} (answer : G → Answer G) (start : G) where
 abbrev pub goals_of : {G : Type 0} → List (Row G) → List G
 goals_of rows = map (λ r. r.goal) rows
 
--- The rows are the closure: row 0 is the start goal, the goals differ, they are those that are reached and no others, and each
--- row holds the answer of its goal, with numbers of rows in place of goals.
+-- The rows are the closure: the first one is the start goal, the goals differ, they are those that are reached and no others,
+-- and each row holds the answer of its goal, with numbers of rows in place of goals.
 pub record IsClosure {G : Type 0} (eq : G → G → Bool) (answer : G → Answer G) (start : G) (rows : List (Row G)) : Type 0 where
   pub first : slice_get (goals_of rows) 0 ≡ Some start
   pub differ : Differ (goals_of rows)

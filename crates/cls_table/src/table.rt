@@ -14,8 +14,8 @@ use std::sync::ledger::{Book, Ledger, Share};
 
 /// The rows, the history, the count of claims made and the marks, under a tag.
 ///
-/// Whenever it is there its history is legal and has the rows as its replay, row 0 is the tag's start goal, each filed row
-/// holds the answer that the tag gives for its goal, all is within the tag's limits, no entry names a worker above the
+/// Whenever it is there its history is legal and has the rows as its replay, the first row is the tag's start goal, each filed
+/// row holds the answer that the tag gives for its goal, all is within the tag's limits, no entry names a worker above the
 /// greatest, the claims of the history are as many as the count, and it is marked as too large only where the closure is.
 #[derive(Drop)]
 pub struct Table<E: Expand, L: Ledger> {
