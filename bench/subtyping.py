@@ -6,13 +6,12 @@
 No program of the repository decides subtyping alone, so this builds one in a folder of its own, which proves it first.
 Times are those of the calls of `subtype`, without the reading of the types."""
 import argparse
-import os
 import random
-import shutil
 import subprocess
 import tempfile
 
-TOP = os.path.dirname(os.path.dirname(os.path.abspath(__file__)))
+from proved import build
+
 CRATES = ["cls_base", "cls_path", "cls_norm"]
 LETTERS = "ABCDEFGHIJKLMNOPQRSTUVWXYZ"
 
@@ -128,24 +127,9 @@ def narrow_type(source):
             return word
 
 
-def build(folder):
-    os.makedirs(os.path.join(folder, "crates/bench_subtyping/src"))
-    for crate in CRATES:
-        shutil.copytree(os.path.join(TOP, "crates", crate), os.path.join(folder, "crates", crate), ignore=shutil.ignore_patterns("out"))
-    with open(os.path.join(folder, "crates.txt"), "w") as file:
-        file.write("cls_base:\ncls_path: cls_base\ncls_norm: cls_base cls_path\nbench_subtyping: cls_base cls_norm\n")
-    shutil.copy(os.path.join(TOP, "HANDLES"), folder)
-    program = os.path.join(folder, "crates/bench_subtyping")
-    with open(os.path.join(program, "src/main.rt"), "w") as file:
-        file.write(PROGRAM)
-    open(os.path.join(program, "stdin"), "w").close()
-    subprocess.run(["rt", "run"], cwd=program, check=True, stdout=subprocess.DEVNULL)
-    return program
-
-
 def run(program, lines):
     text = "".join(line + "\n" for line in lines)
-    reply = subprocess.run([os.path.join(program, "out/bench_subtyping")], input=text, capture_output=True, text=True)
+    reply = subprocess.run([program], input=text, capture_output=True, text=True)
     rows = [line.split() for line in reply.stdout.splitlines()]
     assert len(rows) == len(lines), reply.stdout + reply.stderr
     return [(row[0] == "true", int(row[1]), int(row[2])) for row in rows]
@@ -163,7 +147,7 @@ def main():
     cases.append(("340 names over names against themselves", [wide(340, "@") + " " + wide(340, "@")]))
     cases.append(("340 arrows with one target against themselves", [wide(340, "A@>") + " " + wide(340, "A@>")]))
     with tempfile.TemporaryDirectory() as folder:
-        program = build(folder)
+        program = build(folder, "bench_subtyping", CRATES, PROGRAM)
         for name, lines in cases:
             best = None
             for _ in range(options.runs):

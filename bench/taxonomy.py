@@ -6,13 +6,12 @@
 No program of the repository reads a taxonomy yet, so this builds one in a folder of its own, which proves it first.
 Times are those of the calls, without the reading of the pairs; the memory is that of the whole program."""
 import argparse
-import os
 import random
-import shutil
 import subprocess
 import tempfile
 
-TOP = os.path.dirname(os.path.dirname(os.path.abspath(__file__)))
+from proved import build
+
 CRATES = ["cls_base", "cls_taxon"]
 PAIRS = 75_000
 
@@ -94,27 +93,9 @@ def cases():
     yield "a cycle of all", chain + [(PAIRS, 0)], False
 
 
-def build(folder):
-    os.makedirs(os.path.join(folder, "crates/bench_taxonomy/src"))
-    for crate in CRATES:
-        shutil.copytree(os.path.join(TOP, "crates", crate), os.path.join(folder, "crates", crate), ignore=shutil.ignore_patterns("out"))
-    with open(os.path.join(folder, "crates.txt"), "w") as file:
-        file.write("cls_base:\ncls_taxon: cls_base indexmap thiserror\nbench_taxonomy: cls_base cls_taxon\n")
-    shutil.copy(os.path.join(TOP, "HANDLES"), folder)
-    program = os.path.join(folder, "crates/bench_taxonomy")
-    with open(os.path.join(program, "src/main.rt"), "w") as file:
-        file.write(PROGRAM)
-    os.makedirs(os.path.join(program, "proofs/main"))
-    with open(os.path.join(program, "proofs/main/Answers.antt"), "w") as file:
-        file.write(PROOF)
-    open(os.path.join(program, "stdin"), "w").close()
-    subprocess.run(["rt", "run"], cwd=program, check=True, stdout=subprocess.DEVNULL)
-    return program
-
-
 def run(program, pairs):
     text = "".join("%d %d\n" % pair for pair in pairs)
-    reply = subprocess.run(["/usr/bin/time", "-f", "%M", os.path.join(program, "out/bench_taxonomy")], input=text, capture_output=True, text=True)
+    reply = subprocess.run(["/usr/bin/time", "-f", "%M", program], input=text, capture_output=True, text=True)
     words = reply.stdout.split()
     return words[0] == "order", int(words[-3]) / 1e6, int(words[-2]) / 1e6, int(reply.stderr.split()[-1]) / 1024
 
@@ -124,7 +105,7 @@ def main():
     parser.add_argument("--runs", type=int, default=3)
     options = parser.parse_args()
     with tempfile.TemporaryDirectory() as folder:
-        program = build(folder)
+        program = build(folder, "bench_taxonomy", CRATES, PROGRAM, PROOF)
         for name, pairs, is_order in cases():
             results = [run(program, pairs) for _ in range(options.runs)]
             assert all(result[0] == is_order for result in results), name

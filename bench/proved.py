@@ -1,0 +1,35 @@
+"""Builds a small program over crates of the repository, in a folder of its own. It is proved before it is built."""
+import os
+import shutil
+import subprocess
+
+TOP = os.path.dirname(os.path.dirname(os.path.abspath(__file__)))
+
+
+def dependencies():
+    """Each crate of the repository with what it stands on, lowest first, as crates.txt has them."""
+    with open(os.path.join(TOP, "crates.txt")) as file:
+        return {name: names.split() for name, names in (line.split(":") for line in file if ":" in line)}
+
+
+def build(folder, name, crates, source, proof=None):
+    """The path of the program with this source over these crates, lowest first, and with this proof of its `main`."""
+    stands_on = dependencies()
+    program = os.path.join(folder, "crates", name)
+    os.makedirs(os.path.join(program, "src"))
+    for crate in crates:
+        shutil.copytree(os.path.join(TOP, "crates", crate), os.path.join(folder, "crates", crate), ignore=shutil.ignore_patterns("out"))
+    with open(os.path.join(folder, "crates.txt"), "w") as file:
+        for crate in crates:
+            file.write("%s: %s\n" % (crate, " ".join(stands_on[crate])))
+        file.write("%s: %s\n" % (name, " ".join(crates)))
+    shutil.copy(os.path.join(TOP, "HANDLES"), folder)
+    with open(os.path.join(program, "src/main.rt"), "w") as file:
+        file.write(source)
+    if proof is not None:
+        os.makedirs(os.path.join(program, "proofs/main"))
+        with open(os.path.join(program, "proofs/main/Answers.antt"), "w") as file:
+            file.write(proof)
+    open(os.path.join(program, "stdin"), "w").close()
+    subprocess.run(["rt", "run"], cwd=program, check=True, stdout=subprocess.DEVNULL)
+    return os.path.join(program, "out", name)
