@@ -24,13 +24,13 @@ module _ {A : Type 0} where
   first-ones-all {seen = seen} x (again s h) (inl e) = inl (subst (Has seen) (sym e) s)
   first-ones-all x (again s h) (inr m) = first-ones-all x h m
 
-  not-seen : {seen xs ys : List A} (x : A) → FirstOnes seen xs ys → Has ys x → Has seen x → ⊥
+  pub not-seen : {seen xs ys : List A} (x : A) → FirstOnes seen xs ys → Has ys x → Has seen x → ⊥
   not-seen x no_more m n = m
   not-seen {seen = seen} x (fresh f h) (inl e) n = f (subst (Has seen) e n)
   not-seen x (fresh f h) (inr m) n = not-seen x h m (inr n)
   not-seen x (again s h) m n = not-seen x h m n
 
-  turned : (seen us : List A) (x y : A) → Has seen y ⊎ Has (x ∷ us) y → Has (x ∷ seen) y ⊎ Has us y
+  pub turned : (seen us : List A) (x y : A) → Has seen y ⊎ Has (x ∷ us) y → Has (x ∷ seen) y ⊎ Has us y
   turned seen us x y (inl n) = inl (inr n)
   turned seen us x y (inr (inl e)) = inl (inl e)
   turned seen us x y (inr (inr n)) = inr n
@@ -69,7 +69,7 @@ module _ {A : Type 0} where
   empty-list (x ∷ xs) f = absurd (f x (inl refl))
 
 module _ {G : Type 0} (answer : G → Answer G) (start : G) where
-  after-append : (us vs : List G) → arguments_after answer (us ++ vs) ≡ arguments_after answer us ++ arguments_after answer vs
+  pub after-append : (us vs : List G) → arguments_after answer (us ++ vs) ≡ arguments_after answer us ++ arguments_after answer vs
   after-append [] vs = refl
   after-append (g ∷ us) vs = ap (λ l. arguments_of (answer g) ++ l) (after-append us vs) ∙ sym (append_assoc (arguments_of (answer g)) (arguments_after answer us) (arguments_after answer vs))
 
@@ -86,7 +86,7 @@ module _ {G : Type 0} (answer : G → Answer G) (start : G) where
   Stream gs us = FirstOnes [] (start ∷ arguments_after answer gs) us
 
   -- a front that the arguments of its goals don't leave holds each reached goal
-  closed-front : (us w : List G) → Stream (us ++ w) us → (g : G) → IsReached answer start g → Has us g
+  pub closed-front : (us w : List G) → Stream (us ++ w) us → (g : G) → IsReached answer start g → Has us g
   closed-front us w f g at_start = unseen us start (first-ones-all start f (inl refl))
   closed-front us w f h (at_argument g m r k) = unseen us m (first-ones-all m f (inr (after-has (us ++ w) g m (has-left us w g (closed-front us w f g r)) k)))
 

@@ -2,9 +2,13 @@ pub mod Closure
 pub mod Columns
 pub mod FiledRows
 pub mod Filing
+pub mod Finding
+pub mod Grammar
 pub mod Insertion
 pub mod Members
+pub mod OneToOne
 pub mod Canonical
+pub mod Renumbering
 pub mod Replaying
 pub mod Sent
 pub mod Times

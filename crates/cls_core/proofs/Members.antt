@@ -72,7 +72,7 @@ module _ {A : Type 0} where
 
 -- goals that are put behind others where they aren't among them
 module _ {G : Type 0} (eq : G → G → Bool) (exact : (x y : G) → eq x y ≡ true → x ≡ y) (reflexive : (x : G) → eq x x ≡ true) where
-  any-has : (gs : List G) (x : G) → list_any (eq x) gs ≡ true → Has gs x
+  pub any-has : (gs : List G) (x : G) → list_any (eq x) gs ≡ true → Has gs x
   any-has [] x e = cc
   any-has (g ∷ gs) x e = by (any-has gs x) (eq x g) refl e
     where

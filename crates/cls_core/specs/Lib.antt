@@ -4,6 +4,8 @@ pub mod Kept
 pub mod Laws
 pub mod Machine
 pub mod Canonical
+pub mod Grammar
 pub mod Numbers
+pub mod Renumbering
 pub mod Rows
 pub mod Times

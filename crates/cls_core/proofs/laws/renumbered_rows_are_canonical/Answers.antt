@@ -1,0 +1,11 @@
+use Rattle.cls_core.specs.Rows.{filed_rows}
+use Rattle.cls_core.proofs.Closure.{replay-sound, complete-closure}
+use Rattle.cls_core.proofs.Renumbering.{renumbered-canonical}
+use Rattle.cls_core.proofs.laws.renumbered_rows_are_canonical.Goals as goal
+
+pub returns : goal.returns
+returns g c = λ answer start es t h all.
+    let eq = g.G.PartialEq.eq in
+    let exact = g.met.G.Key.exact in
+    let reflexive = g.met.G.Eq.laws.refl in
+    renumbered-canonical eq exact reflexive answer start (filed_rows t.goals t.states) (complete-closure eq exact reflexive answer start t (replay-sound eq exact reflexive answer start es t h) all)

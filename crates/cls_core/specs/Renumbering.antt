@@ -1,0 +1,41 @@
+-- The renumbering of rows: breadth first from row 0, in the order of rules and of arguments within a rule.
+use Rattle.std.specs.Prelude.{ℕ, zero, suc, Bool, List, [], ◌∷◌, Option, None, Some, length, map, nat_eq, slice_get}
+use Rattle.std.specs.List.{filter_map}
+use Rattle.cls_core.specs.declared.answer.Answer.{Answer}
+use Rattle.cls_core.specs.declared.answer.Answer.TheVariants.{Wide}
+use Rattle.cls_core.specs.Machine.{grown, numbered}
+use Rattle.cls_core.specs.Rows.{Row}
+
+-- answer gives the answer of each goal
+module _ {G : Type 0} (eq : G → G → Bool) (answer : G → Answer G) where
+  -- the goals, and behind them in order those arguments of this one that aren't among them; no goal adds nothing
+  abbrev pub worked_off : List G → Option G → List G
+  worked_off gs None = gs
+  worked_off gs (Some g) = grown eq gs (answer g)
+
+  -- The goals that are found from the start goal, in the order in which they are found, once those at the first places, as many
+  -- as the number says, were worked off one after the other.
+  abbrev pub found : G → ℕ → List G
+  found start zero = start ∷ []
+  found start (suc k) = let gs = found start k in worked_off gs (slice_get gs k)
+
+module _ {G : Type 0} where
+  abbrev pub answer_in : Option (Row G) → Answer ℕ
+  answer_in None = Wide
+  answer_in (Some r) = r.answer
+
+  -- the answer of the row with this number, and one without arguments where there is no such row
+  abbrev pub row_answer : List (Row G) → ℕ → Answer ℕ
+  row_answer rows n = answer_in (slice_get rows n)
+
+  -- the numbers of the rows, breadth first from row 0
+  abbrev pub order : List (Row G) → List ℕ
+  order rows = found nat_eq (row_answer rows) 0 (length rows)
+
+  -- the row, where each argument is replaced by its place among the numbers
+  abbrev pub placed : List ℕ → Row G → Row G
+  placed numbers r = record { goal = r.goal; answer = numbered nat_eq numbers r.answer }
+
+  -- the rows in that order, where each argument is the new number of its row
+  abbrev pub renumbered : List (Row G) → List (Row G)
+  renumbered rows = map (placed (order rows)) (filter_map (slice_get rows) (order rows))
