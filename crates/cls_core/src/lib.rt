@@ -4,13 +4,15 @@
 //! - [`Answer`] is what is known of a goal once it was worked on, and [`Expand`] what works on it.
 //! - [`Core`] has a row for each goal that was reached. A row is free, held by a worker, or filed with its answer.
 //!   [`Core::claim`] and [`Core::file`] are its two events, and [`Entry`] and [`History`] record them.
-//! - [`Finished`] is a core whose rows are all filed, with [`Rows`] and the history.
+//! - [`Finished`] is a core whose rows are all filed, with [`Rows`] and the history. [`Core::finish`] makes it of a core,
+//!   and [`Core::read`] copies it out of one.
 //! - [`laws`] holds what is true of every history: which goals it reaches, and that the rows of a complete one don't
 //!   depend on it.
 #![tactic(auto)]
 
 mod adding;
 mod answer;
+mod copying;
 mod entry;
 mod expand;
 mod finished;

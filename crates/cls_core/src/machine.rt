@@ -8,6 +8,7 @@ ghost use Rattle.cls_core.specs.declared.state.RowState.TheVariants.{Free, Held}
 
 use crate::adding::added_by;
 use crate::answer::Answer;
+use crate::copying::{copy_goals, copy_states};
 use crate::entry::{Entry, History};
 use crate::finished::{Finished, Rows};
 use crate::numbering::number_answer;
@@ -218,6 +219,23 @@ impl<G: Key + Drop> Core<G> {
         self.held -= 1;
         self.history.push_reserved(Entry::File { worker, row });
         Ok(())
+    }
+
+    /// The rows and the history, copied. None comes exactly where some row isn't filed. The only error is want of memory.
+    pub fn read(&self, alloc: Global) -> Result<Option<Finished<G>>, OutOfMemory>
+        ensures finished { IfOk result (λ r. IfSome r (λ f. AllFiled self.now.rows × (f.rows ≡ filed_rows self.now.rows.goals self.now.rows.states) × (f.history ≡ self.now.history))) }
+        ensures unfiled { IfOk result (λ r. IfNone r (AllFiled self.now.rows → ⊥)) }
+    {
+        if !all_filed(self.states.as_slice()) {
+            return Ok(None);
+        }
+        let goals = copy_goals(alloc, &self.goals)?;
+        let states = copy_states(alloc, self.states.as_slice())?;
+        let history = Vec::from_slice(alloc, self.history.as_slice())?;
+        Ok(Some(Finished {
+            rows: Rows::of(goals, states),
+            history: History::new(history),
+        }))
     }
 
     /// The rows and the history. The Err comes exactly where some row isn't filed, and hands the core back.
