@@ -1,5 +1,6 @@
 -- Rows that are filed one after the other.
-use Rattle.std.proofs.Common.{◌≡◌, ℕ, ◌<◌, ◌≤◌, Bool, true, List, [], ◌∷◌, ◌++◌, Some, length, set, slice_get, refl, sym, ap, subst, ◌∙◌, arith, append_assoc}
+use Rattle.std.proofs.Common.{◌≡◌, ℕ, ◌<◌, ◌≤◌, Bool, true, List, [], ◌∷◌, ◌++◌, Option, None, Some, Result, Ok, Err, length, set, slice_get, refl, sym, ap, subst, ◌∙◌, arith, append_assoc}
+use Rattle.std.specs.Prelude.{IfOk, IfSome}
 use Rattle.std.proofs.lemmas.Option.{slice_get_within}
 use Rattle.cls_core.specs.Rows.{filed_rows}
 use Rattle.cls_core.specs.Machine.{begun, claimed, filed, grown, numbered, Replays, AllFiled, IsFiled}
@@ -63,7 +64,8 @@ module _ {B G : Type 0} where
         (new, ap (λ m. slice_get m.states row) r ∙ get-front (set p.rows.states row (Filed new)) _ row (Filed new) (get-set-same p.rows.states row (Filed new) (slice_get_within p.rows.states row (Held worker) held)))
 
 module _ {B G : Type 0} (eq : G → G → Bool) (exact : (x y : G) → eq x y ≡ true → x ≡ y) (reflexive : (x : G) → eq x x ≡ true) (answer : B → G → Answer G) (ready : B → G → Type 0) where
-  finished-under : (q : ProgressSeen B G) (f : Finished G) → IsGoing eq answer ready q → AllFiled q.rows → f.rows ≡ filed_rows q.rows.goals q.rows.states → f.history ≡ q.history → IsComplete eq answer q.tag f
+  -- what is finished under the tag, where every row is filed
+  pub finished-under : (q : ProgressSeen B G) (f : Finished G) → IsGoing eq answer ready q → AllFiled q.rows → f.rows ≡ filed_rows q.rows.goals q.rows.states → f.history ≡ q.history → IsComplete eq answer q.tag f
   finished-under q f k all shown is =
       let sound = replay-sound eq exact reflexive (answer q.tag.by) q.tag.start q.history q.rows k.legal in
       record {
@@ -78,6 +80,12 @@ module _ {B G : Type 0} (eq : G → G → Bool) (exact : (x y : G) → eq x y �
         once = subst (EachOnce (length f.rows)) (sym is) (subst (λ n. EachOnce n q.history) (sound.paired ∙ (sym (filed-count q.rows.goals q.rows.states sound.paired all) ∙ ap length (sym shown))) (each-once eq (answer q.tag.by) q.tag.start q.history q.rows k.legal all));
         fits = complete-within eq exact reflexive (answer q.tag.by) q.tag.start q.rows q.tag.goals q.tag.rules sound all k.within k.few;
       }
+
+  -- what is read where every row is filed
+  pub read-under : {E : Type 0} (q : ProgressSeen B G) (x : Result (Option (Finished G)) E) → IsGoing eq answer ready q → IfOk x (λ r. IfSome r (λ f. AllFiled q.rows × (f.rows ≡ filed_rows q.rows.goals q.rows.states) × (f.history ≡ q.history))) → IfOk x (λ r. IfSome r (λ f. IsComplete eq answer q.tag f))
+  read-under q (Ok (Some f)) k h = finished-under q f k h.0 h.1 h.2
+  read-under q (Ok None) k h = tt
+  read-under q (Err e) k h = tt
 
   -- what is finished after p was gone on with
   pub completed : (p q : ProgressSeen B G) (f : Finished G) → GoesOn p q → IsGoing eq answer ready q → AllFiled q.rows → f.rows ≡ filed_rows q.rows.goals q.rows.states → f.history ≡ q.history → IsCompletion eq answer p f

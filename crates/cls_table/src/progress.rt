@@ -6,7 +6,7 @@ ghost use Rattle.cls_core.specs.Machine.{begun, claimed, filed, Replays, AllFile
 ghost use Rattle.cls_core.specs.Rows.{filed_rows};
 ghost use Rattle.cls_table.specs.Steps.{Fits, HasRoom};
 ghost use Rattle.cls_table.specs.Going.{IsGoing, IsLarge, claims_in};
-ghost use Rattle.cls_table.specs.Completing.{GoesOn, IsFiledAt, IsCompletion};
+ghost use Rattle.cls_table.specs.Completing.{GoesOn, IsFiledAt, IsComplete, IsCompletion};
 
 use crate::claim::Claim;
 use crate::fault::ExpandFault;
@@ -190,6 +190,15 @@ impl<E: Expand> Progress<E> {
             Ok(finished) => Ok(finished),
             Err(core) => Err(Progress { core, origin }),
         }
+    }
+
+    /// The rows and the history, copied. None comes exactly where some row isn't filed. The only error is want of memory.
+    pub(crate) fn read(&self, alloc: Global) -> Result<Option<Finished<E::Goal>>, OutOfMemory>
+        ensures rows { IfOk result (λ r. IfSome r (λ f. AllFiled self.now.rows × (f.rows ≡ filed_rows self.now.rows.goals self.now.rows.states) × (f.history ≡ self.now.history))) }
+        ensures complete { IfOk result (λ r. IfSome r (λ f. IsComplete E.Goal.eq E.answer self.now.tag f)) }
+        ensures unfiled { IfOk result (λ r. IfNone r (AllFiled self.now.rows → ⊥)) }
+    {
+        self.core.read(alloc)
     }
 
     // Files the row, which the worker holds, with the answer of its goal.

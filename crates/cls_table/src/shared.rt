@@ -183,6 +183,27 @@ impl<E: Expand, L: Ledger> SharedTable<E, L> {
         self.turn.put(seat, table);
     }
 
+    /// Waits for the turn, and copies the rows and the history where all rows are filed: what `Table::read` answers at that
+    /// holding. It leaves the table as it is.
+    ///
+    /// `OutOfMemory` comes for want of memory, and where the table is stopped. None comes where some row wasn't filed yet.
+    pub fn read<R: Wait>(
+        &self,
+        rt: &R,
+        alloc: Global,
+        seat: &mut TableSeat<E, L>,
+    ) -> Result<Option<Finished<E::Goal>>, OutOfMemory>
+        requires of { seat.old.turn ≡ id_of self.now.turn }
+        ensures same { seat.new ≡ seat.old }
+        ensures complete { IfOk result (λ r. IfSome r (λ f. (t : Tag E.Tag E.Goal) → seat.old.tag ≡ Some t → IsComplete E.Goal.eq E.answer t f)) }
+    {
+        let TableSeat { seat, .. } = seat;
+        let table = self.turn.take(rt, seat);
+        let answer = table.read(alloc);
+        self.turn.put(seat, table);
+        answer
+    }
+
     /// Waits for the turn, and takes the table out: the rows and the history where all rows are filed. Else, and exactly then,
     /// the table. With a seat that has every part of the ledger, the history has as many claims as the seat's share counts.
     pub fn close<R: Wait>(

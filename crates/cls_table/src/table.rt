@@ -44,7 +44,8 @@ impl<E: Expand, L: Ledger> Tagged<Tag<E::Tag, E::Goal>> for Table<E, L> {
 
 impl<E: Expand, L: Ledger> Table<E, L> {
     ghost use Rattle.cls_core.specs.Machine.{begun, AllFiled};
-    ghost use Rattle.cls_table.specs.Completing.{IsCompletion, progress_of};
+    ghost use Rattle.cls_core.specs.Rows.{filed_rows};
+    ghost use Rattle.cls_table.specs.Completing.{IsComplete, IsCompletion, progress_of};
     ghost use Rattle.cls_table.specs.Going.{IsLarge, claims_in};
     ghost use Rattle.cls_table.specs.Steps.{Claims, Files, Fits, made_by, stopped_table};
 
@@ -167,6 +168,23 @@ impl<E: Expand, L: Ledger> Table<E, L> {
     {
         self.stopped = true;
         claim.spend();
+    }
+
+    /// Copies the rows and the history where all rows are filed: the whole work of one holding of `SharedTable::read`.
+    ///
+    /// Where the table is stopped the answer is `OutOfMemory`, which also comes for want of memory. Else it is None exactly
+    /// where some row isn't filed.
+    pub fn read(&self, alloc: Global) -> Result<Option<Finished<E::Goal>>, OutOfMemory>
+        ensures stopped { self.now.stopped ≡ true → OnOk result ⊥ }
+        ensures rows { IfOk result (λ r. IfSome r (λ f. AllFiled self.now.rows × (f.rows ≡ filed_rows self.now.rows.goals self.now.rows.states))) }
+        ensures history { IfOk result (λ r. IfSome r (λ f. (f.history ≡ self.now.history) × (claims_in f.history ≡ self.now.claims))) }
+        ensures complete { IfOk result (λ r. IfSome r (λ f. IsComplete E.Goal.eq E.answer self.now.tag f)) }
+        ensures unfiled { IfOk result (λ r. IfNone r (AllFiled self.now.rows → ⊥)) }
+    {
+        if self.stopped {
+            return Err(OutOfMemory);
+        }
+        self.progress.read(alloc)
     }
 
     /// Files each row that isn't filed: a held one under its holder's number, a free one after a claim as the worker 0.
