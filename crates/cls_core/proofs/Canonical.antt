@@ -1,5 +1,6 @@
 -- The canonical numbering is one.
-use Rattle.std.proofs.Common.{ℕ, zero, suc, ◌≡◌, ◌<◌, ◌≤◌, ◌++◌, refl, sym, ◌∙◌, subst, ap, ◌⊎◌, inl, inr, List, [], ◌∷◌, length, arith, Bool, Some, slice_get, append_assoc}
+use Rattle.std.proofs.Common.{ℕ, zero, suc, ◌≡◌, ◌<◌, ◌≤◌, ◌++◌, refl, sym, ◌∙◌, subst, ap, ◌⊎◌, inl, inr, List, [], ◌∷◌, length, arith, Bool, Some, slice_get, append_assoc, append-nil}
+use Rattle.std.proofs.lemmas.List.{append_cancel_left}
 use Rattle.cls_core.specs.declared.answer.Answer.{Answer}
 use Rattle.cls_core.specs.Arguments.{arguments_of}
 use Rattle.cls_core.specs.Machine.{numbered}
@@ -56,14 +57,6 @@ module _ {A : Type 0} where
         | inr r ↦ inr (r.0, ap (λ l. x ∷ l) r.1 ∙ ap (λ y. y ∷ (us ++ r.0)) f)
       ]
 
-  cancel : (p s t : List A) → p ++ s ≡ p ++ t → s ≡ t
-  cancel [] s t e = e
-  cancel (x ∷ p) s t e = cancel p s t (let f : p ++ s ≡ p ++ t = cc in f)
-
-  append-none : (xs : List A) → xs ++ [] ≡ xs
-  append-none [] = refl
-  append-none (x ∷ xs) = ap (λ l. x ∷ l) (append-none xs)
-
   empty-list : (xs : List A) → ((x : A) → Has xs x → ⊥) → xs ≡ []
   empty-list [] f = refl
   empty-list (x ∷ xs) f = absurd (f x (inl refl))
@@ -97,7 +90,7 @@ module _ {G : Type 0} (answer : G → Answer G) (start : G) where
   rest-empty : (us w p s vs : List G) → p ≡ us ++ w → Stream p us → p ++ s ≡ us ++ vs → ((g : G) → Has vs g → Has [] g ⊎ Has us g → ⊥) → AllReached answer start (p ++ s) → p ++ s ≡ us
   rest-empty us w p s vs e f g apart q =
       let none : vs ≡ [] = empty-list vs (λ x m. apart x m (inr (closed-front us w (subst (λ l. Stream l us) e f) x (q x (subst (λ l. Has l x) (sym g) (has-right us vs x m)))))) in
-      g ∙ (ap (λ l. us ++ l) none ∙ append-none us)
+      g ∙ (ap (λ l. us ++ l) none ∙ append-nil us)
 
   shorter : (s : List G) (x : G) (w : List G) → s ≡ x ∷ w → length w < length s
   shorter s x w e = let f : length s ≡ suc (length w) = ap length e in omega arith
@@ -110,10 +103,10 @@ module _ {G : Type 0} (answer : G → Answer G) (start : G) where
     where
       go : (us va vb : List G) → FirstOnes [] (start ∷ arguments_after answer p) us → p ++ s ≡ us ++ va → p ++ t ≡ us ++ vb → ((g : G) → Has va g → Has [] g ⊎ Has us g → ⊥) → ((g : G) → Has vb g → Has [] g ⊎ Has us g → ⊥) → ((x : G) × (w : List G) × (us ≡ p ++ x ∷ w)) ⊎ ((w : List G) × (p ≡ us ++ w)) → s ≡ t
       go us va vb f ea eb na nb (inr r) =
-          cancel p s t (rest-empty us r.0 p s va r.1 f ea na qs ∙ sym (rest-empty us r.0 p t vb r.1 f eb nb qt))
+          append_cancel_left p s t (rest-empty us r.0 p s va r.1 f ea na qs ∙ sym (rest-empty us r.0 p t vb r.1 f eb nb qt))
       go us va vb f ea eb na nb (inl r) =
-          let es : s ≡ r.0 ∷ (r.1 ++ va) = cancel p s (r.0 ∷ (r.1 ++ va)) (ea ∙ (ap (λ q. q ++ va) r.2 ∙ append_assoc p (r.0 ∷ r.1) va)) in
-          let et : t ≡ r.0 ∷ (r.1 ++ vb) = cancel p t (r.0 ∷ (r.1 ++ vb)) (eb ∙ (ap (λ q. q ++ vb) r.2 ∙ append_assoc p (r.0 ∷ r.1) vb)) in
+          let es : s ≡ r.0 ∷ (r.1 ++ va) = append_cancel_left p s (r.0 ∷ (r.1 ++ va)) (ea ∙ (ap (λ q. q ++ va) r.2 ∙ append_assoc p (r.0 ∷ r.1) va)) in
+          let et : t ≡ r.0 ∷ (r.1 ++ vb) = append_cancel_left p t (r.0 ∷ (r.1 ++ vb)) (eb ∙ (ap (λ q. q ++ vb) r.2 ∙ append_assoc p (r.0 ∷ r.1) vb)) in
           let size : length (r.1 ++ va) < length s = shorter s (r.0) (r.1 ++ va) es in
           let ps : p ++ s ≡ (p ++ r.0 ∷ []) ++ (r.1 ++ va) = ap (λ q. p ++ q) es ∙ sym (append_assoc p (r.0 ∷ []) (r.1 ++ va)) in
           let pt : p ++ t ≡ (p ++ r.0 ∷ []) ++ (r.1 ++ vb) = ap (λ q. p ++ q) et ∙ sym (append_assoc p (r.0 ∷ []) (r.1 ++ vb)) in

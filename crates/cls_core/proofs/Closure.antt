@@ -10,7 +10,7 @@ use Rattle.cls_core.specs.Closure.{Has, Differ, IsReached, at_start, at_argument
 use Rattle.cls_core.specs.Arguments.{arguments_of_rule, arguments_in, arguments_of, map_rule, map_answer, rule_count}
 use Rattle.cls_core.specs.Machine.{IsFiled, EachFiled, AllFiled, begun, claimed, grown, numbered, filed, Steps, Replays, rules_in, rules_weight}
 use Rattle.cls_core.specs.Rows.{Machine, filed_rows}
-use Rattle.cls_core.proofs.FiledRows.{filed-goals, filed-parts}
+use Rattle.cls_core.proofs.FiledRows.{filed-goals, filed-inside, filed-parts}
 use Rattle.cls_core.specs.declared.state.RowState.{RowState}
 use Rattle.cls_core.specs.declared.state.RowState.TheVariants.{Free, Held, Filed}
 use Rattle.cls_core.specs.declared.entry.Entry.{Entry}
@@ -21,20 +21,12 @@ use Rattle.cls_core.specs.declared.answer.Answer.{Answer}
 use Rattle.cls_core.specs.declared.answer.Answer.TheVariants.{Rules, Wide}
 use Rattle.cls_core.proofs.Members.{has-at, at-has, has-left, has-right, sum-within, length-within, has-any, all-differ, all-keeps, all-has, all-only}
 use Rattle.cls_core.proofs.Insertion.{all-front, stays}
-use Rattle.cls_core.proofs.Columns.{get-set-same, get-set-other, get-front, get-within}
-
-filed-inside : (a b : Answer ℕ) → Some (Filed a) ≡ Some (Filed b) → a ≡ b
-filed-inside a b e = cc
+use Rattle.cls_core.proofs.Columns.{get-set-same, get-set-other, get-front, get-within, get-behind, get-some}
 
 free-only : (n i : ℕ) (a : Answer ℕ) → slice_get (replicate n Free) i ≡ Some (Filed a) → ⊥
 free-only zero i a e = cc
 free-only (suc n) zero a e = cc
 free-only (suc n) (suc i) a e = free-only n i a e
-
-get-behind : {A : Type 0} (xs ys : List A) (i : ℕ) → length xs ≤ i → slice_get (xs ++ ys) i ≡ slice_get ys (i - length xs)
-get-behind [] ys i h = ap (slice_get ys) (omega arith)
-get-behind (x ∷ xs) ys zero h = absurd (omega arith)
-get-behind (x ∷ xs) ys (suc i) h = get-behind xs ys i (omega arith) ∙ ap (slice_get ys) (omega arith)
 
 -- two ways to number goals that agree on an answer's arguments number it alike
 module _ {G : Type 0} (f h : G → ℕ) where
@@ -189,14 +181,9 @@ module _ {G : Type 0} (eq : G → G → Bool) (exact : (x y : G) → eq x y ≡ 
       filed-answer (Held worker) q = absurd q
       filed-answer (Filed a) q = (a, refl)
 
-      state-at : (xs : List RowState) (k : ℕ) → k < length xs → (x : RowState) × (slice_get xs k ≡ Some x)
-      state-at [] k q = absurd (omega arith)
-      state-at (x ∷ xs) zero q = (x, refl)
-      state-at (x ∷ xs) (suc k) q = state-at xs k (omega arith)
-
       closed-at : (r : Machine G) → IsSound r → AllFiled r → (k : ℕ) (g : G) → slice_get r.goals k ≡ Some g → (h : G) → Has (arguments_of (answer g)) h → Has r.goals h
       closed-at r s f k g e h m =
-          let x = state-at r.states k (omega (arith, s.paired, slice_get_within r.goals k g e)) in
+          let x = get-some r.states k (omega (arith, s.paired, slice_get_within r.goals k g e)) in
           let a = filed-answer x.0 (f k x.0 x.1) in
           s.closed k g a.0 e (x.1 ∙ ap Some a.1) h m
 

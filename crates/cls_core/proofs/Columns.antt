@@ -1,5 +1,5 @@
 -- The columns of the core: a state is written, rows are put behind the others, and the counts stay right.
-use Rattle.std.proofs.Common.{◌≡◌, ◌≢◌, ℕ, zero, suc, ◌+◌, ◌^◌, ◌<◌, ◌≤◌, ◌==◌, Bool, true, false, List, [], ◌∷◌, ◌++◌, Some, length, set, length-set, length-append, slice_get, refl, sym, ap, subst, ◌∙◌, arith, get_or-set_same, ◌⊎◌, inl, inr, nat_lt}
+use Rattle.std.proofs.Common.{◌≡◌, ◌≢◌, ℕ, zero, suc, ◌+◌, ◌-◌, ◌^◌, ◌<◌, ◌≤◌, ◌==◌, Bool, true, false, List, [], ◌∷◌, ◌++◌, Some, length, set, length-set, length-append, slice_get, refl, sym, ap, subst, ◌∙◌, arith, get_or-set_same, ◌⊎◌, inl, inr, nat_lt}
 use Rattle.std.proofs.lemmas.Bool.Decides.{nat_tests}
 use Rattle.std.specs.Prelude.{replicate}
 use Rattle.std.specs.List.{sum_by}
@@ -35,6 +35,19 @@ module _ {A : Type 0} where
   get-within [] ys i h = absurd (omega arith)
   get-within (x ∷ xs) ys zero h = refl
   get-within (x ∷ xs) ys (suc i) h = get-within xs ys i (omega arith)
+
+  pub get-behind : (xs ys : List A) (i : ℕ) → length xs ≤ i → slice_get (xs ++ ys) i ≡ slice_get ys (i - length xs)
+  get-behind [] ys i h = ap (slice_get ys) (omega arith)
+  get-behind (x ∷ xs) ys zero h = absurd (omega arith)
+  get-behind (x ∷ xs) ys (suc i) h = get-behind xs ys i (omega arith) ∙ ap (slice_get ys) (omega arith)
+
+  pub get-some : (xs : List A) (i : ℕ) → i < length xs → (x : A) × (slice_get xs i ≡ Some x)
+  get-some [] i h = absurd (omega arith)
+  get-some (x ∷ xs) zero h = (x, refl)
+  get-some (x ∷ xs) (suc i) h = get-some xs i (omega arith)
+
+  pub some-inside : (x y : A) → Some x ≡ Some y → x ≡ y
+  some-inside x y e = cc
 
 -- a number below n + 1 is below n, or n itself
 pub lt-split : (n i : ℕ) → i < n + 1 → (i < n) ⊎ (i ≡ n)

@@ -7,6 +7,10 @@ use Rattle.cls_core.specs.declared.answer.Answer.{Answer}
 use Rattle.cls_core.specs.Machine.{IsFiled, EachFiled}
 use Rattle.cls_core.specs.Rows.{Row, filed_rows}
 use Rattle.cls_core.specs.Closure.{goals_of}
+use Rattle.cls_core.proofs.Columns.{some-inside}
+
+pub filed-inside : (a b : Answer ℕ) → Some (Filed a) ≡ Some (Filed b) → a ≡ b
+filed-inside a b e = cc
 
 module _ {G : Type 0} where
   pub filed-count : (gs : List G) (ss : List RowState) → length ss ≡ length gs → EachFiled ss → length (filed_rows gs ss) ≡ length gs
@@ -25,9 +29,6 @@ module _ {G : Type 0} where
       let same : x ≡ g = cc in
       let is : b ≡ a = filed-inside b a h in
       λ i. Some (record { goal = same i; answer = is i })
-    where
-      filed-inside : (b a : Answer ℕ) → Some (Filed b) ≡ Some (Filed a) → b ≡ a
-      filed-inside b a h = cc
   filed-at (x ∷ gs) (Filed b ∷ ss) (suc k) g a f e h = filed-at gs ss k g a (λ j s q. f (suc j) s q) e h
 
   pub filed-goal : (gs : List G) (ss : List RowState) (k : ℕ) (g : G) → length ss ≡ length gs → EachFiled ss → slice_get gs k ≡ Some g → option_map (λ (r : Row G). r.goal) (slice_get (filed_rows gs ss) k) ≡ Some g
@@ -66,9 +67,6 @@ module _ {G : Type 0} where
   filed-parts (x ∷ gs) (Filed a ∷ ss) zero r e =
       let same : record { goal = x; answer = a } ≡ r = some-inside (record { goal = x; answer = a }) r e in
       (ap (λ (q : Row G). Some q.goal) same, ap (λ (q : Row G). Some (Filed q.answer)) same)
-    where
-      some-inside : (p q : Row G) → Some p ≡ Some q → p ≡ q
-      some-inside p q h = cc
   filed-parts (x ∷ gs) (Filed a ∷ ss) (suc k) r e = filed-parts gs ss k r e
 
 -- a filed state is one with an answer

@@ -1,7 +1,7 @@
 -- Goals that are put behind others where they aren't among them, and the places at which they then stand.
-use Rattle.std.proofs.Common.{◌≡◌, ℕ, suc, ◌+◌, ◌<◌, ◌≤◌, Bool, true, false, cond, not, List, [], ◌∷◌, ◌++◌, length, map, take, drop, get_or, refl, sym, ap, subst, ◌∙◌, arith, append_assoc, length-append, if◌then◌else◌, ◌||◌, Some}
+use Rattle.std.proofs.Common.{◌≡◌, ℕ, suc, ◌+◌, ◌<◌, ◌≤◌, Bool, true, false, cond, not, List, [], ◌∷◌, ◌++◌, length, map, take, drop, get_or, refl, sym, ap, subst, ◌∙◌, arith, append_assoc, append-nil, length-append, if◌then◌else◌, ◌||◌, Some}
 use Rattle.std.specs.List.{position, position_or_len, list_any}
-use Rattle.std.proofs.lemmas.List.{take_more, take-append-drop}
+use Rattle.std.proofs.lemmas.List.{append_cancel_left, take_more, take-append-drop}
 use Rattle.std.proofs.lemmas.List.Quantifiers.{position-Some}
 use Rattle.std.proofs.lemmas.List.Sums.{position_or_len_is}
 use Rattle.indexmap.specs.IndexSet.{insert_key, insert_all}
@@ -44,17 +44,13 @@ module _ {G : Type 0} (eq : G → G → Bool) where
   all-append gs [] ys = refl
   all-append gs (x ∷ xs) ys = all-append (insert_key eq gs x) xs ys
 
-  append-none : (xs : List G) → xs ++ [] ≡ xs
-  append-none [] = refl
-  append-none (x ∷ xs) = ap (λ l. x ∷ l) (append-none xs)
-
   one-grows : (gs : List G) (x : G) (b : Bool) → (more : List G) × ((if b then gs else gs ++ x ∷ []) ≡ gs ++ more)
-  one-grows gs x true = ([], sym (append-none gs))
+  one-grows gs x true = ([], sym (append-nil gs))
   one-grows gs x false = (x ∷ [], refl)
 
   -- the goals go on as they were
   pub all-front : (gs xs : List G) → (more : List G) × (insert_all eq gs xs ≡ gs ++ more)
-  all-front gs [] = ([], sym (append-none gs))
+  all-front gs [] = ([], sym (append-nil gs))
   all-front gs (x ∷ xs) =
       let h = all-front (insert_key eq gs x) xs in
       let k = one-grows gs x (list_any (eq x) gs) in
@@ -62,7 +58,7 @@ module _ {G : Type 0} (eq : G → G → Bool) where
 
   -- what a list puts behind the goals, put there again
   again : (gs xs : List G) → (more : List G) × (insert_all eq gs xs ≡ gs ++ more) × (insert_all eq gs more ≡ gs ++ more)
-  again gs [] = ([], sym (append-none gs), sym (append-none gs))
+  again gs [] = ([], sym (append-nil gs), sym (append-nil gs))
   again gs (x ∷ xs) = by (list_any (eq x) gs) refl (again (insert_key eq gs x) xs)
     where
       by : (b : Bool) → list_any (eq x) gs ≡ b → ((more : List G) × (insert_all eq (insert_key eq gs x) xs ≡ insert_key eq gs x ++ more) × (insert_all eq (insert_key eq gs x) more ≡ insert_key eq gs x ++ more)) → (more : List G) × (insert_all eq (insert_key eq gs x) xs ≡ gs ++ more) × (insert_all eq gs more ≡ gs ++ more)
@@ -78,12 +74,8 @@ module _ {G : Type 0} (eq : G → G → Bool) where
   pub all-again : (gs more xs : List G) → gs ++ more ≡ insert_all eq gs xs → insert_all eq gs more ≡ insert_all eq gs xs
   all-again gs more xs e =
       let h = again gs xs in
-      let same : more ≡ h.0 = cancel gs more h.0 (e ∙ h.1) in
+      let same : more ≡ h.0 = append_cancel_left gs more h.0 (e ∙ h.1) in
       ap (insert_all eq gs) same ∙ (h.2 ∙ sym h.1)
-    where
-      cancel : (p s t : List G) → p ++ s ≡ p ++ t → s ≡ t
-      cancel [] s t e = e
-      cancel (x ∷ p) s t e = cancel p s t (let f : p ++ s ≡ p ++ t = cc in f)
 
   pub all-length : (gs xs : List G) → length gs ≤ length (insert_all eq gs xs)
   all-length gs xs = let h = all-front gs xs in omega (arith, ap length h.1, length-append gs h.0)
@@ -112,7 +104,7 @@ module _ {G : Type 0} (eq : G → G → Bool) where
   arguments-append (r ∷ rs) ss = ap (λ l. arguments_of_rule r ++ l) (arguments-append rs ss) ∙ sym (append_assoc (arguments_of_rule r) (arguments_in rs) (arguments_in ss))
 
   arguments-one : (r : Rule G) → arguments_in (r ∷ []) ≡ arguments_of_rule r
-  arguments-one r = append-none (arguments_of_rule r)
+  arguments-one r = append-nil (arguments_of_rule r)
 
   -- the first rules of a list make no more than all of them
   pub rules-take : (gs : List G) (rs : List (Rule G)) (i : ℕ) → length (insert_all eq gs (arguments_in (take i rs))) ≤ length (insert_all eq gs (arguments_in rs))

@@ -11,7 +11,7 @@ use Rattle.cls_core.specs.declared.state.RowState.TheVariants.{Free, Held, Filed
 use Rattle.cls_core.specs.declared.entry.Entry.{Entry}
 use Rattle.cls_core.specs.declared.entry.Entry.TheVariants.{Claim, File}
 use Rattle.cls_core.specs.declared.answer.Answer.{Answer}
-use Rattle.cls_core.proofs.Columns.{get-set-same, get-set-other, get-within}
+use Rattle.cls_core.proofs.Columns.{get-set-same, get-set-other, get-within, get-behind, get-some}
 
 -- how often a row in this state was claimed, and filed
 abbrev claim_mark : Option RowState → ℕ
@@ -25,11 +25,6 @@ file_mark None = 0
 file_mark (Some Free) = 0
 file_mark (Some (Held worker)) = 0
 file_mark (Some (Filed a)) = 1
-
-get-behind : {A : Type 0} (xs ys : List A) (i : ℕ) → length xs ≤ i → slice_get (xs ++ ys) i ≡ slice_get ys (i - length xs)
-get-behind [] ys i h = ap (slice_get ys) (omega arith)
-get-behind (x ∷ xs) ys zero h = absurd (omega arith)
-get-behind (x ∷ xs) ys (suc i) h = get-behind xs ys i (omega arith) ∙ ap (slice_get ys) (omega arith)
 
 free-marks : (n i : ℕ) → (claim_mark (slice_get (replicate n Free) i) ≡ 0) × (file_mark (slice_get (replicate n Free) i) ≡ 0)
 free-marks zero i = (refl, refl)
@@ -121,15 +116,10 @@ module _ {G : Type 0} (eq : G → G → Bool) (answer : G → Answer G) where
   each-once start es t h f row within =
       let m = marked es (begun start) t row h in
       let free = free-marks 1 row in
-      let s = state-at t.states row within in
+      let s = get-some t.states row within in
       let marks = filed-marks s.0 (f row s.0 s.1) in
       (omega (arith, m.0, free.0, ap claim_mark s.1, marks.0), omega (arith, m.1, free.1, ap file_mark s.1, marks.1))
     where
-      state-at : (xs : List RowState) (k : ℕ) → k < length xs → (x : RowState) × (slice_get xs k ≡ Some x)
-      state-at [] k q = absurd (omega arith)
-      state-at (x ∷ xs) zero q = (x, refl)
-      state-at (x ∷ xs) (suc k) q = state-at xs k (omega arith)
-
       filed-marks : (x : RowState) → IsFiled x → (claim_mark (Some x) ≡ 1) × (file_mark (Some x) ≡ 1)
       filed-marks Free q = absurd q
       filed-marks (Held worker) q = absurd q

@@ -1,5 +1,5 @@
 -- Rows that are filed one after the other.
-use Rattle.std.proofs.Common.{◌≡◌, ℕ, ◌<◌, ◌≤◌, Bool, true, List, [], ◌∷◌, ◌++◌, Option, None, Some, Result, Ok, Err, length, set, slice_get, refl, sym, ap, subst, ◌∙◌, arith, append_assoc}
+use Rattle.std.proofs.Common.{◌≡◌, ℕ, ◌<◌, ◌≤◌, Bool, true, List, [], ◌∷◌, ◌++◌, Option, None, Some, Result, Ok, Err, length, set, slice_get, refl, sym, ap, subst, ◌∙◌, arith, append_assoc, append-nil}
 use Rattle.std.specs.Prelude.{IfOk, IfSome}
 use Rattle.std.proofs.lemmas.Option.{slice_get_within}
 use Rattle.cls_core.specs.Rows.{filed_rows}
@@ -8,7 +8,7 @@ use Rattle.cls_core.specs.declared.state.RowState.{RowState}
 use Rattle.cls_core.specs.declared.state.RowState.TheVariants.{Free, Held, Filed}
 use Rattle.cls_core.specs.declared.entry.Entry.TheVariants.{Claim, File}
 use Rattle.cls_core.specs.declared.answer.Answer.{Answer}
-use Rattle.cls_core.proofs.Columns.{get-set-same, get-set-other, get-front}
+use Rattle.cls_core.proofs.Columns.{get-set-same, get-set-other, get-front, some-inside}
 use Rattle.cls_table.specs.Seen.{ProgressSeen}
 use Rattle.cls_core.specs.Closure.{IsClosure}
 use Rattle.cls_core.specs.Times.{EachOnce}
@@ -25,13 +25,9 @@ free-filed ss row a e f = cc
 held-filed : (ss : List RowState) (row worker : ℕ) (a : Answer ℕ) → slice_get ss row ≡ Some (Held worker) → slice_get ss row ≡ Some (Filed a) → ⊥
 held-filed ss row worker a e f = cc
 
-append-none : {A : Type 0} (xs : List A) → xs ++ [] ≡ xs
-append-none [] = refl
-append-none (x ∷ xs) = ap (λ l. x ∷ l) (append-none xs)
-
 module _ {B G : Type 0} where
   pub goes-nowhere : (p : ProgressSeen B G) → GoesOn p p
-  goes-nowhere p = record { tag = refl; more = ([], sym (append-none p.history)); stays = λ row f. f }
+  goes-nowhere p = record { tag = refl; more = ([], sym (append-nil p.history)); stays = λ row f. f }
 
   pub goes-further : (p q r : ProgressSeen B G) → GoesOn p q → GoesOn q r → GoesOn p r
   goes-further p q r h k = record {
@@ -100,6 +96,3 @@ all-filed ss row past h k s e =
     let f = h k (omega (arith, slice_get_within ss k s e)) in
     let is : Filed f.0 ≡ s = some-inside (Filed f.0) s (sym f.1 ∙ e) in
     subst IsFiled is tt
-  where
-    some-inside : (a b : RowState) → Some a ≡ Some b → a ≡ b
-    some-inside a b q = cc

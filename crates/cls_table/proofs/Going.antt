@@ -18,7 +18,7 @@ use Rattle.cls_core.specs.declared.answer.Answer.{Answer}
 use Rattle.cls_core.proofs.Replaying.{replays-snoc}
 use Rattle.cls_core.proofs.Members.{has-at, at-has, all-only}
 use Rattle.cls_core.proofs.Closure.{replay-sound, shows-goals, shows-rules, mapped-count}
-use Rattle.cls_core.proofs.Columns.{filed-counts, claimed-counts, get-set-same, get-set-other, get-within}
+use Rattle.cls_core.proofs.Columns.{filed-counts, claimed-counts, get-set-same, get-set-other, get-within, get-behind, some-inside}
 use Rattle.cls_table.specs.declared.tag.Tag.{Tag}
 use Rattle.cls_table.specs.Seen.{ProgressSeen}
 use Rattle.cls_table.specs.Going.{NamesUpTo, IsGoing, IsLarge}
@@ -46,11 +46,6 @@ free-held zero row worker e = cc
 free-held (suc n) zero worker e = cc
 free-held (suc n) (suc row) worker e = free-held n row worker e
 
-get-behind : {A : Type 0} (xs ys : List A) (i : ℕ) → length xs ≤ i → slice_get (xs ++ ys) i ≡ slice_get ys (i - length xs)
-get-behind [] ys i h = ap (slice_get ys) (omega arith)
-get-behind (x ∷ xs) ys zero h = absurd (omega arith)
-get-behind (x ∷ xs) ys (suc i) h = get-behind xs ys i (omega arith) ∙ ap (slice_get ys) (omega arith)
-
 set-holders : (most : ℕ) (ss : List RowState) (row : ℕ) (new : RowState) → HoldersUpTo most ss → ((worker : ℕ) → new ≡ Held worker → worker ≤ most) → HoldersUpTo most (set ss row new)
 set-holders most ss row new h n k worker e = by (k == row) refl (nat_lt row (length ss)) refl
   where
@@ -59,9 +54,6 @@ set-holders most ss row new h n k worker e = by (k == row) refl (nat_lt row (len
         let same : k ≡ row = grind (arith, nat_tests) in
         let less : row < length ss = grind (arith, nat_tests) in
         n worker (some-inside new (Held worker) (sym (get-set-same ss row new less) ∙ subst (λ j. slice_get (set ss row new) j ≡ Some (Held worker)) same e))
-      where
-        some-inside : (a b : RowState) → Some a ≡ Some b → a ≡ b
-        some-inside a b q = cc
     by true is false past =
         let same : k ≡ row = grind (arith, nat_tests) in
         let more : length ss ≤ row = grind (arith, nat_tests) in
