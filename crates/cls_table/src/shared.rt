@@ -183,11 +183,8 @@ impl<E: Expand, L: Ledger> SharedTable<E, L> {
         self.turn.put(seat, table);
     }
 
-    /// Waits for the turn, and copies the rows and the history where all rows are filed: what `Table::read` answers at that
-    /// holding. It leaves the table as it is.
-    ///
-    /// `OutOfMemory` comes for want of memory, and where the table is stopped. None comes where some row wasn't filed yet.
-    pub fn read<R: Wait>(
+    // One holding of `read`.
+    fn read_once<R: Wait>(
         &self,
         rt: &R,
         alloc: Global,
@@ -202,6 +199,27 @@ impl<E: Expand, L: Ledger> SharedTable<E, L> {
         let answer = table.read(alloc);
         self.turn.put(seat, table);
         answer
+    }
+
+    /// Waits for a holding at which all rows are filed, and copies the rows and the history: what `Table::read` gives there.
+    /// At any other holding it puts the table back and takes the turn again. The table stays as it is. The only error is want
+    /// of memory.
+    pub fn read<R: Wait>(
+        &self,
+        rt: &R,
+        alloc: Global,
+        seat: &mut TableSeat<E, L>,
+    ) -> Result<Finished<E::Goal>, OutOfMemory>
+        requires of { seat.old.turn ≡ id_of self.now.turn }
+        ensures same { seat.new ≡ seat.old }
+        ensures complete { IfOk result (λ f. (t : Tag E.Tag E.Goal) → seat.old.tag ≡ Some t → IsComplete E.Goal.eq E.answer t f) }
+    {
+        for _ in rt.forever() {
+            if let Some(finished) = self.read_once(rt, alloc, seat)? {
+                return Ok(finished);
+            }
+        }
+        unreachable!()
     }
 
     /// Waits for the turn, and takes the table out: the rows and the history where all rows are filed. Else, and exactly then,

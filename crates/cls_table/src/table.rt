@@ -170,20 +170,14 @@ impl<E: Expand, L: Ledger> Table<E, L> {
         claim.spend();
     }
 
-    /// Copies the rows and the history where all rows are filed: the whole work of one holding of `SharedTable::read`.
-    ///
-    /// Where the table is stopped the answer is `OutOfMemory`, which also comes for want of memory. Else it is None exactly
-    /// where some row isn't filed.
+    /// Copies the rows and the history where all rows are filed: the whole work of one holding of `SharedTable::read`. None
+    /// comes exactly where some row isn't filed. The only error is want of memory.
     pub fn read(&self, alloc: Global) -> Result<Option<Finished<E::Goal>>, OutOfMemory>
-        ensures stopped { self.now.stopped ≡ true → OnOk result ⊥ }
         ensures rows { IfOk result (λ r. IfSome r (λ f. AllFiled self.now.rows × (f.rows ≡ filed_rows self.now.rows.goals self.now.rows.states))) }
         ensures history { IfOk result (λ r. IfSome r (λ f. (f.history ≡ self.now.history) × (claims_in f.history ≡ self.now.claims))) }
         ensures complete { IfOk result (λ r. IfSome r (λ f. IsComplete E.Goal.eq E.answer self.now.tag f)) }
         ensures unfiled { IfOk result (λ r. IfNone r (AllFiled self.now.rows → ⊥)) }
     {
-        if self.stopped {
-            return Err(OutOfMemory);
-        }
         self.progress.read(alloc)
     }
 

@@ -1,6 +1,6 @@
 use Rattle.std.proofs.Common.{◌∙◌}
 use Rattle.cls_table.proofs.Seating.{stays-seated}
-use Rattle.cls_table.proofs.shared.SharedTable.read.Goals as goal
+use Rattle.cls_table.proofs.shared.SharedTable.read_once.Goals as goal
 
 pub invariant_of-seat : goal.invariant_of-seat
 invariant_of-seat g c =
