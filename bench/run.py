@@ -38,7 +38,12 @@ def inputs():
     yield "1 MiB of comments", comments(MAX_INPUT_BYTES - 4) + "end\n", "", 0
     yield "1 MiB of queries of one term", components(1) + "list omega max 1 take 1\n" * 43689, "done", 0
     yield "1 MiB with 10,000 short queries", mixed(), "done", 0
-    yield "1,000 components, 1,000 pages of 10,000 terms", components(1000) + "list omega max 2 take 10000\n" * 1000, "more", 0
+    yield "100 components, 1,000 pages of 10,000 terms", components(100) + "list omega max 2 take 10000\n" * 1000, "more", 0
+    yield "1 component, list omega max 1024 take 10000", components(1) + "list omega max 1024 take 10000\n", "more", 0
+    yield "10 components, list omega max 1024 take 10000", components(10) + "list omega max 1024 take 10000\n", "more", 0
+    yield "446 components, 199,362 terms made", components(446) + "list omega max 2 take 10000\n", "more", 0
+    yield "1,000 components, 100 times too many terms", components(1000) + "list omega max 2 take 10000\n" * 100, "error too-many-terms", 0
+    yield "no component, 100 times max 1024", "end\n" + "list omega max 1024 take 10000\n" * 100, "done", 0
     yield "one line of 1 MiB", "end\n" + "x" * (MAX_INPUT_BYTES - 4), "error unbuilt", 0
 
 

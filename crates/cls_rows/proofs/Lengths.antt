@@ -5,7 +5,7 @@ use Rattle.std.specs.List.{flat_map, AllByRecursion}
 use Rattle.std.specs.Fmt.{decimal}
 use Rattle.std.proofs.lemmas.Fmt.{length-decimal-le_wide}
 use Rattle.std.proofs.lemmas.List.Elements.{All-contains_itself}
-use Rattle.cls_base.specs.Terms.{Applicative, component, apply}
+use Rattle.cls_base.specs.Terms.{Applicative, component, apply, length_of}
 use Rattle.cls_syntax.specs.declared.token.TokenKind.{TokenKind}
 use Rattle.cls_syntax.specs.declared.token.TokenKind.TheVariants.{Name, Number, To, And, Times, Open, Close, Comma, Dollar, Colon, Equals, Bar, AtMost, Bad}
 use Rattle.cls_syntax.specs.declared.token.Token.{Token}
@@ -13,8 +13,7 @@ use Rattle.cls_syntax.specs.Lines.{lines_of}
 use Rattle.cls_syntax.specs.Tokens.{tokens_of}
 use Rattle.cls_syntax.specs.Tokens as tokens
 use Rattle.cls_syntax.specs.Words.{Word, name, word_from, word_in, words_of}
-use Rattle.cls_term.specs.Texts.{name_at, text_of}
-use Rattle.cls_term.proofs.Spines.{size_of-ones}
+use Rattle.cls_term.specs.Texts.{name_at, text_of, open_text}
 use Rattle.cls_session.specs.declared.status.Status.{Status}
 use Rattle.cls_session.specs.Declarations.{Declaration, names_of}
 use Rattle.cls_session.specs.Forms.{IsDeclaration}
@@ -25,7 +24,6 @@ use Rattle.cls_session.specs.Replies as replies
 use Rattle.cls_session.specs.Repositories.{Entry, skipped, declares, Declares}
 use Rattle.cls_session.specs.Transcripts.{IsAnswered, refusal, without_end, complete}
 use Rattle.cls_session.proofs.Outputs.{lines_read-short}
-use Rattle.cls_session.proofs.Omega.{IsSmall, single, pair, small}
 
 -- the line or the name has at most 24 bytes
 abbrev pub IsShort : List ℕ → Type 0
@@ -80,27 +78,34 @@ front_short : (xs ys : List (List ℕ)) → AllByRecursion IsShort (xs ++ ys) �
 front_short [] ys h = tt
 front_short (x ∷ xs) ys h = (h.0, front_short xs ys h.1)
 
--- what terms of size 1 or 2 take, and a page of them
-module _ (names : ℕ → List ℕ) (short : (x : ℕ) → IsShort (names x)) where
-  term_line-length : (e : Applicative) → IsSmall e → length (term_line names e) ≤ 56
-  term_line-length (component x) single =
-      let a = length-append (codes "term " ++ names x) (10 ∷ []) in
-      let b = length-append (codes "term ") (names x) in
-      let s = short x in
-      omega arith
-  term_line-length (apply (component x) (component y)) pair =
-      let text = text_of names (apply (component x) (component y)) in
-      let a = length-append text (10 ∷ []) in
-      let b = length-append ((names x ++ codes "(") ++ names y) (codes ")") in
-      let c = length-append (names x ++ codes "(") (names y) in
-      let d = length-append (names x) (codes "(") in
-      let s = short x in
-      let t = short y in
-      omega arith
-  term_line-length (apply (component x) (apply g b)) s = elim s [ ]
-  term_line-length (apply (apply g b) a) s = elim s [ ]
+-- the term has at most 64 component occurrences
+abbrev IsShortTerm : Applicative → Type 0
+IsShortTerm e = length_of e ≤ 64
 
-  term_lines-length : (es : List Applicative) → All IsSmall es → length (flat_map (term_line names) es) ≤ 56 * length es
+-- what such terms take, and a page of them
+module _ (names : ℕ → List ℕ) (short : (x : ℕ) → IsShort (names x)) where
+  -- 27 bytes for each occurrence: its name, and what stands around it
+  texts-length : (e : Applicative) → (length (text_of names e) + 3 ≤ 27 * length_of e) × (length (open_text names e) + 2 ≤ 27 * length_of e)
+  texts-length (component x) =
+      let a = length-append (names x) (codes "(") in
+      let s = short x in
+      (omega arith, omega arith)
+  texts-length (apply f a) =
+      let p = texts-length f in
+      let q = texts-length a in
+      let t = length-append (open_text names f) (text_of names a) in
+      let u = length-append (open_text names f ++ text_of names a) (codes ")") in
+      let v = length-append (open_text names f ++ text_of names a) (codes ", ") in
+      (omega (arith, p.1, q.0), omega (arith, p.1, q.0))
+
+  term_line-length : (e : Applicative) → IsShortTerm e → length (term_line names e) ≤ 1731
+  term_line-length e h =
+      let a = length-append (codes "term " ++ text_of names e) (10 ∷ []) in
+      let b = length-append (codes "term ") (text_of names e) in
+      let t = texts-length e in
+      omega (arith, t.0)
+
+  term_lines-length : (es : List Applicative) → All IsShortTerm es → length (flat_map (term_line names) es) ≤ 1731 * length es
   term_lines-length [] h = omega arith
   term_lines-length (e ∷ es) h =
       let a = length-append (term_line names e) (flat_map (term_line names) es) in
@@ -108,7 +113,7 @@ module _ (names : ℕ → List ℕ) (short : (x : ℕ) → IsShort (names x)) wh
       let c = term_lines-length es (λ k d l. h (suc k) d (omega arith)) in
       omega arith
 
-  page_text-length : (es : List Applicative) (more : Bool) → All IsSmall es → length (page_text names es more) ≤ 56 * length es + 5
+  page_text-length : (es : List Applicative) (more : Bool) → All IsShortTerm es → length (page_text names es more) ≤ 1731 * length es + 5
   page_text-length es true h =
       let a = length-append (flat_map (term_line names) es) (codes "more" ++ 10 ∷ []) in
       let b = term_lines-length es h in
@@ -119,24 +124,24 @@ module _ (names : ℕ → List ℕ) (short : (x : ℕ) → IsShort (names x)) wh
       omega arith
 
 module _ (ds : List Declaration) (short : (x : ℕ) → IsShort (name_in ds x)) where
-  reply_length : (line text : List ℕ) → Reply ds line text → length text ≤ 560005
+  reply_length : (line text : List ℕ) → Reply ds line text → length text ≤ 17310005
   reply_length line text (replies.skipped s e) = let a = ap length e in omega arith
   reply_length line text (replies.unbuilt s n e) = let a = ap length e in omega arith
+  reply_length line text (replies.too_many max count q p) = let a = ap length p.written in omega arith
   reply_length line text (replies.listing max count q p) =
-      let all : All IsSmall p.terms = λ k d l.
-      let e = get_or p.terms k d in
+      let all : All IsShortTerm p.terms = λ k d l. (let e = get_or p.terms k d in
       let due = p.page.due e (All-contains_itself p.terms k d l) in
-      small e (let a = due.small in let b = size_of-ones (λ _. 1) (λ x. refl) e in let c = q.max_within in omega (arith, a, b, c.1)) in
+      due.short) in
       let a = ap length p.written in
       let b = page_text-length (name_in ds) short p.terms p.more all in
       let c = p.page.at_most in
       let d = q.take_within in
       omega (arith, a, b, c, d.1)
 
-  answered_query_length : (query : List (List ℕ)) (text : List ℕ) → Answered ds query text → length text ≤ 560005 * length query
+  answered_query_length : (query : List (List ℕ)) (text : List ℕ) → Answered ds query text → length text ≤ 17310005 * length query
   answered_query_length query text (replies.of_line line e p) = let a = ap length e in let b = reply_length line text p in omega arith
 
-  replies_length : (lines : List (List ℕ)) (text : List ℕ) → Replies ds lines text → length text ≤ 560005 * length lines
+  replies_length : (lines : List (List ℕ)) (text : List ℕ) → Replies ds lines text → length text ≤ 17310005 * length lines
   replies_length lines text (replies.none l e) = let a = ap length e in omega arith
   replies_length lines text (replies.next query others first rest l p ps e) =
       let a = ap length e in
@@ -148,7 +153,7 @@ module _ (ds : List Declaration) (short : (x : ℕ) → IsShort (name_in ds x)) 
       omega arith
   replies_length lines text (replies.begun b e) = let a = ap length e in omega arith
 
-answered_length : (lines : List (List ℕ)) (ds : List Declaration) (text : List ℕ) → AllByRecursion IsShort lines → IsAnswered lines ds text → length text ≤ 560005 * length lines
+answered_length : (lines : List (List ℕ)) (ds : List Declaration) (text : List ℕ) → AllByRecursion IsShort lines → IsAnswered lines ds text → length text ≤ 17310005 * length lines
 answered_length lines ds text h a =
     let front = front_short a.repository (a.end ∷ a.queries) (subst (λ (ls : List (List ℕ)). AllByRecursion IsShort ls) a.split h) in
     let b = replies_length ds (names_short a.repository ds front a.reads.declared) a.queries text a.replies in
@@ -165,7 +170,7 @@ refusal_length place few =
     omega arith
 
 -- four lines of at most 24 bytes have no longer output
-pub output_length : (bytes text : List ℕ) (status : Status) → length bytes ≤ 1048576 → AllByRecursion IsShort (lines_of bytes) → length (lines_of bytes) ≤ 4 → Output [] bytes text status → length text ≤ 2240020
+pub output_length : (bytes text : List ℕ) (status : Status) → length bytes ≤ 1048576 → AllByRecursion IsShort (lines_of bytes) → length (lines_of bytes) ≤ 4 → Output [] bytes text status → length text ≤ 69240020
 output_length bytes text status small short few (outputs.no_session n e s) = absurd (n refl)
 output_length bytes text status small short few (outputs.refused a r s) =
     let split = ap length (sym (lines_read-short bytes small) ∙ r.fault.split) in
@@ -191,7 +196,7 @@ two_components-short : AllByRecursion IsShort (lines_of two_components) × (leng
 unfolding lines_of
 two_components-short = ((omega arith, (omega arith, (omega arith, (omega arith, tt)))), omega arith)
 
-pub two_components-output : (text : List ℕ) (status : Status) → Output [] two_components text status → length text ≤ 4194304
+pub two_components-output : (text : List ℕ) (status : Status) → Output [] two_components text status → length text ≤ 70000000
 two_components-output text status o =
     let l = output_length two_components text status (omega arith) two_components-short.0 two_components-short.1 o in
     omega arith

@@ -22,7 +22,7 @@ const SEVEN_TERMS: &str =
     "term x\nterm y\nterm x(x)\nterm x(y)\nterm y(x)\nterm y(y)\ndone\nterm x\nmore\n";
 
 /// More bytes than an output for four lines of at most 24 bytes has, whatever the lines ask for.
-const ROOM: usize = 4_194_304;
+const ROOM: usize = 70_000_000;
 
 #[test]
 fn no_read_and_no_write_can_fail(rt: HostRuntime) -> Result<(), Fail> {

@@ -1,10 +1,22 @@
-use crate::examples::{Example, SIX_TERMS, TWO_COMPONENTS, assert_examples, declarations};
+use crate::examples::{
+    Example, SIX_TERMS, TWO_COMPONENTS, WHOLE, assert_example, assert_examples, declarations,
+};
 use cls_session::Status;
 use std::alloc::Global;
 use std::test::Fail;
 
+/// At size 3, for each head first its applications to one term of size 2, and then those to two components.
+const TWENTY_TWO_TERMS: &str = "\
+term x\nterm y\n\
+term x(x)\nterm x(y)\nterm y(x)\nterm y(y)\n\
+term x(x(x))\nterm x(x(y))\nterm x(y(x))\nterm x(y(y))\n\
+term x(x, x)\nterm x(x, y)\nterm x(y, x)\nterm x(y, y)\n\
+term y(x(x))\nterm y(x(y))\nterm y(y(x))\nterm y(y(y))\n\
+term y(x, x)\nterm y(x, y)\nterm y(y, x)\nterm y(y, y)\n\
+done\n";
+
 /// Listings, and their pages.
-const LISTINGS: [Example; 9] = [
+const LISTINGS: [Example; 12] = [
     ("all terms", TWO_COMPONENTS, SIX_TERMS),
     (
         "as many terms as are asked for",
@@ -31,7 +43,22 @@ const LISTINGS: [Example; 9] = [
         b"comp b : A\ncomp a : A\nend\nlist omega max 2 take 10000\n",
         "term b\nterm a\nterm b(b)\nterm b(a)\nterm a(b)\nterm a(a)\ndone\n",
     ),
-    ("no components", b"end\nlist omega max 2 take 1\n", "done\n"),
+    (
+        "the terms of size 3",
+        b"comp x : A\ncomp y : B\nend\nlist omega max 3 take 10000\n",
+        TWENTY_TWO_TERMS,
+    ),
+    (
+        "the first terms of any size",
+        b"comp x : A\ncomp y : B\nend\nlist omega max 1024 take 1\nlist omega max 1024 take 3\n",
+        "term x\nmore\nterm x\nterm y\nterm x(x)\nmore\n",
+    ),
+    ("no components", b"end\nlist omega max 3 take 1\n", "done\n"),
+    (
+        "no components, and the greatest numbers",
+        b"end\nlist omega max 1024 take 10000\n",
+        "done\n",
+    ),
     ("no query", b"comp x : A\nend\n", ""),
     (
         "two queries",
@@ -72,7 +99,7 @@ const LINES: [Example; 6] = [
 
 /// Lines that are no query that is built.
 const UNBUILT: [&str; 13] = [
-    "list omega max 3 take 1",
+    "list omega max 1025 take 1",
     "list omega max 0 take 1",
     "list omega max 1 take 0",
     "list omega max 1 take 10001",
@@ -122,6 +149,31 @@ fn many_components_are_listed(rt: HostRuntime) -> Result<(), Fail> {
         assert_examples(&rt, alloc, &[example], Status::Done)?;
     }
     Ok(())
+}
+
+#[test]
+fn too_many_terms_are_refused(rt: HostRuntime) -> Result<(), Fail> {
+    let alloc = rt.alloc();
+    // Over n components n terms have size 1 and n * n size 2: 199,362 together for 446, and 200,256 for 447.
+    let repository = declarations(alloc, 446)?;
+    let listed = components_listed(alloc, 446)?;
+    let input = format!(in alloc; "{repository}end\nlist omega max 2 take 446\n")?;
+    let output = format!(in alloc; "{listed}more\n")?;
+    let example = ("446 components", input.as_bytes(), output.as_str());
+    assert_example(&rt, alloc, example, Status::Done, WHOLE)?;
+
+    let repository = declarations(alloc, 447)?;
+    let input = format!(in alloc;
+        "{repository}end\nlist omega max 1024 take 447\n# next\nlist omega max 1 take 1\n"
+    )?;
+    let output = "error too-many-terms\nterm c0\nmore\n";
+    let example = ("447 components", input.as_bytes(), output);
+    assert_example(&rt, alloc, example, Status::Done, WHOLE)?;
+
+    let repository = declarations(alloc, 500)?;
+    let input = format!(in alloc; "{repository}end\nlist omega max 2 take 500\n")?;
+    let example = ("500 components", input.as_bytes(), "error too-many-terms\n");
+    assert_examples(&rt, alloc, &[example], Status::Done)
 }
 
 #[test]

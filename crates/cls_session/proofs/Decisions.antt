@@ -136,7 +136,7 @@ is_listing_decided line =
             let a : q.max_digits ≡ w.0 = cc in
             let b : q.take_digits ≡ w.1 = cc in
             (sym q.max_value ∙ ap number_value a, sym q.take_value ∙ ap number_value b)) in
-            elim (both_decided (both_decided (at_most_decided 1 max) (at_most_decided max 2)) (both_decided (at_most_decided 1 take) (at_most_decided take 10000))) [
+            elim (both_decided (both_decided (at_most_decided 1 max) (at_most_decided max 1024)) (both_decided (at_most_decided 1 take) (at_most_decided take 10000))) [
               | inl b ↦ inl (max, take, record { max_digits = w.0; take_digits = w.1; read = r; words = w.2; max_value = refl; take_value = refl; max_within = b.0; take_within = b.1 })
               | inr n ↦ inr (λ p. n (let e = same p.0 p.1 p.2 in let a = p.2.max_within in let b = p.2.take_within in ((omega arith, omega arith), (omega arith, omega arith))))
             ]

@@ -1,6 +1,6 @@
-pub mod Firsts
 pub mod LastLines
-pub mod Omega
+pub mod Pools
+pub mod Counts
 pub mod Typing
 pub mod Repositories
 pub mod Standings

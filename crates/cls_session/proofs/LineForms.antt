@@ -75,14 +75,14 @@ module _ (ws : List Word) (max take : List ℕ) (read : listing_at ws ≡ Some (
   other_listing m k e = pair_same max take m k (sym read ∙ listing_reads ws m k e)
 
   -- a number that isn't within its limits makes no listing
-  pub wide_max : ((1 ≤ number_value max) × (number_value max ≤ 2) → ⊥) → (m k : List ℕ) → ws ≡ listing_words m k → IsWithin (number_value m) (number_value k) → ⊥
-  wide_max n m k e w = n (subst (λ (x : List ℕ). (1 ≤ number_value x) × (number_value x ≤ 2)) (sym (other_listing m k e).0) w.0)
+  pub wide_max : ((1 ≤ number_value max) × (number_value max ≤ 1024) → ⊥) → (m k : List ℕ) → ws ≡ listing_words m k → IsWithin (number_value m) (number_value k) → ⊥
+  wide_max n m k e w = n (subst (λ (x : List ℕ). (1 ≤ number_value x) × (number_value x ≤ 1024)) (sym (other_listing m k e).0) w.0)
 
   pub wide_take : ((1 ≤ number_value take) × (number_value take ≤ 10000) → ⊥) → (m k : List ℕ) → ws ≡ listing_words m k → IsWithin (number_value m) (number_value k) → ⊥
   wide_take n m k e w = n (subst (λ (x : List ℕ). (1 ≤ number_value x) × (number_value x ≤ 10000)) (sym (other_listing m k e).1) w.1)
 
   -- two numbers within their limits make one
-  pub within_both : (m k : ℕ) → ((1 ≤ number_value max) × (number_value max ≤ 2)) × (number_value max ≡ m) → ((1 ≤ number_value take) × (number_value take ≤ 10000)) × (number_value take ≡ k)
+  pub within_both : (m k : ℕ) → ((1 ≤ number_value max) × (number_value max ≤ 1024)) × (number_value max ≡ m) → ((1 ≤ number_value take) × (number_value take ≤ 10000)) × (number_value take ≡ k)
       → (a b : List ℕ) × (ws ≡ listing_words a b) × (number_value a ≡ m) × (number_value b ≡ k) × IsWithin m k
   within_both m k p q = (max, take, listing_read ws max take read, p.1, q.1, (let a = p.0 in let b = q.0 in let e = p.1 in let f = q.1 in ((omega arith, omega arith), (omega arith, omega arith))))
 

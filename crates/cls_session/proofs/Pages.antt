@@ -1,17 +1,18 @@
 -- The terms of a page of omega, as their texts are made.
 use Rattle.std.proofs.Common.{◌≡◌, ℕ, ◌<◌, List, length, sym, ap, ◌∙◌, subst, arith, Bool, max, get_or}
-use Rattle.std.specs.Prelude.{All}
-use Rattle.std.proofs.lemmas.List.Elements.{All-contains_itself}
-use Rattle.cls_base.specs.Terms.{Applicative, component, apply}
+use Rattle.std.specs.Prelude.{All, codes}
+use Rattle.cls_base.specs.Types as types
+use Rattle.cls_base.specs.Terms.{Applicative, component, apply, IsOver}
 use Rattle.cls_base.specs.Pages.{IsPage}
 use Rattle.cls_term.specs.Components.{greatest_of}
 use Rattle.cls_term.specs.Texts.{name_at}
 use Rattle.cls_session.specs.Declarations.{Declaration, names_of}
 use Rattle.cls_session.specs.Forms.{IsListing}
-use Rattle.cls_session.specs.Listings.{IsOver, request}
-use Rattle.cls_session.specs.Replies.{page_text, Reply, listing}
+use Rattle.cls_session.specs.Listings.{request, AreFew, AreMany}
+use Rattle.cls_session.specs.Replies.{reply_line, page_text, IsOmega, Reply, listing, too_many}
 use Rattle.cls_session.proofs.Repositories.{length-names_of}
-use Rattle.cls_session.proofs.Typing.{omega_page}
+use Rattle.cls_session.proofs.Pools.{few_to, many_to}
+use Rattle.cls_session.proofs.Typing.{typed_from_over, over_from_typed, page_to}
 
 -- the greatest component of a term is among the components
 pub greatest_within : (n : ℕ) (e : Applicative) → IsOver n e → greatest_of e < n
@@ -22,19 +23,25 @@ greatest_within n (apply f a) o = omega (arith, greatest_within n f o.0, greates
 pub at_place : (P : Applicative → Type 0) (es : List Applicative) (i : ℕ) (e : Applicative) → All P es → i < length es → e ≡ get_or es i e → P e
 at_place P es i e all l is = subst P (sym is) (all i e l)
 
--- each term of the page is over the components
-pub all_over : (n max take : ℕ) (es : List Applicative) (more : Bool) → IsPage (IsOver n) (request max take) es more → All (IsOver n) es
-all_over n max take es more p = λ k d l. (p.due (get_or es k d) (All-contains_itself es k d l)).typed
+-- The names are those of the components.
+module _ (names : List (List ℕ)) (declared : List Declaration) (is : names ≡ names_of declared) (max take : ℕ) where
+  typed : (e : Applicative) → IsOver (length names) e → IsOmega declared e
+  typed e o = typed_from_over declared e (subst (λ k. IsOver k e) (ap length is ∙ length-names_of declared) o)
 
--- the reply that lists the page
-pub lists_page : (names : List (List ℕ)) (line text : List ℕ) (max take : ℕ) (es : List Applicative) (more : Bool) → IsListing line max take → IsPage (IsOver (length names)) (request max take) es more
-    → text ≡ page_text (name_at names) es more → (declared : List Declaration) → names ≡ names_of declared → Reply declared line text
-lists_page names line text max take es more q p e declared n =
-    let count : length names ≡ length declared = ap length n ∙ length-names_of declared in
-    let over : IsPage (IsOver (length declared)) (request max take) es more = subst (λ k. IsPage (IsOver k) (request max take) es more) count p in
-    listing max take q record {
-      terms = es;
-      more = more;
-      page = omega_page declared (request max take) es more over;
-      written = e ∙ ap (λ (table : List (List ℕ)). page_text (name_at table) es more) n;
-    }
+  over : (e : Applicative) → IsOmega declared e → IsOver (length names) e
+  over e h = subst (λ k. IsOver k e) (sym (ap length is ∙ length-names_of declared)) (over_from_typed declared e types.omega h)
+
+  -- the reply that lists the page
+  pub lists_page : (line text : List ℕ) (es : List Applicative) (more : Bool) → IsListing line max take → IsPage (IsOver (length names)) (request max take) es more
+      → AreFew (IsOver (length names)) max take 200000 → text ≡ page_text (name_at names) es more → Reply declared line text
+  lists_page line text es more q p f e = listing max take q record {
+    terms = es;
+    more = more;
+    page = page_to (IsOver (length names)) (IsOmega declared) (request max take) typed over es more p;
+    few = few_to (IsOver (length names)) (IsOmega declared) typed over max take 200000 f;
+    written = e ∙ ap (λ (table : List (List ℕ)). page_text (name_at table) es more) is;
+  }
+
+  -- the reply that there are too many terms
+  pub has_too_many : (line text : List ℕ) → IsListing line max take → AreMany (IsOver (length names)) max take 200000 → text ≡ reply_line (codes "error too-many-terms") → Reply declared line text
+  has_too_many line text q m e = too_many max take q record { many = many_to (IsOver (length names)) (IsOmega declared) typed over max take 200000 m; written = e }

@@ -1,39 +1,40 @@
 -- Whatever lines follow, there is something to be written for them: a prefix of the lines has a prefix of an output.
-use Rattle.std.proofs.Common.{◌≡◌, ℕ, ◌+◌, ◌≤◌, List, [], ◌∷◌, ◌++◌, length, refl, sym, ap, ◌∙◌, subst, inl, inr, arith, append_assoc, append-nil, min}
-use Rattle.std.specs.Prelude.{nat_lt}
+use Rattle.std.proofs.Common.{◌≡◌, ℕ, ◌+◌, ◌<◌, ◌≤◌, List, [], ◌∷◌, ◌++◌, length, refl, sym, ap, ◌∙◌, subst, inl, inr, arith, append_assoc, append-nil}
 use Rattle.std.proofs.lemmas.Bool.{cases_lt}
-use Rattle.cls_term.specs.Texts.{name_at}
+use Rattle.cls_base.specs.Terms.{IsOver}
+use Rattle.cls_grammar.specs.Books.{omega_book}
+use Rattle.cls_enum.proofs.Existence.{each_page-exists}
 use Rattle.cls_session.specs.declared.status.Status.{Status}
 use Rattle.cls_session.specs.declared.status.Status.TheVariants.{Done, Refused}
 use Rattle.cls_session.specs.Declarations.{Declaration, names_of}
-use Rattle.cls_session.specs.Forms.{IsEnd}
-use Rattle.cls_session.specs.Listings.{term_at, terms_within, request}
+use Rattle.cls_session.specs.Forms.{IsEnd, IsListing}
+use Rattle.cls_session.specs.Listings.{request, IsPool}
 use Rattle.cls_session.specs.Repositories.{IsRepository}
-use Rattle.cls_session.specs.Replies.{page_text, ListsOmega, Reply, skipped, listing, unbuilt}
+use Rattle.cls_session.specs.Replies.{Reply, skipped, unbuilt}
 use Rattle.cls_session.specs.Transcripts.{IsAnswered, Transcript, opening, answering, refusal, IsRefused, Ending, without_end, complete}
-use Rattle.cls_session.proofs.Firsts.{firsts}
-use Rattle.cls_session.proofs.Omega.{front}
-use Rattle.cls_session.proofs.Typing.{omega_page}
+use Rattle.cls_session.proofs.Pools.{book_page, book_pool, book_decided}
+use Rattle.cls_session.proofs.Pages.{lists_page, has_too_many}
 use Rattle.cls_session.proofs.Repositories.{length-names_of}
 use Rattle.cls_session.proofs.Standings.{IsFaulty, foreign, repeated, full, IsRepository-skip, IsRepository-declare, IsRepository-none, IsAnswered-push, IsAnswered-end}
 use Rattle.cls_session.proofs.Decisions.{skipped_decided, is_end_decided, is_declaration_decided, is_listing_decided, contains_decided}
 
--- the page that a listing asks for
-lists_omega : (ds : List Declaration) (max take : ℕ) → (1 ≤ max) × (max ≤ 2) → (1 ≤ take) × (take ≤ 10000) → (text : List ℕ) × ListsOmega ds max take text
-lists_omega ds max take m t =
-    let n = length ds in
-    let all = terms_within n max in
-    let k = min take all in
-    let more = nat_lt k all in
-    let terms = firsts (term_at n) 0 k in (
-      page_text (name_at (names_of ds)) terms more,
-      record {
-        terms = terms;
-        more = more;
-        page = omega_page ds (request max take) terms more (front n max take m.0 m.1 k more (omega arith) (omega arith) (λ l. omega arith) (let p = t.0 in omega arith) refl);
-        written = refl;
-      },
-    )
+-- the reply to a listing: its page, where not too many terms count for it
+listing_reply : (ds : List Declaration) (line : List ℕ) (max take : ℕ) → IsListing line max take → (text : List ℕ) × Reply ds line text
+listing_reply ds line max take q =
+    let names = names_of ds in
+    let n = length names in
+    let r = request max take in
+    let some : 0 < length (omega_book n) = omega arith in
+    let ones : (x : ℕ) → 1 ≤ r.cost x = λ x. omega arith in
+    let d = book_decided n max take in
+    let pool : IsPool (IsOver n) max take d.2.0 = book_pool n max take d.0 d.2.0 d.1 d.2.1 in
+    elim (cases_lt 200000 d.2.0) [
+      | inl l ↦ (_, has_too_many names ds refl max take line _ q (d.2.0, pool, l) refl)
+      | inr g ↦
+          let taken = q.take_within in
+          let p = each_page-exists (omega_book n) r some ones (omega (arith, taken.0)) in
+          (_, lists_page names ds refl max take line _ p.0 p.1.0 q (book_page n max take p.0 p.1.0 p.1.1) (d.2.0, pool, g) refl)
+    ]
 
 -- each line after the repository has a reply
 pub reply_exists : (ds : List Declaration) (line : List ℕ) → (text : List ℕ) × Reply ds line text
@@ -41,7 +42,7 @@ reply_exists ds line =
     elim (skipped_decided line) [
       | inl s ↦ ([], skipped s refl)
       | inr n ↦ elim (is_listing_decided line) [
-        | inl q ↦ (let r = lists_omega ds q.0 q.1 q.2.max_within q.2.take_within in (r.0, listing q.0 q.1 q.2 r.1))
+        | inl q ↦ listing_reply ds line q.0 q.1 q.2
         | inr m ↦ (_, unbuilt n (λ max take q. m (max, take, q)) refl)
       ]
     ]

@@ -6,10 +6,9 @@ use Rattle.std.proofs.lemmas.Option.{slice_get_within}
 use Rattle.cls_base.specs.Types as types
 use Rattle.cls_base.specs.Types.{ClosedType, arrow}
 use Rattle.cls_base.specs.Subtyping.{to_omega, omega_arrow}
-use Rattle.cls_base.specs.Terms.{Applicative, component, apply}
+use Rattle.cls_base.specs.Terms.{Applicative, component, apply, IsOver}
 use Rattle.cls_base.specs.Typing.{by_instance, by_application, by_intersection, by_subsumption}
 use Rattle.cls_base.specs.Pages.{Request, IsDue, IsPage}
-use Rattle.cls_session.specs.Listings.{IsOver}
 use Rattle.cls_session.specs.Declarations.{Declaration}
 use Rattle.cls_syntax.specs.Names.{with_text}
 use Rattle.cls_session.specs.Typings.{constructors_from, Has}
@@ -84,10 +83,10 @@ module _ (ds : List Declaration) where
 
 -- a page of the terms that have one property is a page of those that have an equivalent one
 module _ (P Q : Applicative → Type 0) (r : Request) (to : (e : Applicative) → P e → Q e) (back : (e : Applicative) → Q e → P e) where
-  due_to : (e : Applicative) → IsDue P r e → IsDue Q r e
+  pub due_to : (e : Applicative) → IsDue P r e → IsDue Q r e
   due_to e d = record { typed = to e d.typed; small = d.small; short = d.short; later = d.later }
 
-  due_back : (e : Applicative) → IsDue Q r e → IsDue P r e
+  pub due_back : (e : Applicative) → IsDue Q r e → IsDue P r e
   due_back e d = record { typed = back e d.typed; small = d.small; short = d.short; later = d.later }
 
   pub page_to : (es : List Applicative) (more : Bool) → IsPage P r es more → IsPage Q r es more
@@ -99,7 +98,3 @@ module _ (P Q : Applicative → Type 0) (r : Request) (to : (e : Applicative) �
     at_most = p.at_most;
     full = p.full;
   }
-
--- a page of the terms over so many components is a page of the terms of type omega
-pub omega_page : (ds : List Declaration) (r : Request) (es : List Applicative) (more : Bool) → IsPage (IsOver (length ds)) r es more → IsPage (λ e. Has ds e types.omega) r es more
-omega_page ds r es more p = page_to (IsOver (length ds)) (λ e. Has ds e types.omega) r (typed_from_over ds) (λ e h. over_from_typed ds e types.omega h) es more p

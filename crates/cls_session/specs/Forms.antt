@@ -43,5 +43,5 @@ pub record IsListing (line : List ℕ) (max take : ℕ) : Type 0 where
   pub words : words_of line ≡ listing_words max_digits take_digits
   pub max_value : number_value max_digits ≡ max
   pub take_value : number_value take_digits ≡ take
-  pub max_within : (1 ≤ max) × (max ≤ 2)
+  pub max_within : (1 ≤ max) × (max ≤ 1024)
   pub take_within : (1 ≤ take) × (take ≤ 10000)

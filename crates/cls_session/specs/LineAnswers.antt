@@ -36,7 +36,7 @@ IsRepositoryForm ws repository.Unbuilt = ((d : Declaration) → ws ≡ declarati
 
 -- Both numbers are within their limits.
 abbrev pub IsWithin : ℕ → ℕ → Type 0
-IsWithin max take = ((1 ≤ max) × (max ≤ 2)) × ((1 ≤ take) × (take ≤ 10000))
+IsWithin max take = ((1 ≤ max) × (max ≤ 1024)) × ((1 ≤ take) × (take ≤ 10000))
 
 -- The words as a line after the repository.
 abbrev pub IsQueryForm : List Word → QueryLine → Type 0

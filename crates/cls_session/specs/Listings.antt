@@ -1,21 +1,35 @@
--- The terms of size 1 and 2 over numbered components, in their order.
-use Rattle.std.specs.Prelude.{ℕ, ◌+◌, ◌-◌, ◌*◌, ◌/◌, ◌%◌, ◌<◌, nat_lt, if◌then◌else◌, None}
-use Rattle.cls_base.specs.Terms.{Applicative, component, apply}
-use Rattle.cls_base.specs.Pages.{Request}
-
--- each component of the term has a number below n
-abbrev pub IsOver : ℕ → Applicative → Type 0
-IsOver n (component x) = x < n
-IsOver n (apply f a) = IsOver n f × IsOver n a
-
--- the term at the place: the n components, and then each one applied to each
-abbrev pub term_at : ℕ → ℕ → Applicative
-term_at n i = if nat_lt i n then component i else apply (component ((i - n) / n)) (component ((i - n) % n))
-
--- how many terms have at most this size, which is 1 or 2
-abbrev pub terms_within : ℕ → ℕ → ℕ
-terms_within n max = if nat_lt max 2 then n else n + n * n
+-- What a listing asks for, and how many terms are counted for it.
+use Rattle.std.specs.Prelude.{ℕ, ◌≡◌, ◌≤◌, ◌<◌, ◌↔◌, List, length, Contains, None}
+use Rattle.cls_base.specs.Terms.{Applicative, length_of, size_of}
+use Rattle.cls_base.specs.Pages.{Request, IsDue}
+use Rattle.cls_base.specs.Pools.{NoneTwice, IsDecidingSize}
 
 -- What a page asks for of the terms with at most this size, each component costing 1.
 abbrev pub request : ℕ → ℕ → Request
 request max take = record { cost = λ _. 1; max = max; take = take; after = None }
+
+-- the property of the terms that are listed
+module _ (Has : Applicative → Type 0) where
+  -- The term counts at size s: it has this size at most, each component costing 1, and length 64 at most.
+  pub record IsCounted (s : ℕ) (e : Applicative) : Type 0 where
+    pub typed : Has e
+    pub small : size_of (λ _. 1) e ≤ s
+    pub short : length_of e ≤ 64
+
+  -- exactly n terms count at size s
+  abbrev pub CountIs : ℕ → ℕ → Type 0
+  CountIs s n = (terms : List Applicative) × NoneTwice terms × ((e : Applicative) → Contains terms e ↔ IsCounted s e) × (length terms ≡ n)
+
+  -- n terms count at the size that decides the page
+  pub record IsPool (max take n : ℕ) : Type 0 where
+    pub size : ℕ
+    pub decides : IsDecidingSize (IsDue Has (request max take)) (λ _. 1) take max size
+    pub count : CountIs size n
+
+  -- at most so many terms count at the size that decides the page
+  abbrev pub AreFew : ℕ → ℕ → ℕ → Type 0
+  AreFew max take bound = (n : ℕ) × IsPool max take n × (n ≤ bound)
+
+  -- more than so many do
+  abbrev pub AreMany : ℕ → ℕ → ℕ → Type 0
+  AreMany max take bound = (n : ℕ) × IsPool max take n × (bound < n)

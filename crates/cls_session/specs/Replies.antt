@@ -7,7 +7,7 @@ use Rattle.cls_base.specs.Pages.{IsPage}
 use Rattle.cls_syntax.specs.Skipped.{IsSkipped}
 use Rattle.cls_session.specs.Declarations.{Declaration, names_of}
 use Rattle.cls_session.specs.Forms.{IsListing}
-use Rattle.cls_session.specs.Listings.{request}
+use Rattle.cls_session.specs.Listings.{request, AreFew, AreMany}
 use Rattle.cls_session.specs.Typings.{Has}
 use Rattle.cls_term.specs.Texts.{name_at, text_of}
 
@@ -23,17 +23,32 @@ term_line names e = reply_line (codes "term " ++ text_of names e)
 abbrev pub page_text : (ℕ → List ℕ) → List Applicative → Bool → List ℕ
 page_text names terms more = flat_map (term_line names) terms ++ reply_line (if more then codes "more" else codes "done")
 
--- The text lists the one page of the terms of type omega.
+-- the term has type omega
+abbrev pub IsOmega : List Declaration → Applicative → Type 0
+IsOmega declared e = Has declared e types.omega
+
+-- The text lists the one page of the terms of type omega, of which at most 200,000 count at the size that decides it.
 pub record ListsOmega (declared : List Declaration) (max take : ℕ) (text : List ℕ) : Type 0 where
   pub terms : List Applicative
   pub more : Bool
-  pub page : IsPage (λ e. Has declared e types.omega) (request max take) terms more
+  pub page : IsPage (IsOmega declared) (request max take) terms more
+  pub few : AreFew (IsOmega declared) max take 200000
   pub written : text ≡ page_text (name_at (names_of declared)) terms more
+
+-- More than 200,000 terms of type omega count at the size that decides their page, and the text says so.
+pub record HasTooMany (declared : List Declaration) (max take : ℕ) (text : List ℕ) : Type 0 where
+  pub many : AreMany (IsOmega declared) max take 200000
+  pub written : text ≡ reply_line (codes "error too-many-terms")
+
+-- no listing has both replies
+abbrev pub ListingsAreDecided : Type 0
+ListingsAreDecided = (declared : List Declaration) (max take : ℕ) (text other : List ℕ) → ListsOmega declared max take text → HasTooMany declared max take other → ⊥
 
 -- what is written for a line after the repository
 pub data Reply (declared : List Declaration) (line text : List ℕ) : Type 0 where
   skipped : IsSkipped line → text ≡ [] → Reply declared line text
   listing : (max take : ℕ) → IsListing line max take → ListsOmega declared max take text → Reply declared line text
+  too_many : (max take : ℕ) → IsListing line max take → HasTooMany declared max take text → Reply declared line text
   unbuilt : (IsSkipped line → ⊥) → ((max take : ℕ) → IsListing line max take → ⊥) → text ≡ reply_line (codes "error unbuilt") → Reply declared line text
 
 -- What is written for a query where all its lines are whole. Each query has one line.

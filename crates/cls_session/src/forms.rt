@@ -14,7 +14,7 @@ use cls_syntax::{
 use std::alloc::Global;
 
 /// The greatest size of a term that a listing may ask for.
-pub const MAX_SIZE: u32 = 2;
+pub const MAX_SIZE: u32 = 1_024;
 
 /// The most terms that a listing may ask for.
 pub const MAX_TAKE: u32 = 10_000;

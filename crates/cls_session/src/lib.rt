@@ -15,6 +15,8 @@ mod driver;
 mod forms;
 pub mod laws;
 mod listing;
+#[cfg(test)]
+mod plain_tests;
 mod program;
 mod session;
 mod status;

@@ -1,71 +1,59 @@
-ghost use Rattle.std.specs.Prelude.{◌≡◌, ℕ, ◌+◌, ◌*◌, ◌^◌, ◌<◌, ◌≤◌, length, IfOk, All, string_bytes};
-ghost use Rattle.cls_term.specs.Texts.{name_at};
-ghost use Rattle.cls_session.specs.Replies.{page_text};
+ghost use Rattle.std.specs.Prelude.{◌≡◌, ◌≤◌, List, length, IfOk, IfErr, All, ℕ, string_bytes};
 ghost use Rattle.cls_base.specs.Pages.{IsPage};
-ghost use Rattle.cls_session.specs.Listings.{IsOver, term_at, terms_within, request};
+ghost use Rattle.cls_base.specs.Terms.{IsOver};
+ghost use Rattle.cls_enum.specs.Faults.{IfTooMany};
+ghost use Rattle.cls_session.specs.Declarations.{Declaration, names_of};
+ghost use Rattle.cls_session.specs.Forms.{IsListing};
+ghost use Rattle.cls_session.specs.Listings.{request, AreFew, AreMany};
+ghost use Rattle.cls_session.specs.Replies.{page_text};
+ghost use Rattle.cls_session.specs.Replies as replies;
+ghost use Rattle.cls_term.specs.Texts.{name_at};
 
-use cls_base::OutOfMemory;
+use cls_base::{Numbers, OutOfMemory};
+use cls_enum::{Page, PageFault, page};
+use cls_grammar::OmegaBook;
 use cls_syntax::Names;
-use cls_term::{Term, Terms};
 use std::alloc::Global;
 
-/// A page of terms, and whether more terms follow.
-#[derive(Drop)]
-pub struct Page {
-    /// The terms in their order.
-    pub terms: Terms,
-    /// Whether a further term would have stood on a longer page.
-    pub more: bool,
-}
+/// The most terms that may be made for a page.
+const MAX_POOL: u64 = 200_000;
 
-/// The first `take` terms of at most this size, 1 or 2, over so many components, each of which costs 1.
-///
-/// All terms have type omega, so this is the page of omega.
-pub fn list_omega(alloc: Global, count: u32, max: u32, take: u32) -> Result<Page, OutOfMemory>
-    requires low { 1 ≤ max }
-    requires high { max ≤ 2 }
+/// The reply to a listing of at most `take` terms of at most the size `max`. The only error is want of memory.
+pub fn answer_listing(
+    alloc: Global,
+    components: &Names,
+    max: u32,
+    take: u32,
+) -> Result<String, OutOfMemory>
+    requires high { max ≤ 1024 }
     requires some { 1 ≤ take }
-    ensures { IfOk result (λ p. IsPage (IsOver count) (request max take) p.terms p.more) }
+    ensures { IfOk result (λ text. (declared : List Declaration) (line : List ℕ) → components.now ≡ names_of declared
+        → IsListing line max take → replies.Reply declared line (string_bytes text)) }
 {
-    let all = terms_within(count, max);
-    let listed = all.min(u64::from(take));
-    let mut terms = Terms::new(alloc);
-    for place in 0..listed {
-        terms.push(term_at(alloc, count, place)?)?;
-    }
-    Ok(Page {
-        terms,
-        more: listed < all,
-    })
-}
-
-fn terms_within(count: u32, max: u32) -> u64
-    ensures { result ≡ terms_within count max }
-{
-    let count = u64::from(count);
-    if max < 2 {
-        count
-    } else {
-        count + count * count
+    match list_omega(alloc, components.len(), max, take) {
+        Ok(page) => print_page(alloc, &page, components),
+        Err(PageFault::TooManyTerms) => { Ok(String::from_str(alloc, "error too-many-terms\n")?) }
+        Err(PageFault::OutOfMemory) => Err(OutOfMemory),
     }
 }
 
-fn term_at(alloc: Global, count: u32, place: u64) -> Result<Term, OutOfMemory>
-    requires { place < count + count * count }
-    ensures { IfOk result (λ t. t ≡ term_at count place) }
+/// The first `take` terms of type omega and of at most this size over so many components, each of which costs 1.
+///
+/// `TooManyTerms` comes exactly where more than 200,000 terms have the size that decides the page, or a smaller one.
+pub fn list_omega(alloc: Global, count: u32, max: u32, take: u32) -> Result<Page, PageFault>
+    requires high { max ≤ 1024 }
+    requires some { 1 ≤ take }
+    ensures page { IfOk result (λ p. IsPage (IsOver count) (request max take) p.terms p.more) }
+    ensures few { IfOk result (λ _. AreFew (IsOver count) max take 200000) }
+    ensures many { IfErr result (λ fault. IfTooMany fault (AreMany (IsOver count) max take 200000)) }
 {
-    let components = u64::from(count);
-    if place < components {
-        return Ok(Term::new(place as u32, Terms::new(alloc)));
-    }
-    let pair = place - components;
-    let mut args = Terms::new(alloc);
-    args.push(Term::new((pair % components) as u32, Terms::new(alloc)))?;
-    Ok(Term::new((pair / components) as u32, args))
+    let book = OmegaBook::new(alloc, count)?;
+    let costs = Numbers::new(Vec::new(alloc));
+    page(alloc, &book, &costs, None, max, take, MAX_POOL)
 }
 
 /// The text of a page: a line for each term, and a last one that says whether more terms follow.
-pub fn print_page(alloc: Global, page: &Page, components: &Names) -> Result<String, OutOfMemory>
+fn print_page(alloc: Global, page: &Page, components: &Names) -> Result<String, OutOfMemory>
     requires { All (IsOver (length components.now)) page.now.terms }
     ensures { IfOk result (λ text. string_bytes text ≡ page_text (name_at components.now) page.now.terms page.now.more) }
 {

@@ -6,7 +6,7 @@ ghost use Rattle.cls_session.specs.Standings.{Standing};
 ghost use Rattle.cls_session.specs.Transcripts.{refusal};
 
 use crate::forms::{QueryLine, RepositoryLine, query_line, repository_line};
-use crate::listing::{list_omega, print_page};
+use crate::listing::answer_listing;
 use crate::status::Status;
 use cls_base::OutOfMemory;
 use cls_syntax::{Line, Names};
@@ -150,10 +150,7 @@ fn answer_query(alloc: Global, components: &Names, line: &Line) -> Result<String
 {
     match query_line(alloc, line)? {
         QueryLine::Skipped => Ok(String::new(alloc)),
-        QueryLine::Listing { max, take } => {
-            let page = list_omega(alloc, components.len(), max, take)?;
-            Ok(print_page(alloc, &page, components)?)
-        }
+        QueryLine::Listing { max, take } => answer_listing(alloc, components, max, take),
         QueryLine::Unbuilt => Ok(String::from_str(alloc, "error unbuilt\n")?),
     }
 }

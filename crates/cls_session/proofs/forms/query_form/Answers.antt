@@ -6,10 +6,10 @@ returns-in_default c = λ m k words within. no_listing _ c.in_default.ensures.fr
 
 pub returns-in-Some-Some : goal.returns-in-Some-Some
 returns-in-Some-Some c =
-    within_both _ _ _ c.in-Some.ensures.front _ _ (within _ _ _ 1 2 c.number_within.ensures c.in-Some-Some.is-0) (within _ _ _ 1 10000 c.number_within-2.ensures c.in-Some-Some.is-1)
+    within_both _ _ _ c.in-Some.ensures.front _ _ (within _ _ _ 1 1024 c.number_within.ensures c.in-Some-Some.is-0) (within _ _ _ 1 10000 c.number_within-2.ensures c.in-Some-Some.is-1)
 
 pub returns-in_default-2 : goal.returns-in_default-2
 returns-in_default-2 c = wide_take _ _ _ c.in-Some.ensures.front (not_within _ _ 1 10000 c.number_within-2.ensures c.in_default-2.is-1)
 
 pub returns-in_default-2-2 : goal.returns-in_default-2-2
-returns-in_default-2-2 c = wide_max _ _ _ c.in-Some.ensures.front (not_within _ _ 1 2 c.number_within.ensures c.in_default-2.is-0)
+returns-in_default-2-2 c = wide_max _ _ _ c.in-Some.ensures.front (not_within _ _ 1 1024 c.number_within.ensures c.in_default-2.is-0)

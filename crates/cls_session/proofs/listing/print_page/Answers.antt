@@ -1,5 +1,5 @@
 use Rattle.std.proofs.Common.{arith, length, ap}
-use Rattle.cls_session.specs.Listings.{IsOver}
+use Rattle.cls_base.specs.Terms.{IsOver}
 use Rattle.cls_session.proofs.Pages.{greatest_within, at_place}
 use Rattle.cls_session.proofs.listing.print_page.Goals as goal
 

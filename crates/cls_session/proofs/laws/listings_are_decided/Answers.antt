@@ -1,0 +1,5 @@
+use Rattle.cls_session.proofs.Counts.{listings_are_decided}
+use Rattle.cls_session.proofs.laws.listings_are_decided.Goals as goal
+
+pub returns : goal.returns
+returns c = listings_are_decided
