@@ -2,26 +2,11 @@
 ghost use Rattle.std.specs.Prelude.{◌≤◌};
 
 use crate::listing::answer_listing;
+use crate::session::MAX_COMPONENTS;
 use cls_syntax::Names;
 use std::alloc::Global;
 use std::process::Abort;
 use std::test::Fail;
-
-/// Sizes and numbers of terms that are asked for.
-const ASKED: [(u32, u32); 12] = [
-    (1, 1),
-    (1, 2),
-    (1, 3),
-    (1, 10_000),
-    (2, 1),
-    (2, 2),
-    (2, 3),
-    (2, 5),
-    (2, 6),
-    (2, 7),
-    (2, 110),
-    (2, 10_000),
-];
 
 /// The texts of so many components.
 fn names(alloc: Global, count: u32) -> Result<Vec<String>, Fail> {
@@ -32,11 +17,13 @@ fn names(alloc: Global, count: u32) -> Result<Vec<String>, Fail> {
     Ok(names)
 }
 
-/// The table of these names.
+/// The table of these names, of 1,000 at most.
 fn table(alloc: Global, names: &[String]) -> Result<Names, Fail> {
     let mut table = Names::new(alloc);
     for name in names {
-        table.intern(alloc, name.as_str())?;
+        if table.len() < MAX_COMPONENTS {
+            table.intern(alloc, name.as_str())?;
+        }
     }
     Ok(table)
 }
@@ -79,27 +66,41 @@ fn plain_reply(alloc: Global, texts: &[String], take: usize) -> Result<String, F
     Ok(reply)
 }
 
-/// Asserts that the page over so many components is the plain one, whatever is asked for.
+/// Asserts that the page of terms of at most this size, 1 or 2, is the plain one.
+fn assert_page<R: Abort>(
+    rt: &R,
+    alloc: Global,
+    names: &[String],
+    max: u32,
+    take: u32,
+) -> Result<(), Fail>
+    requires high { max ≤ 1024 }
+    requires some { 1 ≤ take }
+{
+    let texts = plain_texts(alloc, names, max)?;
+    let expected = plain_reply(alloc, &texts, take as usize)?;
+    let reply = answer_listing(alloc, &table(alloc, names)?, max, take)?;
+    assert_eq!(rt; reply, expected, "max {max} take {take}");
+    Ok(())
+}
+
+/// Asserts the same for sizes 1 and 2 over so many components, however many of up to 120 terms are asked for.
 fn assert_pages<R: Abort>(rt: &R, alloc: Global, count: u32) -> Result<(), Fail> {
     let names = names(alloc, count)?;
-    let table = table(alloc, &names)?;
-    for (max, take) in ASKED {
-        let texts = plain_texts(alloc, &names, max)?;
-        let expected = plain_reply(alloc, &texts, take as usize)?;
-        let reply = answer_listing(alloc, &table, max, take)?;
-        assert_eq!(rt;
-            reply,
-            expected,
-            "{count} components, max {max} take {take}"
-        );
+    for take in 1..121 {
+        assert_page(rt, alloc, &names, 1, take)?;
+        assert_page(rt, alloc, &names, 2, take)?;
     }
     Ok(())
 }
 
 #[test]
 fn pages_are_those_of_the_definition(rt: HostRuntime) -> Result<(), Fail> {
-    for count in [0, 1, 2, 3, 10, 100] {
-        assert_pages(&rt, rt.alloc(), count)?;
+    let alloc = rt.alloc();
+    for count in [0, 1, 2, 3, 10] {
+        assert_pages(&rt, alloc, count)?;
     }
-    Ok(())
+    let names = names(alloc, 100)?;
+    assert_page(&rt, alloc, &names, 2, 10_099)?;
+    assert_page(&rt, alloc, &names, 2, 10_100)
 }
