@@ -12,8 +12,8 @@ def dependencies():
         return {name: names.split() for name, names in (line.split(":") for line in file if ":" in line)}
 
 
-def build(folder, name, crates, source, proof=None):
-    """The path of the program with this source over these crates, lowest first, and with this proof of its `main`."""
+def build(folder, name, crates, source, proof=None, specs=None):
+    """The path of the program with this source over these crates, lowest first, with this proof of its `main` and these specs."""
     stands_on = dependencies()
     program = os.path.join(folder, "crates", name)
     os.makedirs(os.path.join(program, "src"))
@@ -30,6 +30,10 @@ def build(folder, name, crates, source, proof=None):
         os.makedirs(os.path.join(program, "proofs/main"))
         with open(os.path.join(program, "proofs/main/Answers.antt"), "w") as file:
             file.write(proof)
+    for module, text in (specs or {}).items():
+        os.makedirs(os.path.join(program, "specs"), exist_ok=True)
+        with open(os.path.join(program, "specs", module + ".antt"), "w") as file:
+            file.write(text)
     open(os.path.join(program, "stdin"), "w").close()
     subprocess.run(["rt", "run"], cwd=program, check=True, stdout=subprocess.DEVNULL)
     return os.path.join(program, "out", name)
