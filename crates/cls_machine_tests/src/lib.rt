@@ -4,8 +4,14 @@
 //! another makes a claim.
 #![tactic(auto)]
 
+#[cfg(test)]
+mod core_tests;
 mod heap;
 mod meeting;
+#[cfg(test)]
+mod renumbering;
+#[cfg(test)]
+mod table_tests;
 #[cfg(test)]
 mod tests;
 

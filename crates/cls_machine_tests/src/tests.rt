@@ -2,6 +2,7 @@ ghost use Rattle.std.specs.Prelude.{◌<◌, ◌≤◌};
 
 use crate::heap::{Heap, Node};
 use crate::meeting::Meeting;
+use crate::renumbering::{heap_code, renumbered};
 use cls_base::OpenGate;
 use cls_core::Entry;
 use cls_table::{ExpandFault, Limits};
@@ -92,15 +93,35 @@ fn limits_are_met_exactly(rt: HostRuntime) -> Result<(), Fail> {
     Ok(())
 }
 
+// The rows of the closure of 501 goals, renumbered.
+fn code_by<R: Threads + Wait + Sync>(
+    rt: &R,
+    alloc: Global,
+    workers: u32,
+) -> Result<Vec<usize>, ExpandFault>
+    requires workers { (0 < workers) × (workers ≤ 64) }
+{
+    let heap = Heap::new(501, 0);
+    let limits = Limits {
+        goals: 501,
+        rules: 501,
+    };
+    let start = Node { id: 0 };
+    let done = expand_all(rt, alloc, &heap, start, workers, limits, &OpenGate)?;
+    Ok(renumbered(alloc, &done.rows)?)
+}
+
 #[test]
 fn any_number_of_workers(rt: HostRuntime) -> Result<(), Fail> {
-    let limits = Limits {
-        goals: 499,
-        rules: 499,
+    let Ok(expected) = heap_code(rt.alloc(), 501) else {
+        panic!(rt; "no memory")
     };
-    assert!(rt; rows_of(&rt, rt.alloc(), 499, 0, limits, 1) == 499);
-    assert!(rt; rows_of(&rt, rt.alloc(), 499, 0, limits, 2) == 499);
-    assert!(rt; rows_of(&rt, rt.alloc(), 499, 0, limits, 64) == 499);
+    for workers in [1, 2, 8, 64] {
+        let Ok(code) = code_by(&rt, rt.alloc(), workers) else {
+            panic!(rt; "no answer")
+        };
+        assert!(rt; code.as_slice() == expected.as_slice());
+    }
     Ok(())
 }
 
