@@ -51,14 +51,13 @@ fn a_table_without_claims_is_completed(rt: HostRuntime) -> Result<(), Fail> {
     Ok(())
 }
 
-// A claim, which is filed, or else stops the table. Nothing where no row is free.
+// A claim, which is filed. It stops the table for want of memory. Nothing where no row is free.
 fn work_once<R: Wait, L: Ledger>(
     rt: &R,
     alloc: Global,
     table: &SharedTable<Heap, L>,
     heap: &Heap,
     seat: TableSeat<Heap, L>,
-    files: bool,
 ) -> TableSeat<Heap, L>
     requires of { seat.turn ≡ id_of table.now.turn }
     requires means { Means seat heap.now.size }
@@ -70,10 +69,6 @@ fn work_once<R: Wait, L: Ledger>(
     };
     match answer {
         ClaimAnswer::Job(claim) => {
-            if !files {
-                table.stop(rt, &mut seat, claim);
-                return seat;
-            }
             let filed = match claim.expand(alloc, heap) {
                 Ok(filed) => filed,
                 Err(claim) => {
@@ -92,26 +87,8 @@ fn work_once<R: Wait, L: Ledger>(
     }
 }
 
-// The number of rows that are read, 0 where some row isn't filed.
-fn read<R: Wait, L: Ledger>(
-    rt: &R,
-    alloc: Global,
-    table: &SharedTable<Heap, L>,
-    seat: &mut TableSeat<Heap, L>,
-) -> u32
-    requires of { seat.old.turn ≡ id_of table.now.turn }
-    ensures same { seat.new ≡ seat.old }
-{
-    match table.read(rt, alloc, seat) {
-        Ok(Some(done)) => done.rows.count(),
-        Ok(None) => 0,
-        Err(_) => WANTING,
-    }
-}
-
-// What is read of a table over a heap of 3: before any claim, before the last claim, and after it. The last one is filed, or
-// stops the table.
-fn read_thrice<R: Wait, L: Ledger>(rt: &R, alloc: Global, files: bool, blank: Blank) -> [u32; 3]
+// The number of rows that are read of a shared table over a heap of 3, once each goal was claimed and filed.
+fn read_in_the_end<R: Wait, L: Ledger>(rt: &R, alloc: Global, blank: Blank) -> u32
     requires name { blank.name ≡ L.name }
     requires parts { blank.parts ≡ L.parts }
     requires each { blank.parts ≡ 2 }
@@ -121,38 +98,45 @@ fn read_thrice<R: Wait, L: Ledger>(rt: &R, alloc: Global, files: bool, blank: Bl
     let limits = Limits { goals: 3, rules: 3 };
     let Ok((table, seat)) = SharedTable::<Heap, L>::start(alloc, &heap, start, limits, 1, blank)
     else {
-        return [WANTING, WANTING, 0];
+        return WANTING;
     };
-    let mut seat = seat;
-    let before = read(rt, alloc, &table, &mut seat);
-    let seat = work_once(rt, alloc, &table, &heap, seat, true);
-    let mut seat = work_once(rt, alloc, &table, &heap, seat, true);
-    let meanwhile = read(rt, alloc, &table, &mut seat);
-    let mut seat = work_once(rt, alloc, &table, &heap, seat, files);
-    let after = read(rt, alloc, &table, &mut seat);
-    [before, meanwhile, after]
+    let seat = work_once(rt, alloc, &table, &heap, seat);
+    let seat = work_once(rt, alloc, &table, &heap, seat);
+    let mut seat = work_once(rt, alloc, &table, &heap, seat);
+    match table.read(rt, alloc, &mut seat) {
+        Ok(done) => done.rows.count(),
+        Err(_) => WANTING,
+    }
+}
+
+// Whether rows are read of a table over a heap of 3 that is closed when one goal was filed, None for want of memory.
+fn is_read_too_early<R: Wait, L: Ledger>(rt: &R, alloc: Global, blank: Blank) -> Option<bool>
+    requires name { blank.name ≡ L.name }
+    requires parts { blank.parts ≡ L.parts }
+    requires each { blank.parts ≡ 2 }
+{
+    let heap = Heap::new(3, 0);
+    let start = Node { id: 0 };
+    let limits = Limits { goals: 3, rules: 3 };
+    let Ok((table, seat)) = SharedTable::<Heap, L>::start(alloc, &heap, start, limits, 1, blank)
+    else {
+        return None;
+    };
+    let seat = work_once(rt, alloc, &table, &heap, seat);
+    match table.close(rt, seat) {
+        Ok(_) => Some(true),
+        Err(unfinished) => match unfinished.table.read(alloc) {
+            Ok(done) => Some(done.is_some()),
+            Err(_) => None,
+        },
+    }
 }
 
 #[test]
 fn a_table_is_read_where_all_is_filed(rt: HostRuntime) -> Result<(), Fail> {
-    let [before, meanwhile, after] = read_thrice::<HostRuntime, Brand>(
-        &rt,
-        rt.alloc(),
-        true,
-        Blank::new(2),
+    assert!(rt; read_in_the_end::<HostRuntime, Brand>(&rt, rt.alloc(), Blank::new(2)) == 3);
+    assert!(rt;
+        is_read_too_early::<HostRuntime, Brand>(&rt, rt.alloc(), Blank::new(2)) == Some(false)
     );
-    assert!(rt; before == 0 && meanwhile == 0 && after == 3);
-    Ok(())
-}
-
-#[test]
-fn a_stopped_table_is_not_read(rt: HostRuntime) -> Result<(), Fail> {
-    let [before, meanwhile, after] = read_thrice::<HostRuntime, Brand>(
-        &rt,
-        rt.alloc(),
-        false,
-        Blank::new(2),
-    );
-    assert!(rt; before == 0 && meanwhile == 0 && after == WANTING);
     Ok(())
 }
