@@ -1,14 +1,14 @@
 -- Where a run stops at a failed write or without memory, what was written begins what the lines ask for.
-use Rattle.std.proofs.Common.{◌≡◌, ℕ, List, [], ◌∷◌, ◌++◌, length, refl, sym, ap, ◌∙◌, subst, inl, inr, append_assoc, append-nil}
+use Rattle.std.proofs.Common.{◌≡◌, ℕ, List, [], ◌∷◌, ◌++◌, refl, sym, ap, ◌∙◌, subst, inl, inr, append_assoc, append-nil}
 use Rattle.std.specs.Prelude.{Option, Err}
 use Rattle.std.specs.Io.KnownBytes.{Appends, Keeps}
 use Rattle.std.proofs.KnownBytes.{Appends-nil, Appends-trans, Appends-kept}
 use Rattle.cls_syntax.specs.Lines.{CutsLine, lines_of}
 use Rattle.cls_session.specs.declared.driver.Stop.{Stop}
 use Rattle.cls_session.specs.declared.status.Status.{Status}
-use Rattle.cls_session.specs.Driving.{CutsLines, WritesFront, IsWritten, AnswersLine, RefusesLine, BreaksLine, AnswersLines, RefusesLines, BreaksLines, IsEnded, AnswersLast, RefusesLast, BreaksLast, Comes}
+use Rattle.cls_session.specs.Driving.{WritesFront, IsWritten, AnswersLine, RefusesLine, BreaksLine, AnswersLines, RefusesLines, BreaksLines, IsEnded, AnswersLast, RefusesLast, BreaksLast, Comes}
 use Rattle.cls_session.specs.Standings.{Standing, Stands}
-use Rattle.cls_session.specs.Transcripts.{Transcript, IsRefused, Ending}
+use Rattle.cls_session.specs.Transcripts.{IsRefused, Ending}
 use Rattle.cls_session.proofs.Driving.{CutsLines-push, comes_stopped, refuses_more}
 use Rattle.cls_session.proofs.LastLines.{SaysLast, refuses_last}
 use Rattle.cls_session.proofs.Standings.{Stands-transcript}

@@ -1,5 +1,5 @@
 -- The terms of a page of omega, as their texts are made.
-use Rattle.std.proofs.Common.{◌≡◌, ℕ, ◌<◌, List, length, sym, ap, ◌∙◌, subst, arith, Bool, max, get_or}
+use Rattle.std.proofs.Common.{◌≡◌, ℕ, ◌<◌, List, length, sym, ap, ◌∙◌, subst, arith, Bool, get_or}
 use Rattle.std.specs.Prelude.{All, codes}
 use Rattle.cls_base.specs.Types as types
 use Rattle.cls_base.specs.Terms.{Applicative, component, apply, IsOver}
