@@ -1,3 +1,5 @@
+pub mod Asking
+pub mod BelowFacts
 pub mod Candidates
 pub mod CellTables
 pub mod Faults
@@ -6,3 +8,4 @@ pub mod Members
 pub mod Plans
 pub mod Requests
 pub mod States
+pub mod Stocks

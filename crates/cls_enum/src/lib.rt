@@ -8,6 +8,7 @@
 //! numbers of a bank of terms, then put into the bank, and sorted by their codes.
 #![tactic(auto)]
 
+mod asked;
 mod bounds;
 mod cells;
 mod due;
@@ -20,6 +21,7 @@ mod make;
 mod paging;
 mod plan;
 mod shelf;
+mod stock;
 #[cfg(test)]
 mod tests;
 

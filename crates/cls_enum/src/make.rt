@@ -9,6 +9,7 @@ use crate::PageFault;
 use crate::cells::Cells;
 use crate::find::find;
 use crate::plan::Plan;
+use crate::stock::Stock;
 use cls_base::OutOfMemory;
 use cls_term::{Bank, SpineSet};
 use std::alloc::Global;
@@ -30,8 +31,8 @@ pub(crate) fn make(
     ensures within { IfOk result (λ numbers. length numbers.items ≤ limit) }
     ensures over { IfErr result (λ fault. IfTooMany fault (IsOverfull limit [] (plan_candidates (cell_of bank.old cells.now) size plans.now))) }
 {
-    let _count = bank.count();
-    let found = match find(alloc, bank, cells, plans, size, limit) {
+    let stock = Stock { bank, cells, limit };
+    let found = match find(alloc, &stock, plans, size) {
         Ok(found) => found,
         Err(fault) => return Err(fault),
     };

@@ -4,12 +4,14 @@ ghost use Rattle.cls_base.specs.Pages.{IsPage};
 ghost use Rattle.cls_base.specs.Terms.{length_of, size_of};
 ghost use Rattle.cls_term.specs.Banks.{at};
 ghost use Rattle.cls_term.specs.Costs.{cost_of};
+ghost use Rattle.cls_enum.specs.Asking.{asked_request};
 ghost use Rattle.cls_enum.specs.Faults.{IfTooMany};
 ghost use Rattle.cls_enum.specs.Plans.{book_of, AllReady};
 ghost use Rattle.cls_enum.specs.Requests.{request};
 ghost use Rattle.cls_enum.specs.States.{IsDone, IsKept, IsOver, IsTooMuch, IsWithin};
 
 use crate::PageFault;
+use crate::asked::Asked;
 use crate::bounds::{is_wide, next_plans};
 use crate::cells::Cells;
 use crate::listed::Page;
@@ -23,82 +25,58 @@ use std::alloc::Global;
 /// Makes terms, size after size, until the page is known.
 fn collect(
     alloc: Global,
+    asked: &Asked,
     plans: Vec<NodePlans>,
-    costs: &Numbers,
-    after: Option<&Term>,
-    after_size: u64,
-    max: u32,
-    take: u32,
-    pool: u64,
     shelf: &mut Shelf,
 ) -> Result<(), PageFault>
-    requires positive { (x : ℕ) → 1 ≤ cost_of costs.now x }
-    requires token { IfSome (option_copied after) (λ a. after_size ≡ size_of (cost_of costs.now) a) }
-    requires max { max ≤ 1024 }
     requires some { 0 < length plans.items }
     requires few { length plans.items < 2 ^ 32 }
-    requires ready { AllReady (book_of plans.items) (cost_of costs.now) 0 plans.items }
-    requires kept { IsKept (book_of plans.items) (request costs.now (option_copied after) max take) 0 0 shelf.old.bank shelf.old.cells shelf.old.due.items shelf.old.total }
-    requires within { shelf.old.total ≤ pool }
-    ensures done { IfOk result (λ _. IsDone (book_of plans.items) (request costs.now (option_copied after.entry) max take) shelf.new.bank shelf.new.due.items pool) }
-    ensures over { IfErr result (λ fault. IfTooMany fault (IsOver (book_of plans.items) (request costs.now (option_copied after.entry) max take) pool)) }
+    requires ready { AllReady (book_of plans.items) (cost_of asked.now.costs.now) 0 plans.items }
+    requires kept { IsKept (book_of plans.items) (asked_request asked.now) 0 0 shelf.old.bank shelf.old.cells shelf.old.due.items shelf.old.total }
+    requires within { shelf.old.total ≤ asked.now.pool }
+    ensures done { IfOk result (λ _. IsDone (book_of plans.items) (asked_request asked.now) shelf.new.bank shelf.new.due.items asked.now.pool) }
+    ensures over { IfErr result (λ fault. IfTooMany fault (IsOver (book_of plans.items) (asked_request asked.now) asked.now.pool)) }
 {
     let wide = is_wide(plans.as_slice());
     let mut current = plans;
-    for size in 0..max {
+    for size in 0..asked.max {
         let rules = current.as_slice();
-        if let Err(fault) = make_node(
-            alloc, rules, costs, after, after_size, max, take, pool, 0, size, shelf,
-        ) {
+        if let Err(fault) = make_node(alloc, asked, rules, 0, size, shelf) {
             return Err(fault);
         }
-        if shelf.due.len() > take as usize {
+        if shelf.due.len() > asked.take as usize {
             return Ok(());
         }
-        if let Err(fault) = make_others(
-            alloc, rules, costs, after, after_size, max, take, pool, size, shelf,
-        ) {
+        if let Err(fault) = make_others(alloc, asked, rules, size, shelf) {
             return Err(fault);
         }
         current = next_plans(alloc, &shelf.bank, &shelf.cells, size, current, wide)?;
     }
     let rules = current.as_slice();
-    make_node(
-        alloc, rules, costs, after, after_size, max, take, pool, 0, max, shelf,
-    )
+    make_node(alloc, asked, rules, 0, asked.max, shelf)
 }
 
 /// Makes the terms of one size of all nodes but the start.
 fn make_others(
     alloc: Global,
+    asked: &Asked,
     plans: &[NodePlans],
-    costs: &Numbers,
-    after: Option<&Term>,
-    after_size: u64,
-    max: u32,
-    take: u32,
-    pool: u64,
     size: u32,
     shelf: &mut Shelf,
 ) -> Result<(), PageFault>
-    requires positive { (x : ℕ) → 1 ≤ cost_of costs.now x }
-    requires token { IfSome (option_copied after) (λ a. after_size ≡ size_of (cost_of costs.now) a) }
-    requires max { max ≤ 1024 }
-    requires size { size ≤ max }
+    requires size { size ≤ asked.now.max }
     requires some { 0 < length plans.now }
     requires few { length plans.now < 2 ^ 32 }
-    requires ready { AllReady (book_of plans.now) (cost_of costs.now) size plans.now }
-    requires kept { IsKept (book_of plans.now) (request costs.now (option_copied after) max take) size 1 shelf.old.bank shelf.old.cells shelf.old.due.items shelf.old.total }
-    requires within { shelf.old.total ≤ pool }
-    ensures kept { IfOk result (λ _. IsKept (book_of plans.now) (request costs.now (option_copied after.entry) max take) (size + 1) 0 shelf.new.bank shelf.new.cells shelf.new.due.items shelf.new.total) }
-    ensures within { IfOk result (λ _. shelf.new.total ≤ pool) }
+    requires ready { AllReady (book_of plans.now) (cost_of asked.now.costs.now) size plans.now }
+    requires kept { IsKept (book_of plans.now) (asked_request asked.now) size 1 shelf.old.bank shelf.old.cells shelf.old.due.items shelf.old.total }
+    requires within { shelf.old.total ≤ asked.now.pool }
+    ensures kept { IfOk result (λ _. IsKept (book_of plans.now) (asked_request asked.now) (size + 1) 0 shelf.new.bank shelf.new.cells shelf.new.due.items shelf.new.total) }
+    ensures within { IfOk result (λ _. shelf.new.total ≤ asked.now.pool) }
     ensures same { IfOk result (λ _. length shelf.new.due.items ≡ length shelf.old.due.items) }
-    ensures over { IfErr result (λ fault. IfTooMany fault (IsTooMuch (book_of plans.now) (request costs.now (option_copied after.entry) max take) (size + 1) 0 pool)) }
+    ensures over { IfErr result (λ fault. IfTooMany fault (IsTooMuch (book_of plans.now) (asked_request asked.now) (size + 1) 0 asked.now.pool)) }
 {
     for node in 1..plans.len() as u32 {
-        if let Err(fault) = make_node(
-            alloc, plans, costs, after, after_size, max, take, pool, node, size, shelf,
-        ) {
+        if let Err(fault) = make_node(alloc, asked, plans, node, size, shelf) {
             return Err(fault);
         }
     }
@@ -130,43 +108,37 @@ pub fn page<B: RuleBook>(
     ensures over { IfErr result (λ fault. IfTooMany fault (IsOver (B.book book.now) (request costs.now (option_copied after.entry) max_size take) pool)) }
 {
     let plans = plans(alloc, book, costs)?;
-    list(alloc, plans, costs, after, max_size, take, pool)
+    let asked = Asked {
+        costs,
+        after,
+        after_size: token_size(costs, after),
+        max: max_size,
+        take,
+        pool,
+    };
+    list(alloc, &asked, plans)
 }
 
 /// The page of the rules of these plans.
-fn list(
-    alloc: Global,
-    plans: Vec<NodePlans>,
-    costs: &Numbers,
-    after: Option<&Term>,
-    max: u32,
-    take: u32,
-    pool: u64,
-) -> Result<Page, PageFault>
-    requires positive { (x : ℕ) → 1 ≤ cost_of costs.now x }
-    requires max { max ≤ 1024 }
-    requires taken { 1 ≤ take }
-    requires token { IfSome (option_copied after) (λ a. length_of a < 2 ^ 32) }
+fn list(alloc: Global, asked: &Asked, plans: Vec<NodePlans>) -> Result<Page, PageFault>
+    requires taken { 1 ≤ asked.now.take }
     requires some { 0 < length plans.items }
     requires few { length plans.items < 2 ^ 32 }
-    requires ready { AllReady (book_of plans.items) (cost_of costs.now) 0 plans.items }
-    ensures page { IfOk result (λ p. IsPage (IsGenerated (book_of plans.items) 0) (request costs.now (option_copied after.entry) max take) p.terms p.more) }
-    ensures within { IfOk result (λ _. IsWithin (book_of plans.items) (request costs.now (option_copied after.entry) max take) pool) }
-    ensures over { IfErr result (λ fault. IfTooMany fault (IsOver (book_of plans.items) (request costs.now (option_copied after.entry) max take) pool)) }
+    requires ready { AllReady (book_of plans.items) (cost_of asked.now.costs.now) 0 plans.items }
+    ensures page { IfOk result (λ p. IsPage (IsGenerated (book_of plans.items) 0) (asked_request asked.now) p.terms p.more) }
+    ensures within { IfOk result (λ _. IsWithin (book_of plans.items) (asked_request asked.now) asked.now.pool) }
+    ensures over { IfErr result (λ fault. IfTooMany fault (IsOver (book_of plans.items) (asked_request asked.now) asked.now.pool)) }
 {
-    let after_size = token_size(costs, after);
     let mut shelf = Shelf {
         bank: Bank::new(alloc),
         cells: Cells::new(alloc, plans.len() as u32),
         due: Vec::new(alloc),
         total: 0,
     };
-    if let Err(fault) = collect(
-        alloc, plans, costs, after, after_size, max, take, pool, &mut shelf,
-    ) {
+    if let Err(fault) = collect(alloc, asked, plans, &mut shelf) {
         return Err(fault);
     }
-    Ok(first_due(alloc, &shelf.bank, shelf.due.as_slice(), take)?)
+    Ok(first_due(alloc, &shelf.bank, shelf.due.as_slice(), asked.take)?)
 }
 
 /// The first of the due terms.

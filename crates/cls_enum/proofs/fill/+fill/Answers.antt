@@ -17,8 +17,8 @@ use Rattle.cls_enum.proofs.fill.+fill.Goals.{fill-then-is_empty, fill-else-is_em
 
 pub fill-loop-size-init : goal.fill-loop-size-init
 fill-loop-size-init t c =
-    let ts = c.args.bank.now in
-    let e = first-size ts c.args.cells.now c.args.head c.args.args.now.items c.args.args.now.items c.args.found.now c.args.found.now c.args.found.now c.in-Some.place.now.node c.in-Some.others.now c.args.rest c.if-is_empty.first
+    let ts = c.args.stock.now.bank.now in
+    let e = first-size ts c.args.stock.now.cells.now c.args.head c.args.args.now.items c.args.args.now.items c.args.found.now c.args.found.now c.args.found.now c.in-Some.place.now.node c.in-Some.others.now c.args.rest c.if-is_empty.first
     (elim c.if-is_empty.branch [
       | fill-then-is_empty w ↦ inl (eqb-true (length c.in-Some.others.now) 0 (sym c.is_empty.ensures ∙ w.if-is_empty.true), w.first-is)
       | fill-else-is_empty w ↦ inr w.first-is
@@ -31,30 +31,30 @@ fill-loop-size-init t c =
 pub fill-loop-size-preserved : goal.fill-loop-size-preserved
 fill-loop-size-preserved t c = record {
   args = c.in_default-fill_each.ensures.args ∙ c.loop-size.invariant.args;
-  added = size-step c.args.bank.now c.args.cells.now c.args.head c.args.args.now.items c.loop-size.args.items c.args.found.now c.loop-size.found c.fill_each.new.found c.in-Some.place.now.node (nodes_of c.in-Some.others.now) c.get-numbers.result.now c.args.rest c.loop-size.size c.loop-size.invariant.args c.get-numbers.ensures c.loop-size.invariant.added c.in_default-fill_each.ensures.added;
+  added = size-step c.args.stock.now.bank.now c.args.stock.now.cells.now c.args.head c.args.args.now.items c.loop-size.args.items c.args.found.now c.loop-size.found c.fill_each.new.found c.in-Some.place.now.node (nodes_of c.in-Some.others.now) c.get-numbers.result.now c.args.rest c.loop-size.size c.loop-size.invariant.args c.get-numbers.ensures c.loop-size.invariant.added c.in_default-fill_each.ensures.added;
 }
 
 pub fill-returns-in-Err-clause-over : goal.fill-returns-in-Err-clause-over
 fill-returns-in-Err-clause-over t c =
     IfTooMany-weaker c.in-Err.fault _ _
-    (λ h. let r = size-over c.args.bank.now c.args.cells.now c.args.head c.args.args.now.items c.loop-size.args.items c.args.found.now c.loop-size.found c.fill_each.new.found c.in-Some.place.now.node (nodes_of c.in-Some.others.now) c.get-numbers.result.now c.args.rest c.loop-size.size c.args.limit (omega (arith, c.loop-size-test.true)) c.loop-size.invariant.args c.get-numbers.ensures c.loop-size.invariant.added h in
-    subst (λ (ps : List Place). IsOverfull c.args.limit (map (term_by c.args.bank.now) c.args.found.now) (fills (cell_of c.args.bank.now c.args.cells.now) (term_by c.args.bank.now (c.args.head, c.args.args.now.items)) (nodes_of ps) c.args.rest)) (sym c.in-Some.ensures.cases.0) r)
+    (λ h. let r = size-over c.args.stock.now.bank.now c.args.stock.now.cells.now c.args.head c.args.args.now.items c.loop-size.args.items c.args.found.now c.loop-size.found c.fill_each.new.found c.in-Some.place.now.node (nodes_of c.in-Some.others.now) c.get-numbers.result.now c.args.rest c.loop-size.size c.args.stock.now.limit (omega (arith, c.loop-size-test.true)) c.loop-size.invariant.args c.get-numbers.ensures c.loop-size.invariant.added h in
+    subst (λ (ps : List Place). IsOverfull c.args.stock.now.limit (map (term_by c.args.stock.now.bank.now) c.args.found.now) (fills (cell_of c.args.stock.now.bank.now c.args.stock.now.cells.now) (term_by c.args.stock.now.bank.now (c.args.head, c.args.args.now.items)) (nodes_of ps) c.args.rest)) (sym c.in-Some.ensures.cases.0) r)
     c.in-Err.ensures.over
 
 pub fill_each-returns-then-is_barren-clause-added : goal.fill_each-returns-then-is_barren-clause-added
 fill_each-returns-then-is_barren-clause-added t c =
-    let ts = c.args.bank.now in
+    let ts = c.args.stock.now.bank.now in
     let f = term_by ts (c.args.head, c.args.args.now.items) in
     IsAdded-same ts c.args.found.now c.args.found.now [] _
-    (sym (each-barren (cell_of ts c.args.cells.now) c.args.places.now f c.args.rest c.args.occurrences (map (at ts) c.args.numbers.now) c.requires.pruned (omega (arith, c.requires.occurrences)) (c.is_barren.ensures.0 c.if-is_barren.true)))
+    (sym (each-barren (cell_of ts c.args.stock.now.cells.now) c.args.places.now f c.args.rest c.args.occurrences (map (at ts) c.args.numbers.now) c.requires.pruned (omega (arith, c.requires.occurrences)) (c.is_barren.ensures.0 c.if-is_barren.true)))
     (IsAdded-none ts c.args.found.now c.requires.found)
 
 pub fill_each-length-more-requires : goal.fill_each-length-more-requires
-fill_each-length-more-requires t c = AreBelow-at (length c.args.bank.now) c.args.numbers.now c.loop-number.number-index c.requires.numbers (omega (arith, c.loop-number-test.true))
+fill_each-length-more-requires t c = AreBelow-at (length c.args.stock.now.bank.now) c.args.numbers.now c.loop-number.number-index c.requires.numbers (omega (arith, c.loop-number-test.true))
 
 pub fill_each-fill-requires : goal.fill_each-fill-requires
 fill_each-fill-requires t c =
-    let ts = c.args.bank.now in
+    let ts = c.args.stock.now.bank.now in
     let i = c.loop-number.number-index in
     let a = get_or c.args.numbers.now i 0 in
     let l : i < length c.args.numbers.now = omega (arith, c.loop-number-test.true) in
@@ -62,18 +62,12 @@ fill_each-fill-requires t c =
     let d : term_by ts (c.args.head, c.push.new.self.items) ≡ apply (term_by ts (c.args.head, c.args.args.now.items)) (at ts a) = ap (λ (l : List ℕ). term_by ts (c.args.head, l)) q ∙ term_by-push ts c.args.head c.args.args.now.items a in (
       omega (arith, c.decreases),
       (
-        c.requires.different,
+        rw q (AreBelow-push (length ts) c.args.args.now.items a c.requires.args (AreBelow-at (length ts) c.args.numbers.now i c.requires.numbers l)),
         (
-          c.requires.below,
+          omega (arith, ap length_of d, c.requires.occurrences, c.from.ensures, c.length-more.ensures),
           (
-            rw q (AreBelow-push (length ts) c.args.args.now.items a c.requires.args (AreBelow-at (length ts) c.args.numbers.now i c.requires.numbers l)),
-            (
-              omega (arith, ap length_of d, c.requires.occurrences, c.from.ensures, c.length-more.ensures),
-              (
-                omega (arith, c.requires.room, c.from.ensures, c.length-more.auto),
-                (c.requires.small, (c.requires.pruned, c.loop-number.invariant.added.found)),
-              ),
-            ),
+            omega (arith, c.requires.room, c.from.ensures, c.length-more.auto),
+            (c.requires.small, (c.requires.pruned, c.loop-number.invariant.added.found)),
           ),
         ),
       ),
@@ -86,7 +80,7 @@ fill_each-loop-number-preserved t c =
     let q : c.push.new.self.items ≡ c.args.args.now.items ++ a ∷ [] = c.in_ok-push.ensures.items ∙ ap (λ (l : List ℕ). l ++ a ∷ []) c.loop-number.invariant.args in
     record {
       args = popped c.args.args.now.items c.fill.new.args.items c.pop.new.self.items a (vec_len c.fill.new.args) c.pop.ensures.rest (c.in_default.ensures.args ∙ q) (omega (arith, c.fill.new.args.ok.0));
-      added = each-step c.args.bank.now c.args.cells.now c.args.head c.args.args.now.items c.push.new.self.items c.args.found.now c.loop-number.found c.fill.new.found (nodes_of c.args.places.now) c.args.numbers.now c.args.rest i (omega (arith, c.loop-number-test.true)) q c.loop-number.invariant.added c.in_default.ensures.added;
+      added = each-step c.args.stock.now.bank.now c.args.stock.now.cells.now c.args.head c.args.args.now.items c.push.new.self.items c.args.found.now c.loop-number.found c.fill.new.found (nodes_of c.args.places.now) c.args.numbers.now c.args.rest i (omega (arith, c.loop-number-test.true)) q c.loop-number.invariant.added c.in_default.ensures.added;
     }
 
 pub fill_each-returns-in-Err-clause-over : goal.fill_each-returns-in-Err-clause-over
@@ -95,12 +89,12 @@ fill_each-returns-in-Err-clause-over t c =
     let a = get_or c.args.numbers.now i 0 in
     let q : c.push.new.self.items ≡ c.args.args.now.items ++ a ∷ [] = c.in_ok-push.ensures.items ∙ ap (λ (l : List ℕ). l ++ a ∷ []) c.loop-number.invariant.args in
     IfTooMany-weaker c.in-Err.fault _ _
-    (each-over c.args.bank.now c.args.cells.now c.args.head c.args.args.now.items c.push.new.self.items c.args.found.now c.loop-number.found c.fill.new.found (nodes_of c.args.places.now) c.args.numbers.now c.args.rest i c.args.limit (omega (arith, c.loop-number-test.true)) q c.loop-number.invariant.added)
+    (each-over c.args.stock.now.bank.now c.args.stock.now.cells.now c.args.head c.args.args.now.items c.push.new.self.items c.args.found.now c.loop-number.found c.fill.new.found (nodes_of c.args.places.now) c.args.numbers.now c.args.rest i c.args.stock.now.limit (omega (arith, c.loop-number-test.true)) q c.loop-number.invariant.added)
     c.in-Err.ensures.over
 
 pub fill_each-returns-clause-added : goal.fill_each-returns-clause-added
 fill_each-returns-clause-added t c =
-    let ts = c.args.bank.now in
+    let ts = c.args.stock.now.bank.now in
     IsAdded-same ts c.args.found.now c.loop-number.found _ _
-    (ap (λ (ns : List ℕ). flat_map (λ (a : Applicative). fills (cell_of ts c.args.cells.now) (apply (term_by ts (c.args.head, c.args.args.now.items)) a) (nodes_of c.args.places.now) c.args.rest) (map (at ts) ns)) (take-whole c.loop-number.number-index c.args.numbers.now (omega (arith, c.loop-number-test.false))))
+    (ap (λ (ns : List ℕ). flat_map (λ (a : Applicative). fills (cell_of ts c.args.stock.now.cells.now) (apply (term_by ts (c.args.head, c.args.args.now.items)) a) (nodes_of c.args.places.now) c.args.rest) (map (at ts) ns)) (take-whole c.loop-number.number-index c.args.numbers.now (omega (arith, c.loop-number-test.false))))
     c.loop-number.invariant.added

@@ -16,16 +16,16 @@ decreases-fill_each l = 2 * length l.places.now + 1
 
 abbrev pub invariant-fill-loop-size : goal.invariant-fill-loop-size
 invariant-fill-loop-size l =
-    let cell = cell_of l.bank l.cells in
+    let cell = cell_of l.stock.bank.now l.stock.cells.now in
     record {
       args : l.args.items ≡ l.fn.args.items;
-      added : IsAdded l.bank l.fn.found (over l.size (λ t. flat_map (λ a. fills cell (apply (term_by l.bank (l.head, l.fn.args.items)) a) (nodes_of l.others) (l.rest - t)) (cell t l.place.node))) l.found;
+      added : IsAdded l.stock.bank.now l.fn.found (over l.size (λ t. flat_map (λ a. fills cell (apply (term_by l.stock.bank.now (l.head, l.fn.args.items)) a) (nodes_of l.others) (l.rest - t)) (cell t l.place.node))) l.found;
     }
 
 abbrev pub invariant-fill_each-loop-number : goal.invariant-fill_each-loop-number
 invariant-fill_each-loop-number l =
-    let cell = cell_of l.bank l.cells in
+    let cell = cell_of l.stock.bank.now l.stock.cells.now in
     record {
       args : l.args.items ≡ l.fn.args.items;
-      added : IsAdded l.bank l.fn.found (flat_map (λ a. fills cell (apply (term_by l.bank (l.head, l.fn.args.items)) a) (nodes_of l.places) l.rest) (map (at l.bank) (take l.number-index l.numbers))) l.found;
+      added : IsAdded l.stock.bank.now l.fn.found (flat_map (λ a. fills cell (apply (term_by l.stock.bank.now (l.head, l.fn.args.items)) a) (nodes_of l.places) l.rest) (map (at l.stock.bank.now) (take l.number-index l.numbers))) l.found;
     }

@@ -4,9 +4,9 @@ use Rattle.cls_enum.proofs.fill.add.Goals as goal
 
 pub returns-clause-added : goal.returns-clause-added
 returns-clause-added c =
-    IsAdded-spine c.args.bank.now c.args.found.now c.insert.new.self (c.args.head, c.args.args.now) c.requires.different c.requires.found c.requires.args c.requires.short c.in_ok-insert.ensures.joined
+    IsAdded-spine c.args.stock.now.bank.now c.args.found.now c.insert.new.self (c.args.head, c.args.args.now) c.count-count.ensures.different c.requires.found c.requires.args c.requires.short c.in_ok-insert.ensures.joined
 
-pub returns-then-len-limit-clause-over : goal.returns-then-len-limit-clause-over
-returns-then-len-limit-clause-over c =
-    let a = IsAdded-spine c.args.bank.now c.args.found.now c.insert.new.self (c.args.head, c.args.args.now) c.requires.different c.requires.found c.requires.args c.requires.short c.in_ok-insert.ensures.joined in
-    IsOverfull-found c.args.bank.now c.args.limit c.args.found.now c.insert.new.self _ a (omega (arith, c.if-len-limit.true, c.len.ensures))
+pub returns-then-len-stock-clause-over : goal.returns-then-len-stock-clause-over
+returns-then-len-stock-clause-over c =
+    let a = IsAdded-spine c.args.stock.now.bank.now c.args.found.now c.insert.new.self (c.args.head, c.args.args.now) c.count-count.ensures.different c.requires.found c.requires.args c.requires.short c.in_ok-insert.ensures.joined in
+    IsOverfull-found c.args.stock.now.bank.now c.args.stock.now.limit c.args.found.now c.insert.new.self _ a (omega (arith, c.if-len-stock.true, c.len.ensures))

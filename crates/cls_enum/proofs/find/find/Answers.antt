@@ -7,16 +7,16 @@ use Rattle.cls_enum.proofs.find.find.Goals as goal
 
 pub find_of-requires-clause-pruned : goal.find_of-requires-clause-pruned
 find_of-requires-clause-pruned c =
-    PlansPruned-at (cell_of c.args.bank.now c.args.cells.now) c.args.plans.now c.loop-plan.plan-index c.plan-item.result c.requires.pruned (omega (arith, c.loop-plan-test.true)) c.plan-item.is
+    PlansPruned-at (cell_of c.args.stock.now.bank.now c.args.stock.now.cells.now) c.args.plans.now c.loop-plan.plan-index c.plan-item.result c.requires.pruned (omega (arith, c.loop-plan-test.true)) c.plan-item.is
 
 pub loop-plan-preserved : goal.loop-plan-preserved
 loop-plan-preserved c =
-    let ts = c.args.bank.now in
-    list-step ts (plan_terms (cell_of ts c.args.cells.now) c.args.size) [] c.loop-plan.found c.find_of.new.found c.args.plans.now c.loop-plan.plan-index c.plan-item.result (omega (arith, c.loop-plan-test.true)) c.plan-item.is c.loop-plan.invariant c.in_default.ensures.added
+    let ts = c.args.stock.now.bank.now in
+    list-step ts (plan_terms (cell_of ts c.args.stock.now.cells.now) c.args.size) [] c.loop-plan.found c.find_of.new.found c.args.plans.now c.loop-plan.plan-index c.plan-item.result (omega (arith, c.loop-plan-test.true)) c.plan-item.is c.loop-plan.invariant c.in_default.ensures.added
 
 pub returns-in-Err-clause-over : goal.returns-in-Err-clause-over
 returns-in-Err-clause-over c =
-    let ts = c.args.bank.now in
+    let ts = c.args.stock.now.bank.now in
     IfTooMany-weaker c.in-Err.fault _ _
-    (list-over ts (plan_terms (cell_of ts c.args.cells.now) c.args.size) [] c.loop-plan.found c.find_of.new.found c.args.plans.now c.loop-plan.plan-index c.args.limit c.plan-item.result (omega (arith, c.loop-plan-test.true)) c.plan-item.is c.loop-plan.invariant)
+    (list-over ts (plan_terms (cell_of ts c.args.stock.now.cells.now) c.args.size) [] c.loop-plan.found c.find_of.new.found c.args.plans.now c.loop-plan.plan-index c.args.stock.now.limit c.plan-item.result (omega (arith, c.loop-plan-test.true)) c.plan-item.is c.loop-plan.invariant)
     c.in-Err.ensures.over

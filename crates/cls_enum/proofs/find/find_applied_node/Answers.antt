@@ -10,18 +10,18 @@ use Rattle.cls_enum.proofs.find.find_applied_node.Goals as goal
 
 pub loop-smaller-preserved : goal.loop-smaller-preserved
 loop-smaller-preserved c =
-    let ts = c.args.bank.now in
-    let cell = cell_of ts c.args.cells.now in
+    let ts = c.args.stock.now.bank.now in
+    let cell = cell_of ts c.args.stock.now.cells.now in
     over-step ts (λ (t : ℕ). flat_map (λ (f : Applicative). fills cell f (nodes_of c.args.places.now) (c.args.size - t)) (cell t c.args.left)) c.args.found.now c.loop-smaller.found c.find_applied.new.found c.loop-smaller.smaller _
     (ap (λ (ns : List ℕ). flat_map (λ (f : Applicative). fills cell f (nodes_of c.args.places.now) (c.args.size - c.loop-smaller.smaller)) (map (at ts) ns)) c.get-numbers.ensures)
     c.loop-smaller.invariant c.in_default.ensures.added
 
 pub returns-in-Err-clause-over : goal.returns-in-Err-clause-over
 returns-in-Err-clause-over c =
-    let ts = c.args.bank.now in
-    let cell = cell_of ts c.args.cells.now in
+    let ts = c.args.stock.now.bank.now in
+    let cell = cell_of ts c.args.stock.now.cells.now in
     IfTooMany-weaker c.in-Err.fault _ _
-    (over-over ts (λ (t : ℕ). flat_map (λ (f : Applicative). fills cell f (nodes_of c.args.places.now) (c.args.size - t)) (cell t c.args.left)) c.args.found.now c.loop-smaller.found c.find_applied.new.found c.loop-smaller.smaller c.args.size c.args.limit _ (omega (arith, c.loop-smaller-test.true))
+    (over-over ts (λ (t : ℕ). flat_map (λ (f : Applicative). fills cell f (nodes_of c.args.places.now) (c.args.size - t)) (cell t c.args.left)) c.args.found.now c.loop-smaller.found c.find_applied.new.found c.loop-smaller.smaller c.args.size c.args.stock.now.limit _ (omega (arith, c.loop-smaller-test.true))
     (ap (λ (ns : List ℕ). flat_map (λ (f : Applicative). fills cell f (nodes_of c.args.places.now) (c.args.size - c.loop-smaller.smaller)) (map (at ts) ns)) c.get-numbers.ensures)
     c.loop-smaller.invariant)
     c.in-Err.ensures.over

@@ -2,7 +2,7 @@ use Rattle.std.proofs.Common.{◌+◌, List, map, arith}
 use Rattle.std.specs.Prelude.{option_copied}
 use Rattle.std.proofs.lemmas.List.{length-map}
 use Rattle.cls_enum.specs.Plans.{book_of, rule_of}
-use Rattle.cls_enum.specs.Requests.{request}
+use Rattle.cls_enum.specs.Asking.{asked_request}
 use Rattle.cls_enum.specs.declared.plan.Plan.{Plan}
 use Rattle.cls_enum.proofs.FillSteps.{IfTooMany-weaker}
 use Rattle.cls_enum.proofs.StateLaws.{too_much-next}
@@ -12,12 +12,12 @@ use Rattle.cls_enum.proofs.paging.make_others.Goals as goal
 pub returns-in-Err-clause-over : goal.returns-in-Err-clause-over
 returns-in-Err-clause-over c =
     IfTooMany-weaker c.in-Err.fault _ _
-    (too_much-next (book_of c.args.plans.now) (request c.args.costs.now (option_copied c.args.after) c.args.max c.args.take) c.args.size (c.loop-node.node + 1) c.args.pool)
+    (too_much-next (book_of c.args.plans.now) (asked_request c.args.asked.now) c.args.size (c.loop-node.node + 1) c.args.asked.now.pool)
     c.in-Err.ensures.over
 
 pub returns-clause-kept : goal.returns-clause-kept
 returns-clause-kept c =
     let book = book_of c.args.plans.now in
     let l = length-map c.args.plans.now (λ (x : List Plan). map rule_of x) in
-    kept-next book (request c.args.costs.now (option_copied c.args.after) c.args.max c.args.take) c.args.size c.loop-node.node c.loop-node.shelf.bank c.loop-node.shelf.cells c.loop-node.shelf.due.items c.loop-node.shelf.total
+    kept-next book (asked_request c.args.asked.now) c.args.size c.loop-node.node c.loop-node.shelf.bank c.loop-node.shelf.cells c.loop-node.shelf.due.items c.loop-node.shelf.total
     (omega (arith, l, c.requires.some)) (omega (arith, l, c.requires.some, c.requires.few, c.loop-node-test.false, c.loop-node.auto.node-end)) c.loop-node.invariant.kept

@@ -1,13 +1,13 @@
 use Rattle.std.proofs.Common.{◌≡◌, ◌≤◌, length}
 use Rattle.std.specs.Prelude.{option_copied}
 use Rattle.cls_enum.specs.Plans.{book_of}
-use Rattle.cls_enum.specs.Requests.{request}
+use Rattle.cls_enum.specs.Asking.{asked_request}
 use Rattle.cls_enum.specs.States.{IsKept}
 use Rattle.cls_enum.proofs.paging.make_others.Given as goal
 
 abbrev pub invariant-loop-node : goal.invariant-loop-node
 invariant-loop-node l = record {
-  kept : IsKept (book_of l.plans) (request l.costs (option_copied l.after) l.max l.take) l.size l.node l.shelf.bank l.shelf.cells l.shelf.due.items l.shelf.total;
-  within : l.shelf.total ≤ l.pool;
+  kept : IsKept (book_of l.plans) (asked_request l.asked) l.size l.node l.shelf.bank l.shelf.cells l.shelf.due.items l.shelf.total;
+  within : l.shelf.total ≤ l.asked.pool;
   same : length l.shelf.due.items ≡ length l.fn.shelf.due.items;
 }

@@ -7,7 +7,8 @@ use Rattle.cls_term.specs.Costs.{cost_of}
 use Rattle.cls_enum.specs.CellTables.{cell_of}
 use Rattle.cls_enum.specs.Members.{IsIn}
 use Rattle.cls_enum.specs.Plans.{book_of, rule_of, rules_of, AreReady}
-use Rattle.cls_enum.specs.Requests.{request, later, due_after}
+use Rattle.cls_enum.specs.Asking.{asked_request}
+use Rattle.cls_enum.specs.Requests.{later, due_after}
 use Rattle.cls_enum.specs.States.{IsKept}
 use Rattle.cls_enum.specs.declared.plan.Plan.{Plan}
 use Rattle.cls_enum.proofs.CellLaws.{plans_pruned}
@@ -18,47 +19,49 @@ use Rattle.cls_enum.proofs.shelf.make_node.Goals as goal
 pub make-requires-clause-pruned : goal.make-requires-clause-pruned
 make-requires-clause-pruned c =
     let book = book_of c.args.plans.now in
-    let cost = cost_of c.args.costs.now in
+    let cost = cost_of c.args.asked.now.costs.now in
     let ps = c.index-plans-node.result in
     let ready = AllReady-at book cost c.args.size c.args.plans.now c.args.node ps c.requires.ready c.requires.node c.index-plans-node.is in
-    plans_pruned book cost c.requires.positive (cell_of c.args.shelf.now.bank c.args.shelf.now.cells) c.args.size (λ t l n e. c.requires.kept.exact t n (inl l) e) c.as_slice.result.now
+    plans_pruned book cost c.args.asked.now.positive (cell_of c.args.shelf.now.bank c.args.shelf.now.cells) c.args.size (λ t l n e. c.requires.kept.exact t n (inl l) e) c.as_slice.result.now
     (subst (λ (x : List Plan). AreReady book cost c.args.size x) (sym c.as_slice.ensures) ready)
 
 pub returns-in-Err-clause-over : goal.returns-in-Err-clause-over
 returns-in-Err-clause-over c =
     let book = book_of c.args.plans.now in
-    let r = request c.args.costs.now (option_copied c.args.after) c.args.max c.args.take in
+    let r = asked_request c.args.asked.now in
     let ps = c.index-plans-node.result in
     let q = sym c.as_slice.ensures in
     let ready = subst (λ (x : List Plan). AreReady book r.cost c.args.size x) q (AllReady-at book r.cost c.args.size c.args.plans.now c.args.node ps c.requires.ready c.requires.node c.index-plans-node.is) in
     let ruled = subst (λ (x : List Plan). rules_of x ≡ rules_at book c.args.node) q (book_of-at c.args.plans.now c.args.node ps c.requires.node c.index-plans-node.is) in
     let node : c.args.node < length book = omega (arith, c.requires.node, length-map c.args.plans.now (λ (x : List Plan). map rule_of x)) in
     IfTooMany-weaker c.in-Err.fault _ _
-    (plans-over book r c.requires.positive c.args.size c.args.node c.args.shelf.now.bank c.args.shelf.now.cells c.args.shelf.now.due.items c.args.shelf.now.total c.requires.kept c.as_slice.result.now node ready ruled c.args.pool c.requires.within)
+    (plans-over book r c.args.asked.now.positive c.args.size c.args.node c.args.shelf.now.bank c.args.shelf.now.cells c.args.shelf.now.due.items c.args.shelf.now.total c.requires.kept c.as_slice.result.now node ready ruled c.args.asked.now.pool c.requires.within)
     c.in-Err.ensures.over
 
-pub add_due-requires-clause-sized : goal.add_due-requires-clause-sized
-add_due-requires-clause-sized c =
+pub add_due-requires : goal.add_due-requires
+add_due-requires c =
     let book = book_of c.args.plans.now in
-    let r = request c.args.costs.now (option_copied c.args.after) c.args.max c.args.take in
+    let r = asked_request c.args.asked.now in
     let ps = c.index-plans-node.result in
     let q = sym c.as_slice.ensures in
     let ready = subst (λ (x : List Plan). AreReady book r.cost c.args.size x) q (AllReady-at book r.cost c.args.size c.args.plans.now c.args.node ps c.requires.ready c.requires.node c.index-plans-node.is) in
     let ruled = subst (λ (x : List Plan). rules_of x ≡ rules_at book c.args.node) q (book_of-at c.args.plans.now c.args.node ps c.requires.node c.index-plans-node.is) in
     let node : c.args.node < length book = omega (arith, c.requires.node, length-map c.args.plans.now (λ (x : List Plan). map rule_of x)) in
-    λ e j. sized book r c.requires.positive c.args.size c.args.node c.args.shelf.now.bank c.args.shelf.now.cells c.args.shelf.now.due.items c.args.shelf.now.total c.requires.kept c.as_slice.result.now node ready ruled c.make.new.bank c.in-Ok.numbers.items c.requires.size c.in-Ok.ensures.grown c.in-Ok.ensures.cell e
-    (subst (λ (ns : List ℕ). IsIn (map (at c.make.new.bank) ns) e) c.as_slice-2.ensures.value j)
+    record {
+      sized = λ e j. sized book r c.args.asked.now.positive c.args.size c.args.node c.args.shelf.now.bank c.args.shelf.now.cells c.args.shelf.now.due.items c.args.shelf.now.total c.requires.kept c.as_slice.result.now node ready ruled c.make.new.bank c.in-Ok.numbers.items c.requires.size c.in-Ok.ensures.grown c.in-Ok.ensures.cell e
+          (subst (λ (ns : List ℕ). IsIn (map (at c.make.new.bank) ns) e) c.as_slice-2.ensures.value j);
+    }
 
 pub returns-clause-kept : goal.returns-clause-kept
 returns-clause-kept c =
     let book = book_of c.args.plans.now in
-    let r = request c.args.costs.now (option_copied c.args.after) c.args.max c.args.take in
+    let r = asked_request c.args.asked.now in
     let ps = c.index-plans-node.result in
     let q = sym c.as_slice.ensures in
     let ready = subst (λ (x : List Plan). AreReady book r.cost c.args.size x) q (AllReady-at book r.cost c.args.size c.args.plans.now c.args.node ps c.requires.ready c.requires.node c.index-plans-node.is) in
     let ruled = subst (λ (x : List Plan). rules_of x ≡ rules_at book c.args.node) q (book_of-at c.args.plans.now c.args.node ps c.requires.node c.index-plans-node.is) in
     let node : c.args.node < length book = omega (arith, c.requires.node, length-map c.args.plans.now (λ (x : List Plan). map rule_of x)) in
-    let exact = es-exact book r c.requires.positive c.args.size c.args.node c.args.shelf.now.bank c.args.shelf.now.cells c.args.shelf.now.due.items c.args.shelf.now.total c.requires.kept c.as_slice.result.now node ready ruled c.make.new.bank c.in-Ok.numbers.items c.requires.size c.in-Ok.ensures.grown c.in-Ok.ensures.cell in
+    let exact = es-exact book r c.args.asked.now.positive c.args.size c.args.node c.args.shelf.now.bank c.args.shelf.now.cells c.args.shelf.now.due.items c.args.shelf.now.total c.requires.kept c.as_slice.result.now node ready ruled c.make.new.bank c.in-Ok.numbers.items c.requires.size c.in-Ok.ensures.grown c.in-Ok.ensures.cell in
     let h = kept-step book r c.args.size c.args.node c.args.shelf.now.bank c.make.new.bank c.args.shelf.now.cells c.args.shelf.now.due.items c.in-Ok.numbers.items c.args.shelf.now.total node c.requires.size c.requires.kept c.in-Ok.ensures.grown c.in-Ok.ensures.cell.below c.in-Ok.ensures.cell.rises exact in
     let K : ℕ × List (List ℕ) → List ℕ → ℕ → Type 0 = λ cells due n. IsKept book r c.args.size (c.args.node + 1) c.make.new.bank cells due (c.args.shelf.now.total + n) in
     let d : c.add_due.new.due.items ≡ due_after c.args.node (λ n. later r.cost r.after (at c.make.new.bank n)) c.args.shelf.now.due.items c.in-Ok.numbers.items =
