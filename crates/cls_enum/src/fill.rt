@@ -45,7 +45,7 @@ pub(crate) fn fill(
     let first = if others.is_empty() { rest } else { 0 };
     for size in first..rest + 1 {
         let numbers = stock.cells.get(size, place.node);
-        if let Err(fault) = fill_each(
+        fill_each(
             alloc,
             stock,
             head,
@@ -55,9 +55,7 @@ pub(crate) fn fill(
             others,
             rest - size,
             found,
-        ) {
-            return Err(fault);
-        }
+        )?;
     }
     Ok(())
 }
@@ -92,7 +90,7 @@ fn fill_each(
     for number in numbers {
         let more = stock.bank.length(*number);
         args.push(*number)?;
-        if let Err(fault) = fill(
+        fill(
             alloc,
             stock,
             head,
@@ -101,9 +99,7 @@ fn fill_each(
             places,
             rest,
             found,
-        ) {
-            return Err(fault);
-        }
+        )?;
         args.pop();
     }
     Ok(())

@@ -29,9 +29,7 @@ pub(crate) fn find(
 {
     let mut found = SpineSet::new(alloc);
     for plan in plans {
-        if let Err(fault) = find_of(alloc, stock, plan, size, &mut found) {
-            return Err(fault);
-        }
+        find_of(alloc, stock, plan, size, &mut found)?;
     }
     Ok(found)
 }
@@ -98,9 +96,7 @@ fn find_applied_node(
 {
     for smaller in 0..size {
         let numbers = stock.cells.get(smaller, left);
-        if let Err(fault) = find_applied(alloc, stock, numbers, places, size - smaller, found) {
-            return Err(fault);
-        }
+        find_applied(alloc, stock, numbers, places, size - smaller, found)?;
     }
     Ok(())
 }
@@ -128,7 +124,7 @@ fn find_applied(
         let length = stock.bank.length(*number);
         let head = stock.bank.head(*number);
         let mut args = stock.bank.args(*number).to_vec(alloc)?;
-        if let Err(fault) = fill(
+        fill(
             alloc,
             stock,
             head,
@@ -137,9 +133,7 @@ fn find_applied(
             places,
             rest,
             found,
-        ) {
-            return Err(fault);
-        }
+        )?;
     }
     Ok(())
 }

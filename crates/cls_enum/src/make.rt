@@ -32,10 +32,7 @@ pub(crate) fn make(
     ensures over { IfErr result (λ fault. IfTooMany fault (IsOverfull limit [] (plan_candidates (cell_of bank.old cells.now) size plans.now))) }
 {
     let stock = Stock { bank, cells, limit };
-    let found = match find(alloc, &stock, plans, size) {
-        Ok(found) => found,
-        Err(fault) => return Err(fault),
-    };
+    let found = find(alloc, &stock, plans, size)?;
     if found.len() as u64 > limit {
         return Err(PageFault::TooManyTerms);
     }

@@ -41,15 +41,11 @@ fn collect(
     let mut current = plans;
     for size in 0..asked.max {
         let rules = current.as_slice();
-        if let Err(fault) = make_node(alloc, asked, rules, 0, size, shelf) {
-            return Err(fault);
-        }
+        make_node(alloc, asked, rules, 0, size, shelf)?;
         if shelf.due.len() > asked.take as usize {
             return Ok(());
         }
-        if let Err(fault) = make_others(alloc, asked, rules, size, shelf) {
-            return Err(fault);
-        }
+        make_others(alloc, asked, rules, size, shelf)?;
         current = next_plans(alloc, &shelf.bank, &shelf.cells, size, current, wide)?;
     }
     let rules = current.as_slice();
@@ -76,9 +72,7 @@ fn make_others(
     ensures over { IfErr result (λ fault. IfTooMany fault (IsTooMuch (book_of plans.now) (asked_request asked.now) (size + 1) 0 asked.now.pool)) }
 {
     for node in 1..plans.len() as u32 {
-        if let Err(fault) = make_node(alloc, asked, plans, node, size, shelf) {
-            return Err(fault);
-        }
+        make_node(alloc, asked, plans, node, size, shelf)?;
     }
     Ok(())
 }
@@ -135,9 +129,7 @@ fn list(alloc: Global, asked: &Asked, plans: Vec<NodePlans>) -> Result<Page, Pag
         due: Vec::new(alloc),
         total: 0,
     };
-    if let Err(fault) = collect(alloc, asked, plans, &mut shelf) {
-        return Err(fault);
-    }
+    collect(alloc, asked, plans, &mut shelf)?;
     Ok(first_due(alloc, &shelf.bank, shelf.due.as_slice(), asked.take)?)
 }
 

@@ -44,17 +44,14 @@ pub(crate) fn make_node(
     ensures over { IfErr result (λ fault. IfTooMany fault (IsTooMuch (book_of plans.now) (asked_request asked.now) size (node + 1) asked.now.pool)) }
 {
     let node_plans = &plans[node as usize];
-    let numbers = match make(
+    let numbers = make(
         alloc,
         &mut shelf.bank,
         &shelf.cells,
         node_plans.as_slice(),
         size,
         asked.pool - shelf.total,
-    ) {
-        Ok(numbers) => numbers,
-        Err(fault) => return Err(fault),
-    };
+    )?;
     add_due(
         &shelf.bank,
         node,

@@ -1,6 +1,7 @@
 use Rattle.std.proofs.Common.{◌≡◌, ℕ, List, [], ◌∷◌, ◌++◌, ◌<◌, ◌∙◌, ap, sym, length, arith, get_or, vec_len, map, inl, inr, subst}
 use Rattle.std.proofs.lemmas.Bool.{eqb-true}
 use Rattle.std.specs.List.{flat_map}
+use Rattle.std.proofs.lemmas.Result.{err_from_is_err_and}
 use Rattle.cls_base.specs.Terms.{Applicative, apply, length_of}
 use Rattle.cls_term.specs.Banks.{at, term_by}
 use Rattle.cls_term.proofs.BankSteps.{AreBelow-at}
@@ -30,16 +31,17 @@ fill-loop-size-init t c =
 
 pub fill-loop-size-preserved : goal.fill-loop-size-preserved
 fill-loop-size-preserved t c = record {
-  args = c.in_default-fill_each.ensures.args ∙ c.loop-size.invariant.args;
-  added = size-step c.args.stock.now.bank.now c.args.stock.now.cells.now c.args.head c.args.args.now.items c.loop-size.args.items c.args.found.now c.loop-size.found c.fill_each.new.found c.in-Some.place.now.node (nodes_of c.in-Some.others.now) c.get-numbers.result.now c.args.rest c.loop-size.size c.loop-size.invariant.args c.get-numbers.ensures c.loop-size.invariant.added c.in_default-fill_each.ensures.added;
+  args = c.in_ok-fill_each.ensures.args ∙ c.loop-size.invariant.args;
+  added = size-step c.args.stock.now.bank.now c.args.stock.now.cells.now c.args.head c.args.args.now.items c.loop-size.args.items c.args.found.now c.loop-size.found c.fill_each.new.found c.in-Some.place.now.node (nodes_of c.in-Some.others.now) c.get-numbers.result.now c.args.rest c.loop-size.size c.loop-size.invariant.args c.get-numbers.ensures c.loop-size.invariant.added c.in_ok-fill_each.ensures.added;
 }
 
-pub fill-returns-in-Err-clause-over : goal.fill-returns-in-Err-clause-over
-fill-returns-in-Err-clause-over t c =
-    IfTooMany-weaker c.in-Err.fault _ _
+pub fill-returns-in_err-fill_each-clause-over : goal.fill-returns-in_err-fill_each-clause-over
+fill-returns-in_err-fill_each-clause-over t c =
+    let p = err_from_is_err_and c.from_residual.result c.from_residual.ensures.1 in
+    rw (p.1, p.2) (IfTooMany-weaker _ _ _
     (λ h. let r = size-over c.args.stock.now.bank.now c.args.stock.now.cells.now c.args.head c.args.args.now.items c.loop-size.args.items c.args.found.now c.loop-size.found c.fill_each.new.found c.in-Some.place.now.node (nodes_of c.in-Some.others.now) c.get-numbers.result.now c.args.rest c.loop-size.size c.args.stock.now.limit (omega (arith, c.loop-size-test.true)) c.loop-size.invariant.args c.get-numbers.ensures c.loop-size.invariant.added h in
     subst (λ (ps : List Place). IsOverfull c.args.stock.now.limit (map (term_by c.args.stock.now.bank.now) c.args.found.now) (fills (cell_of c.args.stock.now.bank.now c.args.stock.now.cells.now) (term_by c.args.stock.now.bank.now (c.args.head, c.args.args.now.items)) (nodes_of ps) c.args.rest)) (sym c.in-Some.ensures.cases.0) r)
-    c.in-Err.ensures.over
+    c.in_err-fill_each.ensures.over)
 
 pub fill_each-returns-then-is_barren-clause-added : goal.fill_each-returns-then-is_barren-clause-added
 fill_each-returns-then-is_barren-clause-added t c =
@@ -79,18 +81,19 @@ fill_each-loop-number-preserved t c =
     let a = get_or c.args.numbers.now i 0 in
     let q : c.push.new.self.items ≡ c.args.args.now.items ++ a ∷ [] = c.in_ok-push.ensures.items ∙ ap (λ (l : List ℕ). l ++ a ∷ []) c.loop-number.invariant.args in
     record {
-      args = popped c.args.args.now.items c.fill.new.args.items c.pop.new.self.items a (vec_len c.fill.new.args) c.pop.ensures.rest (c.in_default.ensures.args ∙ q) (omega (arith, c.fill.new.args.ok.0));
-      added = each-step c.args.stock.now.bank.now c.args.stock.now.cells.now c.args.head c.args.args.now.items c.push.new.self.items c.args.found.now c.loop-number.found c.fill.new.found (nodes_of c.args.places.now) c.args.numbers.now c.args.rest i (omega (arith, c.loop-number-test.true)) q c.loop-number.invariant.added c.in_default.ensures.added;
+      args = popped c.args.args.now.items c.fill.new.args.items c.pop.new.self.items a (vec_len c.fill.new.args) c.pop.ensures.rest (c.in_ok-fill.ensures.args ∙ q) (omega (arith, c.fill.new.args.ok.0));
+      added = each-step c.args.stock.now.bank.now c.args.stock.now.cells.now c.args.head c.args.args.now.items c.push.new.self.items c.args.found.now c.loop-number.found c.fill.new.found (nodes_of c.args.places.now) c.args.numbers.now c.args.rest i (omega (arith, c.loop-number-test.true)) q c.loop-number.invariant.added c.in_ok-fill.ensures.added;
     }
 
-pub fill_each-returns-in-Err-clause-over : goal.fill_each-returns-in-Err-clause-over
-fill_each-returns-in-Err-clause-over t c =
+pub fill_each-returns-in_err-fill-clause-over : goal.fill_each-returns-in_err-fill-clause-over
+fill_each-returns-in_err-fill-clause-over t c =
     let i = c.loop-number.number-index in
     let a = get_or c.args.numbers.now i 0 in
     let q : c.push.new.self.items ≡ c.args.args.now.items ++ a ∷ [] = c.in_ok-push.ensures.items ∙ ap (λ (l : List ℕ). l ++ a ∷ []) c.loop-number.invariant.args in
-    IfTooMany-weaker c.in-Err.fault _ _
+    let p = err_from_is_err_and c.from_residual-in_err-fill.result c.from_residual-in_err-fill.ensures.1 in
+    rw (p.1, p.2) (IfTooMany-weaker _ _ _
     (each-over c.args.stock.now.bank.now c.args.stock.now.cells.now c.args.head c.args.args.now.items c.push.new.self.items c.args.found.now c.loop-number.found c.fill.new.found (nodes_of c.args.places.now) c.args.numbers.now c.args.rest i c.args.stock.now.limit (omega (arith, c.loop-number-test.true)) q c.loop-number.invariant.added)
-    c.in-Err.ensures.over
+    c.in_err-fill.ensures.over)
 
 pub fill_each-returns-clause-added : goal.fill_each-returns-clause-added
 fill_each-returns-clause-added t c =

@@ -1,4 +1,5 @@
 use Rattle.std.proofs.Common.{[], arith}
+use Rattle.std.proofs.lemmas.Result.{err_from_is_err_and}
 use Rattle.cls_enum.specs.CellTables.{cell_of}
 use Rattle.cls_enum.specs.Plans.{plan_terms}
 use Rattle.cls_enum.proofs.CellLaws.{PlansPruned-at}
@@ -12,11 +13,12 @@ find_of-requires-clause-pruned c =
 pub loop-plan-preserved : goal.loop-plan-preserved
 loop-plan-preserved c =
     let ts = c.args.stock.now.bank.now in
-    list-step ts (plan_terms (cell_of ts c.args.stock.now.cells.now) c.args.size) [] c.loop-plan.found c.find_of.new.found c.args.plans.now c.loop-plan.plan-index c.plan-item.result (omega (arith, c.loop-plan-test.true)) c.plan-item.is c.loop-plan.invariant c.in_default.ensures.added
+    list-step ts (plan_terms (cell_of ts c.args.stock.now.cells.now) c.args.size) [] c.loop-plan.found c.find_of.new.found c.args.plans.now c.loop-plan.plan-index c.plan-item.result (omega (arith, c.loop-plan-test.true)) c.plan-item.is c.loop-plan.invariant c.in_ok-find_of.ensures.added
 
-pub returns-in-Err-clause-over : goal.returns-in-Err-clause-over
-returns-in-Err-clause-over c =
+pub returns-in_err-find_of-clause-over : goal.returns-in_err-find_of-clause-over
+returns-in_err-find_of-clause-over c =
     let ts = c.args.stock.now.bank.now in
-    IfTooMany-weaker c.in-Err.fault _ _
+    let p = err_from_is_err_and c.from_residual.result c.from_residual.ensures.1 in
+    rw (p.1, p.2) (IfTooMany-weaker _ _ _
     (list-over ts (plan_terms (cell_of ts c.args.stock.now.cells.now) c.args.size) [] c.loop-plan.found c.find_of.new.found c.args.plans.now c.loop-plan.plan-index c.args.stock.now.limit c.plan-item.result (omega (arith, c.loop-plan-test.true)) c.plan-item.is c.loop-plan.invariant)
-    c.in-Err.ensures.over
+    c.in_err-find_of.ensures.over)

@@ -1,4 +1,5 @@
 use Rattle.std.proofs.Common.{◌≡◌, ℕ, List, [], ap, sym, ◌∙◌, length, arith, get_or, map}
+use Rattle.std.proofs.lemmas.Result.{err_from_is_err_and}
 use Rattle.cls_base.specs.Terms.{Applicative, length_of}
 use Rattle.cls_term.proofs.BankSteps.{AreBelow-at, spine-found}
 use Rattle.cls_term.proofs.Banks.{AreBelow-more}
@@ -44,15 +45,16 @@ loop-number-preserved c =
     let n = get_or c.args.numbers.now c.loop-number.number-index 0 in
     let q = c.in_ok-args.ensures.items_if_clones_equal (λ x y h. h) in
     let e : term_by ts (c.head-head.result, c.in_ok-args.args.items) ≡ at ts n = ap (λ (l : List ℕ). term_by ts (c.head-head.result, l)) q ∙ spine-found ts (at ts n) c.head-head.result c.args-in-loop-number.result.now c.head-head.ensures c.args-in-loop-number.ensures.terms in
-    number-step ts (λ (f : Applicative). fills cell f (nodes_of c.args.places.now) c.args.rest) c.args.found.now c.loop-number.found c.fill.new.found c.args.numbers.now c.loop-number.number-index (term_by ts (c.head-head.result, c.in_ok-args.args.items)) (omega (arith, c.loop-number-test.true)) e c.loop-number.invariant c.in_default.ensures.added
+    number-step ts (λ (f : Applicative). fills cell f (nodes_of c.args.places.now) c.args.rest) c.args.found.now c.loop-number.found c.fill.new.found c.args.numbers.now c.loop-number.number-index (term_by ts (c.head-head.result, c.in_ok-args.args.items)) (omega (arith, c.loop-number-test.true)) e c.loop-number.invariant c.in_ok-fill.ensures.added
 
-pub returns-in-Err-clause-over : goal.returns-in-Err-clause-over
-returns-in-Err-clause-over c =
+pub returns-in_err-fill-clause-over : goal.returns-in_err-fill-clause-over
+returns-in_err-fill-clause-over c =
     let ts = c.args.stock.now.bank.now in
     let cell = cell_of ts c.args.stock.now.cells.now in
     let n = get_or c.args.numbers.now c.loop-number.number-index 0 in
     let q = c.in_ok-args.ensures.items_if_clones_equal (λ x y h. h) in
     let e : term_by ts (c.head-head.result, c.in_ok-args.args.items) ≡ at ts n = ap (λ (l : List ℕ). term_by ts (c.head-head.result, l)) q ∙ spine-found ts (at ts n) c.head-head.result c.args-in-loop-number.result.now c.head-head.ensures c.args-in-loop-number.ensures.terms in
-    IfTooMany-weaker c.in-Err.fault _ _
+    let p = err_from_is_err_and c.from_residual-in_err-fill.result c.from_residual-in_err-fill.ensures.1 in
+    rw (p.1, p.2) (IfTooMany-weaker _ _ _
     (number-over ts (λ (f : Applicative). fills cell f (nodes_of c.args.places.now) c.args.rest) c.args.found.now c.loop-number.found c.fill.new.found c.args.numbers.now c.loop-number.number-index c.args.stock.now.limit (term_by ts (c.head-head.result, c.in_ok-args.args.items)) (omega (arith, c.loop-number-test.true)) e c.loop-number.invariant)
-    c.in-Err.ensures.over
+    c.in_err-fill.ensures.over)

@@ -1,4 +1,5 @@
 use Rattle.std.proofs.Common.{◌≡◌, ◌+◌, ℕ, List, map, arith, subst, ap, ◌∙◌, inl}
+use Rattle.std.proofs.lemmas.Result.{err_from_is_err_and}
 use Rattle.cls_base.specs.Rules as rules
 use Rattle.cls_enum.specs.Faults.{IfTooMany}
 use Rattle.cls_enum.specs.States.{IsKept, IsOver, IsTooMuch, IsState}
@@ -23,30 +24,32 @@ loop-size-init c =
       ready = c.requires.ready;
     }
 
-pub returns-in-Err-clause-over : goal.returns-in-Err-clause-over
-returns-in-Err-clause-over c =
+pub returns-in_err-make_node-clause-over : goal.returns-in_err-make_node-clause-over
+returns-in_err-make_node-clause-over c =
     let book = book_of c.args.plans.items in
     let r = asked_request c.args.asked.now in
     let e = ap book_of c.as_slice-rules.ensures.value ∙ c.loop-size.invariant.book in
     let due = c.loop-size.shelf.due.items in
     let ts = c.loop-size.shelf.bank in
     let few = few-before book r c.loop-size.size c.loop-size.invariant.kept.pairs (map (at ts) due) c.loop-size.invariant.kept.state (omega (arith, length-map due (at ts), c.loop-size.invariant.few)) in
-    IfTooMany-weaker c.in-Err.fault _ _
+    let p = err_from_is_err_and c.from_residual.result c.from_residual.ensures.1 in
+    rw (p.1, p.2) (IfTooMany-weaker _ _ _
     (λ h. over-at book r c.loop-size.size c.args.asked.now.pool (subst (λ (x : List (List (rules.Rule ℕ))). IsTooMuch x r c.loop-size.size 1 c.args.asked.now.pool) e h) (omega (arith, c.loop-size-test.true)) few)
-    c.in-Err.ensures.over
+    c.in_err-make_node.ensures.over)
 
-pub returns-in-Err-make_others-clause-over : goal.returns-in-Err-make_others-clause-over
-returns-in-Err-make_others-clause-over c =
+pub returns-in_err-make_others-clause-over : goal.returns-in_err-make_others-clause-over
+returns-in_err-make_others-clause-over c =
     let book = book_of c.args.plans.items in
     let r = asked_request c.args.asked.now in
     let e = ap book_of c.as_slice-rules.ensures.value ∙ c.loop-size.invariant.book in
     let shelf = c.make_node.new.shelf in
     let due = shelf.due.items in
-    let kept : IsKept book r c.loop-size.size 1 shelf.bank shelf.cells due shelf.total = subst (λ (x : List (List (rules.Rule ℕ))). IsKept x r c.loop-size.size 1 shelf.bank shelf.cells due shelf.total) e c.in_default.ensures.kept in
+    let kept : IsKept book r c.loop-size.size 1 shelf.bank shelf.cells due shelf.total = subst (λ (x : List (List (rules.Rule ℕ))). IsKept x r c.loop-size.size 1 shelf.bank shelf.cells due shelf.total) e c.in_ok-make_node.ensures.kept in
     let few = few-upto book r c.loop-size.size kept.pairs (map (at shelf.bank) due) kept.state (omega (arith, length-map due (at shelf.bank), c.if-len-asked.false, c.len.ensures, shelf.due.ok.0)) in
-    IfTooMany-weaker c.in-Err-make_others.fault _ _
+    let p = err_from_is_err_and c.from_residual-in_err-make_others.result c.from_residual-in_err-make_others.ensures.1 in
+    rw (p.1, p.2) (IfTooMany-weaker _ _ _
     (λ h. over-next book r c.loop-size.size c.args.asked.now.pool (subst (λ (x : List (List (rules.Rule ℕ))). IsTooMuch x r (c.loop-size.size + 1) 0 c.args.asked.now.pool) e h) (omega (arith, c.loop-size-test.true)) few)
-    c.in-Err-make_others.ensures.over
+    c.in_err-make_others.ensures.over)
 
 pub loop-size-preserved : goal.loop-size-preserved
 loop-size-preserved c =
@@ -54,11 +57,11 @@ loop-size-preserved c =
     let r = asked_request c.args.asked.now in
     let e = ap book_of c.as_slice-rules.ensures.value ∙ c.loop-size.invariant.book in
     let shelf = c.make_others.new.shelf in
-    let kept : IsKept book r (c.loop-size.size + 1) 0 shelf.bank shelf.cells shelf.due.items shelf.total = subst (λ (x : List (List (rules.Rule ℕ))). IsKept x r (c.loop-size.size + 1) 0 shelf.bank shelf.cells shelf.due.items shelf.total) e c.in_default-make_others.ensures.kept in
+    let kept : IsKept book r (c.loop-size.size + 1) 0 shelf.bank shelf.cells shelf.due.items shelf.total = subst (λ (x : List (List (rules.Rule ℕ))). IsKept x r (c.loop-size.size + 1) 0 shelf.bank shelf.cells shelf.due.items shelf.total) e c.in_ok-make_others.ensures.kept in
     record {
       kept = kept;
-      within = c.in_default-make_others.ensures.within;
-      few = omega (arith, c.if-len-asked.false, c.len.ensures, c.make_node.new.shelf.due.ok.0, c.in_default-make_others.ensures.same);
+      within = c.in_ok-make_others.ensures.within;
+      few = omega (arith, c.if-len-asked.false, c.len.ensures, c.make_node.new.shelf.due.ok.0, c.in_ok-make_others.ensures.same);
       book = c.in_ok-current.ensures.book ∙ c.loop-size.invariant.book;
       ready = c.in_ok-current.ensures.ready book r.cost (λ t l n x m. (kept.exact t n (inl (omega (arith, l))) x).1 m) c.loop-size.invariant.ready;
     }

@@ -23,7 +23,7 @@ returns-clause-page c =
     let r = asked_request c.args.asked.now in
     let ts = c.collect.new.shelf.bank in
     let due = c.collect.new.shelf.due.items in
-    let d = c.in_default.ensures.done in
+    let d = c.in_ok-collect.ensures.done in
     let decides : (r.take < length (map (at ts) due)) ⊎ (d.size ≡ r.max) = elim d.decides [ inl l ↦ inl (omega (arith, length-map due (at ts))) | inr p ↦ inr p ] in
     let h = page-is book r d.size d.pairs (map (at ts) due) d.state (omega (arith, c.requires.taken)) d.within_max decides in
     let t : c.in_ok-first_due.field-0.terms ≡ take r.take (map (at ts) due) = c.in_ok-first_due.ensures.terms ∙ ap (λ (ns : List ℕ). take r.take (map (at ts) ns)) c.as_slice.ensures.value in
@@ -37,6 +37,6 @@ returns-clause-within c =
     let r = asked_request c.args.asked.now in
     let ts = c.collect.new.shelf.bank in
     let due = c.collect.new.shelf.due.items in
-    let d = c.in_default.ensures.done in
+    let d = c.in_ok-collect.ensures.done in
     let decides : (r.take < length (map (at ts) due)) ⊎ (d.size ≡ r.max) = elim d.decides [ inl l ↦ inl (omega (arith, length-map due (at ts))) | inr p ↦ inr p ] in
     within-at book r d.size c.args.asked.now.pool d.pairs (map (at ts) due) d.state d.within_pool decides

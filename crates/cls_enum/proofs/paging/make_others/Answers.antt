@@ -1,6 +1,7 @@
 use Rattle.std.proofs.Common.{◌+◌, List, map, arith}
 use Rattle.std.specs.Prelude.{option_copied}
 use Rattle.std.proofs.lemmas.List.{length-map}
+use Rattle.std.proofs.lemmas.Result.{err_from_is_err_and}
 use Rattle.cls_enum.specs.Plans.{book_of, rule_of}
 use Rattle.cls_enum.specs.Asking.{asked_request}
 use Rattle.cls_enum.specs.declared.plan.Plan.{Plan}
@@ -9,11 +10,12 @@ use Rattle.cls_enum.proofs.StateLaws.{too_much-next}
 use Rattle.cls_enum.proofs.StateSteps.{kept-next}
 use Rattle.cls_enum.proofs.paging.make_others.Goals as goal
 
-pub returns-in-Err-clause-over : goal.returns-in-Err-clause-over
-returns-in-Err-clause-over c =
-    IfTooMany-weaker c.in-Err.fault _ _
+pub returns-in_err-make_node-clause-over : goal.returns-in_err-make_node-clause-over
+returns-in_err-make_node-clause-over c =
+    let p = err_from_is_err_and c.from_residual.result c.from_residual.ensures.1 in
+    rw (p.1, p.2) (IfTooMany-weaker _ _ _
     (too_much-next (book_of c.args.plans.now) (asked_request c.args.asked.now) c.args.size (c.loop-node.node + 1) c.args.asked.now.pool)
-    c.in-Err.ensures.over
+    c.in_err-make_node.ensures.over)
 
 pub returns-clause-kept : goal.returns-clause-kept
 returns-clause-kept c =
