@@ -28,45 +28,39 @@ popped xs new rest a n p q l =
     let m : n - 1 ≡ length xs = omega (arith, ap length q, length-append xs (a ∷ [])) in
     p ∙ (λ i. take (m i) (q i)) ∙ take-append_seam xs (a ∷ [])
 
-module _ (ts : List Applicative) (cells : ℕ × List (List ℕ)) (x : ℕ) (args args' : List ℕ) (old mid new : List (ℕ × List ℕ)) where
-  abbrev pub each : List ℕ → ℕ → Applicative → List Applicative
-  each ns rest a = fills (cell_of ts cells) (apply (term_by ts (x, args)) a) ns rest
-
+module _ (ts : List Applicative) (cells : ℕ × List (List ℕ)) (u u' : Applicative) (old mid new : List (ℕ × List ℕ)) where
   abbrev pub at_size : ℕ → List ℕ → ℕ → ℕ → List Applicative
-  at_size n ns rest t = flat_map (λ a. fills (cell_of ts cells) (apply (term_by ts (x, args)) a) ns (rest - t)) (cell_of ts cells t n)
+  at_size n ns rest t = flat_map (λ a. fills (cell_of ts cells) (apply u a) ns (rest - t)) (cell_of ts cells t n)
 
-  next_term : (a : ℕ) → args' ≡ args ++ a ∷ [] → term_by ts (x, args') ≡ apply (term_by ts (x, args)) (at ts a)
-  next_term a p = ap (λ (l : List ℕ). term_by ts (x, l)) p ∙ term_by-push ts x args a
-
-  pub each-step : (ns numbers : List ℕ) (rest i : ℕ) → i < length numbers → args' ≡ args ++ get_or numbers i 0 ∷ [] → IsAdded ts old (flat_map (λ a. fills (cell_of ts cells) (apply (term_by ts (x, args)) a) ns rest) (map (at ts) (take i numbers))) mid → IsAdded ts mid (fills (cell_of ts cells) (term_by ts (x, args')) ns rest) new → IsAdded ts old (flat_map (λ a. fills (cell_of ts cells) (apply (term_by ts (x, args)) a) ns rest) (map (at ts) (take (i + 1) numbers))) new
+  pub each-step : (ns numbers : List ℕ) (rest i : ℕ) → i < length numbers → u' ≡ apply u (at ts (get_or numbers i 0)) → IsAdded ts old (flat_map (λ a. fills (cell_of ts cells) (apply u a) ns rest) (map (at ts) (take i numbers))) mid → IsAdded ts mid (fills (cell_of ts cells) u' ns rest) new → IsAdded ts old (flat_map (λ a. fills (cell_of ts cells) (apply u a) ns rest) (map (at ts) (take (i + 1) numbers))) new
   each-step ns numbers rest i l p h k =
-      let f = fills (cell_of ts cells) (term_by ts (x, args')) ns rest in
-      let g : Applicative → List Applicative = λ a. fills (cell_of ts cells) (apply (term_by ts (x, args)) a) ns rest in
-      let e : f ≡ g (at ts (get_or numbers i 0)) = ap (λ (t : Applicative). fills (cell_of ts cells) t ns rest) (next_term (get_or numbers i 0) p) in
+      let f = fills (cell_of ts cells) u' ns rest in
+      let g : Applicative → List Applicative = λ a. fills (cell_of ts cells) (apply u a) ns rest in
+      let e : f ≡ g (at ts (get_or numbers i 0)) = ap (λ (t : Applicative). fills (cell_of ts cells) t ns rest) p in
       IsAdded-same ts old new (flat_map g (map (at ts) (take i numbers)) ++ g (at ts (get_or numbers i 0))) (flat_map g (map (at ts) (take (i + 1) numbers))) (sym (flat_map-next ts g numbers i l))
       (IsAdded-append ts old mid new (flat_map g (map (at ts) (take i numbers))) (g (at ts (get_or numbers i 0))) h (IsAdded-same ts mid new f (g (at ts (get_or numbers i 0))) e k))
 
-  pub each-over : (ns numbers : List ℕ) (rest i limit : ℕ) → i < length numbers → args' ≡ args ++ get_or numbers i 0 ∷ [] → IsAdded ts old (flat_map (λ a. fills (cell_of ts cells) (apply (term_by ts (x, args)) a) ns rest) (map (at ts) (take i numbers))) mid → IsOverfull limit (map (term_by ts) mid) (fills (cell_of ts cells) (term_by ts (x, args')) ns rest) → IsOverfull limit (map (term_by ts) old) (flat_map (λ a. fills (cell_of ts cells) (apply (term_by ts (x, args)) a) ns rest) (map (at ts) numbers))
+  pub each-over : (ns numbers : List ℕ) (rest i limit : ℕ) → i < length numbers → u' ≡ apply u (at ts (get_or numbers i 0)) → IsAdded ts old (flat_map (λ a. fills (cell_of ts cells) (apply u a) ns rest) (map (at ts) (take i numbers))) mid → IsOverfull limit (map (term_by ts) mid) (fills (cell_of ts cells) u' ns rest) → IsOverfull limit (map (term_by ts) old) (flat_map (λ a. fills (cell_of ts cells) (apply u a) ns rest) (map (at ts) numbers))
   each-over ns numbers rest i limit l p h k =
-      let f = fills (cell_of ts cells) (term_by ts (x, args')) ns rest in
-      let g : Applicative → List Applicative = λ a. fills (cell_of ts cells) (apply (term_by ts (x, args)) a) ns rest in
-      let e : f ≡ g (at ts (get_or numbers i 0)) = ap (λ (t : Applicative). fills (cell_of ts cells) t ns rest) (next_term (get_or numbers i 0) p) in
+      let f = fills (cell_of ts cells) u' ns rest in
+      let g : Applicative → List Applicative = λ a. fills (cell_of ts cells) (apply u a) ns rest in
+      let e : f ≡ g (at ts (get_or numbers i 0)) = ap (λ (t : Applicative). fills (cell_of ts cells) t ns rest) p in
       IsOverfull-within ts limit old mid (flat_map g (map (at ts) (take i numbers))) f (flat_map g (map (at ts) numbers)) h
       (λ z j. let r = in_flat_map g (map (at ts) (take i numbers)) z j in flat_map_in g (map (at ts) numbers) z r.0 (take_in ts numbers i r.0 r.1) r.2)
       (λ z j. let P : List Applicative → Type 0 = λ zs. IsIn zs z in flat_map_in g (map (at ts) numbers) z (at ts (get_or numbers i 0)) (at_in ts numbers i l) (subst P e j))
       k
 
-  pub size-step : (n : ℕ) (ns numbers : List ℕ) (rest t : ℕ) → args' ≡ args → numbers ≡ cell_at cells t n → IsAdded ts old (over t (at_size n ns rest)) mid → IsAdded ts mid (flat_map (λ a. fills (cell_of ts cells) (apply (term_by ts (x, args')) a) ns (rest - t)) (map (at ts) numbers)) new → IsAdded ts old (over (t + 1) (at_size n ns rest)) new
+  pub size-step : (n : ℕ) (ns numbers : List ℕ) (rest t : ℕ) → u' ≡ u → numbers ≡ cell_at cells t n → IsAdded ts old (over t (at_size n ns rest)) mid → IsAdded ts mid (flat_map (λ a. fills (cell_of ts cells) (apply u' a) ns (rest - t)) (map (at ts) numbers)) new → IsAdded ts old (over (t + 1) (at_size n ns rest)) new
   size-step n ns numbers rest t p q h k =
-      let e : flat_map (λ a. fills (cell_of ts cells) (apply (term_by ts (x, args')) a) ns (rest - t)) (map (at ts) numbers) ≡ at_size n ns rest t =
-      λ i. flat_map (λ a. fills (cell_of ts cells) (apply (term_by ts (x, p i)) a) ns (rest - t)) (map (at ts) (q i)) in
+      let e : flat_map (λ a. fills (cell_of ts cells) (apply u' a) ns (rest - t)) (map (at ts) numbers) ≡ at_size n ns rest t =
+      λ i. flat_map (λ a. fills (cell_of ts cells) (apply (p i) a) ns (rest - t)) (map (at ts) (q i)) in
       IsAdded-same ts old new (over t (at_size n ns rest) ++ at_size n ns rest t) (over (t + 1) (at_size n ns rest)) (sym (over-next t (at_size n ns rest)))
       (IsAdded-append ts old mid new (over t (at_size n ns rest)) (at_size n ns rest t) h (IsAdded-same ts mid new _ (at_size n ns rest t) e k))
 
-  pub size-over : (n : ℕ) (ns numbers : List ℕ) (rest t limit : ℕ) → t < rest + 1 → args' ≡ args → numbers ≡ cell_at cells t n → IsAdded ts old (over t (at_size n ns rest)) mid → IsOverfull limit (map (term_by ts) mid) (flat_map (λ a. fills (cell_of ts cells) (apply (term_by ts (x, args')) a) ns (rest - t)) (map (at ts) numbers)) → IsOverfull limit (map (term_by ts) old) (over (rest + 1) (at_size n ns rest))
+  pub size-over : (n : ℕ) (ns numbers : List ℕ) (rest t limit : ℕ) → t < rest + 1 → u' ≡ u → numbers ≡ cell_at cells t n → IsAdded ts old (over t (at_size n ns rest)) mid → IsOverfull limit (map (term_by ts) mid) (flat_map (λ a. fills (cell_of ts cells) (apply u' a) ns (rest - t)) (map (at ts) numbers)) → IsOverfull limit (map (term_by ts) old) (over (rest + 1) (at_size n ns rest))
   size-over n ns numbers rest t limit l p q h k =
-      let f = flat_map (λ a. fills (cell_of ts cells) (apply (term_by ts (x, args')) a) ns (rest - t)) (map (at ts) numbers) in
-      let e : f ≡ at_size n ns rest t = λ i. flat_map (λ a. fills (cell_of ts cells) (apply (term_by ts (x, p i)) a) ns (rest - t)) (map (at ts) (q i)) in
+      let f = flat_map (λ a. fills (cell_of ts cells) (apply u' a) ns (rest - t)) (map (at ts) numbers) in
+      let e : f ≡ at_size n ns rest t = λ i. flat_map (λ a. fills (cell_of ts cells) (apply (p i) a) ns (rest - t)) (map (at ts) (q i)) in
       IsOverfull-within ts limit old mid (over t (at_size n ns rest)) f (over (rest + 1) (at_size n ns rest)) h
       (λ z j. let r = in_over t (at_size n ns rest) z j in over_in (rest + 1) (at_size n ns rest) z r.0 (omega (arith, r.1)) r.2)
       (λ z j. let P : List Applicative → Type 0 = λ zs. IsIn zs z in over_in (rest + 1) (at_size n ns rest) z t l (subst P e j))
@@ -76,7 +70,7 @@ module _ (ts : List Applicative) (cells : ℕ × List (List ℕ)) (x : ℕ) (arg
   pub first-size : (n : ℕ) (others : List Place) (rest first : ℕ) → ((length others ≡ 0) × (first ≡ rest)) ⊎ (first ≡ 0) → over first (at_size n (nodes_of others) rest) ≡ []
   first-size n others rest first (inr p) = ap (λ (m : ℕ). over m (at_size n (nodes_of others) rest)) p
   first-size n [] rest first (inl (l, p)) =
-      ap (λ (m : ℕ). over m (at_size n [] rest)) p ∙ over-none rest (at_size n [] rest) (λ t m. last-barren (cell_of ts cells) (term_by ts (x, args)) rest t (cell_of ts cells t n) m)
+      ap (λ (m : ℕ). over m (at_size n [] rest)) p ∙ over-none rest (at_size n [] rest) (λ t m. last-barren (cell_of ts cells) u rest t (cell_of ts cells t n) m)
   first-size n (o ∷ others) rest first (inl (l, p)) = absurd (omega arith)
 
 -- a loop over a list, whose elements each give terms

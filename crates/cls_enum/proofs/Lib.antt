@@ -1,4 +1,5 @@
 pub mod Additions
+pub mod Beginnings
 pub mod BoundLaws
 pub mod CellLaws
 pub mod Counting

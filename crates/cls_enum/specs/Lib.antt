@@ -1,4 +1,5 @@
 pub mod Asking
+pub mod Begins
 pub mod BelowFacts
 pub mod Candidates
 pub mod CellTables

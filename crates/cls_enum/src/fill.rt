@@ -2,6 +2,7 @@ ghost use Rattle.std.specs.Prelude.{◌≡◌, ℕ, ◌+◌, ◌<◌, ◌≤◌,
 ghost use Rattle.std.specs.List.{flat_map};
 ghost use Rattle.cls_base.specs.Terms.{apply, length_of};
 ghost use Rattle.cls_term.specs.Banks.{at, term_by, AreBelow};
+ghost use Rattle.cls_enum.specs.Begins.{begun_term, IsAsBefore, IsBegun};
 ghost use Rattle.cls_enum.specs.Candidates.{fills};
 ghost use Rattle.cls_enum.specs.Faults.{IfTooMany};
 ghost use Rattle.cls_enum.specs.Members.{AreFound, IsAdded, IsOverfull};
@@ -9,6 +10,7 @@ ghost use Rattle.cls_enum.specs.Plans.{nodes_of, ArePruned};
 ghost use Rattle.cls_enum.specs.Stocks.{stocked};
 
 use crate::PageFault;
+use crate::begun::Begun;
 use crate::plan::{Place, is_barren};
 use crate::stock::Stock;
 use cls_term::SpineSet;
@@ -19,43 +21,30 @@ use std::alloc::Global;
 pub(crate) fn fill(
     alloc: Global,
     stock: &Stock,
-    head: u32,
-    args: &mut Vec<u32>,
-    occurrences: u64,
+    begun: &mut Begun,
     places: &[Place],
     rest: u32,
     found: &mut SpineSet,
 ) -> Result<(), PageFault>
-    requires args { AreBelow (length stock.now.bank.now) args.old.items }
-    requires occurrences { occurrences ≡ length_of (term_by stock.now.bank.now (head, args.old.items)) }
-    requires room { occurrences < 2 ^ 34 }
+    requires begun { IsBegun stock.now.bank.now begun.old }
+    requires room { begun.old.occurrences < 2 ^ 34 }
     requires small { rest < 2 ^ 31 }
     requires pruned { ArePruned (stocked stock.now) places.now }
     requires found { AreFound stock.now.bank.now found.old }
-    ensures added { IfOk result (λ _. IsAdded stock.now.bank.now found.old (fills (stocked stock.now) (term_by stock.now.bank.now (head, args.old.items)) (nodes_of places.now) rest) found.new) }
-    ensures args { IfOk result (λ _. args.new.items ≡ args.old.items) }
-    ensures over { IfErr result (λ fault. IfTooMany fault (IsOverfull stock.now.limit (map (term_by stock.now.bank.now) found.old) (fills (stocked stock.now) (term_by stock.now.bank.now (head, args.old.items)) (nodes_of places.now) rest))) }
+    ensures added { IfOk result (λ _. IsAdded stock.now.bank.now found.old (fills (stocked stock.now) (begun_term stock.now.bank.now begun.old) (nodes_of places.now) rest) found.new) }
+    ensures same { IfOk result (λ _. IsAsBefore begun.old begun.new) }
+    ensures over { IfErr result (λ fault. IfTooMany fault (IsOverfull stock.now.limit (map (term_by stock.now.bank.now) found.old) (fills (stocked stock.now) (begun_term stock.now.bank.now begun.old) (nodes_of places.now) rest))) }
 {
-    if is_barren(places, rest, occurrences) {
+    if is_barren(places, rest, begun.occurrences) {
         return Ok(());
     }
     let Some((place, others)) = places.split_first() else {
-        return add(alloc, stock, head, args.as_slice(), found);
+        return add(alloc, stock, begun.head, begun.args.as_slice(), found);
     };
     let first = if others.is_empty() { rest } else { 0 };
     for size in first..rest + 1 {
         let numbers = stock.cells.get(size, place.node);
-        fill_each(
-            alloc,
-            stock,
-            head,
-            args,
-            occurrences,
-            numbers,
-            others,
-            rest - size,
-            found,
-        )?;
+        fill_each(alloc, stock, begun, numbers, others, rest - size, found)?;
     }
     Ok(())
 }
@@ -65,42 +54,32 @@ pub(crate) fn fill(
 fn fill_each(
     alloc: Global,
     stock: &Stock,
-    head: u32,
-    args: &mut Vec<u32>,
-    occurrences: u64,
+    begun: &mut Begun,
     numbers: &[u32],
     places: &[Place],
     rest: u32,
     found: &mut SpineSet,
 ) -> Result<(), PageFault>
     requires numbers { AreBelow (length stock.now.bank.now) numbers.now }
-    requires args { AreBelow (length stock.now.bank.now) args.old.items }
-    requires occurrences { occurrences ≡ length_of (term_by stock.now.bank.now (head, args.old.items)) }
-    requires room { occurrences < 2 ^ 33 }
+    requires begun { IsBegun stock.now.bank.now begun.old }
+    requires room { begun.old.occurrences < 2 ^ 33 }
     requires small { rest < 2 ^ 31 }
     requires pruned { ArePruned (stocked stock.now) places.now }
     requires found { AreFound stock.now.bank.now found.old }
-    ensures added { IfOk result (λ _. IsAdded stock.now.bank.now found.old (flat_map (λ a. fills (stocked stock.now) (apply (term_by stock.now.bank.now (head, args.old.items)) a) (nodes_of places.now) rest) (map (at stock.now.bank.now) numbers.now)) found.new) }
-    ensures args { IfOk result (λ _. args.new.items ≡ args.old.items) }
-    ensures over { IfErr result (λ fault. IfTooMany fault (IsOverfull stock.now.limit (map (term_by stock.now.bank.now) found.old) (flat_map (λ a. fills (stocked stock.now) (apply (term_by stock.now.bank.now (head, args.old.items)) a) (nodes_of places.now) rest) (map (at stock.now.bank.now) numbers.now)))) }
+    ensures added { IfOk result (λ _. IsAdded stock.now.bank.now found.old (flat_map (λ a. fills (stocked stock.now) (apply (begun_term stock.now.bank.now begun.old) a) (nodes_of places.now) rest) (map (at stock.now.bank.now) numbers.now)) found.new) }
+    ensures same { IfOk result (λ _. IsAsBefore begun.old begun.new) }
+    ensures over { IfErr result (λ fault. IfTooMany fault (IsOverfull stock.now.limit (map (term_by stock.now.bank.now) found.old) (flat_map (λ a. fills (stocked stock.now) (apply (begun_term stock.now.bank.now begun.old) a) (nodes_of places.now) rest) (map (at stock.now.bank.now) numbers.now)))) }
 {
-    if is_barren(places, rest, occurrences + 1) {
+    if is_barren(places, rest, begun.occurrences + 1) {
         return Ok(());
     }
     for number in numbers {
-        let more = stock.bank.length(*number);
-        args.push(*number)?;
-        fill(
-            alloc,
-            stock,
-            head,
-            args,
-            occurrences + u64::from(more),
-            places,
-            rest,
-            found,
-        )?;
-        args.pop();
+        let more = u64::from(stock.bank.length(*number));
+        begun.args.push(*number)?;
+        begun.occurrences += more;
+        fill(alloc, stock, begun, places, rest, found)?;
+        begun.args.pop();
+        begun.occurrences -= more;
     }
     Ok(())
 }

@@ -9,6 +9,7 @@ ghost use Rattle.cls_enum.specs.Plans.{nodes_of, places_of, ArePruned, PlansPrun
 ghost use Rattle.cls_enum.specs.Stocks.{stocked};
 
 use crate::PageFault;
+use crate::begun::Begun;
 use crate::fill::fill;
 use crate::plan::{Place, Plan, is_barren};
 use crate::stock::Stock;
@@ -75,8 +76,8 @@ fn find_applied_head(
     ensures added { IfOk result (λ _. IsAdded stock.now.bank.now found.old (fills (stocked stock.now) (component head) (nodes_of places.now) rest) found.new) }
     ensures over { IfErr result (λ fault. IfTooMany fault (IsOverfull stock.now.limit (map (term_by stock.now.bank.now) found.old) (fills (stocked stock.now) (component head) (nodes_of places.now) rest))) }
 {
-    let mut args = Vec::new(alloc);
-    fill(alloc, stock, head, &mut args, 1, places, rest, found)
+    let mut begun = Begun::from_head(alloc, head);
+    fill(alloc, stock, &mut begun, places, rest, found)
 }
 
 /// The terms of a node of all smaller sizes, each applied to terms at the places.
@@ -121,19 +122,8 @@ fn find_applied(
         return Ok(());
     }
     for number in numbers {
-        let length = stock.bank.length(*number);
-        let head = stock.bank.head(*number);
-        let mut args = stock.bank.args(*number).to_vec(alloc)?;
-        fill(
-            alloc,
-            stock,
-            head,
-            &mut args,
-            u64::from(length),
-            places,
-            rest,
-            found,
-        )?;
+        let mut begun = Begun::from_term(alloc, stock.bank, *number)?;
+        fill(alloc, stock, &mut begun, places, rest, found)?;
     }
     Ok(())
 }

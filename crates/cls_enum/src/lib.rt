@@ -9,6 +9,7 @@
 #![tactic(auto)]
 
 mod asked;
+mod begun;
 mod bounds;
 mod cells;
 mod due;
