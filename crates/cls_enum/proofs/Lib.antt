@@ -5,6 +5,7 @@ pub mod CellLaws
 pub mod Counting
 pub mod Existence
 pub mod FillSteps
+pub mod HandSteps
 pub mod Members
 pub mod PageLaws
 pub mod Planning
