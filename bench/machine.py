@@ -179,7 +179,8 @@ def main():
     parser.add_argument("--goals", type=int, default=20_000)
     options = parser.parse_args()
     with tempfile.TemporaryDirectory() as folder:
-        program = build(folder, "bench_machine", CRATES, PROGRAM, specs={"Lib": "pub mod Nodes\npub mod Rings\n", "Nodes": NODES, "Rings": RINGS})
+        specs = {"specs/Lib.antt": "pub mod Nodes\npub mod Rings\n", "specs/Nodes.antt": NODES, "specs/Rings.antt": RINGS}
+        program = build(folder, "bench_machine", CRATES, PROGRAM, files=specs)
         for workers in (1, 2, 4):
             results = [run(program, options.goals, workers) for _ in range(options.runs)]
             print("%d goals, workers: %d, %.1f ms at best, %.1f ms at most, %.1f MiB" % (

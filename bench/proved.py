@@ -12,8 +12,9 @@ def dependencies():
         return {name: names.split() for name, names in (line.split(":") for line in file if ":" in line)}
 
 
-def build(folder, name, crates, source, proof=None, specs=None):
-    """The path of the program with this source over these crates, lowest first, with this proof of its `main` and these specs."""
+def build(folder, name, crates, source, proof=None, files=None):
+    """The path of the program with this source over these crates, lowest first, with this proof of its `main`, and with further
+    files by their paths in its folder."""
     stands_on = dependencies()
     program = os.path.join(folder, "crates", name)
     os.makedirs(os.path.join(program, "src"))
@@ -30,9 +31,9 @@ def build(folder, name, crates, source, proof=None, specs=None):
         os.makedirs(os.path.join(program, "proofs/main"))
         with open(os.path.join(program, "proofs/main/Answers.antt"), "w") as file:
             file.write(proof)
-    for module, text in (specs or {}).items():
-        os.makedirs(os.path.join(program, "specs"), exist_ok=True)
-        with open(os.path.join(program, "specs", module + ".antt"), "w") as file:
+    for path, text in (files or {}).items():
+        os.makedirs(os.path.dirname(os.path.join(program, path)), exist_ok=True)
+        with open(os.path.join(program, path), "w") as file:
             file.write(text)
     open(os.path.join(program, "stdin"), "w").close()
     subprocess.run(["rt", "run"], cwd=program, check=True, stdout=subprocess.DEVNULL)

@@ -1,12 +1,20 @@
 use super::hand_book::{HandBook, node};
+use cls_core::Rules;
 use std::alloc::Global;
 use std::test::Fail;
+
+fn made(nodes: Vec<Rules<u32>>) -> Result<HandBook, Fail> {
+    match HandBook::new(nodes) {
+        Some(book) => Ok(book),
+        None => Err(Fail::new("an argument is no node of the book")),
+    }
+}
 
 /// Node 0 has x, f and g over itself, which are the components 0, 1 and 2.
 pub(crate) fn two_functions(alloc: Global) -> Result<HandBook, Fail> {
     let mut nodes = Vec::new(alloc);
     nodes.push(node(alloc, &[(0, &[]), (1, &[0]), (2, &[0])])?)?;
-    HandBook::new(nodes)
+    made(nodes)
 }
 
 /// Node 0 has component 0 over node 1 and over node 2, which have component 1 each.
@@ -15,7 +23,7 @@ pub(crate) fn one_term_twice(alloc: Global) -> Result<HandBook, Fail> {
     nodes.push(node(alloc, &[(0, &[1]), (0, &[2])])?)?;
     nodes.push(node(alloc, &[(1, &[])])?)?;
     nodes.push(node(alloc, &[(1, &[])])?)?;
-    HandBook::new(nodes)
+    made(nodes)
 }
 
 /// Node 0 has component 0 over node 1, which has component 0 over itself alone, and component 1 over node 2, which has
@@ -25,7 +33,7 @@ pub(crate) fn two_cycles(alloc: Global) -> Result<HandBook, Fail> {
     nodes.push(node(alloc, &[(0, &[1]), (1, &[2])])?)?;
     nodes.push(node(alloc, &[(0, &[1])])?)?;
     nodes.push(node(alloc, &[(2, &[]), (0, &[2])])?)?;
-    HandBook::new(nodes)
+    made(nodes)
 }
 
 /// Node 0 has component 0 over node 1, which has no rule, and component 1.
@@ -33,14 +41,14 @@ pub(crate) fn an_empty_node(alloc: Global) -> Result<HandBook, Fail> {
     let mut nodes = Vec::new(alloc);
     nodes.push(node(alloc, &[(0, &[1]), (1, &[])])?)?;
     nodes.push(node(alloc, &[])?)?;
-    HandBook::new(nodes)
+    made(nodes)
 }
 
 /// Node 0 has component 0, and component 0 over itself.
 pub(crate) fn one_chain(alloc: Global) -> Result<HandBook, Fail> {
     let mut nodes = Vec::new(alloc);
     nodes.push(node(alloc, &[(0, &[]), (0, &[0])])?)?;
-    HandBook::new(nodes)
+    made(nodes)
 }
 
 /// Node 0 has component 0 over 32 terms of node 1, which has component 1 over itself and over component 2.
@@ -49,5 +57,5 @@ pub(crate) fn a_wide_rule(alloc: Global) -> Result<HandBook, Fail> {
     nodes.push(node(alloc, &[(0, &[1; 32])])?)?;
     nodes.push(node(alloc, &[(1, &[1]), (1, &[2])])?)?;
     nodes.push(node(alloc, &[(2, &[])])?)?;
-    HandBook::new(nodes)
+    made(nodes)
 }
