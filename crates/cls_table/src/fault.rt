@@ -1,3 +1,6 @@
+ghost use Rattle.std.specs.Prelude.{◌≡◌};
+ghost use Rattle.cls_table.specs.declared.fault.ExpandFault.TheVariants.{OutOfMemory as WantsMemory};
+
 use cls_base::OutOfMemory;
 
 /// Why a closure isn't there.
@@ -10,6 +13,8 @@ pub enum ExpandFault {
 }
 
 impl From<OutOfMemory> for ExpandFault {
+    ghost from_gives = { λ _ fault. fault ≡ WantsMemory };
+
     fn from(_fault: OutOfMemory) -> ExpandFault {
         ExpandFault::OutOfMemory
     }
