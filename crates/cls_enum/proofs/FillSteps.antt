@@ -16,7 +16,7 @@ use Rattle.cls_enum.specs.declared.fault.PageFault.{PageFault}
 use Rattle.cls_enum.specs.declared.fault.PageFault.TheVariants.{OutOfMemory, TooManyTerms}
 use Rattle.cls_enum.specs.declared.plan.Place.{Place}
 use Rattle.cls_enum.proofs.Members.{in_at, in_over, over_in, in_flat_map, flat_map_in, in-take}
-use Rattle.cls_enum.proofs.Additions.{term_by-push, IsAdded-append, IsAdded-same, IsOverfull-within, over-next, over-none, flat_map-next, at_in, take_in, last-barren}
+use Rattle.cls_enum.proofs.Additions.{IsAdded-append, IsAdded-same, IsOverfull-within, over-next, over-none, flat_map-next, at_in, take_in, last-barren}
 
 pub IfTooMany-weaker : (e : PageFault) (P Q : Type 0) → (P → Q) → IfTooMany e P → IfTooMany e Q
 IfTooMany-weaker OutOfMemory P Q f h = tt

@@ -1,5 +1,5 @@
 -- Terms that lack some arguments.
-use Rattle.std.specs.Prelude.{ℕ, ◌≡◌, List, length}
+use Rattle.std.specs.Prelude.{◌≡◌, List, length}
 use Rattle.cls_base.specs.Terms.{Applicative, length_of}
 use Rattle.cls_term.specs.Banks.{term_by, AreBelow}
 use Rattle.cls_enum.specs.declared.begun.Begun.{Begun}

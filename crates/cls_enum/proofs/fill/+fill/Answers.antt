@@ -2,7 +2,7 @@ use Rattle.std.proofs.Common.{◌≡◌, ◌+◌, refl, ℕ, List, [], ◌∷◌
 use Rattle.std.proofs.lemmas.Bool.{eqb-true}
 use Rattle.std.specs.List.{flat_map}
 use Rattle.std.proofs.lemmas.Result.{err_from_is_err_and}
-use Rattle.cls_base.specs.Terms.{Applicative, apply, length_of}
+use Rattle.cls_base.specs.Terms.{Applicative, apply}
 use Rattle.cls_term.specs.Banks.{at, term_by}
 use Rattle.cls_term.proofs.BankSteps.{AreBelow-at}
 use Rattle.cls_enum.specs.Begins.{begun_term}
@@ -12,7 +12,7 @@ use Rattle.cls_enum.specs.Members.{IsOverfull}
 use Rattle.cls_enum.specs.Plans.{nodes_of}
 use Rattle.cls_enum.specs.declared.begun.Begun.{Begun}
 use Rattle.cls_enum.specs.declared.plan.Place.{Place}
-use Rattle.cls_enum.proofs.Additions.{term_by-push, AreBelow-push, IsAdded-none, IsAdded-same, each-barren}
+use Rattle.cls_enum.proofs.Additions.{IsAdded-none, IsAdded-same, each-barren}
 use Rattle.cls_enum.proofs.Beginnings.{before-refl, before-trans, before-term, before-begun, next-term, next-begun}
 use Rattle.cls_enum.proofs.Members.{take-whole}
 use Rattle.cls_enum.proofs.FillSteps.{IfTooMany-weaker, popped, each-step, each-over, size-step, size-over, first-size}

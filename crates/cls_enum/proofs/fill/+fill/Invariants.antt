@@ -1,4 +1,4 @@
-use Rattle.std.proofs.Common.{◌≡◌, ◌+◌, ◌-◌, ◌*◌, map, take, length}
+use Rattle.std.proofs.Common.{◌+◌, ◌-◌, ◌*◌, map, take, length}
 use Rattle.std.specs.List.{flat_map}
 use Rattle.cls_base.specs.Terms.{apply}
 use Rattle.cls_term.specs.Banks.{at}

@@ -1,10 +1,9 @@
-use Rattle.std.proofs.Common.{◌≡◌, ℕ, List, [], ap, sym, ◌∙◌, length, arith, get_or, map}
+use Rattle.std.proofs.Common.{[], sym, length, arith, map}
 use Rattle.std.proofs.lemmas.Result.{err_from_is_err_and}
-use Rattle.cls_base.specs.Terms.{Applicative, length_of}
-use Rattle.cls_term.proofs.BankSteps.{AreBelow-at, spine-found}
-use Rattle.cls_term.proofs.Banks.{AreBelow-more}
+use Rattle.cls_base.specs.Terms.{Applicative}
+use Rattle.cls_term.proofs.BankSteps.{AreBelow-at}
 use Rattle.cls_term.proofs.Spines.{length_at_least_one}
-use Rattle.cls_term.specs.Banks.{at, term_by}
+use Rattle.cls_term.specs.Banks.{at}
 use Rattle.cls_enum.specs.Begins.{begun_term}
 use Rattle.cls_enum.specs.Candidates.{fills}
 use Rattle.cls_enum.specs.CellTables.{cell_of}

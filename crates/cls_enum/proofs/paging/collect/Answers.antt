@@ -4,7 +4,6 @@ use Rattle.cls_base.specs.Rules as rules
 use Rattle.cls_enum.specs.Faults.{IfTooMany}
 use Rattle.cls_enum.specs.States.{IsKept, IsOver, IsTooMuch, IsState}
 use Rattle.cls_enum.proofs.FillSteps.{IfTooMany-weaker}
-use Rattle.std.specs.Prelude.{option_copied}
 use Rattle.std.proofs.lemmas.List.{length-map}
 use Rattle.cls_term.specs.Banks.{at}
 use Rattle.cls_enum.specs.Plans.{book_of}

@@ -1,6 +1,5 @@
 use Rattle.std.proofs.Common.{◌≡◌, ◌≤◌, length}
 use Rattle.cls_term.specs.Costs.{cost_of}
-use Rattle.std.specs.Prelude.{option_copied}
 use Rattle.cls_enum.specs.Plans.{book_of, AllReady}
 use Rattle.cls_enum.specs.Asking.{asked_request}
 use Rattle.cls_enum.specs.States.{IsKept}

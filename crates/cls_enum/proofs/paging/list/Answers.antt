@@ -1,5 +1,5 @@
 use Rattle.std.proofs.Common.{◌≡◌, ℕ, List, ◌<◌, length, map, take, arith, subst, sym, ap, ◌∙◌, inl, inr, Bool}
-use Rattle.std.specs.Prelude.{option_copied, nat_lt, ◌⊎◌}
+use Rattle.std.specs.Prelude.{nat_lt, ◌⊎◌}
 use Rattle.std.proofs.lemmas.List.{length-map}
 use Rattle.cls_base.specs.Languages.{IsGenerated}
 use Rattle.cls_base.specs.Pages.{IsPage}

@@ -1,5 +1,4 @@
 use Rattle.std.proofs.Common.{◌+◌, List, map, arith}
-use Rattle.std.specs.Prelude.{option_copied}
 use Rattle.std.proofs.lemmas.List.{length-map}
 use Rattle.std.proofs.lemmas.Result.{err_from_is_err_and}
 use Rattle.cls_enum.specs.Plans.{book_of, rule_of}

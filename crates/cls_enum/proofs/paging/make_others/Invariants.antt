@@ -1,5 +1,4 @@
 use Rattle.std.proofs.Common.{◌≡◌, ◌≤◌, length}
-use Rattle.std.specs.Prelude.{option_copied}
 use Rattle.cls_enum.specs.Plans.{book_of}
 use Rattle.cls_enum.specs.Asking.{asked_request}
 use Rattle.cls_enum.specs.States.{IsKept}
