@@ -128,9 +128,10 @@ impl<G: Key + Drop> Core<G> {
         &self.states[row as usize]
     }
 
-    /// A free row: the one with the least number.
+    /// The free row with the least number. None comes exactly where no row is free.
     pub fn any_free(&self) -> Option<u32>
         ensures some { IfSome result (λ row. slice_get self.now.rows.states row ≡ Some Free) }
+        ensures least { IfSome result (λ row. (earlier : ℕ) → earlier < row → slice_get self.now.rows.states earlier ≢ Some Free) }
         ensures within { IfSome result (λ row. row < length self.now.rows.goals) }
         ensures none { IfNone result ((row : ℕ) → slice_get self.now.rows.states row ≢ Some Free) }
     {
