@@ -1,4 +1,4 @@
--- The renumbering of rows: breadth first from row 0, in the order of rules and of arguments within a rule.
+-- The renumbering of rows: breadth first from the first one, in the order of rules and of arguments within a rule.
 use Rattle.std.specs.Prelude.{ℕ, zero, suc, Bool, List, [], ◌∷◌, Option, None, Some, length, map, nat_eq, slice_get}
 use Rattle.std.specs.List.{filter_map}
 use Rattle.cls_core.specs.declared.answer.Answer.{Answer}
@@ -28,7 +28,7 @@ module _ {G : Type 0} where
   abbrev pub row_answer : List (Row G) → ℕ → Answer ℕ
   row_answer rows n = answer_in (slice_get rows n)
 
-  -- the numbers of the rows, breadth first from row 0
+  -- the numbers of the rows, breadth first from the first one
   abbrev pub order : List (Row G) → List ℕ
   order rows = found nat_eq (row_answer rows) 0 (length rows)
 

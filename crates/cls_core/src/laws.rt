@@ -25,8 +25,8 @@ pub fn the_canonical_rows_are_one<G: Key + Drop>()
     ensures { TheCanonicalRowsAreOne G.eq }
 {}
 
-/// The rows of a legal complete history, renumbered breadth first from row 0 in the order of rules and arguments, are the
-/// closure of the start goal in its canonical numbering.
+/// The rows of a legal complete history, renumbered breadth first from the first one in the order of rules and arguments, are
+/// the closure of the start goal in its canonical numbering.
 pub fn renumbered_rows_are_canonical<G: Key + Drop>()
     ensures { RenumberedRowsAreCanonical G.eq }
 {}

@@ -50,7 +50,7 @@ fn add_row(
     Ok(())
 }
 
-/// The rows breadth first from row 0: of each its goal, and its rules with such numbers.
+/// The rows breadth first from the first one: of each its goal, and its rules with such numbers.
 pub(crate) fn renumbered(alloc: Global, rows: &Rows<Node>) -> Result<Vec<usize>, OutOfMemory> {
     let mut seen: IndexSet<u32> = IndexSet::new(alloc);
     let mut code = Vec::new(alloc);
