@@ -1,7 +1,11 @@
 -- How many terms count for a page of omega, from the pool of its rule book.
-use Rattle.std.proofs.Common.{◌≡◌, ℕ, zero, suc, Bool, List, [], ◌∷◌, length, map, refl, sym, ◌∙◌, subst, inl, inr, arith}
-use Rattle.std.specs.Prelude.{◌⊎◌, Contains, Result, Ok, Err, IfOk, IfErr}
+use Rattle.std.proofs.Common.{◌≡◌, ℕ, Bool, List, [], ◌∷◌, length, refl, sym, ◌∙◌, subst, inl, inr, arith}
+use Rattle.std.specs.Prelude.{Contains, Result, Ok, Err, IfOk, IfErr}
+use Rattle.std.specs.Map.{values_of}
 use Rattle.std.proofs.lemmas.Bool.{cases_lt}
+use Rattle.std.proofs.lemmas.List.Elements.{Contains-append_right}
+use Rattle.std.proofs.lemmas.Map.Entries.{length-values_of}
+use Rattle.std.proofs.lemmas.Map.Made.{Contains-values_of, Contains-from_values_of}
 use Rattle.cls_base.specs.Terms.{Applicative, IsOver, size_of}
 use Rattle.cls_base.specs.Rules.{Rule}
 use Rattle.cls_base.specs.Languages.{IsGenerated}
@@ -19,51 +23,19 @@ use Rattle.cls_grammar.proofs.Books.{omega_book-language}
 use Rattle.cls_session.specs.Listings.{request, IsCounted, CountIs, IsPool, AreFew, AreMany}
 use Rattle.cls_session.proofs.Typing.{due_to, due_back, page_to}
 
-module _ {A : Type 0} where
-  pub first_in : (x : A) (xs : List A) → Contains (x ∷ xs) x
-  first_in x xs = (0, omega arith, refl)
-
-  pub later_in : (y x : A) (xs : List A) → Contains xs x → Contains (y ∷ xs) x
-  later_in y x xs c = (suc c.0, omega (arith, c.1), c.2)
-
-  pub in_cases : (y x : A) (xs : List A) → Contains (y ∷ xs) x → (y ≡ x) ⊎ Contains xs x
-  in_cases y x xs (zero, l, e) = inl e
-  in_cases y x xs (suc k, l, e) = inr (k, omega arith, e)
-
--- the terms of the pairs
-abbrev seconds : List (ℕ × Applicative) → List Applicative
-seconds pairs = map (λ p. p.1) pairs
-
-length-seconds : (ps : List (ℕ × Applicative)) → length (seconds ps) ≡ length ps
-length-seconds [] = refl
-length-seconds (p ∷ ps) = omega (arith, length-seconds ps)
-
-second_in : (ps : List (ℕ × Applicative)) (p : ℕ × Applicative) → Contains ps p → Contains (seconds ps) p.1
-second_in [] p c = absurd (omega (arith, c.1))
-second_in (q ∷ ps) p c = elim (in_cases q p ps c) [
-  | inl e ↦ let P : ℕ × Applicative → Type 0 = λ x. Contains (seconds (q ∷ ps)) x.1 in subst P e (first_in q.1 (seconds ps))
-  | inr d ↦ later_in q.1 p.1 (seconds ps) (second_in ps p d)
-]
-
-in_second : (ps : List (ℕ × Applicative)) (e : Applicative) → Contains (seconds ps) e → (p : ℕ × Applicative) × Contains ps p × (p.1 ≡ e)
-in_second [] e c = absurd (omega (arith, c.1))
-in_second (q ∷ ps) e c = elim (in_cases q.1 e (seconds ps) c) [
-  | inl z ↦ (q, first_in q ps, z)
-  | inr d ↦ let r = in_second ps e d in (r.0, later_in q r.0 ps r.1, r.2)
-]
-
 -- Where all pairs are of node 0, no term stands twice among theirs.
-seconds-once : (ps : List (ℕ × Applicative)) → ((p : ℕ × Applicative) → Contains ps p → p.0 ≡ 0) → NoneTwice ps → NoneTwice (seconds ps)
-seconds-once [] z n = tt
-seconds-once (q ∷ ps) z n = (
+terms-once : (ps : List (ℕ × Applicative)) → ((p : ℕ × Applicative) → Contains ps p → p.0 ≡ 0) → NoneTwice ps → NoneTwice (values_of ps)
+terms-once [] z n = tt
+terms-once (q ∷ ps) z n = (
   (λ c.
-      let r = in_second ps q.1 c in
-      let node : r.0.0 ≡ q.0 = z r.0 (later_in q r.0 ps r.1) ∙ sym (z q (first_in q ps)) in
-      let same : r.0 ≡ q = λ i. (node i, r.2 i) in
-      let P : ℕ × Applicative → Type 0 = λ x. Contains ps x in
-      n.0 (subst P same r.1)),
-  seconds-once ps (λ p c. z p (later_in q p ps c)) n.1,
+      let r = Contains-from_values_of ps q.1 c in
+      let node : r.0 ≡ q.0 = z (r.0, q.1) (later (r.0, q.1) r.1) ∙ sym (z q (0, omega arith, refl)) in
+      n.0 (subst (λ i. Contains ps (i, q.1)) node r.1)),
+  terms-once ps (λ p c. z p (later p c)) n.1,
 )
+  where
+    later : (p : ℕ × Applicative) → Contains ps p → Contains (q ∷ ps) p
+    later p c = Contains-append_right (q ∷ []) ps p c
 
 abbrev one : ℕ → ℕ
 one x = 1
@@ -88,16 +60,13 @@ module _ (book : List (List (Rule ℕ))) (single : length book ≡ 1) (s : ℕ) 
   count_from : (n : ℕ) → PoolIs book one s n → CountIs (IsGenerated book 0) s n
   count_from n (pairs, once, exact, count) =
       let node : (p : ℕ × Applicative) → Contains pairs p → p.0 ≡ 0 = λ p c. (let m = (exact p).0 c in omega (arith, m.node, single)) in (
-        seconds pairs,
-        seconds-once pairs node once,
+        values_of pairs,
+        terms-once pairs node once,
         (λ e. (
-          (λ c.
-              let r = in_second pairs e c in
-              let P : Applicative → Type 0 = λ x. IsCounted (IsGenerated book 0) s x in
-              subst P r.2 (counted r.0 (node r.0 r.1) ((exact r.0).0 r.1))),
-          (λ h. second_in pairs (0, e) ((exact (0, e)).1 (made e h))),
+          (λ c. let r = Contains-from_values_of pairs e c in counted (r.0, e) (node (r.0, e) r.1) ((exact (r.0, e)).0 r.1)),
+          (λ h. Contains-values_of pairs 0 e ((exact (0, e)).1 (made e h))),
         )),
-        length-seconds pairs ∙ count,
+        length-values_of pairs ∙ count,
       )
 
 -- the terms that have one property are counted as those that have an equivalent one
