@@ -1,5 +1,6 @@
 #!/usr/bin/env python3
-"""Times a page of 10,000 terms, where at most 1,000,000 terms may be held, and takes the greatest memory of the program.
+"""Times a page of 10,000 terms, where at most 1,000,000 terms may be held, and takes the greatest memory of the program. The
+last book is timed with smaller bounds, too, which shows how the cost grows with the bound.
 
     bench/pages.py [--runs N]
 
@@ -19,8 +20,8 @@ from proved import TOP, build
 CRATES = ["cls_base", "cls_core", "cls_syntax", "cls_term", "cls_grammar", "cls_enum"]
 NAME = "bench_pages"
 
-PROGRAM = '''// Lists a page of the rule book that the line on standard input names, and says how many terms it has, whether more follow and
-// how long it took; or that there are too many terms.
+PROGRAM = '''// Lists a page of the rule book that the line on standard input names, where so many terms may be held as stands behind the
+// name. Says how many terms it has, whether more follow and how long it took; or that there are too many terms.
 #![tactic(auto)]
 
 mod hand_book;
@@ -36,7 +37,6 @@ use std::time::Instant;
 
 const MAX: u32 = 1024;
 const TAKE: u32 = 10_000;
-const POOL: u64 = 1_000_000;
 
 /// 200 nodes, each with a component alone and two over two nodes.
 fn binary(alloc: Global) -> Result<Option<HandBook>, OutOfMemory> {
@@ -56,33 +56,40 @@ fn wide(alloc: Global, argument: Rules<u32>) -> Result<Option<HandBook>, OutOfMe
     Ok(HandBook::new(nodes))
 }
 
-fn listed<B: RuleBook>(alloc: Global, book: &B) -> Result<(usize, bool), PageFault> {
+fn listed<B: RuleBook>(alloc: Global, book: &B, pool: u64) -> Result<(usize, bool), PageFault> {
     let costs = Numbers::new(Vec::new(alloc));
-    let page = page(alloc, book, &costs, None, MAX, TAKE, POOL)?;
+    let page = page(alloc, book, &costs, None, MAX, TAKE, pool)?;
     Ok((page.terms.len(), page.more))
 }
 
-fn hand(alloc: Global, book: Result<Option<HandBook>, OutOfMemory>) -> Result<(usize, bool), PageFault> {
+fn hand(
+    alloc: Global,
+    book: Result<Option<HandBook>, OutOfMemory>,
+    pool: u64,
+) -> Result<(usize, bool), PageFault> {
     match book? {
-        Some(book) => listed(alloc, &book),
+        Some(book) => listed(alloc, &book, pool),
         None => Err(PageFault::OutOfMemory),
     }
 }
 
-fn chosen(alloc: Global, name: &str) -> Result<(usize, bool), PageFault> {
+fn chosen(alloc: Global, name: &str, pool: u64) -> Result<(usize, bool), PageFault> {
     match name {
-        "omega" => listed(alloc, &OmegaBook::new(alloc, 10)?),
-        "binary" => hand(alloc, binary(alloc)),
-        "wide" => hand(alloc, wide(alloc, node(alloc, &[(1, &[]), (2, &[1])])?)),
-        _ => hand(alloc, wide(alloc, node(alloc, &[(1, &[]), (2, &[])])?)),
+        "omega" => listed(alloc, &OmegaBook::new(alloc, 10)?, pool),
+        "binary" => hand(alloc, binary(alloc), pool),
+        "wide" => hand(alloc, wide(alloc, node(alloc, &[(1, &[]), (2, &[1])])?), pool),
+        _ => hand(alloc, wide(alloc, node(alloc, &[(1, &[]), (2, &[])])?), pool),
     }
 }
 
 fn main(rt: HostRuntime) -> io::Result<()> {
     for line in rt.lines(rt.alloc()) {
         let line = line?;
+        let mut words = line.as_str().split(\' \');
+        let name = words.next().unwrap_or("");
+        let pool = words.next().and_then(|word| word.parse().ok()).unwrap_or(0);
         let start = Instant::now(&rt)?;
-        let answer = chosen(rt.alloc(), line.as_str());
+        let answer = chosen(rt.alloc(), name, pool);
         let time = start.elapsed(&rt)?.as_nanos();
         match answer {
             Ok((terms, more)) => println!(rt; "{terms} {more} {time}")?,
@@ -95,10 +102,12 @@ fn main(rt: HostRuntime) -> io::Result<()> {
 '''
 
 CASES = [
-    ("omega", "omega over 10 components"),
-    ("binary", "200 nodes with rules of two arguments"),
-    ("wide", "a rule with 32 arguments"),
-    ("over", "a rule with 32 arguments that gives too many terms"),
+    ("omega", 1_000_000, "omega over 10 components"),
+    ("binary", 1_000_000, "200 nodes with rules of two arguments"),
+    ("wide", 1_000_000, "a rule with 32 arguments"),
+    ("over", 1_000_000, "a rule with 32 arguments that gives too many terms"),
+    ("over", 500_000, "the same with 500,000 terms"),
+    ("over", 250_000, "the same with 250,000 terms"),
 ]
 
 
@@ -117,10 +126,10 @@ def hand_book():
     return files
 
 
-def run(program, case):
-    """What the program writes for this book, and its greatest memory in megabytes."""
+def run(program, case, pool):
+    """What the program writes for this book and bound, and its greatest memory in megabytes."""
     child = subprocess.Popen([program], stdin=subprocess.PIPE, stdout=subprocess.PIPE, text=True)
-    child.stdin.write(case + "\n")
+    child.stdin.write("%s %d\n" % (case, pool))
     child.stdin.close()
     reply = child.stdout.read().split()
     _, status, usage = os.wait4(child.pid, 0)
@@ -135,8 +144,8 @@ def main():
     options = parser.parse_args()
     with tempfile.TemporaryDirectory() as folder:
         program = build(folder, NAME, CRATES, PROGRAM, files=hand_book())
-        for case, title in CASES:
-            terms, more, time, memory = min((run(program, case) for _ in range(options.runs)), key=lambda row: row[2])
+        for case, pool, title in CASES:
+            terms, more, time, memory = min((run(program, case, pool) for _ in range(options.runs)), key=lambda row: row[2])
             print("%s: %s terms, more %s, %.0f ms, %.0f MB" % (title, terms, more, time, memory))
 
 
