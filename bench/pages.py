@@ -8,8 +8,8 @@ The books are: omega over 10 components; 200 nodes, each with a component alone 
 arguments, whose node has a component alone and one over itself; and the same with two components alone, which gives more
 terms than may be held. Each component costs 1.
 
-No program of the repository lists the terms of a rule book, so this builds one in a folder of its own, which proves it
-first. It takes the rule books of the tests of cls_enum. Times are those of the calls of `page`."""
+The program itself lists omega alone, and holds 200,000 terms at most, so this builds one in a folder of its own, which proves
+it first. It takes the rule books of the tests of cls_enum. Times are those of the calls of `page`."""
 import argparse
 import os
 import subprocess
