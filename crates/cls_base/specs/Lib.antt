@@ -1,6 +1,9 @@
 pub mod Languages
+pub mod Limits
+pub mod Lists
 pub mod Measures
 pub mod Memory
+pub mod Orders
 pub mod Outside
 pub mod Pages
 pub mod Pools

@@ -1,12 +1,10 @@
 -- How many terms are held to make a page, and the size that decides it.
-use Rattle.std.specs.Prelude.{ℕ, ◌≡◌, ◌≤◌, ◌<◌, ◌+◌, ◌↔◌, ◌⊎◌, List, [], ◌∷◌, length, Contains}
+use Rattle.std.specs.Prelude.{ℕ, ◌≡◌, ◌≤◌, ◌<◌, ◌+◌, ◌↔◌, ◌⊎◌, List, length, Contains}
+use Rattle.cls_base.specs.Limits.{max_term_length}
+use Rattle.cls_base.specs.Lists.{AreDistinct}
 use Rattle.cls_base.specs.Terms.{Applicative, length_of, size_of}
 use Rattle.cls_base.specs.Rules.{Rule}
 use Rattle.cls_base.specs.Languages.{IsGenerated}
-
-abbrev pub NoneTwice : {A : Type 0} → List A → Type 0
-NoneTwice [] = Unit {0}
-NoneTwice (x ∷ xs) = (Contains xs x → ⊥) × NoneTwice xs
 
 -- the rules of each node, and the cost of each component
 module _ (book : List (List (Rule ℕ))) (cost : ℕ → ℕ) where
@@ -14,18 +12,18 @@ module _ (book : List (List (Rule ℕ))) (cost : ℕ → ℕ) where
   pub record IsMade (s i : ℕ) (p : ℕ × Applicative) : Type 0 where
     pub node : p.0 < length book
     pub generated : IsGenerated book p.0 p.1
-    pub short : length_of p.1 ≤ 64
+    pub short : length_of p.1 ≤ max_term_length
     pub so_far : (size_of cost p.1 < s) ⊎ ((p.0 < i) × (size_of cost p.1 ≡ s))
 
   -- n pairs are held once the terms of node 0 of size s are known
   abbrev pub PoolIs : ℕ → ℕ → Type 0
-  PoolIs s n = (pairs : List (ℕ × Applicative)) × NoneTwice pairs × ((p : ℕ × Applicative) → Contains pairs p ↔ IsMade s 1 p) × (length pairs ≡ n)
+  PoolIs s n = (pairs : List (ℕ × Applicative)) × AreDistinct pairs × ((p : ℕ × Applicative) → Contains pairs p ↔ IsMade s 1 p) × (length pairs ≡ n)
 
 -- The size that decides a page: the least one at which one due term more than is taken exists, or the greatest size.
 module _ (Due : Applicative → Type 0) (cost : ℕ → ℕ) (take : ℕ) where
   -- there are take + 1 due terms of size s at most
   abbrev pub IsEnough : ℕ → Type 0
-  IsEnough s = (terms : List Applicative) × NoneTwice terms × ((e : Applicative) → Contains terms e → Due e × (size_of cost e ≤ s)) × (length terms ≡ take + 1)
+  IsEnough s = (terms : List Applicative) × AreDistinct terms × ((e : Applicative) → Contains terms e → Due e × (size_of cost e ≤ s)) × (length terms ≡ take + 1)
 
   pub record IsDecidingSize (max s : ℕ) : Type 0 where
     pub within : s ≤ max

@@ -7,9 +7,9 @@ use std::hash::Hash;
 
 /// A value that can be found in a table by its meaning, and of which a second one can be made.
 ///
-/// Two keys are equal exactly where contracts see them as the same value.
+/// Two keys are equal if and only if contracts see them as the same value.
 pub trait Key: Eq + Hash {
-    /// An equal value. The Err is want of memory.
+    /// An equal value. The Err is out of memory.
     fn copy(&self, alloc: Global) -> Result<Self, OutOfMemory>
     where
         Self: Sized,

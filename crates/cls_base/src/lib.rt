@@ -6,16 +6,20 @@
 //!   [`SureSource`] and [`SureSink`] never do.
 //! - [`Taxa`] is what the layers above ask of an order of names, [`Flat`] the order in which a name is below itself
 //!   alone, and [`Key`] what serves as a key of a table.
+//! - [`Rule`] is one way in which a goal can be met, with goals for arguments. [`Goals`] and [`Rules`] are lists.
+//! - [`limits`] has the numbers that the language fixes.
 //! - [`Numbers`] is a list of numbers, and [`OutOfMemory`] what a call answers that found no memory.
 #![tactic(auto)]
 
 mod gate;
 mod key;
+pub mod limits;
 mod measures;
 mod memory_sink;
 mod memory_source;
 mod numbers;
 mod out_of_memory;
+mod rule;
 mod schema;
 mod sink;
 mod source;
@@ -33,6 +37,7 @@ pub use memory_sink::MemorySink;
 pub use memory_source::MemorySource;
 pub use numbers::Numbers;
 pub use out_of_memory::OutOfMemory;
+pub use rule::{Goals, Rule, Rules};
 pub use schema::Schema;
 pub use sink::Sink;
 pub use source::{Failed, Source};

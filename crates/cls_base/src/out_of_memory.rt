@@ -1,6 +1,6 @@
 use std::alloc::{AllocError, AllocFailed};
 
-/// Want of memory: the one answer that no contract ties to a cause.
+/// Out of memory: the one answer that no contract ties to a cause.
 #[derive(Clone, Copy, Debug, PartialEq, Eq)]
 pub struct OutOfMemory;
 

@@ -23,7 +23,7 @@ pub enum Schema {
 }
 
 impl Schema {
-    /// A schema equal to this one. The only error is want of memory.
+    /// A schema equal to this one. The only error is out of memory.
     pub fn copy(&self, alloc: Global) -> Result<Schema, OutOfMemory>
         ensures { IfOk result (λ schema. schema_of schema ≡ schema_of self.now) }
     {

@@ -22,7 +22,7 @@ pub trait Taxa {
     ghost is_below: { Self → ℕ → ℕ → Bool };
 
     // the variance of a name
-    ghost kind: { Self → ℕ → taxonomies.Variance };
+    ghost variance_of_name: { Self → ℕ → taxonomies.Variance };
 
     /// Whether the first name is below the second.
     fn below(&self, lower: Name, upper: Name) -> bool
@@ -30,7 +30,7 @@ pub trait Taxa {
 
     /// The variance of a name.
     fn variance(&self, name: Name) -> Variance
-        ensures is { variance_of result ≡ kind self.now name.0 };
+        ensures is { variance_of result ≡ variance_of_name self.now name.0 };
 
     ghost reflexive: { (t : Self) (a : ℕ) → IsTrue (is_below t a a) };
 
@@ -38,7 +38,7 @@ pub trait Taxa {
 
     ghost antisymmetric: { (t : Self) (a b : ℕ) → IsTrue (is_below t a b) → IsTrue (is_below t b a) → a ≡ b };
 
-    ghost one_variance: { (t : Self) (a b : ℕ) → IsTrue (is_below t a b) → kind t a ≡ kind t b };
+    ghost one_variance: { (t : Self) (a b : ℕ) → IsTrue (is_below t a b) → variance_of_name t a ≡ variance_of_name t b };
 }
 
 /// The names without any declared pair, all covariant.
@@ -50,7 +50,7 @@ impl Taxa for Flat {
 
     ghost is_below = { λ t a b. a == b };
 
-    ghost kind = { λ t a. taxonomies.covariant };
+    ghost variance_of_name = { λ t a. taxonomies.covariant };
 
     fn below(&self, lower: Name, upper: Name) -> bool {
         lower.0 == upper.0

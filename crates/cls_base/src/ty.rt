@@ -65,7 +65,7 @@ impl Ty {
         }
     }
 
-    /// A type equal to this one. The only error is want of memory.
+    /// A type equal to this one. The only error is out of memory.
     pub fn copy(&self, alloc: Global) -> Result<Ty, OutOfMemory>
         ensures { IfOk result (λ ty. type_of ty ≡ type_of self.now) }
     {

@@ -15,8 +15,8 @@ use Rattle.cls_core.specs.declared.state.RowState.{RowState}
 use Rattle.cls_core.specs.declared.state.RowState.TheVariants.{Free, Held, Filed}
 use Rattle.cls_core.specs.declared.entry.Entry.{Entry}
 use Rattle.cls_core.specs.declared.entry.Entry.TheVariants.{Claim, File}
-use Rattle.cls_core.specs.declared.rule.Rule.{Rule}
-use Rattle.cls_core.specs.declared.rule.Rule.TheVariants.{Head, Any}
+use Rattle.cls_base.specs.declared.rule.Rule.{Rule}
+use Rattle.cls_base.specs.declared.rule.Rule.TheVariants.{Head, Any}
 use Rattle.cls_core.specs.declared.answer.Answer.{Answer}
 use Rattle.cls_core.specs.declared.answer.Answer.TheVariants.{Rules, Wide}
 use Rattle.cls_core.proofs.Members.{has-at, at-has, has-left, has-right, sum-within, length-within, has-any, all-differ, all-keeps, all-has, all-only}

@@ -1,7 +1,7 @@
 -- The goals that rules and answers have for arguments.
 use Rattle.std.specs.Prelude.{ℕ, List, [], ◌∷◌, ◌++◌, length, map}
-use Rattle.cls_core.specs.declared.rule.Rule.{Rule}
-use Rattle.cls_core.specs.declared.rule.Rule.TheVariants.{Head, Any}
+use Rattle.cls_base.specs.declared.rule.Rule.{Rule}
+use Rattle.cls_base.specs.declared.rule.Rule.TheVariants.{Head, Any}
 use Rattle.cls_core.specs.declared.answer.Answer.{Answer}
 use Rattle.cls_core.specs.declared.answer.Answer.TheVariants.{Rules, Wide}
 

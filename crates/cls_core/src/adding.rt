@@ -4,8 +4,7 @@ ghost use Rattle.indexmap.specs.IndexSet.{insert_key, insert_all};
 ghost use Rattle.cls_core.specs.Arguments.{arguments_of, arguments_of_rule, arguments_in};
 
 use crate::answer::Answer;
-use crate::rule::Rule;
-use cls_base::{Key, OutOfMemory};
+use cls_base::{Key, OutOfMemory, Rule};
 use indexmap::IndexSet;
 use std::alloc::Global;
 
@@ -73,7 +72,7 @@ fn add_rules<G: Key + Drop>(
     Ok(())
 }
 
-/// The goals of an answer that have no row, each once. The only error is want of memory.
+/// The goals of an answer that have no row, each once. The only error is out of memory.
 pub(crate) fn added_by<G: Key + Drop>(
     alloc: Global,
     rows: &IndexSet<G>,

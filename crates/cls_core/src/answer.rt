@@ -1,7 +1,7 @@
 ghost use Rattle.std.specs.Prelude.{◌≡◌};
 ghost use Rattle.cls_core.specs.Arguments.{rule_count};
 
-use crate::rule::Rules;
+use cls_base::Rules;
 
 /// What is known of a goal once it was worked on.
 #[derive(Drop)]

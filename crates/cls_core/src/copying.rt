@@ -2,9 +2,8 @@
 ghost use Rattle.std.specs.Prelude.{◌≡◌, IfOk};
 
 use crate::answer::Answer;
-use crate::rule::{Goals, Rule, Rules};
 use crate::state::RowState;
-use cls_base::{Key, OutOfMemory};
+use cls_base::{Goals, Key, OutOfMemory, Rule, Rules};
 use indexmap::IndexSet;
 use std::alloc::Global;
 
@@ -55,7 +54,7 @@ fn copy_state(alloc: Global, state: &RowState) -> Result<RowState, OutOfMemory>
     }
 }
 
-/// The states of rows, copied. The only error is want of memory.
+/// The states of rows, copied. The only error is out of memory.
 pub(crate) fn copy_states(alloc: Global, states: &[RowState]) -> Result<Vec<RowState>, OutOfMemory>
     ensures { IfOk result (λ s. s.items ≡ states.now) }
 {
@@ -66,7 +65,7 @@ pub(crate) fn copy_states(alloc: Global, states: &[RowState]) -> Result<Vec<RowS
     Ok(copies)
 }
 
-/// The goals of rows, copied in their order. The only error is want of memory.
+/// The goals of rows, copied in their order. The only error is out of memory.
 pub(crate) fn copy_goals<G: Key + Drop>(
     alloc: Global,
     goals: &IndexSet<G>,

@@ -24,7 +24,7 @@ pub trait Expand {
 
     ghost ready: { Self.Tag → Self.Goal → Type 0 };
 
-    /// The answer that the tag means for the goal. The only error is want of memory.
+    /// The answer that the tag means for the goal. The only error is out of memory.
     fn expand(&self, alloc: Global, goal: &Self::Goal) -> Result<Answer<Self::Goal>, OutOfMemory>
         requires { ready (tag self.now) goal.now }
         ensures { IfOk result (λ a. a ≡ answer (tag self.now) goal.now) };

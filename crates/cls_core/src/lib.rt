@@ -19,13 +19,12 @@ mod finished;
 pub mod laws;
 mod machine;
 mod numbering;
-mod rule;
 mod state;
 
 pub use answer::Answer;
+pub use cls_base::{Goals, Rule, Rules};
 pub use entry::{Entry, History};
 pub use expand::Expand;
 pub use finished::{Finished, Rows};
 pub use machine::Core;
-pub use rule::{Goals, Rule, Rules};
 pub use state::RowState;

@@ -79,7 +79,7 @@ impl<G: Key + Drop> Core<G> {
     ghost use Rattle.cls_core.specs.Machine.{begun, claimed, filed, grown, AllFiled};
     ghost use Rattle.cls_core.specs.Rows.{filed_rows};
 
-    /// One free row, the start goal, and an empty history. The only error is want of memory.
+    /// One free row, the start goal, and an empty history. The only error is out of memory.
     pub fn enter(alloc: Global, start: G) -> Result<Core<G>, OutOfMemory>
         ensures rows { IfOk result (λ c. c.rows ≡ begun start) }
         ensures history { IfOk result (λ c. c.history ≡ []) }
@@ -128,7 +128,7 @@ impl<G: Key + Drop> Core<G> {
         &self.states[row as usize]
     }
 
-    /// The free row with the least number. None comes exactly where no row is free.
+    /// The free row with the least number. None comes if and only if no row is free.
     pub fn any_free(&self) -> Option<u32>
         ensures some { IfSome result (λ row. slice_get self.now.rows.states row ≡ Some Free) }
         ensures least { IfSome result (λ row. (earlier : ℕ) → earlier < row → slice_get self.now.rows.states earlier ≢ Some Free) }
@@ -160,7 +160,7 @@ impl<G: Key + Drop> Core<G> {
         }
     }
 
-    /// The number of different argument goals of the answer that have no row yet. The only error is want of memory.
+    /// The number of different argument goals of the answer that have no row yet. The only error is out of memory.
     pub fn added(&self, alloc: Global, answer: &Answer<G>) -> Result<u64, OutOfMemory>
         ensures { IfOk result (λ n. length (grown G.eq self.now.rows.goals answer.now) ≡ length self.now.rows.goals + n) }
     {
@@ -169,7 +169,7 @@ impl<G: Key + Drop> Core<G> {
     }
 
     /// The event Claim: the worker takes the row, which is free. Room for the entry of its filing is taken too. The only
-    /// error is want of memory, at which the core is as before.
+    /// error is out of memory, at which the core is as before.
     pub fn claim(&mut self, worker: u32, row: u32) -> Result<(), OutOfMemory>
         requires { slice_get self.old.rows.states row ≡ Some Free }
         ensures rows { OnOk result (self.new.rows ≡ claimed self.old.rows worker row) }
@@ -188,7 +188,7 @@ impl<G: Key + Drop> Core<G> {
     }
 
     /// The event File: the row, which the worker holds, is filed with the answer, and each argument goal that has no row
-    /// yet gets a free one. All memory is taken before a row changes. The Err is want of memory alone: it hands the answer
+    /// yet gets a free one. All memory is taken before a row changes. The Err means out of memory alone, and hands the answer
     /// back, and the core is as before.
     pub fn file(
         &mut self,
@@ -222,7 +222,7 @@ impl<G: Key + Drop> Core<G> {
         Ok(())
     }
 
-    /// The rows and the history, copied. None comes exactly where some row isn't filed. The only error is want of memory.
+    /// The rows and the history, copied. None comes if and only if some row isn't filed. The only error is out of memory.
     pub fn read(&self, alloc: Global) -> Result<Option<Finished<G>>, OutOfMemory>
         ensures finished { IfOk result (λ r. IfSome r (λ f. AllFiled self.now.rows × (f.rows ≡ filed_rows self.now.rows.goals self.now.rows.states) × (f.history ≡ self.now.history))) }
         ensures unfiled { IfOk result (λ r. IfNone r (AllFiled self.now.rows → ⊥)) }
@@ -239,7 +239,7 @@ impl<G: Key + Drop> Core<G> {
         }))
     }
 
-    /// The rows and the history. The Err comes exactly where some row isn't filed, and hands the core back.
+    /// The rows and the history. The Err comes if and only if some row isn't filed, and hands the core back.
     pub fn finish(self) -> Result<Finished<G>, Core<G>>
         ensures ok { IfOk result (λ f. AllFiled self.rows × (f.rows ≡ filed_rows self.rows.goals self.rows.states) × (f.history ≡ self.history)) }
         ensures err { IfErr result (λ c. (c ≡ self) × (AllFiled self.rows → ⊥)) }

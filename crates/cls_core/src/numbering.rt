@@ -6,8 +6,7 @@ ghost use Rattle.cls_core.specs.Arguments.{arguments_of, arguments_of_rule, argu
 ghost use Rattle.cls_core.specs.Numbers.{numbers_from, rule_from, rules_from, answer_from};
 
 use crate::answer::Answer;
-use crate::rule::{Goals, Rule, Rules};
-use cls_base::{Key, OutOfMemory};
+use cls_base::{Goals, Key, OutOfMemory, Rule, Rules};
 use indexmap::IndexSet;
 use std::alloc::Global;
 
@@ -94,7 +93,7 @@ fn number_rules<G: Key + Drop>(
     Ok(Rules::new(numbered))
 }
 
-/// An answer in numbers, and the goals that go behind the rows for it. The only error is want of memory.
+/// An answer in numbers, and the goals that go behind the rows for it. The only error is out of memory.
 pub(crate) fn number_answer<G: Key + Drop>(
     alloc: Global,
     rows: &IndexSet<G>,

@@ -6,12 +6,13 @@ use Rattle.std.proofs.lemmas.List.{take_more, length-map, map-append}
 use Rattle.std.proofs.lemmas.List.Concat.{flat_map-append}
 use Rattle.std.proofs.lemmas.Bool.Decides.{nat_tests}
 use Rattle.std.proofs.lemmas.Bool.{cases_lt}
-use Rattle.cls_base.specs.Pools.{NoneTwice}
+use Rattle.cls_base.specs.Lists.{AreDistinct, AreBelow}
 use Rattle.cls_base.specs.Terms.{Applicative, component, apply, length_of}
 use Rattle.cls_base.specs.Spines.{spine}
-use Rattle.cls_term.proofs.Banks.{NoneTwice-push, term_by-one_to_one}
+use Rattle.cls_term.proofs.Banks.{term_by-one_to_one}
+use Rattle.cls_base.proofs.Lists.{AreDistinct-push}
 use Rattle.cls_term.proofs.Spines.{spine-append, length_at_least_one}
-use Rattle.cls_term.specs.Banks.{at, term_by, AreBelow, IsJoined}
+use Rattle.cls_term.specs.Banks.{at, term_by, IsJoined}
 use Rattle.cls_enum.specs.Candidates.{over, fills}
 use Rattle.cls_enum.specs.Members.{IsIn, AreFound, IsAdded, IsOverfull, SpinesBelow}
 use Rattle.cls_enum.specs.Plans.{nodes_of, IsBarren, ArePruned}
@@ -82,7 +83,7 @@ module _ (ts : List Applicative) where
   IsOverfull-found limit old new xs h l = (map (term_by ts) new, h.found.different, (λ e i. (h.joined e).0 i), omega (arith, length-map new (term_by ts)))
 
   -- one spine
-  pub IsAdded-spine : (old new : List (ℕ × List ℕ)) (k : ℕ × List ℕ) → NoneTwice ts → AreFound ts old → AreBelow (length ts) k.1 → length_of (term_by ts k) ≤ 64 → IsJoined old k new → IsAdded ts old (term_by ts k ∷ []) new
+  pub IsAdded-spine : (old new : List (ℕ × List ℕ)) (k : ℕ × List ℕ) → AreDistinct ts → AreFound ts old → AreBelow (length ts) k.1 → length_of (term_by ts k) ≤ 64 → IsJoined old k new → IsAdded ts old (term_by ts k ∷ []) new
   IsAdded-spine old new k n h b l (inl (c, p)) =
       let i = map_in ts old k (in_from old k c) in
       subst (λ (ks : List (ℕ × List ℕ)). IsAdded ts old (term_by ts k ∷ []) ks) (sym p) (record {
@@ -94,7 +95,7 @@ module _ (ts : List Applicative) where
       })
   IsAdded-spine old new k n h b l (inr (c, p)) =
       let e = map-append (term_by ts) old (k ∷ []) in
-      let T : List Applicative → Type 0 = λ xs. NoneTwice xs in
+      let T : List Applicative → Type 0 = λ xs. AreDistinct xs in
       let fresh : Contains (map (term_by ts) old) (term_by ts k) → ⊥ = λ q.
       let r = in_map (term_by ts) old (term_by ts k) (in_from (map (term_by ts) old) (term_by ts k) q) in
       let s = term_by-one_to_one ts r.0 k n (SpinesBelow-in (length ts) old r.0 h.below r.1) b r.2 in
@@ -108,7 +109,7 @@ module _ (ts : List Applicative) where
       subst (λ (ks : List (ℕ × List ℕ)). IsAdded ts old (term_by ts k ∷ []) ks) (sym p) (record {
         found = record {
           below = SpinesBelow-push (length ts) old k h.below b;
-          different = subst T (sym e) (NoneTwice-push (map (term_by ts) old) (term_by ts k) h.different fresh);
+          different = subst T (sym e) (AreDistinct-push (map (term_by ts) old) (term_by ts k) h.different fresh);
           short = subst J (sym e) short;
         };
         joined = λ x. (

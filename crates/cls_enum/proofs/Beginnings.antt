@@ -1,7 +1,8 @@
 -- Steps of terms that lack some arguments.
 use Rattle.std.proofs.Common.{◌≡◌, ℕ, ◌+◌, ◌<◌, List, [], ◌∷◌, ◌++◌, length, refl, sym, ap, ◌∙◌, subst, arith}
 use Rattle.cls_base.specs.Terms.{Applicative, apply, length_of}
-use Rattle.cls_term.specs.Banks.{at, term_by, AreBelow}
+use Rattle.cls_term.specs.Banks.{at, term_by}
+use Rattle.cls_base.specs.Lists.{AreBelow}
 use Rattle.cls_enum.specs.Begins.{begun_term, IsAsBefore, IsBegun}
 use Rattle.cls_enum.specs.declared.begun.Begun.{Begun}
 use Rattle.cls_enum.proofs.Additions.{term_by-push, AreBelow-push}

@@ -1,6 +1,6 @@
 -- Counting: different elements of a list are no more than it has.
 use Rattle.std.proofs.Common.{◌≡◌, suc, ◌≤◌, List, [], ◌∷◌, ◌++◌, length, refl, sym, ◌∙◌, subst, inl, inr, arith}
-use Rattle.cls_base.specs.Pools.{NoneTwice}
+use Rattle.cls_base.specs.Lists.{AreDistinct}
 use Rattle.cls_enum.specs.Members.{IsIn}
 use Rattle.cls_enum.proofs.Members.{in_from, in_to, in_cases}
 
@@ -29,18 +29,18 @@ module _ {A : Type 0} where
   in_without (y ∷ ys) x z (inr i) (inl q) = inl q
   in_without (y ∷ ys) x z (inr i) (inr j) = inr (in_without ys x z i j)
 
-  once-without : (ys : List A) (x : A) (i : IsIn ys x) → NoneTwice ys → NoneTwice (without ys x i)
+  once-without : (ys : List A) (x : A) (i : IsIn ys x) → AreDistinct ys → AreDistinct (without ys x i)
   once-without [] x i n = absurd i
   once-without (y ∷ ys) x (inl p) n = n.1
   once-without (y ∷ ys) x (inr i) n = ((λ c. n.0 (in_to ys y (in_without ys x y i (in_from (without ys x i) y c)))), once-without ys x i n.1)
 
-  gone-without : (ys : List A) (x : A) (i : IsIn ys x) → NoneTwice ys → IsIn (without ys x i) x → ⊥
+  gone-without : (ys : List A) (x : A) (i : IsIn ys x) → AreDistinct ys → IsIn (without ys x i) x → ⊥
   gone-without [] x i n j = absurd i
   gone-without (y ∷ ys) x (inl p) n j = n.0 (in_to ys y (let P : A → Type 0 = λ w. IsIn ys w in subst P (sym p) j))
   gone-without (y ∷ ys) x (inr i) n (inl q) = n.0 (in_to ys y (let P : A → Type 0 = λ w. IsIn ys w in subst P (sym q) i))
   gone-without (y ∷ ys) x (inr i) n (inr j) = gone-without ys x i n.1 j
 
-  pub no_more_than : (xs ys : List A) → NoneTwice xs → ((x : A) → IsIn xs x → IsIn ys x) → length xs ≤ length ys
+  pub no_more_than : (xs ys : List A) → AreDistinct xs → ((x : A) → IsIn xs x → IsIn ys x) → length xs ≤ length ys
   no_more_than [] ys n f = omega arith
   no_more_than (x ∷ xs) ys n f =
       let i = f x (inl refl) in
@@ -48,7 +48,7 @@ module _ {A : Type 0} where
       omega (arith, length-without ys x i)
 
   -- a list with no more elements than there are different ones has each once
-  pub once-by_count : (xs ys : List A) → NoneTwice xs → ((x : A) → IsIn xs x → IsIn ys x) → ((x : A) → IsIn ys x → IsIn xs x) → length ys ≤ length xs → NoneTwice ys
+  pub once-by_count : (xs ys : List A) → AreDistinct xs → ((x : A) → IsIn xs x → IsIn ys x) → ((x : A) → IsIn ys x → IsIn xs x) → length ys ≤ length xs → AreDistinct ys
   once-by_count xs [] n f g l = tt
   once-by_count xs (y ∷ ys) n f g l =
       let i = g y (inl refl) in
@@ -67,7 +67,7 @@ module _ {A : Type 0} where
       )
 
   -- of two lists that have nothing in common
-  pub once-append : (xs ys : List A) → NoneTwice xs → NoneTwice ys → ((x : A) → IsIn xs x → IsIn ys x → ⊥) → NoneTwice (xs ++ ys)
+  pub once-append : (xs ys : List A) → AreDistinct xs → AreDistinct ys → ((x : A) → IsIn xs x → IsIn ys x → ⊥) → AreDistinct (xs ++ ys)
   once-append [] ys n m f = m
   once-append (x ∷ xs) ys n m f = (
     (λ c. elim (in_cases xs ys x (in_from (xs ++ ys) x c)) [ inl i ↦ n.0 (in_to xs x i) | inr i ↦ f x (inl refl) i ]),

@@ -4,19 +4,20 @@ use Rattle.std.specs.Prelude.{◌&&◌, nat_lt}
 use Rattle.std.proofs.lemmas.Bool.Decides.{nat_tests}
 use Rattle.cls_base.specs.Languages.{rules_at}
 use Rattle.cls_base.specs.Rules.{Rule, head, any}
-use Rattle.cls_grammar.specs.Books.{AreNodes, IsWithin, AreWithin}
+use Rattle.cls_grammar.specs.Books.{IsWithin, AreWithin}
+use Rattle.cls_base.specs.Lists.{AreBelow}
 use Rattle.cls_enum.specs.HandBooks.{are_nodes, is_within, are_within, all_within}
 
 both : (a b : Bool) → (a && b) ≡ true → (a ≡ true) × (b ≡ true)
 both true b p = (refl, p)
 both false b p = absurd (cc)
 
-AreNodes-tested : (n : ℕ) (is : List ℕ) → are_nodes n is ≡ true → AreNodes n is
-AreNodes-tested n [] p = tt
-AreNodes-tested n (i ∷ is) p = let q = both (nat_lt i n) (are_nodes n is) p in let l = q.0 in (grind (arith, nat_tests), AreNodes-tested n is q.1)
+AreBelow-tested : (n : ℕ) (is : List ℕ) → are_nodes n is ≡ true → AreBelow n is
+AreBelow-tested n [] p = tt
+AreBelow-tested n (i ∷ is) p = let q = both (nat_lt i n) (are_nodes n is) p in let l = q.0 in (grind (arith, nat_tests), AreBelow-tested n is q.1)
 
 IsWithin-tested : (n : ℕ) (r : Rule ℕ) → is_within n r ≡ true → IsWithin n r
-IsWithin-tested n (head x ns) p = AreNodes-tested n ns p
+IsWithin-tested n (head x ns) p = AreBelow-tested n ns p
 IsWithin-tested n (any l m) p = let q = both (nat_lt l n) (nat_lt m n) p in let k = q.0 in let j = q.1 in (grind (arith, nat_tests), grind (arith, nat_tests))
 
 AreWithin-tested : (n : ℕ) (rs : List (Rule ℕ)) → are_within n rs ≡ true → AreWithin n rs

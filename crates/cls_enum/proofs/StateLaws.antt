@@ -5,7 +5,8 @@ use Rattle.std.proofs.lemmas.Bool.{cases_lt}
 use Rattle.cls_base.specs.Terms.{Applicative, size_of}
 use Rattle.cls_base.specs.Rules.{Rule}
 use Rattle.cls_base.specs.Pages.{Request, IsDue, Rises, IsPage}
-use Rattle.cls_base.specs.Pools.{NoneTwice, IsMade, IsEnough, IsDecidingSize}
+use Rattle.cls_base.specs.Pools.{IsMade, IsEnough, IsDecidingSize}
+use Rattle.cls_base.specs.Lists.{AreDistinct}
 use Rattle.cls_term.proofs.Orders.{Before-irrefl}
 use Rattle.cls_enum.specs.Members.{IsIn}
 use Rattle.cls_enum.specs.States.{IsState, IsTerm, IsOver, IsWithin, IsTooMuch}
@@ -13,7 +14,7 @@ use Rattle.cls_enum.proofs.Counting.{no_more_than}
 use Rattle.cls_enum.proofs.Members.{in_from, in_to, in-take}
 use Rattle.cls_enum.proofs.PageLaws.{rises-tail, rises-before, rises-take, length-take_all, first_are_page}
 
-pub rising-once : (cost : ℕ → ℕ) (es : List Applicative) → Rises cost es → NoneTwice es
+pub rising-once : (cost : ℕ → ℕ) (es : List Applicative) → Rises cost es → AreDistinct es
 rising-once cost [] h = tt
 rising-once cost (e ∷ es) h = (
   (λ c. Before-irrefl cost e (rises-before cost e e es h (in_from es e c))),

@@ -13,9 +13,10 @@ use Rattle.cls_base.specs.Terms.{Applicative, size_of, Before}
 use Rattle.cls_base.specs.Rules.{Rule}
 use Rattle.cls_base.specs.Languages.{IsGenerated, rules_at, by_head, by_any}
 use Rattle.cls_base.specs.Pages.{Request, Rises}
-use Rattle.cls_base.specs.Pools.{NoneTwice, IsMade}
+use Rattle.cls_base.specs.Pools.{IsMade}
+use Rattle.cls_base.specs.Lists.{AreDistinct, AreBelow}
 use Rattle.cls_term.proofs.Orders.{greater_exactly}
-use Rattle.cls_term.specs.Banks.{at, AreBelow}
+use Rattle.cls_term.specs.Banks.{at}
 use Rattle.cls_term.specs.Order.{order_of}
 use Rattle.cls_enum.specs.Candidates.{candidates, IsInCell}
 use Rattle.cls_enum.specs.CellTables.{cell_at, cell_of}
@@ -46,7 +47,7 @@ paired_in i [] p q h = absurd h
 paired_in i (e ∷ es) p q (inl l) = inl (λ j. (q j, l j))
 paired_in i (e ∷ es) p q (inr h) = inr (paired_in i es p q h)
 
-paired-once : (i : ℕ) (es : List Applicative) → NoneTwice es → NoneTwice (paired i es)
+paired-once : (i : ℕ) (es : List Applicative) → AreDistinct es → AreDistinct (paired i es)
 paired-once i [] h = tt
 paired-once i (e ∷ es) h = ((λ c. h.0 (in_to es e (in_paired i es (i, e) (in_from (paired i es) (i, e) c)).1)), paired-once i es h.1)
 
@@ -129,7 +130,7 @@ module _ (book : List (List (Rule ℕ))) (r : Request) where
   )
 
   -- pairs of the next cell aren't made yet
-  once-more : (s i : ℕ) (ps : List (ℕ × Applicative)) (es : List Applicative) → ((p : ℕ × Applicative) → Contains ps p ↔ IsMade book r.cost s i p) → ((e : Applicative) → IsIn es e → IsInCell book r.cost i s e) → NoneTwice ps → NoneTwice es → NoneTwice (ps ++ paired i es)
+  once-more : (s i : ℕ) (ps : List (ℕ × Applicative)) (es : List Applicative) → ((p : ℕ × Applicative) → Contains ps p ↔ IsMade book r.cost s i p) → ((e : Applicative) → IsIn es e → IsInCell book r.cost i s e) → AreDistinct ps → AreDistinct es → AreDistinct (ps ++ paired i es)
   once-more s i ps es h k n m = once-append ps (paired i es) n (paired-once i es m) (λ p a b.
       let q = in_paired i es p b in
       let c = k p.1 q.1 in

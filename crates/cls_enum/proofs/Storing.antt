@@ -6,13 +6,14 @@ use Rattle.std.specs.Cmp.Lexicographic.{slice_cmp}
 use Rattle.std.specs.List.Sorted.{IsPermutation, IsSortedBy}
 use Rattle.std.proofs.lemmas.List.{take_more, length-map, map-append}
 use Rattle.std.proofs.lemmas.List.Sorted.{Contains-permutation, IsPermutation-sym, length_permutation}
-use Rattle.cls_base.specs.Pools.{NoneTwice}
+use Rattle.cls_base.specs.Lists.{AreDistinct, AreBelow}
 use Rattle.cls_base.specs.Terms.{Applicative, component, length_of, code_of}
 use Rattle.cls_base.specs.Spines.{spine}
-use Rattle.cls_term.proofs.Banks.{map-at-append, AreBelow-more}
+use Rattle.cls_term.proofs.Banks.{map-at-append}
+use Rattle.cls_base.proofs.Lists.{AreBelow-more}
 use Rattle.cls_term.proofs.Codes.{code_of-one_to_one}
 use Rattle.cls_term.proofs.Orders.{Precedes-total, slice_cmp-less}
-use Rattle.cls_term.specs.Banks.{at, term_by, AreBelow, IsPut}
+use Rattle.cls_term.specs.Banks.{at, term_by, IsPut}
 use Rattle.cls_enum.specs.Members.{IsIn, SpinesBelow, AreFound, IsAdded, IsGrown, CodesRise, IsCell}
 use Rattle.cls_enum.proofs.Additions.{AreBelow-push}
 use Rattle.cls_enum.proofs.Counting.{once-by_count}
@@ -103,7 +104,7 @@ sorted-tail lt x xs s = λ k d l m.
     let P : ℕ → Type 0 = λ j. lt (get_or (x ∷ xs) j d) (get_or (x ∷ xs) (suc k) d) ≡ false in
     subst P e (s (suc k) d (omega arith) (omega arith))
 
-codes-rise : (ts : List Applicative) (xs : List ℕ) → IsSortedBy (code_lt ts) xs → NoneTwice (map (at ts) xs) → CodesRise (map (at ts) xs)
+codes-rise : (ts : List Applicative) (xs : List ℕ) → IsSortedBy (code_lt ts) xs → AreDistinct (map (at ts) xs) → CodesRise (map (at ts) xs)
 codes-rise ts [] s n = tt
 codes-rise ts (x ∷ []) s n = tt
 codes-rise ts (x ∷ y ∷ xs) s n = (
@@ -120,8 +121,8 @@ codes-rise ts (x ∷ y ∷ xs) s n = (
 -- what is found, put and sorted is the cell
 pub IsCell-made : (ts us : List Applicative) (ks : List (ℕ × List ℕ)) (es : List Applicative) (xs ys : List ℕ) → IsAdded ts [] es ks → map (at us) xs ≡ map (term_by ts) ks → AreBelow (length us) xs → IsPermutation xs ys → IsSortedBy (code_lt us) ys → IsCell us es ys
 IsCell-made ts us ks es xs ys h p b q s =
-    let L : List Applicative → Type 0 = λ zs. NoneTwice zs in
-    let once : NoneTwice (map (at us) xs) = subst L (sym p) h.found.different in
+    let L : List Applicative → Type 0 = λ zs. AreDistinct zs in
+    let once : AreDistinct (map (at us) xs) = subst L (sym p) h.found.different in
     let there : (e : Applicative) → IsIn (map (at us) xs) e → IsIn (map (at us) ys) e = λ e i. reordered us xs ys e q i in
     let back : (e : Applicative) → IsIn (map (at us) ys) e → IsIn (map (at us) xs) e = λ e i. reordered us ys xs e (IsPermutation-sym xs ys q) i in
     let n = once-by_count (map (at us) xs) (map (at us) ys) once there back (omega (arith, length-map xs (at us), length-map ys (at us), length_permutation xs ys q)) in

@@ -1,7 +1,8 @@
 -- Terms that lack some arguments.
 use Rattle.std.specs.Prelude.{◌≡◌, List, length}
 use Rattle.cls_base.specs.Terms.{Applicative, length_of}
-use Rattle.cls_term.specs.Banks.{term_by, AreBelow}
+use Rattle.cls_term.specs.Banks.{term_by}
+use Rattle.cls_base.specs.Lists.{AreBelow}
 use Rattle.cls_enum.specs.declared.begun.Begun.{Begun}
 
 -- the term so far

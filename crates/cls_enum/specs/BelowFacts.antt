@@ -1,7 +1,7 @@
 -- There is at most one proof that numbers are below a bound.
 use Rattle.std.specs.Prelude.{ℕ, List, [], ◌∷◌}
 use Rattle.std.specs.Coded.{×_prop, Unit-prop, le_prop}
-use Rattle.cls_term.specs.Banks.{AreBelow}
+use Rattle.cls_base.specs.Lists.{AreBelow}
 
 pub AreBelow-prop : (n : ℕ) (numbers : List ℕ) → IsProp (AreBelow n numbers)
 AreBelow-prop n [] = Unit-prop

@@ -1,7 +1,7 @@
 -- Rule books that tests make by hand.
 use Rattle.std.specs.Prelude.{ℕ, nat_lt, Bool, true, ◌&&◌, List, [], ◌∷◌, map}
 use Rattle.cls_base.specs.Rules.{Rule, head, any}
-use Rattle.cls_core.specs.declared.rule.Rule as core
+use Rattle.cls_base.specs.declared.rule.Rule as core
 use Rattle.cls_grammar.specs.NodeRules.{node_rule}
 
 -- whether all are nodes below n

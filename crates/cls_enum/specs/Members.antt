@@ -1,8 +1,8 @@
 -- Membership by recursion on the list, and lists that are joined.
 use Rattle.std.specs.Prelude.{ℕ, ◌≡◌, ◌≤◌, ◌<◌, ◌↔◌, ◌⊎◌, List, [], ◌∷◌, ◌++◌, length, map}
-use Rattle.cls_base.specs.Pools.{NoneTwice}
+use Rattle.cls_base.specs.Lists.{AreDistinct, AreBelow}
 use Rattle.cls_base.specs.Terms.{Applicative, length_of, code_of, Precedes}
-use Rattle.cls_term.specs.Banks.{at, term_by, AreBelow}
+use Rattle.cls_term.specs.Banks.{at, term_by}
 
 abbrev pub IsIn : {A : Type 0} → List A → A → Type 0
 IsIn [] e = ⊥
@@ -14,7 +14,7 @@ Joins {A} old more new = (e : A) → IsIn new e ↔ (IsIn old e ⊎ IsIn more e)
 
 -- more than so many different terms are in one of the two
 abbrev pub IsOverfull : ℕ → List Applicative → List Applicative → Type 0
-IsOverfull limit old more = (xs : List Applicative) × NoneTwice xs × ((e : Applicative) → IsIn xs e → IsIn old e ⊎ IsIn more e) × (limit < length xs)
+IsOverfull limit old more = (xs : List Applicative) × AreDistinct xs × ((e : Applicative) → IsIn xs e → IsIn old e ⊎ IsIn more e) × (limit < length xs)
 
 abbrev pub SpinesBelow : ℕ → List (ℕ × List ℕ) → Type 0
 SpinesBelow n [] = Unit {0}
@@ -23,7 +23,7 @@ SpinesBelow n (s ∷ spines) = AreBelow n s.1 × SpinesBelow n spines
 -- The spines are made of the terms, which differ, and so do theirs, none of which is longer than 64.
 pub record AreFound (terms : List Applicative) (spines : List (ℕ × List ℕ)) : Type 0 where
   pub below : SpinesBelow (length terms) spines
-  pub different : NoneTwice (map (term_by terms) spines)
+  pub different : AreDistinct (map (term_by terms) spines)
   pub short : (e : Applicative) → IsIn (map (term_by terms) spines) e → length_of e ≤ 64
 
 -- the terms of the spines are joined with more, each once

@@ -4,8 +4,9 @@ use Rattle.cls_base.specs.Terms.{Applicative, size_of}
 use Rattle.cls_base.specs.Rules.{Rule}
 use Rattle.cls_base.specs.Languages.{IsGenerated}
 use Rattle.cls_base.specs.Pages.{Request, IsDue, Rises}
-use Rattle.cls_base.specs.Pools.{NoneTwice, IsMade, PoolIs, IsDecidingSize}
-use Rattle.cls_term.specs.Banks.{at, AreBelow}
+use Rattle.cls_base.specs.Pools.{IsMade, PoolIs, IsDecidingSize}
+use Rattle.cls_base.specs.Lists.{AreDistinct, AreBelow}
+use Rattle.cls_term.specs.Banks.{at}
 use Rattle.cls_enum.specs.Members.{IsIn}
 use Rattle.cls_enum.specs.Candidates.{IsInCell}
 use Rattle.cls_enum.specs.CellTables.{cell_of}
@@ -17,13 +18,13 @@ module _ (book : List (List (Rule ℕ))) (r : Request) where
   -- The terms of smaller sizes are made, and those of this size of the nodes below i, each once; and the due ones among those of node 0 are listed.
   pub record IsState (s i : ℕ) (pairs : List (ℕ × Applicative)) (due : List Applicative) : Type 0 where
     pub made : (p : ℕ × Applicative) → Contains pairs p ↔ IsMade book r.cost s i p
-    pub once : NoneTwice pairs
+    pub once : AreDistinct pairs
     pub rises : Rises r.cost due
     pub listed : (e : Applicative) → Contains due e ↔ (IsDue IsTerm r e × ((size_of r.cost e < s) ⊎ ((0 < i) × (size_of r.cost e ≡ s))))
 
   -- more pairs than the bound are made, each once
   abbrev pub IsTooMuch : ℕ → ℕ → ℕ → Type 0
-  IsTooMuch s i pool = (pairs : List (ℕ × Applicative)) × NoneTwice pairs × ((p : ℕ × Applicative) → Contains pairs p → IsMade book r.cost s i p) × (pool < length pairs)
+  IsTooMuch s i pool = (pairs : List (ℕ × Applicative)) × AreDistinct pairs × ((p : ℕ × Applicative) → Contains pairs p → IsMade book r.cost s i p) × (pool < length pairs)
 
   -- the pool at the deciding size is over the bound, and it isn't
   abbrev pub IsOver : ℕ → Type 0

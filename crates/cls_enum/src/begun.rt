@@ -29,7 +29,7 @@ impl Begun {
         }
     }
 
-    /// A term of the bank. The only error is want of memory.
+    /// A term of the bank. The only error is out of memory.
     pub(crate) fn from_term(alloc: Global, bank: &Bank, number: u32) -> Result<Begun, OutOfMemory>
         requires { number < length bank.now }
         ensures term { IfOk result (λ begun. begun_term bank.now begun ≡ at bank.now number) }

@@ -1,7 +1,8 @@
 ghost use Rattle.std.specs.Prelude.{◌≡◌, ℕ, ◌+◌, ◌-◌, ◌<◌, ◌≤◌, ◌^◌, IfOk, List, length, map};
 ghost use Rattle.cls_base.specs.Rules as generic;
 ghost use Rattle.cls_base.specs.Terms.{length_of, Applicative};
-ghost use Rattle.cls_term.specs.Banks.{at, AreBelow};
+ghost use Rattle.cls_term.specs.Banks.{at};
+ghost use Rattle.cls_base.specs.Lists.{AreBelow};
 ghost use Rattle.cls_enum.specs.CellTables.{cell_at, cell_of};
 ghost use Rattle.cls_enum.specs.Members.{IsIn};
 ghost use Rattle.cls_enum.specs.Plans.{after, nodes_of, rule_of, rules_of, places_of, book_of, AreBounds, AreReady, IsReady, AllReady, AreWhole, IsExtended};

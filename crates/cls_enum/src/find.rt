@@ -1,7 +1,8 @@
 ghost use Rattle.std.specs.Prelude.{◌≡◌, ℕ, ◌-◌, ◌<◌, ◌≤◌, ◌^◌, IfOk, IfErr, List, [], ◌∷◌, length, map};
 ghost use Rattle.std.specs.List.{flat_map};
 ghost use Rattle.cls_base.specs.Terms.{component};
-ghost use Rattle.cls_term.specs.Banks.{at, term_by, AreBelow};
+ghost use Rattle.cls_term.specs.Banks.{at, term_by};
+ghost use Rattle.cls_base.specs.Lists.{AreBelow};
 ghost use Rattle.cls_enum.specs.Candidates.{over, fills};
 ghost use Rattle.cls_enum.specs.Faults.{IfTooMany};
 ghost use Rattle.cls_enum.specs.Members.{AreFound, IsAdded, IsOverfull};

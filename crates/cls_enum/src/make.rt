@@ -1,5 +1,6 @@
 ghost use Rattle.std.specs.Prelude.{◌≡◌, ℕ, ◌<◌, ◌≤◌, ◌^◌, IfOk, IfErr, [], length, map};
-ghost use Rattle.cls_term.specs.Banks.{at, term_by, AreBelow};
+ghost use Rattle.cls_term.specs.Banks.{at, term_by};
+ghost use Rattle.cls_base.specs.Lists.{AreBelow};
 ghost use Rattle.cls_enum.specs.CellTables.{cell_at, cell_of};
 ghost use Rattle.cls_enum.specs.Faults.{IfTooMany};
 ghost use Rattle.cls_enum.specs.Members.{AreFound, IsCell, IsGrown, IsOverfull};

@@ -81,7 +81,7 @@ fn make_others(
 /// `max_size` and length at most 64, in the order by size and code, each once; and whether there is a further one. A component
 /// that has no cost in the list costs 1. The token needn't be a term of the book.
 ///
-/// `TooManyTerms` comes exactly where more than `pool` terms have to be held: all of all nodes that are smaller than the
+/// `TooManyTerms` comes if and only if more than `pool` terms have to be held: all of all nodes that are smaller than the
 /// deciding size, with those of the start that have it. The deciding size is the least one at which the page is known to
 /// be full with a further term behind it, or `max_size`.
 pub fn page<B: RuleBook>(

@@ -4,8 +4,7 @@ ghost use Rattle.cls_grammar.specs.NodeRules.{node_rule};
 ghost use Rattle.cls_term.specs.Costs.{cost_of};
 ghost use Rattle.cls_enum.specs.Plans.{IsBarren, AllReady, AreReady, AreFree, IsReady, book_of, nodes_of, rule_of, rules_of};
 
-use cls_base::{Numbers, OutOfMemory};
-use cls_core::Rule;
+use cls_base::{Numbers, OutOfMemory, Rule};
 use cls_grammar::RuleBook;
 use std::alloc::Global;
 use std::marker::Model;

@@ -1,5 +1,5 @@
 ghost use Rattle.std.specs.Prelude.{ℕ, length};
-ghost use Rattle.cls_term.specs.Banks.{AreBelow};
+ghost use Rattle.cls_base.specs.Lists.{AreBelow};
 ghost use Rattle.cls_enum.specs.BelowFacts.{AllBelow-prop};
 ghost use Rattle.cls_enum.specs.CellTables.{cell_at};
 

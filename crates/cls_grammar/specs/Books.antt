@@ -1,14 +1,11 @@
 -- Rule books as lists of rules.
 use Rattle.std.specs.Prelude.{ℕ, zero, suc, ◌<◌, List, [], ◌∷◌, ◌++◌}
+use Rattle.cls_base.specs.Lists.{AreBelow}
 use Rattle.cls_base.specs.Rules.{Rule, head, any}
-
-abbrev pub AreNodes : ℕ → List ℕ → Type 0
-AreNodes n [] = Unit {0}
-AreNodes n (i ∷ is) = (i < n) × AreNodes n is
 
 -- the arguments of the rule are nodes below n
 abbrev pub IsWithin : ℕ → Rule ℕ → Type 0
-IsWithin n (head x ns) = AreNodes n ns
+IsWithin n (head x ns) = AreBelow n ns
 IsWithin n (any l m) = (l < n) × (m < n)
 
 abbrev pub AreWithin : ℕ → List (Rule ℕ) → Type 0

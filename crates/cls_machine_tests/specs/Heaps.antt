@@ -3,7 +3,7 @@ use Rattle.std.specs.Prelude.{◌≡◌, ◌<◌, ◌+◌, ◌*◌, ℕ, Bool, t
 use Rattle.std.proofs.Common.{arith, zero, suc, refl}
 use Rattle.std.proofs.lemmas.Bool.Decides.{nat_tests}
 use Rattle.cls_core.specs.Arguments.{arguments_of}
-use Rattle.cls_core.specs.declared.rule.Rule.TheVariants.{Head}
+use Rattle.cls_base.specs.declared.rule.Rule.TheVariants.{Head}
 use Rattle.cls_core.specs.declared.answer.Answer.{Answer}
 use Rattle.cls_core.specs.declared.answer.Answer.TheVariants.{Rules}
 use Rattle.cls_machine_tests.specs.Nodes.{node}

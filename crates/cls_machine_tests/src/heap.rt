@@ -27,7 +27,7 @@ impl Key for Node {
 pub struct Heap {
     size: u32,
     asks: AtomicU64,
-    // At this ask, counted from 1, it wants memory.
+    // At this call, counted from 1, it runs out of memory.
     fails: u64,
 }
 

@@ -51,7 +51,7 @@ fn a_table_without_claims_is_completed(rt: HostRuntime) -> Result<(), Fail> {
     Ok(())
 }
 
-// A claim, which is filed. It stops the table for want of memory. Nothing where no row is free.
+// A claim, which is filed. It stops the table as at out of memory. Nothing where no row is free.
 fn work_once<R: Wait, L: Ledger>(
     rt: &R,
     alloc: Global,
@@ -109,7 +109,7 @@ fn read_in_the_end<R: Wait, L: Ledger>(rt: &R, alloc: Global, blank: Blank) -> u
     }
 }
 
-// Whether rows are read of a table over a heap of 3 that is closed when one goal was filed, None for want of memory.
+// Whether rows are read of a table over a heap of 3 that is closed when one goal was filed, None at out of memory.
 fn is_read_too_early<R: Wait, L: Ledger>(rt: &R, alloc: Global, blank: Blank) -> Option<bool>
     requires name { blank.name ≡ L.name }
     requires parts { blank.parts ≡ L.parts }

@@ -37,7 +37,7 @@ fn two_workers_hold_claims_at_once(rt: HostRuntime) -> Result<(), Fail> {
 }
 
 // What comes of the closure of so many goals, with one rule each: the number of rows, 0 where it is too large, or 1,000,000
-// where memory is wanting. The expander wants memory at this ask, counted from 1.
+// where memory runs out. The expander runs out of memory at this call, counted from 1.
 fn rows_of<R: Threads + Wait + Sync>(
     rt: &R,
     alloc: Global,

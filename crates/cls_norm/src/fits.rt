@@ -12,7 +12,7 @@ use std::alloc::Global;
 const TOO_MANY: u64 = 1025;
 
 /// Whether the type of the normal form has at most 1,024 nodes, a depth of at most 64 and a spread of at most 16,384. The
-/// only error is want of memory.
+/// only error is out of memory.
 ///
 /// The nodes are counted first, so no type of more nodes is made, however long the list.
 pub fn fit(alloc: Global, nf: &Nf) -> Result<bool, OutOfMemory>

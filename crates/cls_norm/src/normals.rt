@@ -14,21 +14,21 @@ use std::alloc::Global;
 /// a law of the crate of paths says.
 ///
 /// Time and memory are bounded by the spread of the type, which callers keep at 16,384 or below, and the stack by its
-/// depth as a tree, so by its nodes. The only error is want of memory.
+/// depth as a tree, so by its nodes. The only error is out of memory.
 pub fn normal<T: Taxa>(alloc: Global, taxa: &T, ty: &Ty) -> Result<Nf, OutOfMemory>
     ensures form { IfOk result (λ nf.
-        IsNormalForm (Below (T.is_below taxa.now)) (T.kind taxa.now) (type_of ty.now) (listed nf)) }
+        IsNormalForm (Below (T.is_below taxa.now)) (T.variance_of_name taxa.now) (type_of ty.now) (listed nf)) }
     ensures below { IfOk result (λ nf.
-        Subtype (Below (T.is_below taxa.now)) (T.kind taxa.now) (type_of_paths (listed nf)) (type_of ty.now)) }
+        Subtype (Below (T.is_below taxa.now)) (T.variance_of_name taxa.now) (type_of_paths (listed nf)) (type_of ty.now)) }
     ensures above { IfOk result (λ nf.
-        Subtype (Below (T.is_below taxa.now)) (T.kind taxa.now) (type_of ty.now) (type_of_paths (listed nf))) }
+        Subtype (Below (T.is_below taxa.now)) (T.variance_of_name taxa.now) (type_of ty.now) (type_of_paths (listed nf))) }
 {
     let paths = paths_of(alloc, taxa, ty)?;
     Ok(Nf::from_paths(alloc, taxa, paths)?)
 }
 
-/// Whether the first type is a subtype of the second: yes exactly where a derivation by the rules exists. The only error
-/// is want of memory. What bounds the work is said at [`normal`].
+/// Whether the first type is a subtype of the second: yes if and only if a derivation by the rules exists. The only error
+/// is out of memory. What bounds the work is said at [`normal`].
 pub fn subtype<T: Taxa>(
     alloc: Global,
     taxa: &T,
@@ -36,7 +36,7 @@ pub fn subtype<T: Taxa>(
     upper: &Ty,
 ) -> Result<bool, OutOfMemory>
     ensures { IfOk result (λ answer. IsTrue answer
-        ↔ Subtype (Below (T.is_below taxa.now)) (T.kind taxa.now) (type_of lower.now) (type_of upper.now)) }
+        ↔ Subtype (Below (T.is_below taxa.now)) (T.variance_of_name taxa.now) (type_of lower.now) (type_of upper.now)) }
 {
     let lower = normal(alloc, taxa, lower)?;
     let upper = normal(alloc, taxa, upper)?;

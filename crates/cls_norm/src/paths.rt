@@ -12,7 +12,7 @@ use std::alloc::Global;
 /// Paths whose intersection is the type. The lists inside them are normal.
 pub(crate) fn paths_of<T: Taxa>(alloc: Global, taxa: &T, ty: &Ty) -> Result<Vec<Path>, OutOfMemory>
     ensures { IfOk result (λ paths.
-        ArePathsOf (Below (T.is_below taxa.now)) (T.kind taxa.now) (type_of ty.now) (listed paths.items)) }
+        ArePathsOf (Below (T.is_below taxa.now)) (T.variance_of_name taxa.now) (type_of ty.now) (listed paths.items)) }
 {
     match ty {
         Ty::Omega => Ok(Vec::new(alloc)),

@@ -11,7 +11,7 @@ impl Taxa for Zoo {
 
     ghost is_below = { λ t a b. zoo_below a b };
 
-    ghost kind = { λ t a. zoo_kind a };
+    ghost variance_of_name = { λ t a. zoo_kind a };
 
     fn below(&self, lower: Name, upper: Name) -> bool {
         lower.0 == upper.0

@@ -7,7 +7,7 @@ use cls_path::{Form, Nf, Path};
 use std::alloc::Global;
 
 /// The type of a normal form: omega, or the intersection of the types of its paths, nested to the left. The only error is
-/// want of memory.
+/// out of memory.
 #[cycle(type_of)]
 pub fn type_of(alloc: Global, nf: &Nf) -> Result<Ty, OutOfMemory>
     ensures { IfOk result (λ ty. closed.type_of ty ≡ type_of_paths (listed nf.now)) }

@@ -1,4 +1,4 @@
--- Paths and lists are below each other exactly where a derivation says it of their types.
+-- Paths and lists are below each other if and only if a derivation says it of their types.
 use Rattle.std.proofs.Common.{ℕ, ◌↔◌, subst}
 use Rattle.cls_base.specs.Taxonomies.{Variance}
 use Rattle.cls_base.specs.Subtyping.{Subtype}
@@ -25,6 +25,6 @@ module _ (below : ℕ → ℕ → Type 0) (variance : ℕ → Variance) (reflexi
   pub path_exact : (p q : TypePath) → Suits variance p → Suits variance q → PathLe below variance p q ↔ Subtype below variance (type_of_path p) (type_of_path q)
   path_exact p q s t = ((λ h. le_sound below variance h s t), (λ d. single p q (first_of (more p none) none q (between (more p none) (more q none) (s, tt) (t, tt) (complete below variance reflexive transitive d)))))
 
-  -- an intersection of paths is below a path exactly where one of them is
+  -- an intersection of paths is below a path if and only if one of them is
   pub prime : (n : Paths) (q : TypePath) → SuitsAll variance n → Suits variance q → Subtype below variance (type_of_paths n) (type_of_path q) ↔ SomeLe below variance n q
   prime n q s t = ((λ d. first_of n none q (between n (more q none) s (t, tt) (complete below variance reflexive transitive d))), (λ a. above_sound below variance a s t))

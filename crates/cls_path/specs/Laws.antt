@@ -1,5 +1,6 @@
 -- What holds of all paths and normal forms.
 use Rattle.std.specs.Prelude.{ℕ, Bool, ◌≡◌, ◌↔◌, ◌⊎◌}
+use Rattle.cls_base.specs.Orders.{IsStrictTotalOrder}
 use Rattle.cls_base.specs.Types.{ClosedType}
 use Rattle.cls_base.specs.Taxonomies.{Variance}
 use Rattle.cls_base.specs.Taxa.{Below}
@@ -11,11 +12,6 @@ pub record IsPartialOrder (below : ℕ → ℕ → Type 0) : Type 0 where
   pub reflexive : (c : ℕ) → below c c
   pub transitive : (c d e : ℕ) → below c d → below d e → below c e
   pub antisymmetric : (c d : ℕ) → below c d → below d c → c ≡ d
-
-pub record IsStrictTotalOrder (A : Type 0) (R : A → A → Type 0) : Type 0 where
-  pub irreflexive : (x : A) → R x x → ⊥
-  pub transitive : (x y z : A) → R x y → R y z → R x z
-  pub total : (x y : A) → R x y ⊎ (x ≡ y) ⊎ R y x
 
 abbrev pub PathsAreOrdered : Type 0
 PathsAreOrdered = IsStrictTotalOrder TypePath PathBefore
@@ -35,7 +31,7 @@ BelowIsTransitive = (test : ℕ → ℕ → Bool) (variance : ℕ → Variance) 
 abbrev pub DerivationsAreDecided : Type 0
 DerivationsAreDecided = (test : ℕ → ℕ → Bool) (variance : ℕ → Variance) → IsPartialOrder (Below test) → (s t : ClosedType) → Subtype (Below test) variance s t ↔ PathsLe (Below test) variance (paths_of variance s) (paths_of variance t)
 
--- an intersection of paths is below a path exactly where one of them is
+-- an intersection of paths is below a path if and only if one of them is
 abbrev pub PathsArePrime : Type 0
 PathsArePrime = (test : ℕ → ℕ → Bool) (variance : ℕ → Variance) → IsPartialOrder (Below test) → (n : Paths) (q : TypePath) → SuitsAll variance n → Suits variance q → Subtype (Below test) variance (type_of_paths n) (type_of_path q) ↔ ((p : TypePath) × InPaths n p × Subtype (Below test) variance (type_of_path p) (type_of_path q))
 
@@ -43,6 +39,6 @@ PathsArePrime = (test : ℕ → ℕ → Bool) (variance : ℕ → Variance) → 
 abbrev pub FormsAreEquivalent : Type 0
 FormsAreEquivalent = (test : ℕ → ℕ → Bool) (variance : ℕ → Variance) → IsPartialOrder (Below test) → (t : ClosedType) (n : Paths) → IsNormalForm (Below test) variance t n → Subtype (Below test) variance t (type_of_paths n) × Subtype (Below test) variance (type_of_paths n) t
 
--- two types are equivalent exactly where their normal forms are equal
+-- two types are equivalent if and only if their normal forms are equal
 abbrev pub FormsAreExact : Type 0
 FormsAreExact = (test : ℕ → ℕ → Bool) (variance : ℕ → Variance) → IsPartialOrder (Below test) → (s t : ClosedType) (n m : Paths) → IsNormalForm (Below test) variance s n → IsNormalForm (Below test) variance t m → (Subtype (Below test) variance s t × Subtype (Below test) variance t s) ↔ (n ≡ m)

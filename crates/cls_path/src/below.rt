@@ -12,11 +12,11 @@ impl Path {
     /// Whether the type of this path is a subtype of the type of the other. Each name has to stand in a kind of path that
     /// fits its variance. Takes no memory.
     pub fn le<T: Taxa>(&self, taxa: &T, other: &Path) -> bool
-        requires suits { Suits (T.kind taxa.now) self.now }
-        requires other_suits { Suits (T.kind taxa.now) other.now }
+        requires suits { Suits (T.variance_of_name taxa.now) self.now }
+        requires other_suits { Suits (T.variance_of_name taxa.now) other.now }
         ensures exact { IsTrue result
-            ↔ Subtype (Below (T.is_below taxa.now)) (T.kind taxa.now) (type_of_path self.now) (type_of_path other.now) }
-        ensures cases { IsTrue result ↔ PathLe (Below (T.is_below taxa.now)) (T.kind taxa.now) self.now other.now }
+            ↔ Subtype (Below (T.is_below taxa.now)) (T.variance_of_name taxa.now) (type_of_path self.now) (type_of_path other.now) }
+        ensures cases { IsTrue result ↔ PathLe (Below (T.is_below taxa.now)) (T.variance_of_name taxa.now) self.now other.now }
     {
         self.is_below(taxa, other)
     }
@@ -24,7 +24,7 @@ impl Path {
     /// Kind and name are compared before anything inside.
     #[cycle(below)]
     pub(crate) fn is_below<T: Taxa>(&self, taxa: &T, other: &Path) -> bool
-        ensures { result ≡ path_below (T.is_below taxa.now) (T.kind taxa.now) self.now other.now }
+        ensures { result ≡ path_below (T.is_below taxa.now) (T.variance_of_name taxa.now) self.now other.now }
     {
         match (&self.form, &other.form) {
             (Form::Atom(c), Form::Atom(d)) => taxa.below(*c, *d),
@@ -45,13 +45,13 @@ impl Nf {
     /// Whether the type of this intersection is a subtype of the type of the other. Each name has to stand in a kind of
     /// path that fits its variance. Takes no memory.
     pub fn le<T: Taxa>(&self, taxa: &T, other: &Nf) -> bool
-        requires suits { SuitsAll (T.kind taxa.now) (listed self.now) }
-        requires other_suits { SuitsAll (T.kind taxa.now) (listed other.now) }
+        requires suits { SuitsAll (T.variance_of_name taxa.now) (listed self.now) }
+        requires other_suits { SuitsAll (T.variance_of_name taxa.now) (listed other.now) }
         ensures exact { IsTrue result
-            ↔ Subtype (Below (T.is_below taxa.now)) (T.kind taxa.now)
+            ↔ Subtype (Below (T.is_below taxa.now)) (T.variance_of_name taxa.now)
             (type_of_paths (listed self.now)) (type_of_paths (listed other.now)) }
         ensures cases { IsTrue result
-            ↔ PathsLe (Below (T.is_below taxa.now)) (T.kind taxa.now) (listed self.now) (listed other.now) }
+            ↔ PathsLe (Below (T.is_below taxa.now)) (T.variance_of_name taxa.now) (listed self.now) (listed other.now) }
     {
         self.is_below(taxa, other)
     }
@@ -59,7 +59,7 @@ impl Nf {
     /// Whether each path of the other is above some path of this one.
     #[cycle(below)]
     fn is_below<T: Taxa>(&self, taxa: &T, other: &Nf) -> bool
-        ensures { result ≡ list_below (T.is_below taxa.now) (T.kind taxa.now) (listed self.now) (listed other.now) }
+        ensures { result ≡ list_below (T.is_below taxa.now) (T.variance_of_name taxa.now) (listed self.now) (listed other.now) }
     {
         for path in &other.paths {
             if !self.some_below(taxa, path) {
@@ -73,8 +73,8 @@ impl Nf {
     #[cycle(below)]
     fn is_sealed_below<T: Taxa>(&self, taxa: &T, variance: Variance, other: &Nf) -> bool
         ensures { result ≡ sealed_below (variance_of variance) (same_paths (listed self.now) (listed other.now))
-            (list_below (T.is_below taxa.now) (T.kind taxa.now) (listed other.now) (listed self.now))
-            (list_below (T.is_below taxa.now) (T.kind taxa.now) (listed self.now) (listed other.now)) }
+            (list_below (T.is_below taxa.now) (T.variance_of_name taxa.now) (listed other.now) (listed self.now))
+            (list_below (T.is_below taxa.now) (T.variance_of_name taxa.now) (listed self.now) (listed other.now)) }
     {
         match variance {
             Variance::Co => false,
@@ -90,7 +90,7 @@ impl Nf {
     /// Whether some path of the list is below the path.
     #[cycle(below)]
     pub(crate) fn some_below<T: Taxa>(&self, taxa: &T, path: &Path) -> bool
-        ensures { result ≡ some_below (T.is_below taxa.now) (T.kind taxa.now) (listed self.now) path.now }
+        ensures { result ≡ some_below (T.is_below taxa.now) (T.variance_of_name taxa.now) (listed self.now) path.now }
     {
         for one in &self.paths {
             if one.is_below(taxa, path) {

@@ -17,12 +17,12 @@ pub fn below_is_transitive()
     ensures { BelowIsTransitive }
 {}
 
-/// A derivation that one type is below another exists exactly where each path of the other is above some path of the one.
+/// A derivation that one type is below another exists if and only if each path of the other is above some path of the one.
 pub fn derivations_are_decided()
     ensures { DerivationsAreDecided }
 {}
 
-/// An intersection of paths is below a path exactly where one of the paths is.
+/// An intersection of paths is below a path if and only if one of the paths is.
 pub fn paths_are_prime()
     ensures { PathsArePrime }
 {}
@@ -32,7 +32,7 @@ pub fn forms_are_equivalent()
     ensures { FormsAreEquivalent }
 {}
 
-/// Two types are equivalent exactly where their normal forms are equal.
+/// Two types are equivalent if and only if their normal forms are equal.
 pub fn forms_are_exact()
     ensures { FormsAreExact }
 {}

@@ -86,7 +86,7 @@ impl Path {
         &self.form
     }
 
-    /// A path equal to this one. The only error is want of memory.
+    /// A path equal to this one. The only error is out of memory.
     #[cycle(copy)]
     pub fn copy(&self, alloc: Global) -> Result<Path, OutOfMemory>
         ensures { IfOk result (λ path. path ≡ self.now) }
@@ -124,7 +124,7 @@ impl Nf {
         self.paths.as_slice()
     }
 
-    /// An intersection equal to this one. The only error is want of memory.
+    /// An intersection equal to this one. The only error is out of memory.
     #[cycle(copy)]
     pub fn copy(&self, alloc: Global) -> Result<Nf, OutOfMemory>
         ensures { IfOk result (λ nf. nf ≡ self.now) }

@@ -2,7 +2,7 @@
 use Rattle.std.proofs.Common.{◌≡◌, ℕ, ◌<◌, List, length, sym, ap, ◌∙◌, subst, arith, Bool, get_or}
 use Rattle.std.specs.Prelude.{All, codes}
 use Rattle.cls_base.specs.Types as types
-use Rattle.cls_base.specs.Terms.{Applicative, component, apply, IsOver}
+use Rattle.cls_base.specs.Terms.{Applicative, component, apply, IsTermOver}
 use Rattle.cls_base.specs.Pages.{IsPage}
 use Rattle.cls_term.specs.Components.{greatest_of}
 use Rattle.cls_term.specs.Texts.{name_at}
@@ -15,7 +15,7 @@ use Rattle.cls_session.proofs.Pools.{few_to, many_to}
 use Rattle.cls_session.proofs.Typing.{typed_from_over, over_from_typed, page_to}
 
 -- the greatest component of a term is among the components
-pub greatest_within : (n : ℕ) (e : Applicative) → IsOver n e → greatest_of e < n
+pub greatest_within : (n : ℕ) (e : Applicative) → IsTermOver n e → greatest_of e < n
 greatest_within n (component x) o = o
 greatest_within n (apply f a) o = omega (arith, greatest_within n f o.0, greatest_within n a o.1)
 
@@ -25,23 +25,23 @@ at_place P es i e all l is = subst P (sym is) (all i e l)
 
 -- The names are those of the components.
 module _ (names : List (List ℕ)) (declared : List Declaration) (is : names ≡ names_of declared) (max take : ℕ) where
-  typed : (e : Applicative) → IsOver (length names) e → IsOmega declared e
-  typed e o = typed_from_over declared e (subst (λ k. IsOver k e) (ap length is ∙ length-names_of declared) o)
+  typed : (e : Applicative) → IsTermOver (length names) e → IsOmega declared e
+  typed e o = typed_from_over declared e (subst (λ k. IsTermOver k e) (ap length is ∙ length-names_of declared) o)
 
-  over : (e : Applicative) → IsOmega declared e → IsOver (length names) e
-  over e h = subst (λ k. IsOver k e) (sym (ap length is ∙ length-names_of declared)) (over_from_typed declared e types.omega h)
+  over : (e : Applicative) → IsOmega declared e → IsTermOver (length names) e
+  over e h = subst (λ k. IsTermOver k e) (sym (ap length is ∙ length-names_of declared)) (over_from_typed declared e types.omega h)
 
   -- the reply that lists the page
-  pub lists_page : (line text : List ℕ) (es : List Applicative) (more : Bool) → IsListing line max take → IsPage (IsOver (length names)) (request max take) es more
-      → AreFew (IsOver (length names)) max take 200000 → text ≡ page_text (name_at names) es more → Reply declared line text
+  pub lists_page : (line text : List ℕ) (es : List Applicative) (more : Bool) → IsListing line max take → IsPage (IsTermOver (length names)) (request max take) es more
+      → AreFew (IsTermOver (length names)) max take 200000 → text ≡ page_text (name_at names) es more → Reply declared line text
   lists_page line text es more q p f e = listing max take q record {
     terms = es;
     more = more;
-    page = page_to (IsOver (length names)) (IsOmega declared) (request max take) typed over es more p;
-    few = few_to (IsOver (length names)) (IsOmega declared) typed over max take 200000 f;
+    page = page_to (IsTermOver (length names)) (IsOmega declared) (request max take) typed over es more p;
+    few = few_to (IsTermOver (length names)) (IsOmega declared) typed over max take 200000 f;
     written = e ∙ ap (λ (table : List (List ℕ)). page_text (name_at table) es more) is;
   }
 
   -- the reply that there are too many terms
-  pub has_too_many : (line text : List ℕ) → IsListing line max take → AreMany (IsOver (length names)) max take 200000 → text ≡ reply_line (codes "error too-many-terms") → Reply declared line text
-  has_too_many line text q m e = too_many max take q record { many = many_to (IsOver (length names)) (IsOmega declared) typed over max take 200000 m; written = e }
+  pub has_too_many : (line text : List ℕ) → IsListing line max take → AreMany (IsTermOver (length names)) max take 200000 → text ≡ reply_line (codes "error too-many-terms") → Reply declared line text
+  has_too_many line text q m e = too_many max take q record { many = many_to (IsTermOver (length names)) (IsOmega declared) typed over max take 200000 m; written = e }

@@ -6,11 +6,12 @@ use Rattle.std.proofs.lemmas.Bool.{cases_lt}
 use Rattle.std.proofs.lemmas.List.Elements.{Contains-append_right}
 use Rattle.std.proofs.lemmas.Map.Entries.{length-values_of}
 use Rattle.std.proofs.lemmas.Map.Made.{Contains-values_of, Contains-from_values_of}
-use Rattle.cls_base.specs.Terms.{Applicative, IsOver, size_of}
+use Rattle.cls_base.specs.Terms.{Applicative, IsTermOver, size_of}
 use Rattle.cls_base.specs.Rules.{Rule}
 use Rattle.cls_base.specs.Languages.{IsGenerated}
 use Rattle.cls_base.specs.Pages.{IsDue, IsPage}
-use Rattle.cls_base.specs.Pools.{NoneTwice, IsMade, PoolIs, IsEnough, IsDecidingSize}
+use Rattle.cls_base.specs.Pools.{IsMade, PoolIs, IsEnough, IsDecidingSize}
+use Rattle.cls_base.specs.Lists.{AreDistinct}
 use Rattle.cls_enum.specs.declared.listed.Page.{Page}
 use Rattle.cls_enum.specs.declared.fault.PageFault.{PageFault}
 use Rattle.cls_enum.specs.declared.fault.PageFault.TheVariants.{OutOfMemory, TooManyTerms}
@@ -24,7 +25,7 @@ use Rattle.cls_session.specs.Listings.{request, IsCounted, CountIs, IsPool, AreF
 use Rattle.cls_session.proofs.Typing.{due_to, due_back, page_to}
 
 -- Where all pairs are of node 0, no term stands twice among theirs.
-terms-once : (ps : List (ℕ × Applicative)) → ((p : ℕ × Applicative) → Contains ps p → p.0 ≡ 0) → NoneTwice ps → NoneTwice (values_of ps)
+terms-once : (ps : List (ℕ × Applicative)) → ((p : ℕ × Applicative) → Contains ps p → p.0 ≡ 0) → AreDistinct ps → AreDistinct (values_of ps)
 terms-once [] z n = tt
 terms-once (q ∷ ps) z n = (
   (λ c.
@@ -107,36 +108,36 @@ module _ (P Q : Applicative → Type 0) (to : (e : Applicative) → P e → Q e)
 
 -- The terms over n components.
 module _ (n max take : ℕ) where
-  generated_over : (e : Applicative) → IsGenerated (omega_book n) 0 e → IsOver n e
+  generated_over : (e : Applicative) → IsGenerated (omega_book n) 0 e → IsTermOver n e
   generated_over e = (omega_book-language n e).0
 
-  over_generated : (e : Applicative) → IsOver n e → IsGenerated (omega_book n) 0 e
+  over_generated : (e : Applicative) → IsTermOver n e → IsGenerated (omega_book n) 0 e
   over_generated e = (omega_book-language n e).1
 
   -- the page of the rule book is theirs
-  pub book_page : (es : List Applicative) (more : Bool) → IsPage (IsGenerated (omega_book n) 0) (request max take) es more → IsPage (IsOver n) (request max take) es more
-  book_page es more p = page_to (IsGenerated (omega_book n) 0) (IsOver n) (request max take) generated_over over_generated es more p
+  pub book_page : (es : List Applicative) (more : Bool) → IsPage (IsGenerated (omega_book n) 0) (request max take) es more → IsPage (IsTermOver n) (request max take) es more
+  book_page es more p = page_to (IsGenerated (omega_book n) 0) (IsTermOver n) (request max take) generated_over over_generated es more p
 
   -- and so many of them count as its pool has pairs
-  pub book_pool : (s k : ℕ) → IsDecidingSize (IsDue (IsGenerated (omega_book n) 0) (request max take)) one take max s → PoolIs (omega_book n) one s k → IsPool (IsOver n) max take k
-  book_pool s k d p = pool_to (IsGenerated (omega_book n) 0) (IsOver n) generated_over over_generated max take k record { size = s; decides = d; count = count_from (omega_book n) refl s k p }
+  pub book_pool : (s k : ℕ) → IsDecidingSize (IsDue (IsGenerated (omega_book n) 0) (request max take)) one take max s → PoolIs (omega_book n) one s k → IsPool (IsTermOver n) max take k
+  book_pool s k d p = pool_to (IsGenerated (omega_book n) 0) (IsTermOver n) generated_over over_generated max take k record { size = s; decides = d; count = count_from (omega_book n) refl s k p }
 
   -- the page has a deciding size, and a pool at it
   pub book_decided : (s : ℕ) × IsDecidingSize (IsDue (IsGenerated (omega_book n) 0) (request max take)) one take max s × ((k : ℕ) × PoolIs (omega_book n) one s k)
   book_decided = each_page-decided (omega_book n) (request max take) (omega arith) (λ x. omega arith)
 
   -- what was listed from the rule book is the page of the terms
-  pub page_listed : (r : Result Page PageFault) → IfOk r (λ p. IsPage (IsGenerated (omega_book n) 0) (request max take) p.terms p.more) → IfOk r (λ p. IsPage (IsOver n) (request max take) p.terms p.more)
+  pub page_listed : (r : Result Page PageFault) → IfOk r (λ p. IsPage (IsGenerated (omega_book n) 0) (request max take) p.terms p.more) → IfOk r (λ p. IsPage (IsTermOver n) (request max take) p.terms p.more)
   page_listed (Ok p) h = book_page p.terms p.more h
   page_listed (Err e) h = tt
 
   -- and few count
-  pub few_listed : (bound : ℕ) (r : Result Page PageFault) → IfOk r (λ _. IsWithin (omega_book n) (request max take) bound) → IfOk r (λ _. AreFew (IsOver n) max take bound)
+  pub few_listed : (bound : ℕ) (r : Result Page PageFault) → IfOk r (λ _. IsWithin (omega_book n) (request max take) bound) → IfOk r (λ _. AreFew (IsTermOver n) max take bound)
   few_listed bound (Ok p) h = let d = book_decided in (d.2.0, book_pool d.0 d.2.0 d.1 d.2.1, h d.0 d.2.0 d.1 d.2.1)
   few_listed bound (Err e) h = tt
 
   -- where the rule book has too many terms, many count
-  pub many_found : (bound : ℕ) (r : Result Page PageFault) → IfErr r (λ fault. IfTooMany fault (states.IsOver (omega_book n) (request max take) bound)) → IfErr r (λ fault. IfTooMany fault (AreMany (IsOver n) max take bound))
+  pub many_found : (bound : ℕ) (r : Result Page PageFault) → IfErr r (λ fault. IfTooMany fault (states.IsTermOver (omega_book n) (request max take) bound)) → IfErr r (λ fault. IfTooMany fault (AreMany (IsTermOver n) max take bound))
   many_found bound (Ok p) h = tt
   many_found bound (Err OutOfMemory) h = tt
   many_found bound (Err TooManyTerms) h = let d = book_decided in (d.2.0, book_pool d.0 d.2.0 d.1 d.2.1, h d.0 d.2.0 d.1 d.2.1)

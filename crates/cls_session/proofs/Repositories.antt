@@ -1,10 +1,8 @@
 -- How a repository grows by a line, and that its lines determine it.
 use Rattle.std.proofs.Common.{◌≡◌, ℕ, zero, suc, List, [], ◌∷◌, ◌++◌, length, refl, sym, ap, ◌∙◌, subst, inl, inr, arith, append_assoc, append-nil}
-use Rattle.std.specs.Prelude.{Contains}
-use Rattle.std.proofs.lemmas.List.Elements.{Contains-append_cases, Contains-append_right}
 use Rattle.cls_session.specs.Declarations.{Declaration, names_of}
 use Rattle.cls_session.specs.Forms.{IsDeclaration, declaration_words}
-use Rattle.cls_session.specs.Repositories.{Entry, skipped, declares, Declares, AreDifferent}
+use Rattle.cls_session.specs.Repositories.{Entry, skipped, declares, Declares}
 
 -- a line declares one component at most
 pub same_declaration : (line : List ℕ) (c d : Declaration) → IsDeclaration line c → IsDeclaration line d → c ≡ d
@@ -46,28 +44,3 @@ names_of-append (d ∷ a) b = ap (λ (xs : List (List ℕ)). d.component ∷ xs)
 pub length-names_of : (a : List Declaration) → length (names_of a) ≡ length a
 length-names_of [] = refl
 length-names_of (d ∷ a) = ap suc (length-names_of a)
-
-contains_one : (x y : List ℕ) → Contains (x ∷ []) y → x ≡ y
-contains_one x y (zero, l, e) = e
-contains_one x y (suc k, l, e) = absurd (omega arith)
-
-contains_first : (x : List ℕ) (xs : List (List ℕ)) → Contains (x ∷ xs) x
-contains_first x xs = (0, omega arith, refl)
-
-contains_later : (x y : List ℕ) (xs : List (List ℕ)) → Contains xs x → Contains (y ∷ xs) x
-contains_later x y xs c = (suc c.0, (let l = c.1 in omega arith), c.2)
-
-pub AreDifferent-push : (xs : List (List ℕ)) (y : List ℕ) → AreDifferent xs → (Contains xs y → ⊥) → AreDifferent (xs ++ y ∷ [])
-AreDifferent-push [] y d n = ((λ c. let l = c.1 in absurd (omega arith)), tt)
-AreDifferent-push (x ∷ xs) y d n = (
-  (λ c. elim (Contains-append_cases xs (y ∷ []) x c) [
-    | inl a ↦ d.0 a
-    | inr b ↦ n (subst (λ (z : List ℕ). Contains (x ∷ xs) z) (sym (contains_one y x b)) (contains_first x xs))
-  ]),
-  AreDifferent-push xs y d.1 (λ c. n (contains_later y x xs c)),
-)
-
-pub AreDifferent-last : (xs : List (List ℕ)) (y : List ℕ) → AreDifferent (xs ++ y ∷ []) → Contains xs y → ⊥
-AreDifferent-last [] y d c = let l = c.1 in absurd (omega arith)
-AreDifferent-last (x ∷ xs) y d (zero, l, e) = d.0 (subst (λ (z : List ℕ). Contains (xs ++ y ∷ []) z) (sym e) (Contains-append_right xs (y ∷ []) y (contains_first y [])))
-AreDifferent-last (x ∷ xs) y d (suc k, l, e) = AreDifferent-last xs y d.1 (k, omega arith, e)

@@ -4,13 +4,15 @@ use Rattle.std.specs.Prelude.{Contains}
 use Rattle.cls_syntax.specs.Skipped.{IsSkipped}
 use Rattle.cls_session.specs.Declarations.{Declaration, names_of}
 use Rattle.cls_session.specs.Forms.{IsDeclaration, IsEnd}
-use Rattle.cls_session.specs.Repositories.{Entry, skipped, declares, AreDifferent, IsRepository}
+use Rattle.cls_session.specs.Repositories.{Entry, skipped, declares, IsRepository}
+use Rattle.cls_base.specs.Lists.{AreDistinct}
 use Rattle.cls_session.specs.Replies.{Reply, of_line, Replies, none, next, begun}
 use Rattle.cls_session.specs.Transcripts.{IsAnswered, Transcript, opening, answering, refusal, IsRefused, Ending, without_end, complete}
 use Rattle.cls_session.specs.declared.status.Status.TheVariants.{Done, Refused}
 use Rattle.cls_session.specs.Standings.{Standing, Stands}
 use Rattle.cls_session.specs.Standings as standings
-use Rattle.cls_session.proofs.Repositories.{same_declaration, Declares-unique, Declares-push, Declares-pop, names_of-append, length-names_of, AreDifferent-push, AreDifferent-last}
+use Rattle.cls_session.proofs.Repositories.{same_declaration, Declares-unique, Declares-push, Declares-pop, names_of-append, length-names_of}
+use Rattle.cls_base.proofs.Lists.{AreDistinct-last, AreDistinct-push}
 
 pub length-push : {A : Type 0} (xs : List A) (x : A) → length (xs ++ x ∷ []) ≡ length xs + 1
 length-push xs x = length-append xs (x ∷ [])
@@ -19,14 +21,14 @@ length-push xs x = length-append xs (x ∷ [])
 pub IsRepository-skip : (lines : List (List ℕ)) (line : List ℕ) (ds : List Declaration) → IsRepository lines ds → IsSkipped line → IsRepository (lines ++ line ∷ []) ds
 IsRepository-skip lines line ds r s =
     subst (λ (xs : List Declaration). IsRepository (lines ++ line ∷ []) xs) (append-nil ds)
-    record { declared = Declares-push lines line ds [] r.declared (skipped s refl); different = subst (λ (xs : List Declaration). AreDifferent (names_of xs)) (sym (append-nil ds)) r.different; few = subst (λ (xs : List Declaration). length xs ≤ 1000) (sym (append-nil ds)) r.few }
+    record { declared = Declares-push lines line ds [] r.declared (skipped s refl); different = subst (λ (xs : List Declaration). AreDistinct (names_of xs)) (sym (append-nil ds)) r.different; few = subst (λ (xs : List Declaration). length xs ≤ 1000) (sym (append-nil ds)) r.few }
 
 -- a line that declares a new component
 pub IsRepository-declare : (lines : List (List ℕ)) (line : List ℕ) (ds : List Declaration) (d : Declaration) → IsRepository lines ds → IsDeclaration line d
     → (Contains (names_of ds) d.component → ⊥) → length ds < 1000 → IsRepository (lines ++ line ∷ []) (ds ++ d ∷ [])
 IsRepository-declare lines line ds d r s new few = record {
   declared = Declares-push lines line ds (d ∷ []) r.declared (declares d s refl);
-  different = rw (names_of-append ds (d ∷ [])) (AreDifferent-push (names_of ds) d.component r.different new);
+  different = rw (names_of-append ds (d ∷ [])) (AreDistinct-push (names_of ds) d.component r.different new);
   few = omega (arith, length-push ds d);
 }
 
@@ -36,14 +38,14 @@ pub data IsFaulty (names : List (List ℕ)) (line : List ℕ) : Type 0 where
   repeated : (d : Declaration) → IsDeclaration line d → Contains names d.component → IsFaulty names line
   full : (d : Declaration) → IsDeclaration line d → 1000 ≤ length names → IsFaulty names line
 
-entry_of : (ds : List Declaration) (line : List ℕ) (b : List Declaration) → IsFaulty (names_of ds) line → Entry line b → AreDifferent (names_of (ds ++ b)) → length (ds ++ b) ≤ 1000 → ⊥
+entry_of : (ds : List Declaration) (line : List ℕ) (b : List Declaration) → IsFaulty (names_of ds) line → Entry line b → AreDistinct (names_of (ds ++ b)) → length (ds ++ b) ≤ 1000 → ⊥
 entry_of ds line b (foreign n m) (skipped s e) different few = n s
 entry_of ds line b (foreign n m) (declares d q e) different few = m d q
 entry_of ds line b (repeated d p c) (skipped s e) different few = p.read.unskipped s
 entry_of ds line b (repeated d p c) (declares f q e) different few =
     let grown : names_of (ds ++ b) ≡ names_of ds ++ f.component ∷ [] = ap (λ (xs : List Declaration). names_of (ds ++ xs)) e ∙ names_of-append ds (f ∷ []) in
     let same : d ≡ f = same_declaration line d f p q in
-    AreDifferent-last (names_of ds) f.component (subst (λ (xs : List (List ℕ)). AreDifferent xs) grown different) (subst (λ (x : Declaration). Contains (names_of ds) x.component) same c)
+    AreDistinct-last (names_of ds) f.component (subst (λ (xs : List (List ℕ)). AreDistinct xs) grown different) (subst (λ (x : Declaration). Contains (names_of ds) x.component) same c)
 entry_of ds line b (full d p c) (skipped s e) different few = p.read.unskipped s
 entry_of ds line b (full d p c) (declares f q e) different few =
     let n = length-names_of ds in let m = ap (λ (xs : List Declaration). length (ds ++ xs)) e in let k = length-push ds f in absurd (omega arith)
@@ -54,7 +56,7 @@ IsRepository-none lines line ds r f cs q =
     let p = Declares-pop lines line cs q.declared in
     let same : p.0 ≡ ds = Declares-unique lines p.0 ds p.2 r.declared in
     let is : cs ≡ ds ++ p.1 = p.4 ∙ ap (λ (xs : List Declaration). xs ++ p.1) same in
-    entry_of ds line p.1 f p.3 (subst (λ (xs : List Declaration). AreDifferent (names_of xs)) is q.different) (subst (λ (xs : List Declaration). length xs ≤ 1000) is q.few)
+    entry_of ds line p.1 f p.3 (subst (λ (xs : List Declaration). AreDistinct (names_of xs)) is q.different) (subst (λ (xs : List Declaration). length xs ≤ 1000) is q.few)
 
 pub Replies-push : (ds : List Declaration) (lines : List (List ℕ)) (line text reply : List ℕ) → Replies ds lines text → Reply ds line reply → Replies ds (lines ++ line ∷ []) (text ++ reply)
 Replies-push ds lines line text reply (none l t) q =

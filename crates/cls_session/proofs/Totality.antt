@@ -1,7 +1,7 @@
 -- Whatever lines follow, there is something to be written for them: a prefix of the lines has a prefix of an output.
 use Rattle.std.proofs.Common.{◌≡◌, ℕ, ◌+◌, ◌<◌, ◌≤◌, List, [], ◌∷◌, ◌++◌, length, refl, sym, ap, ◌∙◌, subst, inl, inr, arith, append_assoc, append-nil}
 use Rattle.std.proofs.lemmas.Bool.{cases_lt}
-use Rattle.cls_base.specs.Terms.{IsOver}
+use Rattle.cls_base.specs.Terms.{IsTermOver}
 use Rattle.cls_grammar.specs.Books.{omega_book}
 use Rattle.cls_enum.proofs.Existence.{each_page-exists}
 use Rattle.cls_session.specs.declared.status.Status.{Status}
@@ -27,7 +27,7 @@ listing_reply ds line max take q =
     let some : 0 < length (omega_book n) = omega arith in
     let ones : (x : ℕ) → 1 ≤ r.cost x = λ x. omega arith in
     let d = book_decided n max take in
-    let pool : IsPool (IsOver n) max take d.2.0 = book_pool n max take d.0 d.2.0 d.1 d.2.1 in
+    let pool : IsPool (IsTermOver n) max take d.2.0 = book_pool n max take d.0 d.2.0 d.1 d.2.1 in
     elim (cases_lt 200000 d.2.0) [
       | inl l ↦ (_, has_too_many names ds refl max take line _ q (d.2.0, pool, l) refl)
       | inr g ↦

@@ -1,4 +1,4 @@
--- A term has type omega exactly where its components are declared.
+-- A term has type omega if and only if its components are declared.
 use Rattle.std.proofs.Common.{◌≡◌, ℕ, zero, suc, ◌<◌, Bool, true, false, List, [], ◌∷◌, ◌++◌, length, refl, sym, ap, subst, inl, inr, arith}
 use Rattle.std.specs.Prelude.{Some, slice_get, bytes_eq, if◌then◌else◌}
 use Rattle.std.specs.List.{list_any}
@@ -6,7 +6,7 @@ use Rattle.std.proofs.lemmas.Option.{slice_get_within}
 use Rattle.cls_base.specs.Types as types
 use Rattle.cls_base.specs.Types.{ClosedType, arrow}
 use Rattle.cls_base.specs.Subtyping.{to_omega, omega_arrow}
-use Rattle.cls_base.specs.Terms.{Applicative, component, apply, IsOver}
+use Rattle.cls_base.specs.Terms.{Applicative, component, apply, IsTermOver}
 use Rattle.cls_base.specs.Typing.{by_instance, by_application, by_intersection, by_subsumption}
 use Rattle.cls_base.specs.Pages.{Request, IsDue, IsPage}
 use Rattle.cls_session.specs.Declarations.{Declaration}
@@ -67,14 +67,14 @@ declared_at (d ∷ ds) (suc x) h = declared_at ds x (omega arith)
 
 module _ (ds : List Declaration) where
   -- a term with a type has declared components alone
-  pub over_from_typed : (e : Applicative) (s : ClosedType) → Has ds e s → IsOver (length ds) e
+  pub over_from_typed : (e : Applicative) (s : ClosedType) → Has ds e s → IsTermOver (length ds) e
   over_from_typed (component x) s (by_instance i) = slice_get_within ds x i.declaration i.place
   over_from_typed (apply f a) s (by_application {s = r} p q) = (over_from_typed f (arrow r s) p, over_from_typed a r q)
   over_from_typed e s (by_intersection {s = r} p q) = over_from_typed e r p
   over_from_typed e s (by_subsumption {s = r} p q) = over_from_typed e r p
 
   -- and with those it has type omega
-  pub typed_from_over : (e : Applicative) → IsOver (length ds) e → Has ds e types.omega
+  pub typed_from_over : (e : Applicative) → IsTermOver (length ds) e → Has ds e types.omega
   typed_from_over (component x) o =
       let d = declared_at ds x o in
       let n = named ds [] x d.0 d.1 in

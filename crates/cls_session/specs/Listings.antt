@@ -2,7 +2,8 @@
 use Rattle.std.specs.Prelude.{ℕ, ◌≡◌, ◌≤◌, ◌<◌, ◌↔◌, List, length, Contains, None}
 use Rattle.cls_base.specs.Terms.{Applicative, length_of, size_of}
 use Rattle.cls_base.specs.Pages.{Request, IsDue}
-use Rattle.cls_base.specs.Pools.{NoneTwice, IsDecidingSize}
+use Rattle.cls_base.specs.Pools.{IsDecidingSize}
+use Rattle.cls_base.specs.Lists.{AreDistinct}
 
 -- What a page asks for of the terms with at most this size, each component costing 1.
 abbrev pub request : ℕ → ℕ → Request
@@ -18,7 +19,7 @@ module _ (Has : Applicative → Type 0) where
 
   -- exactly n terms count at size s
   abbrev pub CountIs : ℕ → ℕ → Type 0
-  CountIs s n = (terms : List Applicative) × NoneTwice terms × ((e : Applicative) → Contains terms e ↔ IsCounted s e) × (length terms ≡ n)
+  CountIs s n = (terms : List Applicative) × AreDistinct terms × ((e : Applicative) → Contains terms e ↔ IsCounted s e) × (length terms ≡ n)
 
   -- n terms count at the size that decides the page
   pub record IsPool (max take n : ℕ) : Type 0 where

@@ -28,7 +28,7 @@ IsWhole ReadFault = ⊥
 IsWhole WriteFault = ⊥
 IsWhole NoMemory = ⊥
 
--- the statuses of a run that was cut off by a failed write or by want of memory
+-- the statuses of a run that was cut off by a failed write or out of memory
 abbrev pub IsCutOff : Status → Type 0
 IsCutOff Done = ⊥
 IsCutOff Usage = ⊥

@@ -1,5 +1,6 @@
 -- Repositories, and the first fault of lines that are none.
 use Rattle.std.specs.Prelude.{ℕ, ◌≡◌, ◌≤◌, ◌+◌, List, [], ◌∷◌, ◌++◌, length, Contains}
+use Rattle.cls_base.specs.Lists.{AreDistinct}
 use Rattle.cls_syntax.specs.Skipped.{IsSkipped}
 use Rattle.cls_session.specs.Declarations.{Declaration, names_of}
 use Rattle.cls_session.specs.Forms.{IsDeclaration, IsEnd}
@@ -14,15 +15,10 @@ abbrev pub Declares : List (List ℕ) → List Declaration → Type 0
 Declares [] ds = ds ≡ []
 Declares (line ∷ lines) ds = (first rest : List Declaration) × Entry line first × Declares lines rest × (ds ≡ first ++ rest)
 
--- no text stands twice in the list
-abbrev pub AreDifferent : List (List ℕ) → Type 0
-AreDifferent [] = Unit {0}
-AreDifferent (x ∷ xs) = (Contains xs x → ⊥) × AreDifferent xs
-
 -- The lines, none of them `end`, are a repository with these components: at most 1,000, no two of one name.
 pub record IsRepository (lines : List (List ℕ)) (ds : List Declaration) : Type 0 where
   pub declared : Declares lines ds
-  pub different : AreDifferent (names_of ds)
+  pub different : AreDistinct (names_of ds)
   pub few : length ds ≤ 1000
 
 -- The first line, counted from 1, that is neither `end` nor with the lines before it a repository. No `end` comes before it.

@@ -1,6 +1,6 @@
 ghost use Rattle.std.specs.Prelude.{◌≡◌, ◌≤◌, List, length, IfOk, IfErr, All, ℕ, string_bytes};
 ghost use Rattle.cls_base.specs.Pages.{IsPage};
-ghost use Rattle.cls_base.specs.Terms.{IsOver};
+ghost use Rattle.cls_base.specs.Terms.{IsTermOver};
 ghost use Rattle.cls_enum.specs.Faults.{IfTooMany};
 ghost use Rattle.cls_session.specs.Declarations.{Declaration, names_of};
 ghost use Rattle.cls_session.specs.Forms.{IsListing};
@@ -18,7 +18,7 @@ use std::alloc::Global;
 /// The most terms that may be made for a page.
 const MAX_POOL: u64 = 200_000;
 
-/// The reply to a listing of at most `take` terms of at most the size `max`. The only error is want of memory.
+/// The reply to a listing of at most `take` terms of at most the size `max`. The only error is out of memory.
 pub fn answer_listing(
     alloc: Global,
     components: &Names,
@@ -39,13 +39,13 @@ pub fn answer_listing(
 
 /// The first `take` terms of type omega and of at most this size over so many components, each of which costs 1.
 ///
-/// `TooManyTerms` comes exactly where more than 200,000 terms have the size that decides the page, or a smaller one.
+/// `TooManyTerms` comes if and only if more than 200,000 terms have the size that decides the page, or a smaller one.
 pub fn list_omega(alloc: Global, count: u32, max: u32, take: u32) -> Result<Page, PageFault>
     requires high { max ≤ 1024 }
     requires some { 1 ≤ take }
-    ensures page { IfOk result (λ p. IsPage (IsOver count) (request max take) p.terms p.more) }
-    ensures few { IfOk result (λ _. AreFew (IsOver count) max take 200000) }
-    ensures many { IfErr result (λ fault. IfTooMany fault (AreMany (IsOver count) max take 200000)) }
+    ensures page { IfOk result (λ p. IsPage (IsTermOver count) (request max take) p.terms p.more) }
+    ensures few { IfOk result (λ _. AreFew (IsTermOver count) max take 200000) }
+    ensures many { IfErr result (λ fault. IfTooMany fault (AreMany (IsTermOver count) max take 200000)) }
 {
     let book = OmegaBook::new(alloc, count)?;
     let costs = Numbers::new(Vec::new(alloc));
@@ -54,7 +54,7 @@ pub fn list_omega(alloc: Global, count: u32, max: u32, take: u32) -> Result<Page
 
 /// The text of a page: a line for each term, and a last one that says whether more terms follow.
 fn print_page(alloc: Global, page: &Page, components: &Names) -> Result<String, OutOfMemory>
-    requires { All (IsOver (length components.now)) page.now.terms }
+    requires { All (IsTermOver (length components.now)) page.now.terms }
     ensures { IfOk result (λ text. string_bytes text ≡ page_text (name_at components.now) page.now.terms page.now.more) }
 {
     let mut text = String::new(alloc);

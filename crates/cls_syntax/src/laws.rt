@@ -39,7 +39,7 @@ pub fn tokens_cover_the_line()
     ensures cut { TokensAreCut }
 {}
 
-/// Law: the words begin with a name, a number or a sign exactly where the front of that kind gives it, and what follows.
+/// Law: the words begin with a name, a number or a sign if and only if the front of that kind gives it, and what follows.
 pub fn fronts_are_exact()
     ensures { FrontsAreExact }
 {}

@@ -79,7 +79,7 @@ impl<E: Expand> Claim<E> {
         } = self;
     }
 
-    /// Works on the claim's goal, by an expander that means what the claim's tag says. The Err is want of memory alone, and
+    /// Works on the claim's goal, by an expander that means what the claim's tag says. The Err means out of memory alone, and
     /// hands the claim back.
     pub fn expand(self, alloc: Global, by: &E) -> Result<Filed<E>, Claim<E>>
         requires { E.tag by.now ≡ self.tag.by }

@@ -141,7 +141,7 @@ impl<E: Expand> Progress<E> {
         self.core.is_held(claim.worker, claim.row) && *self.core.goal(claim.row) == claim.goal
     }
 
-    // Whether the answer can be filed within the limits. The only error is want of memory.
+    // Whether the answer can be filed within the limits. The only error is out of memory.
     fn has_room(&self, alloc: Global, answer: &Answer<E::Goal>) -> Result<bool, OutOfMemory>
         ensures { IfOk result (λ b. IsTrue b ↔ HasRoom E.Goal.eq self.now.tag self.now.rows answer.now) }
     {
@@ -152,7 +152,7 @@ impl<E: Expand> Progress<E> {
     }
 
     /// Files the row, which the worker holds, with the answer that the tag gives for its goal, where that stays within the
-    /// limits. The Err is want of memory alone, and hands the answer back.
+    /// limits. The Err means out of memory alone, and hands the answer back.
     #[tactic(auto, using(crate::proofs::Counting::claims_in_file))]
     pub(crate) fn file(
         &mut self,
@@ -179,7 +179,7 @@ impl<E: Expand> Progress<E> {
         Ok(Outcome::Kept)
     }
 
-    /// The rows and the history. The Err comes exactly where some row isn't filed.
+    /// The rows and the history. The Err comes if and only if some row isn't filed.
     pub(crate) fn finish(self) -> Result<Finished<E::Goal>, Progress<E>>
         ensures rows { IfOk result (λ f. AllFiled self.rows × (f.rows ≡ filed_rows self.rows.goals self.rows.states) × (f.history ≡ self.history)) }
         ensures going { OnOk result (IsGoing E.Goal.eq E.answer E.ready self) }
@@ -192,7 +192,7 @@ impl<E: Expand> Progress<E> {
         }
     }
 
-    /// The rows and the history, copied. None comes exactly where some row isn't filed. The only error is want of memory.
+    /// The rows and the history, copied. None comes if and only if some row isn't filed. The only error is out of memory.
     pub(crate) fn read(&self, alloc: Global) -> Result<Option<Finished<E::Goal>>, OutOfMemory>
         ensures rows { IfOk result (λ r. IfSome r (λ f. AllFiled self.now.rows × (f.rows ≡ filed_rows self.now.rows.goals self.now.rows.states) × (f.history ≡ self.now.history))) }
         ensures complete { IfOk result (λ r. IfSome r (λ f. IsComplete E.Goal.eq E.answer self.now.tag f)) }

@@ -37,7 +37,7 @@ impl<E: Expand, L: Ledger> SharedTable<E, L> {
     ghost use Rattle.cls_table.specs.declared.tag.Tag.{Tag};
 
     /// A table with one free row, the goal, and the seat of the worker 0 with every part of the ledger. The only error is
-    /// want of memory.
+    /// out of memory.
     pub fn start(
         alloc: Global,
         by: &E,
@@ -102,7 +102,7 @@ impl<E: Expand, L: Ledger> SharedTable<E, L> {
 
     /// Waits for the turn, and asks for a goal: what `Table::claim` answers at that holding.
     ///
-    /// It can tell that the closure is too large only where it is. `OutOfMemory` comes for want of memory, and where the table
+    /// It can tell that the closure is too large only where it is. `OutOfMemory` comes when there is no memory, and where the table
     /// is stopped.
     pub fn claim<R: Wait>(
         &self,
@@ -149,7 +149,7 @@ impl<E: Expand, L: Ledger> SharedTable<E, L> {
     }
 
     /// Waits for a holding at which the claim's row is held by its worker and has the claim's goal, and files there what
-    /// `Table::file` files. The Err is want of memory alone, and hands the filing back.
+    /// `Table::file` files. The Err means out of memory alone, and hands the filing back.
     pub fn file<R: Wait>(
         &self,
         rt: &R,
@@ -222,7 +222,7 @@ impl<E: Expand, L: Ledger> SharedTable<E, L> {
         unreachable!()
     }
 
-    /// Waits for the turn, and takes the table out: the rows and the history where all rows are filed. Else, and exactly then,
+    /// Waits for the turn, and takes the table out: the rows and the history where all rows are filed. Otherwise, and exactly then,
     /// the table. With a seat that has every part of the ledger, the history has as many claims as the seat's share counts.
     pub fn close<R: Wait>(
         self,

@@ -76,9 +76,9 @@ impl<E: Expand, L: Ledger> Table<E, L> {
 
     /// Gives a goal to the worker, or says why it doesn't: the whole work of one holding of `SharedTable::claim`.
     ///
-    /// Where the table is stopped the answer is `OutOfMemory`, which also comes for want of memory. Else it is `TooLarge`
-    /// exactly where the table is marked so, `Job` where some row is free, `Again` exactly where no row is free and some
-    /// is held, and `Finished` exactly where all rows are filed. `Job` makes the row held by the worker, adds the entry of the
+    /// Where the table is stopped the answer is `OutOfMemory`, which also comes when there is no memory. Otherwise it is `TooLarge`
+    /// if and only if the table is marked so, `Job` where some row is free, `Again` if and only if no row is free and some
+    /// is held, and `Finished` if and only if all rows are filed. `Job` makes the row held by the worker, adds the entry of the
     /// claim and raises the share by one. With any other answer the table and the share are as before.
     pub fn claim(
         &mut self,
@@ -116,9 +116,9 @@ impl<E: Expand, L: Ledger> Table<E, L> {
 
     /// Files a claim's goal: the whole work of one holding of `SharedTable::file`.
     ///
-    /// It hands the filing back exactly where the claim's row isn't held by its worker or has another goal, and the table is
-    /// then as before. Else it files the row where that stays within the limits, and marks the table as too large where it
-    /// doesn't. The Err is want of memory alone: it hands the filing back too, and the table is as before.
+    /// It hands the filing back if and only if the claim's row isn't held by its worker or has another goal, and the table is
+    /// then as before. Otherwise it files the row where that stays within the limits, and marks the table as too large where it
+    /// doesn't. The Err means out of memory alone, and hands the filing back too, and the table is as before.
     pub fn file(&mut self, alloc: Global, filed: Filed<E>) -> Result<Option<Filed<E>>, Filed<E>>
         requires { filed.claim.tag ≡ self.old.tag }
         ensures files { IfOk result (λ r. IfNone r (Files E.Goal.eq self.old filed self.new)) }
@@ -162,7 +162,7 @@ impl<E: Expand, L: Ledger> Table<E, L> {
         self.stopped
     }
 
-    /// Stops the table for want of memory, and spends the claim. Rows and history stay.
+    /// Stops the table since there is no memory, and spends the claim. Rows and history stay.
     pub fn stop(&mut self, claim: Claim<E>)
         ensures { self.new ≡ stopped_table self.old }
     {
@@ -171,7 +171,7 @@ impl<E: Expand, L: Ledger> Table<E, L> {
     }
 
     /// Copies the rows and the history where all rows are filed: the whole work of one holding of `SharedTable::read`. None
-    /// comes exactly where some row isn't filed. The only error is want of memory.
+    /// comes if and only if some row isn't filed. The only error is out of memory.
     pub fn read(&self, alloc: Global) -> Result<Option<Finished<E::Goal>>, OutOfMemory>
         ensures rows { IfOk result (λ r. IfSome r (λ f. AllFiled self.now.rows × (f.rows ≡ filed_rows self.now.rows.goals self.now.rows.states))) }
         ensures history { IfOk result (λ r. IfSome r (λ f. (f.history ≡ self.now.history) × (claims_in f.history ≡ self.now.claims))) }
@@ -182,8 +182,8 @@ impl<E: Expand, L: Ledger> Table<E, L> {
     }
 
     /// Files each row that isn't filed: a held one under its holder's number, a free one after a claim as the worker 0.
-    /// Nothing waits. Where the table is stopped the answer is `OutOfMemory`, which also comes for want of memory. Else
-    /// `TooLarge` comes exactly where the closure of the tag's start goal passes the tag's limits.
+    /// Nothing waits. Where the table is stopped the answer is `OutOfMemory`, which also comes when there is no memory. Else
+    /// `TooLarge` comes if and only if the closure of the tag's start goal passes the tag's limits.
     pub fn complete(self, alloc: Global, by: &E) -> Result<Finished<E::Goal>, ExpandFault>
         requires tag { E.tag by.now ≡ self.tag.by }
         ensures complete { IfOk result (λ f. IsCompletion E.Goal.eq E.answer (progress_of self) f) }
@@ -200,7 +200,7 @@ impl<E: Expand, L: Ledger> Table<E, L> {
         self.progress.complete(alloc, by)
     }
 
-    /// The rows and the history. The Err comes exactly where some row isn't filed, and hands the table back.
+    /// The rows and the history. The Err comes if and only if some row isn't filed, and hands the table back.
     pub(crate) fn finish(self) -> Result<Finished<E::Goal>, Table<E, L>>
         ensures complete { IfOk result (λ f. IsCompletion E.Goal.eq E.answer (progress_of self) f) }
         ensures history { IfOk result (λ f. (f.history ≡ self.history) × (claims_in f.history ≡ self.claims)) }

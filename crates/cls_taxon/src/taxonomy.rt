@@ -51,7 +51,7 @@ impl Taxonomy {
     /// The order that these pairs make, the first name of each below the second. A name without a variance is covariant,
     /// and no name has two.
     ///
-    /// `Cycle` names the least name that another one is above and below. Else `Mix` names the first name of the first pair
+    /// `Cycle` names the least name that another one is above and below. Otherwise `Mix` names the first name of the first pair
     /// whose names differ in variance.
     pub fn new(
         alloc: Global,
@@ -102,7 +102,7 @@ impl Taxa for Taxonomy {
 
     ghost is_below = { λ t a b. is_below t a b };
 
-    ghost kind = { λ t a. variance_in t.variances a };
+    ghost variance_of_name = { λ t a. variance_in t.variances a };
 
     fn below(&self, lower: Name, upper: Name) -> bool {
         Taxonomy::below(self, lower, upper)

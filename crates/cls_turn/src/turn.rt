@@ -23,7 +23,7 @@ impl<G, T: Tagged<G> + Drop> Turn<T, G> {
     ghost use Rattle.std.specs.Prelude.{IfOk};
     ghost use Rattle.cls_turn.specs.Seats.{HasTag, IsFree, HasTurn, IsSeatOf, HasSameView, HoldsTheSame};
 
-    /// A turn with the value, and a seat with the value's tag. The only error is want of memory, at which the value is
+    /// A turn with the value, and a seat with the value's tag. The only error is out of memory, at which the value is
     /// dropped.
     pub fn new(alloc: Global, value: T) -> Result<(Turn<T, G>, TurnSeat<T, G>), OutOfMemory>
         ensures of { IfOk result (λ r. IsSeatOf r.1 r.0) }

@@ -97,8 +97,8 @@ where
 ///
 /// The rows are those of a legal complete history from `start`, which names workers from 0 to their number, and each holds
 /// the answer of its goal. Each worker tells the gate of each claim that it makes. Once all have ended the caller, which is the
-/// worker 0, takes the table, and files what is left. `TooLarge` comes exactly where the closure has more goals or more
-/// rules than the limits, `OutOfMemory` for want of memory.
+/// worker 0, takes the table, and files what is left. `TooLarge` comes if and only if the closure has more goals or more
+/// rules than the limits, `OutOfMemory` when there is no memory.
 pub fn expand_all<E: Expand + Sync, T: Gate + Sync, R: Threads + Wait + Sync>(
     rt: &R,
     alloc: Global,

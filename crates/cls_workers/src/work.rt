@@ -10,8 +10,8 @@ use std::sync::Wait;
 use std::sync::ledger::Ledger;
 use std::thread::yield_now;
 
-/// Claims, expands and files until nothing is left to do, the closure is too large or memory is wanting. A worker that
-/// wants memory stops the table. The seat is given back, with the claims that the worker made.
+/// Claims, expands and files until nothing is left to do, the closure is too large or memory runs out. A worker that
+/// runs out of memory stops the table. The seat is given back, with the claims that the worker made.
 pub(crate) fn work<E: Expand, L: Ledger, T: Gate, R: Wait>(
     rt: &R,
     alloc: Global,

@@ -1,5 +1,5 @@
 use super::hand_book::{HandBook, node};
-use cls_core::Rules;
+use cls_base::Rules;
 use std::alloc::Global;
 use std::test::Fail;
 

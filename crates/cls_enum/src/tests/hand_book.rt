@@ -3,8 +3,7 @@ ghost use Rattle.cls_base.specs.Rules as rules;
 ghost use Rattle.cls_grammar.specs.NodeRules.{node_rule};
 ghost use Rattle.cls_enum.specs.HandBooks.{are_nodes, is_within, are_within, all_within, rules_in};
 
-use cls_base::OutOfMemory;
-use cls_core::{Goals, Rule, Rules};
+use cls_base::{Goals, OutOfMemory, Rule, Rules};
 use cls_grammar::RuleBook;
 use std::alloc::Global;
 

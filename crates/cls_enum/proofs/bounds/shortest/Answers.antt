@@ -1,5 +1,5 @@
 use Rattle.std.proofs.Common.{arith, length}
-use Rattle.cls_term.proofs.BankSteps.{AreBelow-at}
+use Rattle.cls_base.proofs.Lists.{AreBelow-at}
 use Rattle.cls_enum.proofs.BoundLaws.{least-next, min-below}
 use Rattle.cls_enum.proofs.bounds.shortest.Goals as goal
 

@@ -4,7 +4,7 @@ use Rattle.std.specs.List.{flat_map}
 use Rattle.std.proofs.lemmas.Result.{err_from_is_err_and}
 use Rattle.cls_base.specs.Terms.{Applicative, apply}
 use Rattle.cls_term.specs.Banks.{at, term_by}
-use Rattle.cls_term.proofs.BankSteps.{AreBelow-at}
+use Rattle.cls_base.proofs.Lists.{AreBelow-at}
 use Rattle.cls_enum.specs.Begins.{begun_term}
 use Rattle.cls_enum.specs.Candidates.{fills}
 use Rattle.cls_enum.specs.CellTables.{cell_of}

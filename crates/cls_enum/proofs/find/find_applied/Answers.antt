@@ -1,7 +1,7 @@
 use Rattle.std.proofs.Common.{[], sym, length, arith, map}
 use Rattle.std.proofs.lemmas.Result.{err_from_is_err_and}
 use Rattle.cls_base.specs.Terms.{Applicative}
-use Rattle.cls_term.proofs.BankSteps.{AreBelow-at}
+use Rattle.cls_base.proofs.Lists.{AreBelow-at}
 use Rattle.cls_term.proofs.Spines.{length_at_least_one}
 use Rattle.cls_term.specs.Banks.{at}
 use Rattle.cls_enum.specs.Begins.{begun_term}

@@ -2,7 +2,7 @@ use Rattle.std.proofs.Common.{◌≡◌, ℕ, List, [], ap, subst, length, arith
 use Rattle.cls_base.specs.Terms.{length_of}
 use Rattle.cls_term.specs.Banks.{term_by, IsPut}
 use Rattle.cls_enum.proofs.Storing.{SpinesBelow-at, length-grown, found-short, put-step, IsGrown-put, IsGrown-trans}
-use Rattle.cls_term.proofs.Banks.{AreBelow-more}
+use Rattle.cls_base.proofs.Lists.{AreBelow-more}
 use Rattle.cls_enum.proofs.make.put_all.Goals as goal
 
 pub put-requires-clause-earlier : goal.put-requires-clause-earlier

@@ -1,5 +1,6 @@
 use Rattle.std.proofs.Common.{◌≡◌, map, take, length}
-use Rattle.cls_term.specs.Banks.{at, term_by, AreBelow}
+use Rattle.cls_term.specs.Banks.{at, term_by}
+use Rattle.cls_base.specs.Lists.{AreBelow}
 use Rattle.cls_enum.specs.Members.{IsGrown}
 use Rattle.cls_enum.proofs.make.put_all.Given as goal
 

@@ -8,20 +8,20 @@ use Rattle.cls_norm.proofs.normals.normal.Goals as goal
 pub returns-clause-form : goal.returns-clause-form
 returns-clause-form g c =
     let b = Below (g.T.Taxa.is_below c.args.taxa.now) in
-    let v = g.T.Taxa.kind c.args.taxa.now in
+    let v = g.T.Taxa.variance_of_name c.args.taxa.now in
     let met = g.met.T.Taxa in
     form_of_paths b v (met.reflexive c.args.taxa.now) (met.transitive c.args.taxa.now) (type_of c.args.ty.now) (listed c.in_ok-paths.paths.items) (listed c.in_ok-from_paths.field-0) c.in_ok-paths.ensures c.in_ok-from_paths.ensures
 
 pub returns-clause-below : goal.returns-clause-below
 returns-clause-below g c =
     let b = Below (g.T.Taxa.is_below c.args.taxa.now) in
-    let v = g.T.Taxa.kind c.args.taxa.now in
+    let v = g.T.Taxa.variance_of_name c.args.taxa.now in
     let met = g.met.T.Taxa in
     from_form b v (met.reflexive c.args.taxa.now) (met.transitive c.args.taxa.now) (type_of c.args.ty.now) (listed c.in_ok-from_paths.field-0) (returns-clause-form g c)
 
 pub returns-clause-above : goal.returns-clause-above
 returns-clause-above g c =
     let b = Below (g.T.Taxa.is_below c.args.taxa.now) in
-    let v = g.T.Taxa.kind c.args.taxa.now in
+    let v = g.T.Taxa.variance_of_name c.args.taxa.now in
     let met = g.met.T.Taxa in
     to_form b v (met.reflexive c.args.taxa.now) (met.transitive c.args.taxa.now) (type_of c.args.ty.now) (listed c.in_ok-from_paths.field-0) (returns-clause-form g c)

@@ -11,7 +11,7 @@ use Rattle.cls_norm.proofs.paths.+paths_of.Goals as goal
 pub returns-in-Omega : goal.returns-in-Omega
 returns-in-Omega g t c =
     let b = Below (g.T.Taxa.is_below c.args.taxa.now) in
-    let v = g.T.Taxa.kind c.args.taxa.now in
+    let v = g.T.Taxa.variance_of_name c.args.taxa.now in
     let one = g.met.T.Taxa.reflexive c.args.taxa.now in
     let through = g.met.T.Taxa.transitive c.args.taxa.now in
     rw (c.in-Omega.is, c.new.ensures.items) (omega_paths b v one through)
@@ -19,7 +19,7 @@ returns-in-Omega g t c =
 pub returns-in_ok-under_name-in-Co : goal.returns-in_ok-under_name-in-Co
 returns-in_ok-under_name-in-Co g t c =
     let b = Below (g.T.Taxa.is_below c.args.taxa.now) in
-    let v = g.T.Taxa.kind c.args.taxa.now in
+    let v = g.T.Taxa.variance_of_name c.args.taxa.now in
     let one = g.met.T.Taxa.reflexive c.args.taxa.now in
     let through = g.met.T.Taxa.transitive c.args.taxa.now in
     let s = c.in-Con.argument.value in
@@ -30,7 +30,7 @@ returns-in_ok-under_name-in-Co g t c =
 pub returns-in_ok-under_sealed_name-in-Contra : goal.returns-in_ok-under_sealed_name-in-Contra
 returns-in_ok-under_sealed_name-in-Contra g t c =
     let b = Below (g.T.Taxa.is_below c.args.taxa.now) in
-    let v = g.T.Taxa.kind c.args.taxa.now in
+    let v = g.T.Taxa.variance_of_name c.args.taxa.now in
     let one = g.met.T.Taxa.reflexive c.args.taxa.now in
     let through = g.met.T.Taxa.transitive c.args.taxa.now in
     let s = c.in-Con.argument.value in
@@ -44,7 +44,7 @@ returns-in_ok-under_sealed_name-in-Contra g t c =
 pub returns-in_ok-in_product-in-Prod : goal.returns-in_ok-in_product-in-Prod
 returns-in_ok-in_product-in-Prod g t c =
     let b = Below (g.T.Taxa.is_below c.args.taxa.now) in
-    let v = g.T.Taxa.kind c.args.taxa.now in
+    let v = g.T.Taxa.variance_of_name c.args.taxa.now in
     let one = g.met.T.Taxa.reflexive c.args.taxa.now in
     let through = g.met.T.Taxa.transitive c.args.taxa.now in
     let s = c.in-Prod.first.value in
@@ -58,7 +58,7 @@ returns-in_ok-in_product-in-Prod g t c =
 pub returns-in_ok-from_source-in-Arrow : goal.returns-in_ok-from_source-in-Arrow
 returns-in_ok-from_source-in-Arrow g t c =
     let b = Below (g.T.Taxa.is_below c.args.taxa.now) in
-    let v = g.T.Taxa.kind c.args.taxa.now in
+    let v = g.T.Taxa.variance_of_name c.args.taxa.now in
     let one = g.met.T.Taxa.reflexive c.args.taxa.now in
     let through = g.met.T.Taxa.transitive c.args.taxa.now in
     let s = c.in-Arrow.source.value in
@@ -74,7 +74,7 @@ returns-in_ok-from_source-in-Arrow g t c =
 pub returns-in_ok-joined-in-Meet : goal.returns-in_ok-joined-in-Meet
 returns-in_ok-joined-in-Meet g t c =
     let b = Below (g.T.Taxa.is_below c.args.taxa.now) in
-    let v = g.T.Taxa.kind c.args.taxa.now in
+    let v = g.T.Taxa.variance_of_name c.args.taxa.now in
     let one = g.met.T.Taxa.reflexive c.args.taxa.now in
     let through = g.met.T.Taxa.transitive c.args.taxa.now in
     let s = c.in-Meet.first.value in

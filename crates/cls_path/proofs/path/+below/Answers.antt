@@ -6,12 +6,12 @@ use Rattle.cls_path.proofs.path.+below.Goals as goal
 
 pub Path::is_below-returns-then-is_below : goal.Path::is_below-returns-then-is_below
 Path::is_below-returns-then-is_below g t c =
-    let e = each_above-list_below (g.T.Taxa.is_below c.args.taxa.now) (g.T.Taxa.kind c.args.taxa.now) (listed c.in-Arrow-Arrow.n) (listed c.in-Arrow-Arrow.m) in
+    let e = each_above-list_below (g.T.Taxa.is_below c.args.taxa.now) (g.T.Taxa.variance_of_name c.args.taxa.now) (listed c.in-Arrow-Arrow.n) (listed c.in-Arrow-Arrow.m) in
     search rules
 
 pub Path::is_below-returns-then-below-2 : goal.Path::is_below-returns-then-below-2
 Path::is_below-returns-then-below-2 g t c =
-    let e = sealed-list_below (g.T.Taxa.is_below c.args.taxa.now) (g.T.Taxa.kind c.args.taxa.now) c.in-Sealed-Sealed.c.0 c.in-Sealed-Sealed.d.0 (listed c.in-Sealed-Sealed.n) (listed c.in-Sealed-Sealed.m) in
+    let e = sealed-list_below (g.T.Taxa.is_below c.args.taxa.now) (g.T.Taxa.variance_of_name c.args.taxa.now) c.in-Sealed-Sealed.c.0 c.in-Sealed-Sealed.d.0 (listed c.in-Sealed-Sealed.n) (listed c.in-Sealed-Sealed.m) in
     let v = c.variance.ensures.is in
     search rules
 

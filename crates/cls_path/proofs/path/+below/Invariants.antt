@@ -15,13 +15,13 @@ decreases-Nf::some_below g l = list_size l.self.now + size_of l.path.now
 
 abbrev pub invariant-Nf::is_below-loop-path : goal.invariant-Nf::is_below-loop-path
 invariant-Nf::is_below-loop-path g l =
-    list_below (g.T.Taxa.is_below l.taxa) (g.T.Taxa.kind l.taxa) (listed l.self) (listed l.path-items)
-    ≡ list_below (g.T.Taxa.is_below l.taxa) (g.T.Taxa.kind l.taxa) (listed l.self) (listed (drop l.path-index l.path-items))
+    list_below (g.T.Taxa.is_below l.taxa) (g.T.Taxa.variance_of_name l.taxa) (listed l.self) (listed l.path-items)
+    ≡ list_below (g.T.Taxa.is_below l.taxa) (g.T.Taxa.variance_of_name l.taxa) (listed l.self) (listed (drop l.path-index l.path-items))
 
 abbrev pub invariant-Nf::some_below-loop-one : goal.invariant-Nf::some_below-loop-one
 invariant-Nf::some_below-loop-one g l =
-    some_below (g.T.Taxa.is_below l.taxa) (g.T.Taxa.kind l.taxa) (listed l.one-items) l.path
-    ≡ some_below (g.T.Taxa.is_below l.taxa) (g.T.Taxa.kind l.taxa) (listed (drop l.one-index l.one-items)) l.path
+    some_below (g.T.Taxa.is_below l.taxa) (g.T.Taxa.variance_of_name l.taxa) (listed l.one-items) l.path
+    ≡ some_below (g.T.Taxa.is_below l.taxa) (g.T.Taxa.variance_of_name l.taxa) (listed (drop l.one-index l.one-items)) l.path
 
 abbrev pub decreases-Nf::is_sealed_below : goal.decreases-Nf::is_sealed_below
 decreases-Nf::is_sealed_below g l = list_size l.self.now + list_size l.other.now + 1

@@ -1,8 +1,9 @@
 use Rattle.std.proofs.Common.{ℕ, List, ap, ◌∙◌, sym, subst, length, arith}
 use Rattle.cls_base.specs.Terms.{length_of}
 use Rattle.cls_term.proofs.BankSteps.{spine-found}
-use Rattle.cls_term.proofs.Banks.{AreBelow-more}
-use Rattle.cls_term.specs.Banks.{at, term_by, AreBelow}
+use Rattle.cls_base.proofs.Lists.{AreBelow-more}
+use Rattle.cls_term.specs.Banks.{at, term_by}
+use Rattle.cls_base.specs.Lists.{AreBelow}
 use Rattle.cls_enum.proofs.begun.Begun.from_term.Goals as goal
 
 pub returns-clause-term : goal.returns-clause-term

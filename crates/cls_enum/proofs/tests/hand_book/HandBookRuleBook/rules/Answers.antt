@@ -1,6 +1,6 @@
 use Rattle.std.proofs.Common.{◌≡◌, ℕ, List, true, length, map, subst, sym}
 use Rattle.std.proofs.lemmas.List.{length-map}
-use Rattle.cls_core.specs.declared.rule.Rule.{Rule}
+use Rattle.cls_base.specs.declared.rule.Rule.{Rule}
 use Rattle.cls_grammar.specs.NodeRules.{node_rule}
 use Rattle.cls_enum.specs.HandBooks.{all_within, rules_in}
 use Rattle.cls_enum.proofs.HandSteps.{AllWithin-at}

@@ -58,7 +58,7 @@ pub struct Rules<G> {
 
 impl<G> Model for Rules<G> {
     ghost use Rattle.std.specs.Prelude.{List};
-    ghost use Rattle.cls_core.specs.declared.rule.Rule.{Rule};
+    ghost use Rattle.cls_base.specs.declared.rule.Rule.{Rule};
 
     ghost Value = { List (Rule G) };
 

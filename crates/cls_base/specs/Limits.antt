@@ -1,0 +1,52 @@
+-- The numbers that the language fixes. `src/limits.rt` has those that the code compares with.
+use Rattle.std.specs.Prelude.{ℕ}
+
+-- bytes of an input
+abbrev pub max_input_bytes : ℕ
+max_input_bytes = 1048576
+
+-- bytes that a run reads at once
+abbrev pub max_read_bytes : ℕ
+max_read_bytes = 4096
+
+-- bytes of a line, without its line feed
+abbrev pub max_line_bytes : ℕ
+max_line_bytes = 65536
+
+-- bytes of a name
+abbrev pub max_name_bytes : ℕ
+max_name_bytes = 48
+
+-- components of a repository
+abbrev pub max_components : ℕ
+max_components = 1000
+
+-- component occurrences of a term that is listed
+abbrev pub max_term_length : ℕ
+max_term_length = 64
+
+-- size that a listing may ask for
+abbrev pub max_term_size : ℕ
+max_term_size = 1024
+
+-- terms that a listing may ask for
+abbrev pub max_page_terms : ℕ
+max_page_terms = 10000
+
+-- terms that may be held to make a page
+abbrev pub max_pool : ℕ
+max_pool = 200000
+
+-- nodes, depth and spread of a type
+abbrev pub max_type_nodes : ℕ
+max_type_nodes = 1024
+
+abbrev pub max_type_depth : ℕ
+max_type_depth = 64
+
+abbrev pub max_type_spread : ℕ
+max_type_spread = 16384
+
+-- workers of a run
+abbrev pub max_workers : ℕ
+max_workers = 64
