@@ -1,15 +1,16 @@
 -- The terms that rules generate.
 use Rattle.std.specs.Prelude.{ℕ, ◌<◌, List, [], ◌∷◌, Contains, slice_index_or}
 use Rattle.cls_base.specs.Terms.{Applicative, component, apply}
-use Rattle.cls_base.specs.Rules.{Rule, head, any}
+use Rattle.cls_base.specs.declared.rule.Rule.{Rule}
+use Rattle.cls_base.specs.declared.rule.Rule.TheVariants.{Head, Any}
 
 -- IsRule i r says that r is a rule of i
 module _ (N : Type 0) (IsRule : N → Rule N → Type 0) where
   mutual
     -- the term is in the language of the node
     pub data Generates : N → Applicative → Type 0 where
-      by_head : {i : N} {x : ℕ} {ns : List N} {e : Applicative} → IsRule i (head x ns) → Applies (component x) ns e → Generates i e
-      by_any : {i l m : N} {f a : Applicative} → IsRule i (any l m) → Generates l f → Generates m a → Generates i (apply f a)
+      by_head : {i : N} {x : ℕ} {ns : List N} {e : Applicative} → IsRule i (Head x ns) → Applies (component x) ns e → Generates i e
+      by_any : {i l m : N} {f a : Applicative} → IsRule i (Any l m) → Generates l f → Generates m a → Generates i (apply f a)
 
     -- the second term is the first one applied to a term of each node in turn
     pub data Applies : Applicative → List N → Applicative → Type 0 where

@@ -7,7 +7,6 @@ pub mod Orders
 pub mod Outside
 pub mod Pages
 pub mod Pools
-pub mod Rules
 pub mod Schemas
 pub mod Spines
 pub mod Subtyping

@@ -7,7 +7,7 @@ use Rattle.std.proofs.lemmas.Cmp.{ranked, by_ranked}
 use Rattle.std.proofs.lemmas.Bool.{cases_lt}
 use Rattle.std.proofs.lemmas.List.{get_or_past, length_push, take_more, map-append}
 use Rattle.cls_base.specs.Terms.{Applicative, apply, length_of, size_of}
-use Rattle.cls_base.specs.Rules as rules
+use Rattle.cls_base.specs.declared.rule.Rule.{Rule}
 use Rattle.cls_base.specs.Languages.{done, next}
 use Rattle.cls_enum.specs.Members.{IsIn}
 use Rattle.cls_enum.specs.Plans.{after, nodes_of, places_of, IsBound, AreBounds, IsReady, AreReady, AllReady, AreWhole, IsExtended}
@@ -17,7 +17,7 @@ use Rattle.cls_enum.proofs.CellLaws.{applied_size, applied_length}
 use Rattle.cls_enum.proofs.Members.{in_cases}
 use Rattle.cls_term.specs.Banks.{at}
 
-module _ (book : List (List (rules.Rule ℕ))) (cost : ℕ → ℕ) (s : ℕ) where
+module _ (book : List (List (Rule ℕ))) (cost : ℕ → ℕ) (s : ℕ) where
   -- what the places say of any rest is a bound
   after-bound : (places : List Place) (rest : ℕ) → AreBounds book cost s places → IsBound book cost s (nodes_of places) rest (after places rest)
   after-bound [] zero h f _ done q = inl (omega arith)
@@ -90,7 +90,7 @@ least-next ts numbers i m k l p q h a j =
       | inr z ↦ elim z [ inl y ↦ omega (arith, q, ap length_of y) | inr y ↦ absurd y ]
     ]
 
-pub ready-at : (book : List (List (rules.Rule ℕ))) (cost : ℕ → ℕ) (s : ℕ) (ps : List Plan) (i : ℕ) (p : Plan) → AreReady book cost s ps → i < length ps → p ≡ get_or ps i p → IsReady book cost s p
+pub ready-at : (book : List (List (Rule ℕ))) (cost : ℕ → ℕ) (s : ℕ) (ps : List Plan) (i : ℕ) (p : Plan) → AreReady book cost s ps → i < length ps → p ≡ get_or ps i p → IsReady book cost s p
 ready-at book cost s [] i p h l e = absurd (omega arith)
 ready-at book cost s (q ∷ ps) zero p h l e = let P : Plan → Type 0 = λ x. IsReady book cost s x in subst P (sym e) h.0
 ready-at book cost s (q ∷ ps) (suc i) p h l e = ready-at book cost s ps i p h.1 (omega arith) e
@@ -105,7 +105,7 @@ min-below a b m p =
     (λ e l. subst P (sym e) (omega arith, omega (arith, l))) in
     (omega (arith, p, q.0), omega (arith, p, q.1))
 
-module _ (book : List (List (rules.Rule ℕ))) (cost : ℕ → ℕ) (s : ℕ) where
+module _ (book : List (List (Rule ℕ))) (cost : ℕ → ℕ) (s : ℕ) where
   bounds-later : (ps : List Place) → AreBounds book cost s ps → AreBounds book cost (s + 1) ps
   bounds-later [] h = tt
   bounds-later (p ∷ ps) h = (omega (arith, h.0), h.1, bounds-later ps h.2)

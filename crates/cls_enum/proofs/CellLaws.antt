@@ -6,7 +6,8 @@ use Rattle.std.proofs.lemmas.Bool.Decides.{nat_tests}
 use Rattle.std.proofs.lemmas.Bool.{cases_lt}
 use Rattle.std.proofs.lemmas.List.{get_or_past}
 use Rattle.cls_base.specs.Terms.{Applicative, component, apply, length_of, size_of}
-use Rattle.cls_base.specs.Rules.{Rule, head, any}
+use Rattle.cls_base.specs.declared.rule.Rule.{Rule}
+use Rattle.cls_base.specs.declared.rule.Rule.TheVariants.{Head, Any}
 use Rattle.cls_base.specs.Languages.{by_head, by_any, Applies, done, next, NodeRule, IsGenerated, rules_at}
 use Rattle.cls_enum.specs.Candidates.{over, fills, rule_terms, candidates, IsInCell}
 use Rattle.cls_enum.specs.Members.{IsIn}
@@ -73,7 +74,7 @@ module _ (book : List (List (Rule ℕ))) (cost : ℕ → ℕ) where
   applied_length done = omega arith
   applied_length (next g h) = omega (arith, applied_length h)
 
-  applied_to_one : {i l m : ℕ} {f e : Applicative} → NodeRule book i (any l m) → IsGenerated book l f → Applies ℕ (NodeRule book) f (m ∷ []) e → IsGenerated book i e
+  applied_to_one : {i l m : ℕ} {f e : Applicative} → NodeRule book i (Any l m) → IsGenerated book l f → Applies ℕ (NodeRule book) f (m ∷ []) e → IsGenerated book i e
   applied_to_one c g (next h done) = by_any c g h
 
 module _ (book : List (List (Rule ℕ))) (cost : ℕ → ℕ) (positive : (x : ℕ) → 1 ≤ cost x) (cell : ℕ → ℕ → List Applicative) (s : ℕ)
@@ -104,13 +105,13 @@ module _ (book : List (List (Rule ℕ))) (cost : ℕ → ℕ) (positive : (x : �
       over_in (rest + 1) (λ u. flat_map (λ b. fills cell (apply f b) ns (rest - u)) (cell u n)) e t (omega arith) (flat_map_in (λ b. fills cell (apply f b) ns (rest - t)) (cell t n) e a m i)
 
   made : (r : Rule ℕ) (i : ℕ) (e : Applicative) → NodeRule book i r → IsIn (rule_terms cell cost s r) e → IsInCell book cost i s e
-  made (head x ns) i e c h =
+  made (Head x ns) i e c h =
       let o = in_if (nat_le (cost x) s) (fills cell (component x) ns (s - cost x)) e h in
       let l = passes_le (cost x) s o.0 in
       let p = positive x in
       let r = filled ns (component x) e (s - cost x) (omega arith) o.1 in
       (by_head c r.0, omega arith, r.2)
-  made (any l m) i e c h =
+  made (Any l m) i e c h =
       let r = in_over s (λ t. flat_map (λ f. fills cell f (m ∷ []) (s - t)) (cell t l)) e h in
       let t = r.0 in
       let q = in_flat_map (λ f. fills cell f (m ∷ []) (s - t)) (cell t l) e r.2 in
@@ -126,7 +127,7 @@ module _ (book : List (List (Rule ℕ))) (cost : ℕ → ℕ) (positive : (x : �
       let l = applied_size book cost h in
       let o = positive x in
       let n = fill ns (component x) e (s - cost x) (omega arith) h (omega arith) k in
-      flat_map_in (rule_terms cell cost s) (rules_at book i) e (head x ns) (in_from (rules_at book i) (head x ns) c)
+      flat_map_in (rule_terms cell cost s) (rules_at book i) e (Head x ns) (in_from (rules_at book i) (Head x ns) c)
       (if_in (nat_le (cost x) s) (fills cell (component x) ns (s - cost x)) e (le_passes (cost x) s (omega arith)) n)
   make i e (by_any {l = l} {m = m} {f = f} {a = a} c g h) p k =
       let o = costs_something cost positive f in
@@ -134,7 +135,7 @@ module _ (book : List (List (Rule ℕ))) (cost : ℕ → ℕ) (positive : (x : �
       let t = size_of cost f in
       let b = (exact t (omega arith) l f).1 (g, refl, omega arith) in
       let n = fill (m ∷ []) f (apply f a) (s - t) (omega arith) (next h done) (omega arith) k in
-      flat_map_in (rule_terms cell cost s) (rules_at book i) e (any l m) (in_from (rules_at book i) (any l m) c)
+      flat_map_in (rule_terms cell cost s) (rules_at book i) e (Any l m) (in_from (rules_at book i) (Any l m) c)
       (over_in s (λ u. flat_map (λ d. fills cell d (m ∷ []) (s - u)) (cell u l)) e t (omega arith)
       (flat_map_in (λ d. fills cell d (m ∷ []) (s - t)) (cell t l) e f b n))
 

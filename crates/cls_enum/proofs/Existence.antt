@@ -5,7 +5,7 @@ use Rattle.std.specs.List.{filter}
 use Rattle.std.proofs.lemmas.Bool.{cases_lt}
 use Rattle.std.proofs.lemmas.Bool.Decides.{nat_tests}
 use Rattle.cls_base.specs.Terms.{Applicative, code_of, Precedes}
-use Rattle.cls_base.specs.Rules.{Rule}
+use Rattle.cls_base.specs.declared.rule.Rule.{Rule}
 use Rattle.cls_base.specs.Languages.{rules_at}
 use Rattle.cls_base.specs.Pages.{Request, IsDue, IsPage}
 use Rattle.cls_base.specs.Pools.{PoolIs, IsDecidingSize}
@@ -16,7 +16,7 @@ use Rattle.cls_enum.specs.Members.{IsIn, CodesRise}
 use Rattle.cls_enum.specs.Requests.{later}
 use Rattle.cls_enum.specs.States.{IsState, IsTerm}
 use Rattle.cls_enum.proofs.CellLaws.{candidates_exact}
-use Rattle.cls_enum.proofs.StateLaws.{few-before, enough-is, state-next, page-is}
+use Rattle.cls_enum.proofs.StateLaws.{few-before, made-pooled, enough-is, state-next, page-is}
 use Rattle.cls_enum.proofs.StateSteps.{state-more, state-start, state-initial, paired}
 
 -- a list of the same terms in the order of their codes
@@ -117,7 +117,10 @@ module _ (book : List (List (Rule ℕ))) (r : Request) (positive : (x : ℕ) →
       none_less = few-before book r s ps due h few;
       enough_or_all = elim d [ inl l ↦ inl (enough-is book r s qs ds k l) | inr p ↦ inr p ];
     },
-    (length qs, (qs, k.once, k.made, refl)),
+    (length qs, (qs, k.once, (λ p. (
+      (λ c. (made-pooled book r s p).0 ((k.made p).0 c)),
+      (λ h. (k.made p).1 ((made-pooled book r s p).1 h)),
+    )), refl)),
     (λ some. (take r.take ds, (nat_lt r.take (length ds), page-is book r s qs ds k some w d))),
   )
 

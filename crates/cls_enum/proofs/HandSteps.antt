@@ -3,8 +3,9 @@ use Rattle.std.proofs.Common.{◌≡◌, ℕ, zero, suc, ◌≤◌, Bool, true, 
 use Rattle.std.specs.Prelude.{◌&&◌, nat_lt}
 use Rattle.std.proofs.lemmas.Bool.Decides.{nat_tests}
 use Rattle.cls_base.specs.Languages.{rules_at}
-use Rattle.cls_base.specs.Rules.{Rule, head, any}
-use Rattle.cls_grammar.specs.Books.{IsWithin, AreWithin}
+use Rattle.cls_base.specs.declared.rule.Rule.{Rule}
+use Rattle.cls_base.specs.declared.rule.Rule.TheVariants.{Head, Any}
+use Rattle.cls_grammar.specs.Books.{HasNodesBelow, HaveNodesBelow}
 use Rattle.cls_base.specs.Lists.{AreBelow}
 use Rattle.cls_enum.specs.HandBooks.{are_nodes, is_within, are_within, all_within}
 
@@ -16,18 +17,18 @@ AreBelow-tested : (n : ℕ) (is : List ℕ) → are_nodes n is ≡ true → AreB
 AreBelow-tested n [] p = tt
 AreBelow-tested n (i ∷ is) p = let q = both (nat_lt i n) (are_nodes n is) p in let l = q.0 in (grind (arith, nat_tests), AreBelow-tested n is q.1)
 
-IsWithin-tested : (n : ℕ) (r : Rule ℕ) → is_within n r ≡ true → IsWithin n r
-IsWithin-tested n (head x ns) p = AreBelow-tested n ns p
-IsWithin-tested n (any l m) p = let q = both (nat_lt l n) (nat_lt m n) p in let k = q.0 in let j = q.1 in (grind (arith, nat_tests), grind (arith, nat_tests))
+HasNodesBelow-tested : (n : ℕ) (r : Rule ℕ) → is_within n r ≡ true → HasNodesBelow n r
+HasNodesBelow-tested n (Head x ns) p = AreBelow-tested n ns p
+HasNodesBelow-tested n (Any l m) p = let q = both (nat_lt l n) (nat_lt m n) p in let k = q.0 in let j = q.1 in (grind (arith, nat_tests), grind (arith, nat_tests))
 
-AreWithin-tested : (n : ℕ) (rs : List (Rule ℕ)) → are_within n rs ≡ true → AreWithin n rs
-AreWithin-tested n [] p = tt
-AreWithin-tested n (r ∷ rs) p = let q = both (is_within n r) (are_within n rs) p in (IsWithin-tested n r q.0, AreWithin-tested n rs q.1)
+HaveNodesBelow-tested : (n : ℕ) (rs : List (Rule ℕ)) → are_within n rs ≡ true → HaveNodesBelow n rs
+HaveNodesBelow-tested n [] p = tt
+HaveNodesBelow-tested n (r ∷ rs) p = let q = both (is_within n r) (are_within n rs) p in (HasNodesBelow-tested n r q.0, HaveNodesBelow-tested n rs q.1)
 
 -- the rules of each node
-pub AllWithin-at : (n : ℕ) (book : List (List (Rule ℕ))) (i : ℕ) → all_within n book ≡ true → AreWithin n (rules_at book i)
+pub AllWithin-at : (n : ℕ) (book : List (List (Rule ℕ))) (i : ℕ) → all_within n book ≡ true → HaveNodesBelow n (rules_at book i)
 AllWithin-at n [] i p = tt
-AllWithin-at n (rs ∷ book) zero p = AreWithin-tested n rs (both (are_within n rs) (all_within n book) p).0
+AllWithin-at n (rs ∷ book) zero p = HaveNodesBelow-tested n rs (both (are_within n rs) (all_within n book) p).0
 AllWithin-at n (rs ∷ book) (suc i) p = AllWithin-at n book i (both (are_within n rs) (all_within n book) p).1
 
 pub positive-push : (xs : List ℕ) (c : ℕ) → 1 ≤ c → ((x : ℕ) → 1 ≤ slice_index_or xs x 1) → (x : ℕ) → 1 ≤ slice_index_or (xs ++ c ∷ []) x 1

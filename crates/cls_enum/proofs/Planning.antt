@@ -3,7 +3,7 @@ use Rattle.std.proofs.Common.{◌≡◌, ℕ, zero, suc, ◌+◌, ◌<◌, List,
 use Rattle.std.specs.Prelude.{slice_index}
 use Rattle.std.proofs.lemmas.List.{take_more, map-append, length-map}
 use Rattle.std.proofs.lemmas.Bool.{cases_lt}
-use Rattle.cls_base.specs.Rules as rules
+use Rattle.cls_base.specs.declared.rule.Rule.{Rule}
 use Rattle.cls_base.specs.Languages.{rules_at}
 use Rattle.cls_enum.specs.Plans.{nodes_of, AreFree, AreBounds, IsReady, AreReady, AllReady, rules_of, book_of}
 use Rattle.cls_enum.specs.declared.plan.Place.{Place}
@@ -19,7 +19,7 @@ pub nodes_of-push : (ps : List Place) (p : Place) (nodes : List ℕ) (i : ℕ) �
 nodes_of-push ps p nodes i l h e = map-append (λ (x : Place). x.node) ps (p ∷ []) ∙ (λ j. h j ++ e j ∷ []) ∙ sym (take_more nodes i 0 l)
 
 -- places that say nothing bound nothing
-pub AreFree-bounds : (book : List (List (rules.Rule ℕ))) (cost : ℕ → ℕ) (s : ℕ) (ps : List Place) → AreFree ps → AreBounds book cost s ps
+pub AreFree-bounds : (book : List (List (Rule ℕ))) (cost : ℕ → ℕ) (s : ℕ) (ps : List Place) → AreFree ps → AreBounds book cost s ps
 AreFree-bounds book cost s [] h = tt
 AreFree-bounds book cost s (p ∷ ps) h = (
   omega (arith, ap length h.0),
@@ -29,11 +29,11 @@ AreFree-bounds book cost s (p ∷ ps) h = (
   AreFree-bounds book cost s ps h.1,
 )
 
-pub AreReady-push : (book : List (List (rules.Rule ℕ))) (cost : ℕ → ℕ) (s : ℕ) (ps : List Plan) (p : Plan) → AreReady book cost s ps → IsReady book cost s p → AreReady book cost s (ps ++ p ∷ [])
+pub AreReady-push : (book : List (List (Rule ℕ))) (cost : ℕ → ℕ) (s : ℕ) (ps : List Plan) (p : Plan) → AreReady book cost s ps → IsReady book cost s p → AreReady book cost s (ps ++ p ∷ [])
 AreReady-push book cost s [] p h e = (e, tt)
 AreReady-push book cost s (q ∷ ps) p h e = (h.0, AreReady-push book cost s ps p h.1 e)
 
-pub AllReady-push : (book : List (List (rules.Rule ℕ))) (cost : ℕ → ℕ) (s : ℕ) (ps : List (List Plan)) (p : List Plan) → AllReady book cost s ps → AreReady book cost s p → AllReady book cost s (ps ++ p ∷ [])
+pub AllReady-push : (book : List (List (Rule ℕ))) (cost : ℕ → ℕ) (s : ℕ) (ps : List (List Plan)) (p : List Plan) → AllReady book cost s ps → AreReady book cost s p → AllReady book cost s (ps ++ p ∷ [])
 AllReady-push book cost s [] p h e = (e, tt)
 AllReady-push book cost s (q ∷ ps) p h e = (h.0, AllReady-push book cost s ps p h.1 e)
 
@@ -54,7 +54,10 @@ map-next f g xs x ys i y l e p q =
     map-append f xs (x ∷ []) ∙ (λ j. p j ++ q j ∷ []) ∙ ap (λ z. map g (take i ys) ++ g z ∷ []) e
     ∙ sym (ap (map g) (take_more ys i y l) ∙ map-append g (take i ys) (get_or ys i y ∷ []))
 
-pub book_of-push : (plans : List (List Plan)) (ps : List Plan) (book : List (List (rules.Rule ℕ))) (i : ℕ) → i < length book → book_of plans ≡ take i book → rules_of ps ≡ rules_at book i → book_of (plans ++ ps ∷ []) ≡ take (i + 1) book
+pub map-taken : {A B : Type 0} (f : A → B) (xs : List A) (x : A) (ys : List B) (i : ℕ) (y : B) → i < length ys → y ≡ get_or ys i y → map f xs ≡ take i ys → f x ≡ y → map f (xs ++ x ∷ []) ≡ take (i + 1) ys
+map-taken f xs x ys i y l e p q = map-append f xs (x ∷ []) ∙ (λ j. p j ++ (q ∙ e) j ∷ []) ∙ sym (take_more ys i y l)
+
+pub book_of-push : (plans : List (List Plan)) (ps : List Plan) (book : List (List (Rule ℕ))) (i : ℕ) → i < length book → book_of plans ≡ take i book → rules_of ps ≡ rules_at book i → book_of (plans ++ ps ∷ []) ≡ take (i + 1) book
 book_of-push plans ps book i l p q = map-append rules_of plans (ps ∷ []) ∙ (λ j. p j ++ q j ∷ []) ∙ sym (take_more book i [] l)
 
 pub one-place : (ps : List Place) (n : ℕ) → nodes_of ps ≡ n ∷ [] → length ps ≡ 1

@@ -3,13 +3,13 @@ use Rattle.std.proofs.Common.{◌≡◌, ℕ, ◌+◌, ◌<◌, ◌≤◌, List,
 use Rattle.std.specs.Prelude.{◌⊎◌, ◌↔◌, nat_lt, Result, Ok, Err, IfErr}
 use Rattle.std.proofs.lemmas.Bool.{cases_lt}
 use Rattle.cls_base.specs.Terms.{Applicative, size_of}
-use Rattle.cls_base.specs.Rules.{Rule}
+use Rattle.cls_base.specs.declared.rule.Rule.{Rule}
 use Rattle.cls_base.specs.Pages.{Request, IsDue, Rises, IsPage}
-use Rattle.cls_base.specs.Pools.{IsMade, IsEnough, IsDecidingSize}
+use Rattle.cls_base.specs.Pools.{IsPooled, IsEnough, IsDecidingSize}
 use Rattle.cls_base.specs.Lists.{AreDistinct}
 use Rattle.cls_term.proofs.Orders.{Before-irrefl}
 use Rattle.cls_enum.specs.Members.{IsIn}
-use Rattle.cls_enum.specs.States.{IsState, IsTerm, IsOver, IsWithin, IsTooMuch}
+use Rattle.cls_enum.specs.States.{IsMade, IsState, IsTerm, ExceedsPool, FitsPool, IsOverfullAt}
 use Rattle.cls_enum.proofs.Counting.{no_more_than}
 use Rattle.cls_enum.proofs.Members.{in_from, in_to, in-take}
 use Rattle.cls_enum.proofs.PageLaws.{rises-tail, rises-before, rises-take, length-take_all, first_are_page}
@@ -28,10 +28,10 @@ module _ (book : List (List (Rule ℕ))) (r : Request) where
       let q = (h.listed e).0 (0, omega arith, refl) in
       elim q.1 [ inl l ↦ absurd (omega arith) | inr l ↦ absurd (let m = l.0 in omega arith) ]
 
-  made-next : (s i : ℕ) (p : ℕ × Applicative) → IsMade book r.cost s i p → IsMade book r.cost (s + 1) 0 p
+  made-next : (s i : ℕ) (p : ℕ × Applicative) → IsMade book r s i p → IsMade book r (s + 1) 0 p
   made-next s i p h = record { node = h.node; generated = h.generated; short = h.short; so_far = elim h.so_far [ inl l ↦ inl (omega arith) | inr l ↦ inl (let m = l.1 in omega arith) ] }
 
-  next-made : (s : ℕ) (p : ℕ × Applicative) → IsMade book r.cost (s + 1) 0 p → IsMade book r.cost s (length book) p
+  next-made : (s : ℕ) (p : ℕ × Applicative) → IsMade book r (s + 1) 0 p → IsMade book r s (length book) p
   next-made s p h = record {
     node = h.node;
     generated = h.generated;
@@ -47,7 +47,7 @@ module _ (book : List (List (Rule ℕ))) (r : Request) where
   state-next s i ps due l e h = record {
     made = λ p. (
       (λ c. made-next s i p ((h.made p).0 c)),
-      (λ m. (h.made p).1 (let P : ℕ → Type 0 = λ j. IsMade book r.cost s j p in subst P (sym e) (next-made s p m))),
+      (λ m. (h.made p).1 (let P : ℕ → Type 0 = λ j. IsMade book r s j p in subst P (sym e) (next-made s p m))),
     );
     once = h.once;
     rises = h.rises;
@@ -63,7 +63,7 @@ module _ (book : List (List (Rule ℕ))) (r : Request) where
     );
   }
 
-  pub too_much-next : (s i pool : ℕ) → IsTooMuch book r s i pool → IsTooMuch book r (s + 1) 0 pool
+  pub too_much-next : (s i pool : ℕ) → IsOverfullAt book r s i pool → IsOverfullAt book r (s + 1) 0 pool
   too_much-next s i pool h = (h.0, h.1, (λ p c. made-next s i p (h.2 p c)), h.3)
 
   listed-to : (s : ℕ) (ps : List (ℕ × Applicative)) (due : List Applicative) (e : Applicative) → IsState book r s 1 ps due → IsIn due e ↔ (IsDue (IsTerm book r) r e × (size_of r.cost e ≤ s))
@@ -99,7 +99,7 @@ module _ (book : List (List (Rule ℕ))) (r : Request) where
     | inr m ↦ m
   ]
 
-  made-later : (s d : ℕ) (p : ℕ × Applicative) → s ≤ d → IsMade book r.cost s 1 p → IsMade book r.cost d 1 p
+  made-later : (s d : ℕ) (p : ℕ × Applicative) → s ≤ d → IsMade book r s 1 p → IsMade book r d 1 p
   made-later s d p l h = record {
     node = h.node;
     generated = h.generated;
@@ -109,6 +109,25 @@ module _ (book : List (List (Rule ℕ))) (r : Request) where
       | inr m ↦ elim (cases_lt s d) [ inl z ↦ inl (let y = m.1 in omega arith) | inr z ↦ inr (m.0, (let y = m.1 in omega arith)) ]
     ];
   }
+
+  pooled-made : (s : ℕ) (p : ℕ × Applicative) → IsPooled book r.cost s p → IsMade book r s 1 p
+  pooled-made s p h = record {
+    node = h.node;
+    generated = h.generated;
+    short = h.short;
+    so_far = elim h.sized [ inl m ↦ inl m | inr m ↦ inr ((let y = m.0 in omega arith), m.1) ];
+  }
+
+  pub made-pooled : (s : ℕ) (p : ℕ × Applicative) → IsMade book r s 1 p ↔ IsPooled book r.cost s p
+  made-pooled s p = (
+    (λ h. record {
+      node = h.node;
+      generated = h.generated;
+      short = h.short;
+      sized = elim h.so_far [ inl m ↦ inl m | inr m ↦ inr ((let y = m.0 in omega arith), m.1) ];
+    }),
+    pooled-made s p,
+  )
 
   pub enough-is : (s : ℕ) (ps : List (ℕ × Applicative)) (due : List Applicative) → IsState book r s 1 ps due → r.take < length due → IsEnough Due r.cost r.take s
   enough-is s ps due h l = (
@@ -125,22 +144,22 @@ module _ (book : List (List (Rule ℕ))) (r : Request) where
   ]
 
   -- more than the pool are made
-  pub over-at : (s pool : ℕ) → IsTooMuch book r s 1 pool → s ≤ r.max → ((t : ℕ) → t < s → IsEnough Due r.cost r.take t → ⊥) → IsOver book r pool
+  pub over-at : (s pool : ℕ) → IsOverfullAt book r s 1 pool → s ≤ r.max → ((t : ℕ) → t < s → IsEnough Due r.cost r.take t → ⊥) → ExceedsPool book r pool
   over-at s pool h l f d n e q =
       let m = at-least s d f l e in
-      let c = no_more_than h.0 q.0 h.1 (λ p i. in_from q.0 p ((q.2 p).1 (made-later s d p m (h.2 p (in_to h.0 p i))))) in
+      let c = no_more_than h.0 q.0 h.1 (λ p i. in_from q.0 p ((q.2 p).1 ((made-pooled d p).0 (made-later s d p m (h.2 p (in_to h.0 p i)))))) in
       let z = q.3 in
       let y = h.3 in
       omega arith
 
-  pub over-next : (s pool : ℕ) → IsTooMuch book r (s + 1) 0 pool → s < r.max → ((t : ℕ) → t < s + 1 → IsEnough Due r.cost r.take t → ⊥) → IsOver book r pool
+  pub over-next : (s pool : ℕ) → IsOverfullAt book r (s + 1) 0 pool → s < r.max → ((t : ℕ) → t < s + 1 → IsEnough Due r.cost r.take t → ⊥) → ExceedsPool book r pool
   over-next s pool h l f = over-at (s + 1) pool (h.0, h.1, (λ p c. let m = h.2 p c in record { node = m.node; generated = m.generated; short = m.short; so_far = elim m.so_far [ inl z ↦ inl z | inr z ↦ absurd (let y = z.0 in omega arith) ] }), h.3) (omega arith) f
 
   -- no more than the pool are made
-  pub within-at : (s pool : ℕ) (ps : List (ℕ × Applicative)) (due : List Applicative) → IsState book r s 1 ps due → length ps ≤ pool → (r.take < length due) ⊎ (s ≡ r.max) → IsWithin book r pool
+  pub within-at : (s pool : ℕ) (ps : List (ℕ × Applicative)) (due : List Applicative) → IsState book r s 1 ps due → length ps ≤ pool → (r.take < length due) ⊎ (s ≡ r.max) → FitsPool book r pool
   within-at s pool ps due h l f d n e q =
       let m : d ≤ s = at-most s d ps due h f e in
-      let c = no_more_than q.0 ps q.1 (λ p i. in_from ps p ((h.made p).1 (made-later d s p m ((q.2 p).0 (in_to q.0 p i))))) in
+      let c = no_more_than q.0 ps q.1 (λ p i. in_from ps p ((h.made p).1 (made-later d s p m (pooled-made d p ((q.2 p).0 (in_to q.0 p i)))))) in
       let z = q.3 in
       omega arith
 

@@ -10,10 +10,9 @@ use Rattle.std.proofs.lemmas.Bool.{cases_lt}
 use Rattle.std.proofs.lemmas.Bool.Decides.{nat_tests}
 use Rattle.std.proofs.lemmas.List.{length_push, map-append, length-map, get_or_past}
 use Rattle.cls_base.specs.Terms.{Applicative, size_of, Before}
-use Rattle.cls_base.specs.Rules.{Rule}
+use Rattle.cls_base.specs.declared.rule.Rule.{Rule}
 use Rattle.cls_base.specs.Languages.{IsGenerated, rules_at, by_head, by_any}
 use Rattle.cls_base.specs.Pages.{Request, Rises}
-use Rattle.cls_base.specs.Pools.{IsMade}
 use Rattle.cls_base.specs.Lists.{AreDistinct, AreBelow}
 use Rattle.cls_term.proofs.Orders.{greater_exactly}
 use Rattle.cls_term.specs.Banks.{at}
@@ -23,7 +22,7 @@ use Rattle.cls_enum.specs.CellTables.{cell_at, cell_of}
 use Rattle.cls_enum.specs.Members.{IsIn, IsGrown, IsCell, CodesRise, IsOverfull}
 use Rattle.cls_enum.specs.Plans.{AreReady, AllReady, book_of, rules_of, plan_candidates}
 use Rattle.cls_enum.specs.Requests.{later, due_after}
-use Rattle.cls_enum.specs.States.{IsState, IsKept, IsTooMuch}
+use Rattle.cls_enum.specs.States.{IsMade, IsState, IsKept, IsOverfullAt}
 use Rattle.cls_enum.specs.declared.plan.Plan.{Plan}
 use Rattle.cls_enum.proofs.CellLaws.{candidates_exact, plan_candidates-rules}
 use Rattle.cls_enum.proofs.Counting.{once-append}
@@ -107,7 +106,7 @@ later-exactly cost (Some a) e =
     ((λ p. g.0 (h.0 p)), (λ p. h.1 (g.1 p)))
 
 module _ (book : List (List (Rule ℕ))) (r : Request) where
-  made-more : (s i : ℕ) (ps : List (ℕ × Applicative)) (es : List Applicative) → i < length book → ((p : ℕ × Applicative) → Contains ps p ↔ IsMade book r.cost s i p) → ((e : Applicative) → IsIn es e ↔ IsInCell book r.cost i s e) → (p : ℕ × Applicative) → Contains (ps ++ paired i es) p ↔ IsMade book r.cost s (i + 1) p
+  made-more : (s i : ℕ) (ps : List (ℕ × Applicative)) (es : List Applicative) → i < length book → ((p : ℕ × Applicative) → Contains ps p ↔ IsMade book r s i p) → ((e : Applicative) → IsIn es e ↔ IsInCell book r.cost i s e) → (p : ℕ × Applicative) → Contains (ps ++ paired i es) p ↔ IsMade book r s (i + 1) p
   made-more s i ps es l h k p = (
     (λ c. elim (in_cases ps (paired i es) p (in_from (ps ++ paired i es) p c)) [
       | inl j ↦ let m = (h p).0 (in_to ps p j) in record { node = m.node; generated = m.generated; short = m.short; so_far = elim m.so_far [ inl z ↦ inl z | inr z ↦ inr ((let y = z.0 in omega arith), z.1) ] }
@@ -130,7 +129,7 @@ module _ (book : List (List (Rule ℕ))) (r : Request) where
   )
 
   -- pairs of the next cell aren't made yet
-  once-more : (s i : ℕ) (ps : List (ℕ × Applicative)) (es : List Applicative) → ((p : ℕ × Applicative) → Contains ps p ↔ IsMade book r.cost s i p) → ((e : Applicative) → IsIn es e → IsInCell book r.cost i s e) → AreDistinct ps → AreDistinct es → AreDistinct (ps ++ paired i es)
+  once-more : (s i : ℕ) (ps : List (ℕ × Applicative)) (es : List Applicative) → ((p : ℕ × Applicative) → Contains ps p ↔ IsMade book r s i p) → ((e : Applicative) → IsIn es e → IsInCell book r.cost i s e) → AreDistinct ps → AreDistinct es → AreDistinct (ps ++ paired i es)
   once-more s i ps es h k n m = once-append ps (paired i es) n (paired-once i es m) (λ p a b.
       let q = in_paired i es p b in
       let c = k p.1 q.1 in
@@ -155,7 +154,7 @@ module _ (book : List (List (Rule ℕ))) (r : Request) where
       let up = codes-rises r.cost s es (λ e j. ((k e).0 j).1) c in
       let fs = filter (later r.cost r.after) es in
       record {
-        made = (let P : ℕ → Type 0 = λ n. (p : ℕ × Applicative) → Contains (ps ++ paired 0 es) p ↔ IsMade book r.cost s n p in let e : 0 + 1 ≡ 1 = omega arith in subst P e (made-more s 0 ps es l h.made k));
+        made = (let P : ℕ → Type 0 = λ n. (p : ℕ × Applicative) → Contains (ps ++ paired 0 es) p ↔ IsMade book r s n p in let e : 0 + 1 ≡ 1 = omega arith in subst P e (made-more s 0 ps es l h.made k));
         once = once-more s 0 ps es h.made (λ e j. (k e).0 j) h.once (rising-once r.cost es up);
         rises = rises-append r.cost due fs h.rises (filter-rises r.cost (later r.cost r.after) es up)
             (λ x y i j.
@@ -178,7 +177,7 @@ module _ (book : List (List (Rule ℕ))) (r : Request) where
       }
 
   -- too many terms of one more node
-  pub too_much-cell : (s i pool total : ℕ) (ps : List (ℕ × Applicative)) (due es : List Applicative) → i < length book → IsState book r s i ps due → length ps ≡ total → total ≤ pool → ((e : Applicative) → IsIn es e → IsInCell book r.cost i s e) → IsOverfull (pool - total) [] es → IsTooMuch book r s (i + 1) pool
+  pub too_much-cell : (s i pool total : ℕ) (ps : List (ℕ × Applicative)) (due es : List Applicative) → i < length book → IsState book r s i ps due → length ps ≡ total → total ≤ pool → ((e : Applicative) → IsIn es e → IsInCell book r.cost i s e) → IsOverfull (pool - total) [] es → IsOverfullAt book r s (i + 1) pool
   too_much-cell s i pool total ps due es l h c w k o =
       let f : (e : Applicative) → IsIn o.0 e → IsInCell book r.cost i s e = λ e j. elim (o.2 e j) [ inl z ↦ absurd z | inr z ↦ k e z ] in (
         ps ++ paired i o.0,
@@ -272,7 +271,7 @@ module _ (book : List (List (Rule ℕ))) (r : Request) (positive : (x : ℕ) →
       let P : List Applicative → Type 0 = λ es. IsIn es e ↔ IsInCell book r.cost i s e in
       subst P (sym p) (candidates_exact book r.cost positive (cell_of ts cells) s exact-below i e)
 
-  pub plans-over : (pool : ℕ) → total ≤ pool → IsOverfull (pool - total) [] (plan_candidates (cell_of ts cells) s plans) → IsTooMuch book r s (i + 1) pool
+  pub plans-over : (pool : ℕ) → total ≤ pool → IsOverfull (pool - total) [] (plan_candidates (cell_of ts cells) s plans) → IsOverfullAt book r s (i + 1) pool
   plans-over pool l o = too_much-cell book r s i pool total kept.pairs (map (at ts) due) (plan_candidates (cell_of ts cells) s plans) node kept.state kept.counted l (λ e j. (plans-exact e).0 j) o
 
   module _ (us : List Applicative) (ms : List ℕ) (within : s ≤ r.max) (grown : IsGrown ts us) (cell : IsCell us (plan_candidates (cell_of ts cells) s plans) ms) where

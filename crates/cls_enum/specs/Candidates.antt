@@ -2,7 +2,8 @@
 use Rattle.std.specs.Prelude.{ℕ, zero, suc, ◌≡◌, ◌+◌, ◌-◌, ◌≤◌, nat_le, nat_eq, List, [], ◌∷◌, ◌++◌, if◌then◌else◌, ◌&&◌}
 use Rattle.std.specs.List.{flat_map}
 use Rattle.cls_base.specs.Terms.{Applicative, component, apply, length_of, size_of}
-use Rattle.cls_base.specs.Rules.{Rule, head, any}
+use Rattle.cls_base.specs.declared.rule.Rule.{Rule}
+use Rattle.cls_base.specs.declared.rule.Rule.TheVariants.{Head, Any}
 use Rattle.cls_base.specs.Languages.{IsGenerated}
 
 -- what f gives at each number below n, one after another
@@ -24,8 +25,8 @@ module _ (cell : ℕ → ℕ → List Applicative) where
 
   -- the terms of size s that a rule makes
   abbrev pub rule_terms : (ℕ → ℕ) → ℕ → Rule ℕ → List Applicative
-  rule_terms cost s (head x ns) = if nat_le (cost x) s then fills (component x) ns (s - cost x) else []
-  rule_terms cost s (any l m) = over s (λ t. flat_map (λ f. fills f (m ∷ []) (s - t)) (cell t l))
+  rule_terms cost s (Head x ns) = if nat_le (cost x) s then fills (component x) ns (s - cost x) else []
+  rule_terms cost s (Any l m) = over s (λ t. flat_map (λ f. fills f (m ∷ []) (s - t)) (cell t l))
 
   abbrev pub candidates : (ℕ → ℕ) → ℕ → List (Rule ℕ) → List Applicative
   candidates cost s rs = flat_map (rule_terms cost s) rs

@@ -1,6 +1,6 @@
 -- What holds of every rule book and request.
 use Rattle.std.specs.Prelude.{ℕ, ◌<◌, ◌≤◌, Bool, List, length}
-use Rattle.cls_base.specs.Rules.{Rule}
+use Rattle.cls_base.specs.declared.rule.Rule.{Rule}
 use Rattle.cls_base.specs.Terms.{Applicative}
 use Rattle.cls_base.specs.Pages.{Request, IsDue, IsPage}
 use Rattle.cls_base.specs.Pools.{PoolIs, IsDecidingSize}

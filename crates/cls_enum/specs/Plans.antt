@@ -2,7 +2,8 @@
 use Rattle.std.specs.Prelude.{ℕ, zero, suc, ◌≡◌, ◌≤◌, ◌<◌, ◌+◌, ◌-◌, ◌⊎◌, List, [], ◌∷◌, ◌++◌, length, map, nat_le, if◌then◌else◌, slice_index, slice_index_or}
 use Rattle.std.specs.List.{flat_map}
 use Rattle.cls_base.specs.Terms.{Applicative, component, length_of, size_of}
-use Rattle.cls_base.specs.Rules as rules
+use Rattle.cls_base.specs.declared.rule.Rule.{Rule}
+use Rattle.cls_base.specs.declared.rule.Rule.TheVariants as rules
 use Rattle.cls_base.specs.Languages.{Applies, NodeRule}
 use Rattle.cls_enum.specs.Candidates.{over, fills, IsInCell}
 use Rattle.cls_enum.specs.Members.{IsIn}
@@ -14,11 +15,11 @@ abbrev pub nodes_of : List Place → List ℕ
 nodes_of places = map (λ p. p.node) places
 
 -- the rule that a plan is of
-abbrev pub rule_of : Plan → rules.Rule ℕ
-rule_of (Head x c places) = rules.head x (nodes_of places.items)
-rule_of (Any l places) = rules.any l (slice_index_or (nodes_of places.items) 0 0)
+abbrev pub rule_of : Plan → Rule ℕ
+rule_of (Head x c places) = rules.Head x (nodes_of places.items)
+rule_of (Any l places) = rules.Any l (slice_index_or (nodes_of places.items) 0 0)
 
-abbrev pub rules_of : List Plan → List (rules.Rule ℕ)
+abbrev pub rules_of : List Plan → List (Rule ℕ)
 rules_of plans = map rule_of plans
 
 -- a head has its cost beside it, and for any term applied to any there is one place
@@ -45,7 +46,7 @@ abbrev pub AreFree : List Place → Type 0
 AreFree [] = Unit {0}
 AreFree (p ∷ places) = (p.least.items ≡ []) × AreFree places
 
-module _ (book : List (List (rules.Rule ℕ))) (cost : ℕ → ℕ) (s : ℕ) where
+module _ (book : List (List (Rule ℕ))) (cost : ℕ → ℕ) (s : ℕ) where
   -- terms of the nodes in turn, whose sizes come to `rest`, have at least so many occurrences, or the whole has more than 64
   abbrev pub IsBound : List ℕ → ℕ → ℕ → Type 0
   IsBound nodes rest bound = (f e : Applicative) → Applies ℕ (NodeRule book) f nodes e → size_of cost e ≡ size_of cost f + rest → (length_of f + bound ≤ length_of e) ⊎ (64 < length_of e)
@@ -77,10 +78,10 @@ module _ (cell : ℕ → ℕ → List Applicative) where
   PlansPruned (p ∷ plans) = ArePruned cell (places_of p) × PlansPruned plans
 
 -- the rules of each node
-abbrev pub book_of : List (List Plan) → List (List (rules.Rule ℕ))
+abbrev pub book_of : List (List Plan) → List (List (Rule ℕ))
 book_of plans = map (λ ps. map rule_of ps) plans
 
-abbrev pub AllReady : List (List (rules.Rule ℕ)) → (ℕ → ℕ) → ℕ → List (List Plan) → Type 0
+abbrev pub AllReady : List (List (Rule ℕ)) → (ℕ → ℕ) → ℕ → List (List Plan) → Type 0
 AllReady book cost s [] = Unit {0}
 AllReady book cost s (ps ∷ plans) = AreReady book cost s ps × AllReady book cost s plans
 
@@ -91,7 +92,7 @@ after [] (suc rest) = 65
 after (p ∷ places) rest = slice_index p.least.items rest
 
 -- the cells have every short term of their node and size
-abbrev pub AreWhole : List (List (rules.Rule ℕ)) → (ℕ → ℕ) → (ℕ → ℕ → List Applicative) → ℕ → Type 0
+abbrev pub AreWhole : List (List (Rule ℕ)) → (ℕ → ℕ) → (ℕ → ℕ → List Applicative) → ℕ → Type 0
 AreWhole book cost cell s = (t : ℕ) → t ≤ s → (n : ℕ) (e : Applicative) → IsInCell book cost n t e → IsIn (cell t n) e
 
 -- what the place says stays, or it says one more

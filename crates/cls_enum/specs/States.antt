@@ -1,10 +1,11 @@
 -- How far the terms are made, and what that says of the page.
 use Rattle.std.specs.Prelude.{ℕ, ◌≡◌, ◌≤◌, ◌<◌, ◌*◌, ◌+◌, ◌↔◌, ◌⊎◌, List, [], length, map, slice_index_or, Contains}
-use Rattle.cls_base.specs.Terms.{Applicative, size_of}
-use Rattle.cls_base.specs.Rules.{Rule}
+use Rattle.cls_base.specs.Limits.{max_term_length}
+use Rattle.cls_base.specs.Terms.{Applicative, length_of, size_of}
+use Rattle.cls_base.specs.declared.rule.Rule.{Rule}
 use Rattle.cls_base.specs.Languages.{IsGenerated}
 use Rattle.cls_base.specs.Pages.{Request, IsDue, Rises}
-use Rattle.cls_base.specs.Pools.{IsMade, PoolIs, IsDecidingSize}
+use Rattle.cls_base.specs.Pools.{PoolIs, IsDecidingSize}
 use Rattle.cls_base.specs.Lists.{AreDistinct, AreBelow}
 use Rattle.cls_term.specs.Banks.{at}
 use Rattle.cls_enum.specs.Members.{IsIn}
@@ -15,23 +16,31 @@ module _ (book : List (List (Rule ℕ))) (r : Request) where
   abbrev pub IsTerm : Applicative → Type 0
   IsTerm e = IsGenerated book 0 e
 
+  -- The pair of a node and a term of its language is made: the term has a smaller size than s, or size s where the node is below i.
+  pub record IsMade (s i : ℕ) (p : ℕ × Applicative) : Type 0 where
+    pub node : p.0 < length book
+    pub generated : IsGenerated book p.0 p.1
+    pub short : length_of p.1 ≤ max_term_length
+    pub so_far : (size_of r.cost p.1 < s) ⊎ ((p.0 < i) × (size_of r.cost p.1 ≡ s))
+
   -- The terms of smaller sizes are made, and those of this size of the nodes below i, each once; and the due ones among those of node 0 are listed.
   pub record IsState (s i : ℕ) (pairs : List (ℕ × Applicative)) (due : List Applicative) : Type 0 where
-    pub made : (p : ℕ × Applicative) → Contains pairs p ↔ IsMade book r.cost s i p
+    pub made : (p : ℕ × Applicative) → Contains pairs p ↔ IsMade s i p
     pub once : AreDistinct pairs
     pub rises : Rises r.cost due
     pub listed : (e : Applicative) → Contains due e ↔ (IsDue IsTerm r e × ((size_of r.cost e < s) ⊎ ((0 < i) × (size_of r.cost e ≡ s))))
 
   -- more pairs than the bound are made, each once
-  abbrev pub IsTooMuch : ℕ → ℕ → ℕ → Type 0
-  IsTooMuch s i pool = (pairs : List (ℕ × Applicative)) × AreDistinct pairs × ((p : ℕ × Applicative) → Contains pairs p → IsMade book r.cost s i p) × (pool < length pairs)
+  abbrev pub IsOverfullAt : ℕ → ℕ → ℕ → Type 0
+  IsOverfullAt s i pool = (pairs : List (ℕ × Applicative)) × AreDistinct pairs × ((p : ℕ × Applicative) → Contains pairs p → IsMade s i p) × (pool < length pairs)
 
-  -- the pool at the deciding size is over the bound, and it isn't
-  abbrev pub IsOver : ℕ → Type 0
-  IsOver pool = (s n : ℕ) → IsDecidingSize (IsDue IsTerm r) r.cost r.take r.max s → PoolIs book r.cost s n → pool < n
+  -- More pairs than the bound are pooled at the deciding size.
+  abbrev pub ExceedsPool : ℕ → Type 0
+  ExceedsPool pool = (s n : ℕ) → IsDecidingSize (IsDue IsTerm r) r.cost r.take r.max s → PoolIs book r.cost s n → pool < n
 
-  abbrev pub IsWithin : ℕ → Type 0
-  IsWithin pool = (s n : ℕ) → IsDecidingSize (IsDue IsTerm r) r.cost r.take r.max s → PoolIs book r.cost s n → n ≤ pool
+  -- At most as many pairs as the bound are pooled at the deciding size.
+  abbrev pub FitsPool : ℕ → Type 0
+  FitsPool pool = (s n : ℕ) → IsDecidingSize (IsDue IsTerm r) r.cost r.take r.max s → PoolIs book r.cost s n → n ≤ pool
 
   -- The state as it is kept: terms by number, a table of cells with a cell for each node of each smaller size and for the nodes below i of this size, the numbers of the due terms, and how many pairs are made.
   pub record IsKept (s i : ℕ) (terms : List Applicative) (cells : ℕ × List (List ℕ)) (due : List ℕ) (total : ℕ) : Type 0 where

@@ -1,5 +1,5 @@
 ghost use Rattle.std.specs.Prelude.{◌≡◌, ℕ, ◌+◌, ◌-◌, ◌<◌, ◌≤◌, ◌^◌, IfOk, List, length, map};
-ghost use Rattle.cls_base.specs.Rules as generic;
+ghost use Rattle.cls_base.specs.declared.rule.Rule.{Rule};
 ghost use Rattle.cls_base.specs.Terms.{length_of, Applicative};
 ghost use Rattle.cls_term.specs.Banks.{at};
 ghost use Rattle.cls_base.specs.Lists.{AreBelow};
@@ -96,7 +96,7 @@ fn extended_places(
     requires below { (t n : ℕ) → AreBelow (length bank.now) (cell_at cells.now t n) }
     requires small { size < 2 ^ 31 }
     ensures nodes { IfOk result (λ new. nodes_of new.items ≡ nodes_of places.now) }
-    ensures bounds { IfOk result (λ new. (b : List (List (generic.Rule ℕ))) (cost : ℕ → ℕ) → AreWhole b cost (cell_of bank.now cells.now) size → AreBounds b cost size places.now → AreBounds b cost (size + 1) new.items) }
+    ensures bounds { IfOk result (λ new. (b : List (List (Rule ℕ))) (cost : ℕ → ℕ) → AreWhole b cost (cell_of bank.now cells.now) size → AreBounds b cost size places.now → AreBounds b cost (size + 1) new.items) }
 {
     let Some((place, others)) = places.split_first() else {
         return Ok(Vec::new(alloc));
@@ -119,7 +119,7 @@ fn extended_plan(
     requires below { (t n : ℕ) → AreBelow (length bank.now) (cell_at cells.now t n) }
     requires small { size < 2 ^ 31 }
     ensures rule { IfOk result (λ new. rule_of new ≡ rule_of plan.now) }
-    ensures ready { IfOk result (λ new. (b : List (List (generic.Rule ℕ))) (cost : ℕ → ℕ) → AreWhole b cost (cell_of bank.now cells.now) size → IsReady b cost size plan.now → IsReady b cost (size + 1) new) }
+    ensures ready { IfOk result (λ new. (b : List (List (Rule ℕ))) (cost : ℕ → ℕ) → AreWhole b cost (cell_of bank.now cells.now) size → IsReady b cost size plan.now → IsReady b cost (size + 1) new) }
 {
     match plan {
         Plan::Head(head, cost, places) => {
@@ -143,7 +143,7 @@ fn extended_node(
     requires below { (t n : ℕ) → AreBelow (length bank.now) (cell_at cells.now t n) }
     requires small { size < 2 ^ 31 }
     ensures rules { IfOk result (λ new. rules_of new.items ≡ rules_of plans.now) }
-    ensures ready { IfOk result (λ new. (b : List (List (generic.Rule ℕ))) (cost : ℕ → ℕ) → AreWhole b cost (cell_of bank.now cells.now) size → AreReady b cost size plans.now → AreReady b cost (size + 1) new.items) }
+    ensures ready { IfOk result (λ new. (b : List (List (Rule ℕ))) (cost : ℕ → ℕ) → AreWhole b cost (cell_of bank.now cells.now) size → AreReady b cost size plans.now → AreReady b cost (size + 1) new.items) }
 {
     let mut new = Vec::new(alloc);
     for plan in plans {
@@ -163,7 +163,7 @@ fn extended(
     requires below { (t n : ℕ) → AreBelow (length bank.now) (cell_at cells.now t n) }
     requires small { size < 2 ^ 31 }
     ensures book { IfOk result (λ new. book_of new.items ≡ book_of plans.now) }
-    ensures ready { IfOk result (λ new. (b : List (List (generic.Rule ℕ))) (cost : ℕ → ℕ) → AreWhole b cost (cell_of bank.now cells.now) size → AllReady b cost size plans.now → AllReady b cost (size + 1) new.items) }
+    ensures ready { IfOk result (λ new. (b : List (List (Rule ℕ))) (cost : ℕ → ℕ) → AreWhole b cost (cell_of bank.now cells.now) size → AllReady b cost size plans.now → AllReady b cost (size + 1) new.items) }
 {
     let mut new = Vec::new(alloc);
     for node in plans {
@@ -185,7 +185,7 @@ pub(crate) fn next_plans(
     requires below { (t n : ℕ) → AreBelow (length bank.now) (cell_at cells.now t n) }
     requires small { size < 2 ^ 31 }
     ensures book { IfOk result (λ new. book_of new.items ≡ book_of plans.items) }
-    ensures ready { IfOk result (λ new. (b : List (List (generic.Rule ℕ))) (cost : ℕ → ℕ) → AreWhole b cost (cell_of bank.now cells.now) size → AllReady b cost size plans.items → AllReady b cost (size + 1) new.items) }
+    ensures ready { IfOk result (λ new. (b : List (List (Rule ℕ))) (cost : ℕ → ℕ) → AreWhole b cost (cell_of bank.now cells.now) size → AllReady b cost size plans.items → AllReady b cost (size + 1) new.items) }
 {
     if wide {
         extended(alloc, bank, cells, size, plans.as_slice())

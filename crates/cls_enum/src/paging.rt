@@ -8,7 +8,7 @@ ghost use Rattle.cls_enum.specs.Asking.{asked_request};
 ghost use Rattle.cls_enum.specs.Faults.{IfTooMany};
 ghost use Rattle.cls_enum.specs.Plans.{book_of, AllReady};
 ghost use Rattle.cls_enum.specs.Requests.{request};
-ghost use Rattle.cls_enum.specs.States.{IsDone, IsKept, IsOver, IsTooMuch, IsWithin};
+ghost use Rattle.cls_enum.specs.States.{IsDone, IsKept, ExceedsPool, IsOverfullAt, FitsPool};
 
 use crate::PageFault;
 use crate::asked::Asked;
@@ -35,7 +35,7 @@ fn collect(
     requires kept { IsKept (book_of plans.items) (asked_request asked.now) 0 0 shelf.old.bank shelf.old.cells shelf.old.due.items shelf.old.total }
     requires within { shelf.old.total ≤ asked.now.pool }
     ensures done { IfOk result (λ _. IsDone (book_of plans.items) (asked_request asked.now) shelf.new.bank shelf.new.due.items asked.now.pool) }
-    ensures over { IfErr result (λ fault. IfTooMany fault (IsOver (book_of plans.items) (asked_request asked.now) asked.now.pool)) }
+    ensures over { IfErr result (λ fault. IfTooMany fault (ExceedsPool (book_of plans.items) (asked_request asked.now) asked.now.pool)) }
 {
     let wide = is_wide(plans.as_slice());
     let mut current = plans;
@@ -69,7 +69,7 @@ fn make_others(
     ensures kept { IfOk result (λ _. IsKept (book_of plans.now) (asked_request asked.now) (size + 1) 0 shelf.new.bank shelf.new.cells shelf.new.due.items shelf.new.total) }
     ensures within { IfOk result (λ _. shelf.new.total ≤ asked.now.pool) }
     ensures same { IfOk result (λ _. length shelf.new.due.items ≡ length shelf.old.due.items) }
-    ensures over { IfErr result (λ fault. IfTooMany fault (IsTooMuch (book_of plans.now) (asked_request asked.now) (size + 1) 0 asked.now.pool)) }
+    ensures over { IfErr result (λ fault. IfTooMany fault (IsOverfullAt (book_of plans.now) (asked_request asked.now) (size + 1) 0 asked.now.pool)) }
 {
     for node in 1..plans.len() as u32 {
         make_node(alloc, asked, plans, node, size, shelf)?;
@@ -98,8 +98,8 @@ pub fn page<B: RuleBook>(
     requires costs { (x : ℕ) → 1 ≤ cost_of costs.now x }
     requires token { IfSome (option_copied after) (λ a. length_of a < 2 ^ 32) }
     ensures page { IfOk result (λ p. IsPage (IsGenerated (B.book book.now) 0) (request costs.now (option_copied after.entry) max_size take) p.terms p.more) }
-    ensures within { IfOk result (λ _. IsWithin (B.book book.now) (request costs.now (option_copied after.entry) max_size take) pool) }
-    ensures over { IfErr result (λ fault. IfTooMany fault (IsOver (B.book book.now) (request costs.now (option_copied after.entry) max_size take) pool)) }
+    ensures within { IfOk result (λ _. FitsPool (B.book book.now) (request costs.now (option_copied after.entry) max_size take) pool) }
+    ensures over { IfErr result (λ fault. IfTooMany fault (ExceedsPool (B.book book.now) (request costs.now (option_copied after.entry) max_size take) pool)) }
 {
     let plans = plans(alloc, book, costs)?;
     let asked = Asked {
@@ -120,8 +120,8 @@ fn list(alloc: Global, asked: &Asked, plans: Vec<NodePlans>) -> Result<Page, Pag
     requires few { length plans.items < 2 ^ 32 }
     requires ready { AllReady (book_of plans.items) (cost_of asked.now.costs.now) 0 plans.items }
     ensures page { IfOk result (λ p. IsPage (IsGenerated (book_of plans.items) 0) (asked_request asked.now) p.terms p.more) }
-    ensures within { IfOk result (λ _. IsWithin (book_of plans.items) (asked_request asked.now) asked.now.pool) }
-    ensures over { IfErr result (λ fault. IfTooMany fault (IsOver (book_of plans.items) (asked_request asked.now) asked.now.pool)) }
+    ensures within { IfOk result (λ _. FitsPool (book_of plans.items) (asked_request asked.now) asked.now.pool) }
+    ensures over { IfErr result (λ fault. IfTooMany fault (ExceedsPool (book_of plans.items) (asked_request asked.now) asked.now.pool)) }
 {
     let mut shelf = Shelf {
         bank: Bank::new(alloc),

@@ -1,6 +1,5 @@
 ghost use Rattle.std.specs.Prelude.{◌≡◌, ℕ, List, ◌<◌, ◌^◌, ◌↔◌, IfOk, IsTrue, length, map, slice_index};
-ghost use Rattle.cls_base.specs.Rules as generic;
-ghost use Rattle.cls_grammar.specs.NodeRules.{node_rule};
+ghost use Rattle.cls_base.specs.declared.rule.Rule.{Rule};
 ghost use Rattle.cls_term.specs.Costs.{cost_of};
 ghost use Rattle.cls_enum.specs.Plans.{IsBarren, AllReady, AreReady, AreFree, IsReady, book_of, nodes_of, rule_of, rules_of};
 
@@ -105,8 +104,8 @@ pub(crate) fn plans<B: RuleBook>(
 
 /// The plans of rules.
 fn node_plans(alloc: Global, rules: &[Rule<u32>], costs: &Numbers) -> Result<Vec<Plan>, OutOfMemory>
-    ensures rules { IfOk result (λ plans. rules_of plans.items ≡ map node_rule rules.now) }
-    ensures ready { IfOk result (λ plans. (b : List (List (generic.Rule ℕ))) (s : ℕ) → AreReady b (cost_of costs.now) s plans.items) }
+    ensures rules { IfOk result (λ plans. rules_of plans.items ≡ rules.now) }
+    ensures ready { IfOk result (λ plans. (b : List (List (Rule ℕ))) (s : ℕ) → AreReady b (cost_of costs.now) s plans.items) }
 {
     let mut plans = Vec::new(alloc);
     for rule in rules {
@@ -117,8 +116,8 @@ fn node_plans(alloc: Global, rules: &[Rule<u32>], costs: &Numbers) -> Result<Vec
 
 /// The plan of a rule.
 fn rule_plan(alloc: Global, rule: &Rule<u32>, costs: &Numbers) -> Result<Plan, OutOfMemory>
-    ensures rule { IfOk result (λ plan. rule_of plan ≡ node_rule rule.now) }
-    ensures ready { IfOk result (λ plan. (b : List (List (generic.Rule ℕ))) (s : ℕ) → IsReady b (cost_of costs.now) s plan) }
+    ensures rule { IfOk result (λ plan. rule_of plan ≡ rule.now) }
+    ensures ready { IfOk result (λ plan. (b : List (List (Rule ℕ))) (s : ℕ) → IsReady b (cost_of costs.now) s plan) }
 {
     match rule {
         Rule::Head { component, args } => {

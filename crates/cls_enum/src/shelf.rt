@@ -4,7 +4,7 @@ ghost use Rattle.cls_term.specs.Costs.{cost_of};
 ghost use Rattle.cls_enum.specs.Asking.{asked_request};
 ghost use Rattle.cls_enum.specs.Faults.{IfTooMany};
 ghost use Rattle.cls_enum.specs.Plans.{book_of, AllReady};
-ghost use Rattle.cls_enum.specs.States.{IsKept, IsTooMuch};
+ghost use Rattle.cls_enum.specs.States.{IsKept, IsOverfullAt};
 
 use crate::PageFault;
 use crate::asked::Asked;
@@ -41,7 +41,7 @@ pub(crate) fn make_node(
     ensures kept { IfOk result (λ _. IsKept (book_of plans.now) (asked_request asked.now) size (node + 1) shelf.new.bank shelf.new.cells shelf.new.due.items shelf.new.total) }
     ensures within { IfOk result (λ _. shelf.new.total ≤ asked.now.pool) }
     ensures same { 0 < node → IfOk result (λ _. length shelf.new.due.items ≡ length shelf.old.due.items) }
-    ensures over { IfErr result (λ fault. IfTooMany fault (IsTooMuch (book_of plans.now) (asked_request asked.now) size (node + 1) asked.now.pool)) }
+    ensures over { IfErr result (λ fault. IfTooMany fault (IsOverfullAt (book_of plans.now) (asked_request asked.now) size (node + 1) asked.now.pool)) }
 {
     let node_plans = &plans[node as usize];
     let numbers = make(

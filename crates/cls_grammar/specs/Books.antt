@@ -1,25 +1,26 @@
 -- Rule books as lists of rules.
 use Rattle.std.specs.Prelude.{ℕ, zero, suc, ◌<◌, List, [], ◌∷◌, ◌++◌}
 use Rattle.cls_base.specs.Lists.{AreBelow}
-use Rattle.cls_base.specs.Rules.{Rule, head, any}
+use Rattle.cls_base.specs.declared.rule.Rule.{Rule}
+use Rattle.cls_base.specs.declared.rule.Rule.TheVariants.{Head, Any}
 
 -- the arguments of the rule are nodes below n
-abbrev pub IsWithin : ℕ → Rule ℕ → Type 0
-IsWithin n (head x ns) = AreBelow n ns
-IsWithin n (any l m) = (l < n) × (m < n)
+abbrev pub HasNodesBelow : ℕ → Rule ℕ → Type 0
+HasNodesBelow n (Head x ns) = AreBelow n ns
+HasNodesBelow n (Any l m) = (l < n) × (m < n)
 
-abbrev pub AreWithin : ℕ → List (Rule ℕ) → Type 0
-AreWithin n [] = Unit {0}
-AreWithin n (r ∷ rs) = IsWithin n r × AreWithin n rs
+abbrev pub HaveNodesBelow : ℕ → List (Rule ℕ) → Type 0
+HaveNodesBelow n [] = Unit {0}
+HaveNodesBelow n (r ∷ rs) = HasNodesBelow n r × HaveNodesBelow n rs
 
 -- the components below n, each alone
 abbrev pub heads : ℕ → List (Rule ℕ)
 heads zero = []
-heads (suc n) = heads n ++ head n [] ∷ []
+heads (suc n) = heads n ++ Head n [] ∷ []
 
 -- and then any term applied to any
 abbrev pub omega_rules : ℕ → List (Rule ℕ)
-omega_rules n = heads n ++ any 0 0 ∷ []
+omega_rules n = heads n ++ Any 0 0 ∷ []
 
 -- the rule book of omega over n components: node 0 alone
 abbrev pub omega_book : ℕ → List (List (Rule ℕ))

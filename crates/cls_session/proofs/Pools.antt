@@ -7,16 +7,16 @@ use Rattle.std.proofs.lemmas.List.Elements.{Contains-append_right}
 use Rattle.std.proofs.lemmas.Map.Entries.{length-values_of}
 use Rattle.std.proofs.lemmas.Map.Made.{Contains-values_of, Contains-from_values_of}
 use Rattle.cls_base.specs.Terms.{Applicative, IsTermOver, size_of}
-use Rattle.cls_base.specs.Rules.{Rule}
+use Rattle.cls_base.specs.declared.rule.Rule.{Rule}
 use Rattle.cls_base.specs.Languages.{IsGenerated}
 use Rattle.cls_base.specs.Pages.{IsDue, IsPage}
-use Rattle.cls_base.specs.Pools.{IsMade, PoolIs, IsEnough, IsDecidingSize}
+use Rattle.cls_base.specs.Pools.{IsPooled, PoolIs, IsEnough, IsDecidingSize}
 use Rattle.cls_base.specs.Lists.{AreDistinct}
 use Rattle.cls_enum.specs.declared.listed.Page.{Page}
 use Rattle.cls_enum.specs.declared.fault.PageFault.{PageFault}
 use Rattle.cls_enum.specs.declared.fault.PageFault.TheVariants.{OutOfMemory, TooManyTerms}
 use Rattle.cls_enum.specs.Faults.{IfTooMany}
-use Rattle.cls_enum.specs.States.{IsWithin}
+use Rattle.cls_enum.specs.States.{FitsPool}
 use Rattle.cls_enum.specs.States as states
 use Rattle.cls_enum.proofs.Existence.{each_page-decided}
 use Rattle.cls_grammar.specs.Books.{omega_book}
@@ -42,19 +42,19 @@ abbrev one : ℕ → ℕ
 one x = 1
 
 module _ (book : List (List (Rule ℕ))) (single : length book ≡ 1) (s : ℕ) where
-  counted : (p : ℕ × Applicative) → p.0 ≡ 0 → IsMade book one s 1 p → IsCounted (IsGenerated book 0) s p.1
+  counted : (p : ℕ × Applicative) → p.0 ≡ 0 → IsPooled book one s p → IsCounted (IsGenerated book 0) s p.1
   counted p z m = record {
     typed = (let P : ℕ → Type 0 = λ i. IsGenerated book i p.1 in subst P z m.generated);
-    small = elim m.so_far [ inl l ↦ omega (arith, l) | inr h ↦ omega (arith, h.1) ];
+    small = elim m.sized [ inl l ↦ omega (arith, l) | inr h ↦ omega (arith, h.1) ];
     short = m.short;
   }
 
-  made : (e : Applicative) → IsCounted (IsGenerated book 0) s e → IsMade book one s 1 (0, e)
+  made : (e : Applicative) → IsCounted (IsGenerated book 0) s e → IsPooled book one s (0, e)
   made e h = record {
     node = omega (arith, single);
     generated = h.typed;
     short = h.short;
-    so_far = elim (cases_lt (size_of one e) s) [ inl l ↦ inl l | inr g ↦ inr (omega arith, omega (arith, g, h.small)) ];
+    sized = elim (cases_lt (size_of one e) s) [ inl l ↦ inl l | inr g ↦ inr (refl, omega (arith, g, h.small)) ];
   }
 
   -- the pool of a book with one node counts terms

@@ -1,7 +1,6 @@
 ghost use Rattle.std.specs.Prelude.{◌≡◌, ℕ, ◌<◌, ◌≤◌, ◌^◌, true, map, length, List, IfOk};
-ghost use Rattle.cls_base.specs.Rules as rules;
-ghost use Rattle.cls_grammar.specs.NodeRules.{node_rule};
-ghost use Rattle.cls_enum.specs.HandBooks.{are_nodes, is_within, are_within, all_within, rules_in};
+ghost use Rattle.cls_base.specs.declared.rule.Rule.{Rule};
+ghost use Rattle.cls_enum.specs.HandBooks.{are_nodes, is_within, are_within, all_within};
 
 use cls_base::{Goals, OutOfMemory, Rule, Rules};
 use cls_grammar::RuleBook;
@@ -13,7 +12,7 @@ pub(crate) struct HandBook {
     pub(crate) nodes: Vec<Rules<u32>>,
     ghost some: { 1 ≤ length nodes.items },
     ghost few: { length nodes.items < 2 ^ 32 },
-    ghost within: { all_within (length nodes.items) (rules_in nodes.items) ≡ true },
+    ghost within: { all_within (length nodes.items) nodes.items ≡ true },
 }
 
 impl HandBook {
@@ -28,7 +27,7 @@ impl HandBook {
 }
 
 impl RuleBook for HandBook {
-    ghost book = { λ b. rules_in b.nodes.items };
+    ghost book = { λ b. b.nodes.items };
 
     fn count(&self) -> u32 {
         self.nodes.len() as u32
@@ -49,7 +48,7 @@ fn are_nodes(count: u32, args: &[u32]) -> bool
 }
 
 fn is_within(count: u32, rule: &Rule<u32>) -> bool
-    ensures { result ≡ is_within count (node_rule rule.now) }
+    ensures { result ≡ is_within count rule.now }
 {
     match rule {
         Rule::Head { component: _, args } => are_nodes(count, args.as_slice()),
@@ -58,7 +57,7 @@ fn is_within(count: u32, rule: &Rule<u32>) -> bool
 }
 
 fn are_within(count: u32, rules: &[Rule<u32>]) -> bool
-    ensures { result ≡ are_within count (map node_rule rules.now) }
+    ensures { result ≡ are_within count rules.now }
 {
     match rules.split_first() {
         None => true,
@@ -67,7 +66,7 @@ fn are_within(count: u32, rules: &[Rule<u32>]) -> bool
 }
 
 fn all_within(count: u32, nodes: &[Rules<u32>]) -> bool
-    ensures { result ≡ all_within count (rules_in nodes.now) }
+    ensures { result ≡ all_within count nodes.now }
 {
     match nodes.split_first() {
         None => true,

@@ -1,8 +1,8 @@
 use Rattle.std.proofs.Common.{◌≡◌, ◌+◌, ℕ, List, map, arith, subst, ap, ◌∙◌, inl}
 use Rattle.std.proofs.lemmas.Result.{err_from_is_err_and}
-use Rattle.cls_base.specs.Rules as rules
+use Rattle.cls_base.specs.declared.rule.Rule.{Rule}
 use Rattle.cls_enum.specs.Faults.{IfTooMany}
-use Rattle.cls_enum.specs.States.{IsKept, IsOver, IsTooMuch, IsState}
+use Rattle.cls_enum.specs.States.{IsKept, ExceedsPool, IsOverfullAt, IsState}
 use Rattle.cls_enum.proofs.FillSteps.{IfTooMany-weaker}
 use Rattle.std.proofs.lemmas.List.{length-map}
 use Rattle.cls_term.specs.Banks.{at}
@@ -33,7 +33,7 @@ returns-in_err-make_node-clause-over c =
     let few = few-before book r c.loop-size.size c.loop-size.invariant.kept.pairs (map (at ts) due) c.loop-size.invariant.kept.state (omega (arith, length-map due (at ts), c.loop-size.invariant.few)) in
     let p = err_from_is_err_and c.from_residual.result c.from_residual.ensures.1 in
     rw (p.1, p.2) (IfTooMany-weaker _ _ _
-    (λ h. over-at book r c.loop-size.size c.args.asked.now.pool (subst (λ (x : List (List (rules.Rule ℕ))). IsTooMuch x r c.loop-size.size 1 c.args.asked.now.pool) e h) (omega (arith, c.loop-size-test.true)) few)
+    (λ h. over-at book r c.loop-size.size c.args.asked.now.pool (subst (λ (x : List (List (Rule ℕ))). IsOverfullAt x r c.loop-size.size 1 c.args.asked.now.pool) e h) (omega (arith, c.loop-size-test.true)) few)
     c.in_err-make_node.ensures.over)
 
 pub returns-in_err-make_others-clause-over : goal.returns-in_err-make_others-clause-over
@@ -43,11 +43,11 @@ returns-in_err-make_others-clause-over c =
     let e = ap book_of c.as_slice-rules.ensures.value ∙ c.loop-size.invariant.book in
     let shelf = c.make_node.new.shelf in
     let due = shelf.due.items in
-    let kept : IsKept book r c.loop-size.size 1 shelf.bank shelf.cells due shelf.total = subst (λ (x : List (List (rules.Rule ℕ))). IsKept x r c.loop-size.size 1 shelf.bank shelf.cells due shelf.total) e c.in_ok-make_node.ensures.kept in
+    let kept : IsKept book r c.loop-size.size 1 shelf.bank shelf.cells due shelf.total = subst (λ (x : List (List (Rule ℕ))). IsKept x r c.loop-size.size 1 shelf.bank shelf.cells due shelf.total) e c.in_ok-make_node.ensures.kept in
     let few = few-upto book r c.loop-size.size kept.pairs (map (at shelf.bank) due) kept.state (omega (arith, length-map due (at shelf.bank), c.if-len-asked.false, c.len.ensures, shelf.due.ok.0)) in
     let p = err_from_is_err_and c.from_residual-in_err-make_others.result c.from_residual-in_err-make_others.ensures.1 in
     rw (p.1, p.2) (IfTooMany-weaker _ _ _
-    (λ h. over-next book r c.loop-size.size c.args.asked.now.pool (subst (λ (x : List (List (rules.Rule ℕ))). IsTooMuch x r (c.loop-size.size + 1) 0 c.args.asked.now.pool) e h) (omega (arith, c.loop-size-test.true)) few)
+    (λ h. over-next book r c.loop-size.size c.args.asked.now.pool (subst (λ (x : List (List (Rule ℕ))). IsOverfullAt x r (c.loop-size.size + 1) 0 c.args.asked.now.pool) e h) (omega (arith, c.loop-size-test.true)) few)
     c.in_err-make_others.ensures.over)
 
 pub loop-size-preserved : goal.loop-size-preserved
@@ -56,7 +56,7 @@ loop-size-preserved c =
     let r = asked_request c.args.asked.now in
     let e = ap book_of c.as_slice-rules.ensures.value ∙ c.loop-size.invariant.book in
     let shelf = c.make_others.new.shelf in
-    let kept : IsKept book r (c.loop-size.size + 1) 0 shelf.bank shelf.cells shelf.due.items shelf.total = subst (λ (x : List (List (rules.Rule ℕ))). IsKept x r (c.loop-size.size + 1) 0 shelf.bank shelf.cells shelf.due.items shelf.total) e c.in_ok-make_others.ensures.kept in
+    let kept : IsKept book r (c.loop-size.size + 1) 0 shelf.bank shelf.cells shelf.due.items shelf.total = subst (λ (x : List (List (Rule ℕ))). IsKept x r (c.loop-size.size + 1) 0 shelf.bank shelf.cells shelf.due.items shelf.total) e c.in_ok-make_others.ensures.kept in
     record {
       kept = kept;
       within = c.in_ok-make_others.ensures.within;
@@ -74,6 +74,6 @@ returns-clause-over c =
     let due = c.loop-size.shelf.due.items in
     let z : c.loop-size.size ≡ c.args.asked.now.max = omega (arith, c.loop-size-test.false, c.loop-size.auto.size-end) in
     let few = few-before book r c.args.asked.now.max c.loop-size.invariant.kept.pairs (map (at ts) due) (subst (λ (n : ℕ). IsState book r n 0 c.loop-size.invariant.kept.pairs (map (at ts) due)) z c.loop-size.invariant.kept.state) (omega (arith, length-map due (at ts), c.loop-size.invariant.few)) in
-    IfErr-weaker c.make_node-2.result (λ fault. IfTooMany fault (IsTooMuch (book_of c.as_slice-rules-2.result.now) r c.args.asked.now.max 1 c.args.asked.now.pool)) (λ fault. IfTooMany fault (IsOver book r c.args.asked.now.pool))
-    (λ fault h. IfTooMany-weaker fault _ _ (λ h. over-at book r c.args.asked.now.max c.args.asked.now.pool (subst (λ (x : List (List (rules.Rule ℕ))). IsTooMuch x r c.args.asked.now.max 1 c.args.asked.now.pool) e h) (omega arith) few) h)
+    IfErr-weaker c.make_node-2.result (λ fault. IfTooMany fault (IsOverfullAt (book_of c.as_slice-rules-2.result.now) r c.args.asked.now.max 1 c.args.asked.now.pool)) (λ fault. IfTooMany fault (ExceedsPool book r c.args.asked.now.pool))
+    (λ fault h. IfTooMany-weaker fault _ _ (λ h. over-at book r c.args.asked.now.max c.args.asked.now.pool (subst (λ (x : List (List (Rule ℕ))). IsOverfullAt x r c.args.asked.now.max 1 c.args.asked.now.pool) e h) (omega arith) few) h)
     c.make_node-2.ensures.over

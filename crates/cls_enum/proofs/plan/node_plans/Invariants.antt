@@ -1,12 +1,11 @@
 use Rattle.std.proofs.Common.{◌≡◌, ℕ, List, take, map}
-use Rattle.cls_base.specs.Rules as generic
-use Rattle.cls_grammar.specs.NodeRules.{node_rule}
+use Rattle.cls_base.specs.declared.rule.Rule.{Rule}
 use Rattle.cls_term.specs.Costs.{cost_of}
 use Rattle.cls_enum.specs.Plans.{AreReady, rules_of}
 use Rattle.cls_enum.proofs.plan.node_plans.Given as goal
 
 abbrev pub invariant-loop-rule : goal.invariant-loop-rule
 invariant-loop-rule l = record {
-  rules : rules_of l.plans.items ≡ map node_rule (take l.rule-index l.rules);
-  ready : (b : List (List (generic.Rule ℕ))) (s : ℕ) → AreReady b (cost_of l.costs) s l.plans.items;
+  rules : rules_of l.plans.items ≡ take l.rule-index l.rules;
+  ready : (b : List (List (Rule ℕ))) (s : ℕ) → AreReady b (cost_of l.costs) s l.plans.items;
 }
