@@ -1,9 +1,6 @@
 -- What places say of one more size.
-use Rattle.std.proofs.Common.{◌≡◌, ℕ, zero, suc, ◌+◌, ◌-◌, ◌<◌, ◌≤◌, List, [], ◌∷◌, ◌++◌, length, map, take, get_or, refl, sym, ap, ◌∙◌, subst, inl, inr, arith, cond}
+use Rattle.std.proofs.Common.{◌≡◌, ℕ, zero, suc, ◌+◌, ◌-◌, ◌<◌, ◌≤◌, List, [], ◌∷◌, ◌++◌, length, map, take, get_or, refl, sym, ap, ◌∙◌, subst, inl, inr, arith}
 use Rattle.std.specs.Prelude.{slice_index}
-use Rattle.std.specs.Ordering.{nat_cmp, is_lt, ord_min}
-use Rattle.std.specs.declared.cmp.Ordering.{Ordering}
-use Rattle.std.proofs.lemmas.Cmp.{ranked, by_ranked}
 use Rattle.std.proofs.lemmas.Bool.{cases_lt}
 use Rattle.std.proofs.lemmas.List.{get_or_past, length_push, take_more, map-append}
 use Rattle.cls_base.specs.Terms.{Applicative, apply, length_of, size_of}
@@ -96,14 +93,6 @@ ready-at book cost s (q ∷ ps) zero p h l e = let P : Plan → Type 0 = λ x. I
 ready-at book cost s (q ∷ ps) (suc i) p h l e = ready-at book cost s ps i p h.1 (omega arith) e
 
 -- the lesser of two numbers
-pub min-below : (a b m : ℕ) → m ≡ ord_min nat_cmp a b → (m ≤ a) × (m ≤ b)
-min-below a b m p =
-    let P : Ordering → Type 0 = λ o. (cond (is_lt o) b a ≤ a) × (cond (is_lt o) b a ≤ b) in
-    let q : P (nat_cmp b a) = by_ranked _ _ _ (nat_cmp b a) (ranked b a (nat_cmp b a) refl)
-    (λ e l. subst P (sym e) (omega (arith, l), omega arith))
-    (λ e l. subst P (sym e) (omega arith, omega (arith, l)))
-    (λ e l. subst P (sym e) (omega arith, omega (arith, l))) in
-    (omega (arith, p, q.0), omega (arith, p, q.1))
 
 module _ (book : List (List (Rule ℕ))) (cost : ℕ → ℕ) (s : ℕ) where
   bounds-later : (ps : List Place) → AreBounds book cost s ps → AreBounds book cost (s + 1) ps

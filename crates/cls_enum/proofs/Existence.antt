@@ -117,10 +117,18 @@ module _ (book : List (List (Rule ℕ))) (r : Request) (positive : (x : ℕ) →
       none_less = few-before book r s ps due h few;
       enough_or_all = elim d [ inl l ↦ inl (enough-is book r s qs ds k l) | inr p ↦ inr p ];
     },
-    (length qs, (qs, k.once, (λ p. (
-      (λ c. (made-pooled book r s p).0 ((k.made p).0 c)),
-      (λ h. (k.made p).1 ((made-pooled book r s p).1 h)),
-    )), refl)),
+    (
+      length qs,
+      (
+        qs,
+        k.once,
+        (λ p. (
+          (λ c. (made-pooled book r s p).0 ((k.made p).0 c)),
+          (λ h. (k.made p).1 ((made-pooled book r s p).1 h)),
+        )),
+        refl,
+      ),
+    ),
     (λ some. (take r.take ds, (nat_lt r.take (length ds), page-is book r s qs ds k some w d))),
   )
 

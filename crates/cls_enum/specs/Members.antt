@@ -1,5 +1,6 @@
 -- Membership by recursion on the list, and lists that are joined.
 use Rattle.std.specs.Prelude.{ℕ, ◌≡◌, ◌≤◌, ◌<◌, ◌↔◌, ◌⊎◌, List, [], ◌∷◌, ◌++◌, length, map}
+use Rattle.cls_base.specs.Limits.{max_term_length}
 use Rattle.cls_base.specs.Lists.{AreDistinct, AreBelow}
 use Rattle.cls_base.specs.Terms.{Applicative, length_of, code_of, Precedes}
 use Rattle.cls_term.specs.Banks.{at, term_by}
@@ -20,11 +21,11 @@ abbrev pub SpinesBelow : ℕ → List (ℕ × List ℕ) → Type 0
 SpinesBelow n [] = Unit {0}
 SpinesBelow n (s ∷ spines) = AreBelow n s.1 × SpinesBelow n spines
 
--- The spines are made of the terms, which differ, and so do theirs, none of which is longer than 64.
+-- The spines are made of the terms, which differ, and so do theirs, none of which is too long.
 pub record AreFound (terms : List Applicative) (spines : List (ℕ × List ℕ)) : Type 0 where
   pub below : SpinesBelow (length terms) spines
   pub different : AreDistinct (map (term_by terms) spines)
-  pub short : (e : Applicative) → IsIn (map (term_by terms) spines) e → length_of e ≤ 64
+  pub short : (e : Applicative) → IsIn (map (term_by terms) spines) e → length_of e ≤ max_term_length
 
 -- the terms of the spines are joined with more, each once
 pub record IsAdded (terms : List Applicative) (old : List (ℕ × List ℕ)) (more : List Applicative) (new : List (ℕ × List ℕ)) : Type 0 where

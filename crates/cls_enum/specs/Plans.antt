@@ -1,6 +1,7 @@
 -- Rules as they are kept while a page is made.
 use Rattle.std.specs.Prelude.{ℕ, zero, suc, ◌≡◌, ◌≤◌, ◌<◌, ◌+◌, ◌-◌, ◌⊎◌, List, [], ◌∷◌, ◌++◌, length, map, nat_le, if◌then◌else◌, slice_index, slice_index_or}
 use Rattle.std.specs.List.{flat_map}
+use Rattle.cls_base.specs.Limits.{max_term_length}
 use Rattle.cls_base.specs.Terms.{Applicative, component, length_of, size_of}
 use Rattle.cls_base.specs.declared.rule.Rule.{Rule}
 use Rattle.cls_base.specs.declared.rule.Rule.TheVariants as rules
@@ -33,13 +34,13 @@ places_of (Any l places) = places.items
 
 -- too many occurrences, with the fewest that are still to come
 abbrev pub IsBarren : List Place → ℕ → ℕ → Type 0
-IsBarren [] rest occurrences = (0 < rest) ⊎ (64 < occurrences)
-IsBarren (p ∷ places) rest occurrences = 64 < occurrences + slice_index p.least.items rest
+IsBarren [] rest occurrences = (0 < rest) ⊎ (max_term_length < occurrences)
+IsBarren (p ∷ places) rest occurrences = max_term_length < occurrences + slice_index p.least.items rest
 
 -- where the places say so, no short term is found
 abbrev pub ArePruned : (ℕ → ℕ → List Applicative) → List Place → Type 0
 ArePruned cell [] = Unit {0}
-ArePruned cell (p ∷ places) = ((rest : ℕ) (f : Applicative) → 64 < length_of f + slice_index p.least.items rest → fills cell f (p.node ∷ nodes_of places) rest ≡ []) × ArePruned cell places
+ArePruned cell (p ∷ places) = ((rest : ℕ) (f : Applicative) → max_term_length < length_of f + slice_index p.least.items rest → fills cell f (p.node ∷ nodes_of places) rest ≡ []) × ArePruned cell places
 
 -- the places say nothing yet
 abbrev pub AreFree : List Place → Type 0
@@ -47,9 +48,9 @@ AreFree [] = Unit {0}
 AreFree (p ∷ places) = (p.least.items ≡ []) × AreFree places
 
 module _ (book : List (List (Rule ℕ))) (cost : ℕ → ℕ) (s : ℕ) where
-  -- terms of the nodes in turn, whose sizes come to `rest`, have at least so many occurrences, or the whole has more than 64
+  -- terms of the nodes in turn, whose sizes come to `rest`, have at least so many occurrences, or the whole is too long
   abbrev pub IsBound : List ℕ → ℕ → ℕ → Type 0
-  IsBound nodes rest bound = (f e : Applicative) → Applies ℕ (NodeRule book) f nodes e → size_of cost e ≡ size_of cost f + rest → (length_of f + bound ≤ length_of e) ⊎ (64 < length_of e)
+  IsBound nodes rest bound = (f e : Applicative) → Applies ℕ (NodeRule book) f nodes e → size_of cost e ≡ size_of cost f + rest → (length_of f + bound ≤ length_of e) ⊎ (max_term_length < length_of e)
 
   -- each place has such bounds for rests below s
   abbrev pub AreBounds : List Place → Type 0
@@ -88,7 +89,7 @@ AllReady book cost s (ps ∷ plans) = AreReady book cost s ps × AllReady book c
 -- how many occurrences the terms at the places have at least, as far as the places say
 abbrev pub after : List Place → ℕ → ℕ
 after [] zero = 0
-after [] (suc rest) = 65
+after [] (suc rest) = max_term_length + 1
 after (p ∷ places) rest = slice_index p.least.items rest
 
 -- the cells have every short term of their node and size
@@ -97,4 +98,4 @@ AreWhole book cost cell s = (t : ℕ) → t ≤ s → (n : ℕ) (e : Applicative
 
 -- what the place says stays, or it says one more
 abbrev pub IsExtended : (ℕ → ℕ → List Applicative) → ℕ → List Place → ℕ → List ℕ → List ℕ → Type 0
-IsExtended cell node others s old new = (new ≡ old) ⊎ ((length old ≡ s) × (b : ℕ) × (new ≡ old ++ b ∷ []) × ((t : ℕ) → t ≤ s → (a : Applicative) → IsIn (cell t node) a → b ≤ length_of a + after others (s - t)) × (b ≤ 65))
+IsExtended cell node others s old new = (new ≡ old) ⊎ ((length old ≡ s) × (b : ℕ) × (new ≡ old ++ b ∷ []) × ((t : ℕ) → t ≤ s → (a : Applicative) → IsIn (cell t node) a → b ≤ length_of a + after others (s - t)) × (b ≤ max_term_length + 1))

@@ -1,5 +1,6 @@
 ghost use Rattle.std.specs.Prelude.{◌≡◌, ℕ, ◌≤◌, IfSome, option_copied};
 ghost use Rattle.std.proofs.Props.{props};
+ghost use Rattle.cls_base.specs.Limits.{max_term_size};
 ghost use Rattle.cls_base.specs.Terms.{size_of};
 ghost use Rattle.cls_term.specs.Costs.{cost_of};
 
@@ -17,5 +18,5 @@ pub(crate) struct Asked<'a> {
     pub(crate) pool: u64,
     pub ghost positive: { (x : ℕ) → 1 ≤ cost_of costs.now x },
     pub ghost token: { IfSome (option_copied after) (λ a. after_size ≡ size_of (cost_of costs.now) a) } by { Prim.hlevel props },
-    pub ghost small: { max ≤ 1024 },
+    pub ghost small: { max ≤ max_term_size },
 }

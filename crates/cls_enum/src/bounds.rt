@@ -1,5 +1,6 @@
 ghost use Rattle.std.specs.Prelude.{◌≡◌, ℕ, ◌+◌, ◌-◌, ◌<◌, ◌≤◌, ◌^◌, IfOk, List, length, map};
 ghost use Rattle.cls_base.specs.declared.rule.Rule.{Rule};
+ghost use Rattle.cls_base.specs.Limits.{max_term_length};
 ghost use Rattle.cls_base.specs.Terms.{length_of, Applicative};
 ghost use Rattle.cls_term.specs.Banks.{at};
 ghost use Rattle.cls_base.specs.Lists.{AreBelow};
@@ -10,16 +11,20 @@ ghost use Rattle.cls_enum.specs.Plans.{after, nodes_of, rule_of, rules_of, place
 use crate::cells::Cells;
 use crate::plan::{NodePlans, Place, Plan};
 use cls_base::OutOfMemory;
+use cls_base::limits::MAX_TERM_LENGTH;
 use cls_term::Bank;
 use std::alloc::Global;
 
-/// How many occurrences each of the terms has at least, 65 where there are none.
+/// More occurrences than a term of a page may have. As a least number of occurrences it says that there is no term.
+const TOO_LONG: u32 = MAX_TERM_LENGTH as u32 + 1;
+
+/// How many occurrences each of the terms has at least, or `TOO_LONG` if there are none.
 fn shortest(bank: &Bank, numbers: &[u32]) -> u32
     requires { AreBelow (length bank.now) numbers.now }
     ensures least { (a : Applicative) → IsIn (map (at bank.now) numbers.now) a → result ≤ length_of a }
-    ensures small { result ≤ 65 }
+    ensures small { result ≤ max_term_length + 1 }
 {
-    let mut least = 65;
+    let mut least = TOO_LONG;
     for number in numbers {
         least = least.min(bank.length(*number));
     }
@@ -32,20 +37,20 @@ fn least_after(places: &[Place], rest: u32) -> u32
     ensures small { result < 256 }
 {
     match places.first() {
-        None => { if rest == 0 { 0 } else { 65 } }
+        None => { if rest == 0 { 0 } else { TOO_LONG } }
         Some(place) => u32::from(place.least.get(rest as usize).copied().unwrap_or(0)),
     }
 }
 
-/// How many occurrences each of the terms has together with terms at the places whose sizes come to `rest` at least, or 65.
+/// How many occurrences each of the terms has together with terms at the places whose sizes come to `rest` at least, or `TOO_LONG`.
 fn least_with(bank: &Bank, numbers: &[u32], places: &[Place], rest: u32) -> u32
     requires { AreBelow (length bank.now) numbers.now }
     ensures least { (a : Applicative) → IsIn (map (at bank.now) numbers.now) a → result ≤ length_of a + after places.now rest }
     ensures small { result < 256 }
 {
     let others = least_after(places, rest);
-    if others >= 65 {
-        return 65;
+    if others >= TOO_LONG {
+        return TOO_LONG;
     }
     shortest(bank, numbers) + others
 }
@@ -55,9 +60,9 @@ fn least_of(bank: &Bank, cells: &Cells, node: u32, places: &[Place], size: u32) 
     requires below { (t n : ℕ) → AreBelow (length bank.now) (cell_at cells.now t n) }
     requires small { size < 2 ^ 31 }
     ensures least { (t : ℕ) → t ≤ size → (a : Applicative) → IsIn (cell_of bank.now cells.now t node) a → result ≤ length_of a + after places.now (size - t) }
-    ensures small { result ≤ 65 }
+    ensures small { result ≤ max_term_length + 1 }
 {
-    let mut least = 65;
+    let mut least = TOO_LONG;
     for smaller in 0..size + 1 {
         let numbers = cells.get(smaller, node);
         least = least.min(least_with(bank, numbers, places, size - smaller));

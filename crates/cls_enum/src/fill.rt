@@ -1,5 +1,6 @@
 ghost use Rattle.std.specs.Prelude.{◌≡◌, ℕ, ◌+◌, ◌<◌, ◌≤◌, ◌^◌, IfOk, IfErr, List, [], ◌∷◌, length, map};
 ghost use Rattle.std.specs.List.{flat_map};
+ghost use Rattle.cls_base.specs.Limits.{max_term_length};
 ghost use Rattle.cls_base.specs.Terms.{apply, length_of};
 ghost use Rattle.cls_term.specs.Banks.{at, term_by};
 ghost use Rattle.cls_base.specs.Lists.{AreBelow};
@@ -94,7 +95,7 @@ fn add(
     found: &mut SpineSet,
 ) -> Result<(), PageFault>
     requires args { AreBelow (length stock.now.bank.now) args.now }
-    requires short { length_of (term_by stock.now.bank.now (head, args.now)) ≤ 64 }
+    requires short { length_of (term_by stock.now.bank.now (head, args.now)) ≤ max_term_length }
     requires found { AreFound stock.now.bank.now found.old }
     ensures added { IfOk result (λ _. IsAdded stock.now.bank.now found.old (term_by stock.now.bank.now (head, args.now) ∷ []) found.new) }
     ensures over { IfErr result (λ fault. IfTooMany fault (IsOverfull stock.now.limit (map (term_by stock.now.bank.now) found.old) (term_by stock.now.bank.now (head, args.now) ∷ []))) }

@@ -4,8 +4,10 @@
 //!   than are allowed.
 //! - [`laws`] says that each request has its page, and a size that decides it.
 //!
-//! Terms are made size after size, those of the start first. The terms of one size of a node are found as spines over the
-//! numbers of a bank of terms, then put into the bank, and sorted by their codes.
+//! The algorithm is a bottom-up enumeration by size with hash-consing. Terms are made size after size, those of the start
+//! first. The terms of one size of a node are found as spines over the numbers of a bank of terms, then put into the bank,
+//! which has each term once, and sorted by their codes. A lower bound on the length prunes what leads to no term that is
+//! short enough.
 #![tactic(auto)]
 
 mod asked;

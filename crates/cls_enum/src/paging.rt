@@ -1,4 +1,5 @@
 ghost use Rattle.std.specs.Prelude.{◌≡◌, ℕ, ◌+◌, ◌<◌, ◌≤◌, ◌^◌, IfOk, IfErr, IfSome, All, length, map, nat_lt, option_copied, take};
+ghost use Rattle.cls_base.specs.Limits.{max_term_size};
 ghost use Rattle.cls_base.specs.Languages.{IsGenerated};
 ghost use Rattle.cls_base.specs.Pages.{IsPage};
 ghost use Rattle.cls_base.specs.Terms.{length_of, size_of};
@@ -78,7 +79,7 @@ fn make_others(
 }
 
 /// The first `take` terms of the start of a rule book that come after the token, where there is one, and have size at most
-/// `max_size` and length at most 64, in the order by size and code, each once; and whether there is a further one. A component
+/// `max_size` and length at most `MAX_TERM_LENGTH`, in the order by size and code, each once; and whether there is a further one. A component
 /// that has no cost in the list costs 1. The token needn't be a term of the book.
 ///
 /// `TooManyTerms` comes if and only if more than `pool` terms have to be held: all of all nodes that are smaller than the
@@ -93,7 +94,7 @@ pub fn page<B: RuleBook>(
     take: u32,
     pool: u64,
 ) -> Result<Page, PageFault>
-    requires max { max_size ≤ 1024 }
+    requires max { max_size ≤ max_term_size }
     requires some { 1 ≤ take }
     requires costs { (x : ℕ) → 1 ≤ cost_of costs.now x }
     requires token { IfSome (option_copied after) (λ a. length_of a < 2 ^ 32) }

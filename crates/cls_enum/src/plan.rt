@@ -3,13 +3,14 @@ ghost use Rattle.cls_base.specs.declared.rule.Rule.{Rule};
 ghost use Rattle.cls_term.specs.Costs.{cost_of};
 ghost use Rattle.cls_enum.specs.Plans.{IsBarren, AllReady, AreReady, AreFree, IsReady, book_of, nodes_of, rule_of, rules_of};
 
+use cls_base::limits::MAX_TERM_LENGTH;
 use cls_base::{Numbers, OutOfMemory, Rule};
 use cls_grammar::RuleBook;
 use std::alloc::Global;
 use std::marker::Model;
 
 /// A place for an argument: the node of its terms, and for each rest of the size how many occurrences the terms from here on
-/// have together at least, 65 where there are none.
+/// have together at least, or one more than a term may have if there are none.
 #[derive(Drop)]
 pub(crate) struct Place {
     pub(crate) node: u32,
@@ -25,14 +26,14 @@ pub(crate) enum Plan {
     Any(u32, Vec<Place>),
 }
 
-/// Whether terms at these places can't bring a term with so many occurrences to one of at most 64.
+/// Whether terms at these places can't complete a term with so many occurrences to one that is short enough.
 pub(crate) fn is_barren(places: &[Place], rest: u32, occurrences: u64) -> bool
     requires { occurrences < 2 ^ 40 }
     ensures { IsTrue result ↔ IsBarren places.now rest occurrences }
 {
     match places.first() {
-        None => rest > 0 || occurrences > 64,
-        Some(place) => occurrences + least_at(place, rest) > 64,
+        None => rest > 0 || occurrences > MAX_TERM_LENGTH,
+        Some(place) => occurrences + least_at(place, rest) > MAX_TERM_LENGTH,
     }
 }
 

@@ -1,6 +1,6 @@
 use Rattle.std.proofs.Common.{arith, length}
 use Rattle.cls_base.proofs.Lists.{AreBelow-at}
-use Rattle.cls_enum.proofs.BoundLaws.{least-next, min-below}
+use Rattle.cls_enum.proofs.BoundLaws.{least-next}
 use Rattle.cls_enum.proofs.bounds.shortest.Goals as goal
 
 pub length-requires : goal.length-requires
@@ -8,8 +8,7 @@ length-requires c = AreBelow-at (length c.args.bank.now) c.args.numbers.now c.lo
 
 pub loop-number-preserved : goal.loop-number-preserved
 loop-number-preserved c =
-    let m = min-below c.loop-number.least c.length.result c.min-least.result c.min-least.ensures in
     record {
-      least = least-next c.args.bank.now c.args.numbers.now c.loop-number.number-index c.loop-number.least c.min-least.result (omega (arith, c.loop-number-test.true)) m.0 (omega (arith, m.1, c.length.ensures)) c.loop-number.invariant.least;
-      small = omega (arith, m.0, c.loop-number.invariant.small);
+      least = least-next c.args.bank.now c.args.numbers.now c.loop-number.number-index c.loop-number.least c.min-least.result (omega (arith, c.loop-number-test.true)) (omega (arith, c.min-least.ensures)) (omega (arith, c.min-least.ensures, c.length.ensures)) c.loop-number.invariant.least;
+      small = omega (arith, c.min-least.ensures, c.loop-number.invariant.small);
     }

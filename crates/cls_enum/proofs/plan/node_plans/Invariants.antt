@@ -1,4 +1,4 @@
-use Rattle.std.proofs.Common.{◌≡◌, ℕ, List, take, map}
+use Rattle.std.proofs.Common.{◌≡◌, ℕ, List, take}
 use Rattle.cls_base.specs.declared.rule.Rule.{Rule}
 use Rattle.cls_term.specs.Costs.{cost_of}
 use Rattle.cls_enum.specs.Plans.{AreReady, rules_of}
