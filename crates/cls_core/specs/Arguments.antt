@@ -1,5 +1,5 @@
 -- The goals that rules and answers have for arguments.
-use Rattle.std.specs.Prelude.{ℕ, List, [], ◌∷◌, ◌++◌, length, map}
+use Rattle.std.specs.Prelude.{◌≡◌, ℕ, List, [], ◌∷◌, ◌++◌, length, map}
 use Rattle.cls_base.specs.declared.rule.Rule.{Rule}
 use Rattle.cls_base.specs.declared.rule.Rule.TheVariants.{Head, Any}
 use Rattle.cls_core.specs.declared.answer.Answer.{Answer}
@@ -29,6 +29,10 @@ module _ {G : Type 0} where
   abbrev pub arguments_of : Answer G → List G
   arguments_of (Rules rs) = arguments_in rs
   arguments_of Wide = []
+
+-- Each goal has at most one answer. IsAnswer g a says that a is an answer of the goal g.
+abbrev pub HasUniqueAnswers : {G : Type 0} → (G → Answer G → Type 0) → Type 0
+HasUniqueAnswers {G} IsAnswer = (g : G) (a b : Answer G) → IsAnswer g a → IsAnswer g b → a ≡ b
 
 module _ {G H : Type 0} (f : G → H) where
   -- the rule with f of each goal in the goal's place

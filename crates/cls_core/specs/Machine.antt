@@ -15,13 +15,13 @@ IsFiled Free = ⊥
 IsFiled (Held worker) = ⊥
 IsFiled (Filed answer) = Unit {0}
 
--- 1 where the row is held
+-- 1 if the row is held, and 0 otherwise
 abbrev pub held_weight : RowState → ℕ
 held_weight Free = 0
 held_weight (Held worker) = 1
 held_weight (Filed answer) = 0
 
--- the number of rules of the row, where it is filed
+-- the number of rules of the row if it is filed, and 0 otherwise
 abbrev pub rules_weight : RowState → ℕ
 rules_weight Free = 0
 rules_weight (Held worker) = 0
@@ -65,12 +65,21 @@ module _ {G : Type 0} (eq : G → G → Bool) where
       let gs = grown r.goals answer in
       machine gs (slice_set r.states row (Filed (numbered gs answer)) ++ replicate (length gs - length r.goals) Free)
 
-  -- answer gives the answer of each goal
-  module _ (answer : G → Answer G) where
+  -- IsAnswer g a: a is an answer of the goal g
+  module _ (IsAnswer : G → Answer G → Type 0) where
+    -- The worker holds the row. It is filed with an answer of its goal, which leads from the rows r to t.
+    pub record IsFiling (r : Machine G) (worker row : ℕ) (t : Machine G) : Type 0 where
+      pub goal : G
+      pub answer : Answer G
+      pub held : slice_get r.states row ≡ Some (Held worker)
+      pub has_goal : slice_get r.goals row ≡ Some goal
+      pub is_answer : IsAnswer goal answer
+      pub rows_after : t ≡ filed r row answer
+
     -- the event is possible, and leads from the rows r to t
     abbrev pub Steps : Machine G → Entry → Machine G → Type 0
     Steps r (Claim worker row) t = (slice_get r.states row ≡ Some Free) × (t ≡ claimed r worker row)
-    Steps r (File worker row) t = (slice_get r.states row ≡ Some (Held worker)) × ((g : G) × (slice_get r.goals row ≡ Some g) × (t ≡ filed r row (answer g)))
+    Steps r (File worker row) t = IsFiling r worker row t
 
     -- each event of the history is possible in turn, from the rows r on, and t are the rows after it
     abbrev pub Replays : Machine G → List Entry → Machine G → Type 0
