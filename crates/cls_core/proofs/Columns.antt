@@ -13,7 +13,7 @@ use Rattle.cls_core.specs.declared.entry.Entry.{Entry}
 use Rattle.cls_core.specs.declared.answer.Answer.{Answer}
 use Rattle.cls_core.specs.Arguments.{rule_count}
 use Rattle.cls_core.specs.Machine.{held_weight, rules_weight, held_in, rules_in}
-use Rattle.cls_core.specs.Kept.{IsKept}
+use Rattle.cls_core.specs.Consistency.{IsConsistent}
 
 module _ {A : Type 0} where
   pub get-set-same : (xs : List A) (i : ℕ) (v : A) → i < length xs → slice_get (set xs i v) i ≡ Some v
@@ -74,10 +74,10 @@ count-set f ss row was now e = subst (λ s. sum_by f (set ss row now) + f s ≡ 
 
 module _ {G : Type 0} (goals : List G) (states : List RowState) (first held rules room : ℕ) (history : List Entry) where
   pub kept-claim : (row worker next more : ℕ) (entry : Entry) (after : List Entry)
-      → IsKept goals states first held rules history room
+      → IsConsistent goals states first held rules history room
       → slice_get states row ≡ Some Free → after ≡ history ++ entry ∷ [] → length history + (held + 2) ≤ more
       → (next ≡ first) ⊎ ((next ≡ first + 1) × (row ≡ first))
-      → IsKept goals (set states row (Held worker)) next (held + 1) rules after more
+      → IsConsistent goals (set states row (Held worker)) next (held + 1) rules after more
   kept-claim row worker next more entry after k free is wide step = record {
     paired = length-set states row (Held worker) ∙ k.paired;
     small = k.small;
@@ -109,10 +109,10 @@ module _ {G : Type 0} (goals : List G) (states : List RowState) (first held rule
 module _ {G : Type 0} (goals : List G) (states : List RowState) (first held rules room : ℕ) (history : List Entry) where
   -- a filing: rows are put behind the others, and the state of one is written
   pub kept-file : (row worker n : ℕ) (a : Answer ℕ) (more : List G) (behind : List RowState) (entry : Entry) (after : List Entry)
-      → IsKept goals states first held rules history room
+      → IsConsistent goals states first held rules history room
       → slice_get states row ≡ Some (Held worker) → length more ≡ length goals + n → length more < 2 ^ 32 → behind ≡ states ++ replicate n Free → after ≡ history ++ entry ∷ []
       → (now total wide : ℕ) → now + 1 ≡ held → total ≡ rules + rule_count a → wide ≡ room
-      → IsKept more (set behind row (Filed a)) first now total after wide
+      → IsConsistent more (set behind row (Filed a)) first now total after wide
   kept-file row worker n a more behind entry after k is_held grows small are is now total wide less sums same = record {
     paired = omega (arith, length-set behind row (Filed a), long, k.paired);
     small = small;

@@ -39,14 +39,14 @@ pub struct Core<G: Key + Drop> {
 
 impl<G: Key + Drop> Model for Core<G> {
     ghost use Rattle.cls_core.specs.Rows.{Recorded};
-    ghost use Rattle.cls_core.specs.Kept.{IsKept};
+    ghost use Rattle.cls_core.specs.Consistency.{IsConsistent};
     ghost use Rattle.std.specs.Vec.{vec_capacity};
 
     ghost Value = { Recorded G };
 
     ghost view = { λ c. record { rows = record { goals = c.goals.keys; states = c.states.items }; history = c.history.items } };
 
-    ghost invariant = { λ c. IsKept c.goals.keys c.states.items c.first c.held c.rules c.history.items (vec_capacity c.history) };
+    ghost invariant = { λ c. IsConsistent c.goals.keys c.states.items c.first c.held c.rules c.history.items (vec_capacity c.history) };
 }
 
 // Puts so many free rows behind the others, for which there is room.

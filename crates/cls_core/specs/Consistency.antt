@@ -5,7 +5,7 @@ use Rattle.cls_core.specs.declared.state.RowState.TheVariants.{Free}
 use Rattle.cls_core.specs.declared.entry.Entry.{Entry}
 use Rattle.cls_core.specs.Machine.{held_in, rules_in}
 
-pub record IsKept {G : Type 0} (goals : List G) (states : List RowState) (first held rules : ℕ) (history : List Entry) (room : ℕ) : Type 0 where
+pub record IsConsistent {G : Type 0} (goals : List G) (states : List RowState) (first held rules : ℕ) (history : List Entry) (room : ℕ) : Type 0 where
   -- each row has a goal and a state
   pub paired : length states ≡ length goals
   -- a row's number is one of 32 bits
