@@ -1,8 +1,8 @@
 -- The rows of a closure make a grammar, and canonical rows are the closure.
-use Rattle.std.proofs.Common.{ℕ, zero, suc, ◌≡◌, ◌<◌, refl, sym, ◌∙◌, subst, ap, inl, List, [], ◌∷◌, Some, length, slice_get, arith, Bool, true}
+use Rattle.std.proofs.Common.{ℕ, zero, suc, ◌≡◌, ◌<◌, refl, sym, ◌∙◌, subst, ap, List, [], ◌∷◌, Some, length, slice_get, arith, Bool, true}
 use Rattle.std.specs.Prelude.{option_map, Contains}
 use Rattle.std.specs.List.{position_or_len}
-use Rattle.std.proofs.lemmas.List.{append-nil, length-map}
+use Rattle.std.proofs.lemmas.List.{length-map}
 use Rattle.std.proofs.lemmas.Option.{slice_get-map, slice_get_within}
 use Rattle.cls_base.specs.Lists.{AreDistinct}
 use Rattle.cls_base.proofs.Lists.{Contains-nil, Contains-here, Contains-at}

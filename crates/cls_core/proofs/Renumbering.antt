@@ -12,7 +12,7 @@ use Rattle.cls_core.specs.declared.answer.Answer.TheVariants.{Wide}
 use Rattle.cls_core.specs.Arguments.{HasUniqueAnswers, arguments_of}
 use Rattle.cls_core.specs.Machine.{numbered}
 use Rattle.cls_core.specs.Rows.{Row}
-use Rattle.cls_core.specs.Closure.{IsReached, at_argument, AllReached, HoldsAnswer, AllHoldAnswers, IsClosure, goals_of}
+use Rattle.cls_core.specs.Closure.{IsReached, at_argument, AllReached, HoldsAnswer, IsClosure, goals_of}
 use Rattle.cls_core.specs.Canonical.{IsNumbering, IsCanonical}
 use Rattle.cls_core.specs.Renumbering.{worked_off, found, answer_in, row_answer, placed, renumbered}
 use Rattle.cls_core.proofs.Closure.{answer-alike}

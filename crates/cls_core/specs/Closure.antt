@@ -1,5 +1,5 @@
 -- The closure of a goal, and when it has more goals or rules than a number.
-use Rattle.std.specs.Prelude.{◌≡◌, ◌<◌, ◌⊎◌, ℕ, Bool, List, [], ◌∷◌, Some, Contains, length, map, slice_get}
+use Rattle.std.specs.Prelude.{◌≡◌, ◌<◌, ◌⊎◌, ℕ, Bool, List, Some, Contains, length, map, slice_get}
 use Rattle.std.specs.List.{AllZip, sum_by}
 use Rattle.cls_base.specs.Lists.{AreDistinct}
 use Rattle.cls_core.specs.declared.answer.Answer.{Answer}

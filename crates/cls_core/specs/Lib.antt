@@ -1,7 +1,9 @@
+pub mod Adding
 pub mod Arguments
 pub mod Canonical
 pub mod Closure
 pub mod Consistency
+pub mod Finishing
 pub mod Grammar
 pub mod Laws
 pub mod Machine

@@ -1,5 +1,5 @@
 -- The core machine: its rows, its two events, and the histories that they make.
-use Rattle.std.specs.Prelude.{◌≡◌, ℕ, ◌-◌, Bool, List, [], ◌∷◌, ◌++◌, Some, length, replicate, slice_get, slice_set}
+use Rattle.std.specs.Prelude.{◌≡◌, ◌≢◌, ◌<◌, ℕ, ◌+◌, ◌-◌, Bool, List, [], ◌∷◌, ◌++◌, Some, length, replicate, slice_get, slice_set}
 use Rattle.std.specs.List.{position_or_len, sum_by}
 use Rattle.indexmap.specs.IndexSet.{insert_all}
 use Rattle.cls_core.specs.declared.state.RowState.{RowState}
@@ -35,12 +35,29 @@ held_in states = sum_by held_weight states
 abbrev pub rules_in : List RowState → ℕ
 rules_in states = sum_by rules_weight states
 
+-- each state is filed
 abbrev pub EachFiled : List RowState → Type 0
 EachFiled states = (row : ℕ) (s : RowState) → slice_get states row ≡ Some s → IsFiled s
+
+-- some state isn't filed
+abbrev pub SomeUnfiled : List RowState → Type 0
+SomeUnfiled states = (row : ℕ) × (s : RowState) × (slice_get states row ≡ Some s) × (IsFiled s → ⊥)
 
 -- every row is filed
 abbrev pub AllFiled : {G : Type 0} → Machine G → Type 0
 AllFiled r = EachFiled r.states
+
+-- no row is free
+abbrev pub NoneFree : {G : Type 0} → Machine G → Type 0
+NoneFree r = (row : ℕ) → slice_get r.states row ≢ Some Free
+
+-- no row below this one is free
+abbrev pub NoneFreeBelow : List RowState → ℕ → Type 0
+NoneFreeBelow states row = (earlier : ℕ) → earlier < row → slice_get states earlier ≢ Some Free
+
+-- some row is held
+abbrev pub SomeHeld : {G : Type 0} → Machine G → Type 0
+SomeHeld r = (row : ℕ) × (worker : ℕ) × (slice_get r.states row ≡ Some (Held worker))
 
 -- the machine at its start: one free row
 abbrev pub begun : {G : Type 0} → G → Machine G
@@ -54,6 +71,10 @@ module _ {G : Type 0} (eq : G → G → Bool) where
   -- the goals, and behind them in order those of the answer's that aren't among them
   abbrev pub grown : List G → Answer G → List G
   grown gs answer = insert_all eq gs (arguments_of answer)
+
+  -- n of the answer's arguments, each counted once, aren't among the goals
+  abbrev pub AddsRows : List G → Answer G → ℕ → Type 0
+  AddsRows gs answer n = length (grown gs answer) ≡ length gs + n
 
   -- the answer with numbers of rows in place of goals
   abbrev pub numbered : List G → Answer G → Answer ℕ

@@ -1,4 +1,4 @@
-ghost use Rattle.std.specs.Prelude.{◌≡◌, IfOk, All};
+ghost use Rattle.std.specs.Prelude.{IfOk};
 
 use crate::answer::Answer;
 use cls_base::{Key, OutOfMemory};
@@ -6,11 +6,11 @@ use std::alloc::Global;
 
 /// Works on goals: finds the answer of each.
 ///
-/// What it means is its tag, plain data that exists in contracts alone. `answers` says which answer a tag means for a goal, if
-/// any, and `ready` says which goals can be worked on by it.
+/// What it means is its tag, plain data that exists in contracts alone. `answers` says which answer a tag means for a
+/// goal, if any, and `ready` says which goals can be worked on by it.
 pub trait Expand {
     ghost use Rattle.cls_core.specs.declared.answer.Answer.{Answer};
-    ghost use Rattle.cls_core.specs.Arguments.{arguments_of, HasUniqueAnswers};
+    ghost use Rattle.cls_core.specs.Arguments.{HasUniqueAnswers, ArgumentsAreReady};
 
     /// What is worked on.
     type Goal: Key + Drop;
@@ -33,5 +33,5 @@ pub trait Expand {
     ghost one_answer: { (t : Self.Tag) → HasUniqueAnswers (answers t) };
 
     // The goals of an answer can be worked on again.
-    ghost arguments_ready: { (t : Self.Tag) (g : Self.Goal) (a : Answer Self.Goal) → ready t g → answers t g a → All (ready t) (arguments_of a) };
+    ghost arguments_ready: { (t : Self.Tag) → ArgumentsAreReady (ready t) (answers t) };
 }

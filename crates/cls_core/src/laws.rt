@@ -4,13 +4,13 @@ ghost use Rattle.cls_core.specs.Laws.{HistoriesStayInTheClosure, CompleteHistori
 
 use crate::expand::Expand;
 
-/// In a legal history the rows' goals are distinct and lie in the closure of the start goal, and each row is claimed at most once
-/// and filed at most once.
+/// In a legal history the rows' goals are distinct and lie in the closure of the start goal. Each row is claimed at most
+/// once and filed at most once.
 pub fn histories_stay_in_the_closure<E: Expand>()
     ensures { (tag : E.Tag) → HistoriesStayInTheClosure E.Goal.eq (E.answers tag) }
 {}
 
-/// The rows of a legal complete history are the closure of the start goal, each with the answer of its goal, and each is
+/// The rows of a legal complete history are the closure of the start goal, each with an answer of its goal. Each row is
 /// claimed once and filed once.
 pub fn complete_histories_are_the_closure<E: Expand>()
     ensures { (tag : E.Tag) → CompleteHistoriesAreTheClosure E.Goal.eq (E.answers tag) }
@@ -21,13 +21,14 @@ pub fn complete_histories_agree<E: Expand>()
     ensures { (tag : E.Tag) → CompleteHistoriesAgree E.Goal.eq (E.answers tag) }
 {}
 
-/// Renumbered breadth first from the start goal, in the order of rules and arguments, the rows of a closure are one list.
+/// A closure has at most one list of rows in the canonical numbering: breadth first from the start goal, in the order of
+/// rules and of arguments within a rule.
 pub fn the_canonical_rows_are_one<E: Expand>()
     ensures { (tag : E.Tag) → TheCanonicalRowsAreOne E.Goal.eq (E.answers tag) }
 {}
 
-/// The rows of a legal complete history, renumbered breadth first from the first one in the order of rules and arguments, are
-/// the closure of the start goal in its canonical numbering.
+/// The rows of a legal complete history, renumbered breadth first from the first one, are the closure of the start goal
+/// in its canonical numbering.
 pub fn renumbered_rows_are_canonical<E: Expand>()
     ensures { (tag : E.Tag) → RenumberedRowsAreCanonical E.Goal.eq (E.answers tag) }
 {}
@@ -42,8 +43,9 @@ pub fn canonical_rows_are_the_closure<E: Expand>()
     ensures { (tag : E.Tag) → CanonicalRowsAreTheClosure E.Goal.eq (E.answers tag) }
 {}
 
-/// The rows of a legal complete history make a tree grammar, as they stand and renumbered: the first row is the start goal's, the
-/// goals are distinct, each argument is the number of a row, and each row is reached from the first one by arguments.
+/// The rows of a legal complete history make a tree grammar, as they stand and renumbered. The first row is the start
+/// goal's, the goals are distinct, each argument is the number of a row, and each row is reached from the first one by
+/// arguments.
 pub fn complete_histories_make_grammars<E: Expand>()
     ensures { (tag : E.Tag) → CompleteHistoriesMakeGrammars E.Goal.eq (E.answers tag) }
 {}
