@@ -36,7 +36,8 @@ HasUniqueAnswers {G} IsAnswer = (g : G) (a b : Answer G) → IsAnswer g a → Is
 
 -- The arguments of each answer of a goal are ready if the goal is.
 abbrev pub ArgumentsAreReady : {G : Type 0} → (G → Type 0) → (G → Answer G → Type 0) → Type 0
-ArgumentsAreReady {G} IsReady IsAnswer = (g : G) (a : Answer G) → IsReady g → IsAnswer g a → All IsReady (arguments_of a)
+ArgumentsAreReady {G} IsReady IsAnswer =
+    (g : G) (a : Answer G) → IsReady g → IsAnswer g a → All IsReady (arguments_of a)
 
 module _ {G H : Type 0} (f : G → H) where
   -- the rule with f of each goal in the goal's place

@@ -1,5 +1,5 @@
--- The laws of histories. IsAnswer g a says that a is an answer of the goal g. `src/laws.rt` promises them of the answers that a
--- tag of an expander means, of which each goal has at most one.
+-- The laws of histories. IsAnswer g a says that a is an answer of the goal g. `src/laws.rt` promises them of the answers
+-- that a tag of an expander means, of which each goal has at most one.
 use Rattle.std.specs.Prelude.{◌≡◌, ◌↔◌, Bool, List, Contains, length}
 use Rattle.cls_base.specs.Lists.{AreDistinct}
 use Rattle.cls_core.specs.declared.answer.Answer.{Answer}
@@ -38,8 +38,8 @@ module _ {G : Type 0} (eq : G → G → Bool) (IsAnswer : G → Answer G → Typ
 
   abbrev pub TheCanonicalRowsAreOne : Type 0
   TheCanonicalRowsAreOne =
-      (start : G) (rows others : List (Row G)) → IsCanonical eq IsAnswer start rows → IsCanonical eq IsAnswer start others
-      → rows ≡ others
+      (start : G) (rows others : List (Row G))
+      → IsCanonical eq IsAnswer start rows → IsCanonical eq IsAnswer start others → rows ≡ others
 
   abbrev pub RenumberedRowsAreCanonical : Type 0
   RenumberedRowsAreCanonical =

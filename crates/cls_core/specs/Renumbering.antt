@@ -13,7 +13,7 @@ module _ {G : Type 0} (eq : G → G → Bool) (answer : G → Answer G) where
   worked_off gs None = gs
   worked_off gs (Some g) = grown eq gs (answer g)
 
-  -- The goals that are found from the start goal, in the order in which they are found, once as many of them as the number says
+  -- The goals that are found from the start goal, in the order in which they are found. As many of them as the number says
   -- were worked off, one after the other from the first one on.
   abbrev pub found : G → ℕ → List G
   found start zero = start ∷ []

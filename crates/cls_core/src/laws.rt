@@ -4,8 +4,8 @@ ghost use Rattle.cls_core.specs.Laws.{HistoriesStayInTheClosure, CompleteHistori
 
 use crate::expand::Expand;
 
-/// In a legal history the rows' goals are distinct and lie in the closure of the start goal. Each row is claimed at most
-/// once and filed at most once.
+/// In a legal history the rows' goals are distinct and lie in the closure of the start goal. Each row is claimed at
+/// most once and filed at most once.
 pub fn histories_stay_in_the_closure<E: Expand>()
     ensures { (tag : E.Tag) → HistoriesStayInTheClosure E.Goal.eq (E.answers tag) }
 {}
@@ -21,8 +21,8 @@ pub fn complete_histories_agree<E: Expand>()
     ensures { (tag : E.Tag) → CompleteHistoriesAgree E.Goal.eq (E.answers tag) }
 {}
 
-/// A closure has at most one list of rows in the canonical numbering: breadth first from the start goal, in the order of
-/// rules and of arguments within a rule.
+/// A closure has at most one list of rows in the canonical numbering: breadth first from the start goal, in the order
+/// of rules and of arguments within a rule.
 pub fn the_canonical_rows_are_one<E: Expand>()
     ensures { (tag : E.Tag) → TheCanonicalRowsAreOne E.Goal.eq (E.answers tag) }
 {}

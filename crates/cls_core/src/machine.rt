@@ -50,14 +50,12 @@ impl<G: Key + Drop> Model for Core<G> {
         IsConsistent rows c.first c.held c.rules c.history.items (vec_capacity c.history) };
 }
 
-// Puts so many free rows behind the others, for which there is room.
+// Puts as many free rows behind the others as the count says. There is room for them.
 fn add_free(states: &mut Vec<RowState>, count: usize)
     requires { vec_len states.old + count ≤ vec_capacity states.old }
     ensures { states.new.items ≡ states.old.items ++ replicate count Free }
 {
-    for row in 0..count {
-        // For the prover: `row` counts the rows so far in the loop's invariant.
-        let _ = row;
+    for _row in 0..count {
         states.push_reserved(RowState::Free);
     }
 }
@@ -78,7 +76,8 @@ fn all_filed(states: &[RowState]) -> bool
 
 impl<G: Key + Drop> Core<G> {
     ghost use Rattle.cls_core.specs.declared.entry.Entry.TheVariants.{Claim, File};
-    ghost use Rattle.cls_core.specs.Machine.{begun, claimed, filed, grown, AllFiled, NoneFree, NoneFreeBelow, SomeHeld, AddsRows};
+    ghost use Rattle.cls_core.specs.Machine.{begun, claimed, filed, grown, AddsRows};
+    ghost use Rattle.cls_core.specs.Machine.{AllFiled, NoneFree, NoneFreeBelow, SomeHeld};
     ghost use Rattle.cls_core.specs.Finishing.{IsFinished};
 
     /// One free row, the start goal, and an empty history. The only error is out of memory.
@@ -189,9 +188,9 @@ impl<G: Key + Drop> Core<G> {
         Ok(())
     }
 
-    /// The event File: the row, which the worker holds, is filed with the answer. Each argument goal that has no row yet
-    /// gets a free one. All memory is taken before a row changes. The Err means out of memory alone: it hands the answer
-    /// back, and the core is as it was.
+    /// The event File: the row, which the worker holds, is filed with the answer. Each argument goal that has no row
+    /// yet gets a free one. All memory is taken before a row changes. The Err means out of memory alone: it hands the
+    /// answer back, and the core is as it was.
     pub fn file(
         &mut self,
         alloc: Global,
