@@ -137,7 +137,7 @@ module _ (n max take : ℕ) where
   few_listed bound (Err e) h = tt
 
   -- where the rule book has too many terms, many count
-  pub many_found : (bound : ℕ) (r : Result Page PageFault) → IfErr r (λ fault. IfTooMany fault (states.IsTermOver (omega_book n) (request max take) bound)) → IfErr r (λ fault. IfTooMany fault (AreMany (IsTermOver n) max take bound))
+  pub many_found : (bound : ℕ) (r : Result Page PageFault) → IfErr r (λ fault. IfTooMany fault (states.IsOver (omega_book n) (request max take) bound)) → IfErr r (λ fault. IfTooMany fault (AreMany (IsTermOver n) max take bound))
   many_found bound (Ok p) h = tt
   many_found bound (Err OutOfMemory) h = tt
   many_found bound (Err TooManyTerms) h = let d = book_decided in (d.2.0, book_pool d.0 d.2.0 d.1 d.2.1, h d.0 d.2.0 d.1 d.2.1)
