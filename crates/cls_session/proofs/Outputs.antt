@@ -94,9 +94,9 @@ told {sink = sink} {sink' = sink'} source text end w output =
     if_some source.left (λ bytes. GivesOutput [] bytes sink sink' end) (λ bytes e. record { text = text; output = output bytes e; written = w.held })
 
 -- what is told of the front that was written begins an output
-pub told_front : {sink sink' : SinkSeen} (source : SourceSeen) (front rest : List ℕ) → Appends sink.held sink'.held front
+pub told_front : (sink sink' : SinkSeen) (source : SourceSeen) (front rest : List ℕ) → Appends sink.held sink'.held front
     → ((bytes : List ℕ) → source.left ≡ Some bytes → (more : List ℕ) × (end : Status) × Output [] bytes ((front ++ rest) ++ more) end) → BeginsAnswers [] source sink sink'
-told_front {sink = sink} {sink' = sink'} source front rest w output =
+told_front sink sink' source front rest w output =
     if_some source.left (λ bytes. BeginsOutput [] bytes sink sink') (λ bytes e.
         let (more, end, whole) = output bytes e in
         record { front = front; rest = rest ++ more; status = end; output = subst (λ (x : List ℕ). Output [] bytes x end) (append_assoc front rest more) whole; written = w })
@@ -118,15 +118,15 @@ module _ {sink sink' : SinkSeen} (source source' : SourceSeen) (bytes text : Lis
   }
 
 -- more was taken with the last read, and more was written
-pub keeps_pace : {sink sink' : SinkSeen} (source source' : SourceSeen) (before last text more : List ℕ) → Consumes source.left source'.left (before ++ last) → length last ≤ max_read_bytes
+pub keeps_pace : (sink sink' : SinkSeen) (source source' : SourceSeen) (before last text more : List ℕ) → Consumes source.left source'.left (before ++ last) → length last ≤ max_read_bytes
     → Transcript (ended_lines before) text → Appends sink.held sink'.held (text ++ more) → KeepsPace source source' sink sink'
-keeps_pace {sink = sink} {sink' = sink'} source source' before last text more consumes short t w =
+keeps_pace sink sink' source source' before last text more consumes short t w =
     if_told source.left source'.left (before ++ last) (λ all rest. AnswersBeforeLast all rest sink sink') consumes (λ all rest e.
         record { before = before; last = last; text = text; more = more; taken = e; short = short; transcript = t; written = w })
 
 -- nothing was taken for the usage line
 pub usage_keeps_pace : {sink sink' : SinkSeen} (source : SourceSeen) → WritesFront sink sink' usage → KeepsPace source source sink sink'
-usage_keeps_pace source f = keeps_pace source source [] [] [] f.front (Consumes-nil source.left) (omega arith) (Stands-transcript [] [] (reading [] 0) Stands-nothing) f.held
+usage_keeps_pace {sink = sink} {sink' = sink'} source f = keeps_pace sink sink' source source [] [] [] f.front (Consumes-nil source.left) (omega arith) (Stands-transcript [] [] (reading [] 0) Stands-nothing) f.held
 
 -- what was written for the lines that were taken whole keeps pace
 ended_keeps_pace : (bytes : Option (List ℕ)) (rest : Option (List ℕ)) (sink sink' : SinkSeen) → IfTold bytes rest (λ bytes rest. AnswersEnded bytes rest sink sink') → IfTold bytes rest (λ bytes rest. AnswersBeforeLast bytes rest sink sink')

@@ -3,7 +3,7 @@ use Rattle.std.specs.Prelude.{ℕ, ◌≡◌, List, [], map, codes, String, stri
 use Rattle.cls_session.specs.Replies.{reply_line}
 
 -- what each word says
-abbrev pub texts_of : List String → List (List ℕ)
+abbrev pub texts_of : {A : Type 0} → List (String A) → List (List ℕ)
 texts_of words = map string_bytes words
 
 -- The words ask for a session over the input. No option is built yet.
