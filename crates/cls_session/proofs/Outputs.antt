@@ -126,7 +126,8 @@ keeps_pace sink sink' source source' before last text more consumes short t w =
 
 -- nothing was taken for the usage line
 pub usage_keeps_pace : {sink sink' : SinkSeen} (source : SourceSeen) → WritesFront sink sink' usage → KeepsPace source source sink sink'
-usage_keeps_pace {sink = sink} {sink' = sink'} source f = keeps_pace sink sink' source source [] [] [] f.front (Consumes-nil source.left) (omega arith) (Stands-transcript [] [] (reading [] 0) Stands-nothing) f.held
+usage_keeps_pace {sink = sink} {sink' = sink'} source f = keeps_pace sink sink' source source [] [] [] f.front (Consumes-nil source.left) (omega arith) 
+    (subst (λ (xs : List (List ℕ)). Transcript xs []) (sym (ended_lines-HasNoFeed [] tt)) (Stands-transcript [] [] (reading [] 0) Stands-nothing)) f.held
 
 -- what was written for the lines that were taken whole keeps pace
 ended_keeps_pace : (bytes : Option (List ℕ)) (rest : Option (List ℕ)) (sink sink' : SinkSeen) → IfTold bytes rest (λ bytes rest. AnswersEnded bytes rest sink sink') → IfTold bytes rest (λ bytes rest. AnswersBeforeLast bytes rest sink sink')

@@ -1,4 +1,4 @@
-use Rattle.std.proofs.Common.{◌≡◌, ℕ, List, true, false, sym, subst}
+use Rattle.std.proofs.Common.{◌≡◌, ℕ, List, true, false, refl, sym, subst}
 use Rattle.cls_session.specs.Commands.{texts_of}
 use Rattle.cls_session.specs.Outputs.{BeginsTaken}
 use Rattle.cls_session.proofs.Outputs.{taken_begins, usage_fits, usage_begins, usage_keeps_pace}
@@ -14,7 +14,7 @@ write_all-requires g c = rw c.as_bytes.ensures.value
 pub returns-in-Ok-Session-clause-begins_taken : goal.returns-in-Ok-Session-clause-begins_taken
 returns-in-Ok-Session-clause-begins_taken g c = λ fault.
     subst (λ (words : List (List ℕ)). BeginsTaken words (g.S.Source.seen c.args.source.now) (g.S.Source.seen c.answer_input.new.source) (g.K.Sink.seen c.args.sink.now) (g.K.Sink.seen c.answer_input.new.sink))
-    (sym (c.in-Ok-Session.ensures.0 tt)) (taken_begins (c.answer_input.ensures.none_waits fault))
+    (sym (c.in-Ok-Session.ensures.0 refl)) (taken_begins (c.answer_input.ensures.none_waits fault))
 
 pub returns-in-Err-write_all-clause-begins : goal.returns-in-Err-write_all-clause-begins
 returns-in-Err-write_all-clause-begins g c = λ cut.
