@@ -6,14 +6,14 @@ use Rattle.cls_base.specs.Pools.{IsDecidingSize}
 use Rattle.cls_base.specs.Lists.{AreDistinct}
 
 -- What a page asks for of the terms with at most this size, each component costing 1.
-abbrev pub request : ℕ → ℕ → Request
-request max take = record { cost = λ _. 1; max = max; take = take; after = None }
+abbrev pub omega_request : ℕ → ℕ → Request
+omega_request max take = record { cost = λ _. 1; max = max; take = take; after = None }
 
 -- the property of the terms that are listed
-module _ (Has : Applicative → Type 0) where
+module _ (IsListed : Applicative → Type 0) where
   -- The term counts at size s: it has this size at most, each component costing 1, and length 64 at most.
   pub record IsCounted (s : ℕ) (e : Applicative) : Type 0 where
-    pub typed : Has e
+    pub typed : IsListed e
     pub small : size_of (λ _. 1) e ≤ s
     pub short : length_of e ≤ 64
 
@@ -24,7 +24,7 @@ module _ (Has : Applicative → Type 0) where
   -- n terms count at the size that decides the page
   pub record IsPool (max take n : ℕ) : Type 0 where
     pub size : ℕ
-    pub decides : IsDecidingSize (IsDue Has (request max take)) (λ _. 1) take max size
+    pub decides : IsDecidingSize (IsDue IsListed (omega_request max take)) (λ _. 1) take max size
     pub count : CountIs size n
 
   -- at most so many terms count at the size that decides the page

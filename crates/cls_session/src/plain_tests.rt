@@ -1,8 +1,9 @@
 //! The terms of size 1 and 2 by their definition, beside the pages that are made of a rule book.
 ghost use Rattle.std.specs.Prelude.{◌≤◌};
+ghost use Rattle.cls_base.specs.Limits.{max_term_size};
 
 use crate::listing::answer_listing;
-use crate::session::MAX_COMPONENTS;
+use cls_base::limits::MAX_COMPONENTS;
 use cls_syntax::Names;
 use std::alloc::Global;
 use std::process::Abort;
@@ -17,7 +18,7 @@ fn names(alloc: Global, count: u32) -> Result<Vec<String>, Fail> {
     Ok(names)
 }
 
-/// The table of these names, of 1,000 at most.
+/// The table of these names, of `MAX_COMPONENTS` at most.
 fn table(alloc: Global, names: &[String]) -> Result<Names, Fail> {
     let mut table = Names::new(alloc);
     for name in names {
@@ -74,8 +75,8 @@ fn assert_page<R: Abort>(
     max: u32,
     take: u32,
 ) -> Result<(), Fail>
-    requires high { max ≤ 1024 }
-    requires some { 1 ≤ take }
+    requires size_within { max ≤ max_term_size }
+    requires take_within { 1 ≤ take }
 {
     let texts = plain_texts(alloc, names, max)?;
     let expected = plain_reply(alloc, &texts, take as usize)?;
