@@ -34,7 +34,7 @@ IsWritten lines text = Transcript lines text ⊎ IsRefused lines text
 abbrev pub IsEnded : List (List ℕ) → List ℕ → Type 0
 IsEnded lines text = IsRefused lines text ⊎ ((status : Status) × Ending lines text status)
 
--- ONE LINE. In each record `lines` were fed to the session and `written` is what was written for them, and the reply goes on
+-- ONE LINE. In each record `lines` were fed to the session and `written` is what was written for them. The reply goes on
 -- with it.
 
 -- The line was answered.
@@ -114,12 +114,13 @@ pub record FitsLast (sink : SinkSeen) (session : Standing) (text : List ℕ) : T
   pub lines : List (List ℕ)
   pub written : List ℕ
   pub stands : Stands lines written session
-  pub refused : (reply : List ℕ) → IsRefused (lines ++ lines_of text) (written ++ reply) → Holds sink.room (length reply)
+  pub refused : (reply : List ℕ) → IsRefused (lines ++ lines_of text) (written ++ reply)
+      → Holds sink.room (length reply)
   pub ended : (reply : List ℕ) (status : Status) → Ending (lines ++ lines_of text) (written ++ reply) status
       → Holds sink.room (length reply)
 
--- A fact for each way in which a step ends: it went well, the repository was refused, or the step broke off at a failed write
--- or out of memory.
+-- A fact for each way in which a step ends: it went well, the repository was refused, or the step broke off at a failed
+-- write or out of memory.
 abbrev pub MatchStop : {A : Type 0} → Result A Stop → (A → Type 0) → Type 0 → Type 0 → Type 0
 MatchStop (Ok a) Well Refuses Breaks = Well a
 MatchStop (Err stops.Refused) Well Refuses Breaks = Refuses

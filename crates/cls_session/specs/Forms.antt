@@ -23,7 +23,8 @@ end_tokens = name (codes "end") ∷ []
 -- list omega max N take K, the numbers in their digits
 abbrev pub listing_tokens : List ℕ → List ℕ → List Word
 listing_tokens max take =
-    name (codes "list") ∷ name (codes "omega") ∷ name (codes "max") ∷ number max ∷ name (codes "take") ∷ number take ∷ []
+    name (codes "list") ∷ name (codes "omega")
+    ∷ name (codes "max") ∷ number max ∷ name (codes "take") ∷ number take ∷ []
 
 -- The line declares a component. Neither name is omega, which is reserved.
 pub record IsDeclaration (line : List ℕ) (d : Declaration) : Type 0 where
@@ -37,7 +38,7 @@ pub record IsEnd (line : List ℕ) : Type 0 where
   pub read : IsRead line
   pub tokens : words_of line ≡ end_tokens
 
--- The line asks for so many terms of at most this size, both within their limits.
+-- The line asks for `take` terms of at most the size `max`, both within their limits.
 pub record IsListing (line : List ℕ) (max take : ℕ) : Type 0 where
   pub max_digits : List ℕ
   pub take_digits : List ℕ

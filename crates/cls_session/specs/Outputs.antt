@@ -84,8 +84,8 @@ IsEnoughRoom words (Some bytes) n = (text : List ℕ) (status : Status) → Outp
 abbrev pub HasRoom : List (List ℕ) → SourceSeen → SinkSeen → Type 0
 HasRoom words source sink = IfSome sink.room (λ n. IsEnoughRoom words source.left n)
 
--- A fact of the bytes that were left to read and those that are left now, if they are told. A source that told them goes on
--- doing so.
+-- A fact of the bytes that were left to read and those that are left now, if they are told. A source that told them goes
+-- on doing so.
 abbrev pub IfTold : Option (List ℕ) → Option (List ℕ) → (List ℕ → List ℕ → Type 0) → Type 0
 IfTold None after P = Unit {0}
 IfTold (Some bytes) None P = ⊥
@@ -117,8 +117,8 @@ abbrev pub BeginsTaken : List (List ℕ) → SourceSeen → SourceSeen → SinkS
 BeginsTaken words source source' sink sink' =
     IfTold source.left source'.left (λ bytes rest. BeginsForTaken words bytes rest sink sink')
 
--- Of the bytes `before` were taken and then `last`, at most `max_read_bytes` of them. All replies to the lines that end in `before` stand
--- written, and more may follow them.
+-- Of the bytes `before` were taken and then `last`, which are at most `max_read_bytes`. All replies to the lines that end in
+-- `before` stand written, and more may follow them.
 pub record AnswersBeforeLast (bytes rest : List ℕ) (sink sink' : SinkSeen) : Type 0 where
   pub before : List ℕ
   pub last : List ℕ
@@ -129,10 +129,11 @@ pub record AnswersBeforeLast (bytes rest : List ℕ) (sink sink' : SinkSeen) : T
   pub transcript : Transcript (ended_lines before) text
   pub written : Appends sink.held sink'.held (text ++ more)
 
--- If a run broke off: before the last read, of at most `max_read_bytes`, all lines that had come whole were answered. Any write
--- may be the one that fails, so a run that reads on before it has answered doesn't keep pace.
+-- If a run broke off: all lines that had come whole before the last `max_read_bytes` that it took, or fewer, were answered.
+-- Any write may be the one that fails, so a run that reads on before it has answered doesn't keep pace.
 abbrev pub KeepsPace : SourceSeen → SourceSeen → SinkSeen → SinkSeen → Type 0
-KeepsPace source source' sink sink' = IfTold source.left source'.left (λ bytes rest. AnswersBeforeLast bytes rest sink sink')
+KeepsPace source source' sink sink' =
+    IfTold source.left source'.left (λ bytes rest. AnswersBeforeLast bytes rest sink sink')
 
 -- What is written for the whole lines of a text that isn't too long is the beginning of an output for it.
 abbrev pub TranscriptsGoOn : Type 0

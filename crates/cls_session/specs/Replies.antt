@@ -22,13 +22,14 @@ term_line names e = reply_line (codes "term " ++ text_of names e)
 
 -- a line for each term, and whether more terms follow
 abbrev pub page_text : (ℕ → List ℕ) → List Applicative → Bool → List ℕ
-page_text names terms more = flat_map (term_line names) terms ++ reply_line (if more then codes "more" else codes "done")
+page_text names terms more =
+    flat_map (term_line names) terms ++ reply_line (if more then codes "more" else codes "done")
 
 -- the term has type omega
 abbrev pub IsOmega : List Declaration → Applicative → Type 0
 IsOmega declared e = HasTypeIn declared e types.omega
 
--- The text lists the one page of the terms of type omega, of which at most `max_pool` count at the size that decides it.
+-- The text lists the one page of the terms of type omega. At most `max_pool` of these count at the size that decides it.
 pub record ListsOmega (declared : List Declaration) (max take : ℕ) (text : List ℕ) : Type 0 where
   pub terms : List Applicative
   pub more : Bool
@@ -64,10 +65,11 @@ pub data Answered (declared : List Declaration) (query : List (List ℕ)) (text 
 abbrev pub BeginsQuery : List (List ℕ) → Type 0
 BeginsQuery lines = ⊥
 
--- What is written for lines after the repository, in turn: its reply for each query whose lines are whole, and nothing for
--- one that is begun.
+-- What is written for lines after the repository, in turn: its reply for each query whose lines are whole, and nothing
+-- for one that is begun.
 pub data Replies (declared : List Declaration) : List (List ℕ) → List ℕ → Type 0 where
   none : {lines : List (List ℕ)} {text : List ℕ} → lines ≡ [] → text ≡ [] → Replies declared lines text
   next : {lines : List (List ℕ)} {text : List ℕ} → (query others : List (List ℕ)) (first rest : List ℕ)
-      → lines ≡ query ++ others → Answered declared query first → Replies declared others rest → text ≡ first ++ rest → Replies declared lines text
+      → lines ≡ query ++ others → Answered declared query first → Replies declared others rest
+      → text ≡ first ++ rest → Replies declared lines text
   begun : {lines : List (List ℕ)} {text : List ℕ} → BeginsQuery lines → text ≡ [] → Replies declared lines text

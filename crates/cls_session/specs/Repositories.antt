@@ -14,7 +14,8 @@ pub data Declared (line : List ℕ) (ds : List Declaration) : Type 0 where
 -- what lines of a repository declare, in turn
 abbrev pub Declares : List (List ℕ) → List Declaration → Type 0
 Declares [] ds = ds ≡ []
-Declares (line ∷ lines) ds = (first rest : List Declaration) × Declared line first × Declares lines rest × (ds ≡ first ++ rest)
+Declares (line ∷ lines) ds =
+    (first rest : List Declaration) × Declared line first × Declares lines rest × (ds ≡ first ++ rest)
 
 -- The lines, none of them `end`, are a repository with these components: at most `max_components`, no two of one name.
 pub record IsRepository (lines : List (List ℕ)) (ds : List Declaration) : Type 0 where
@@ -22,7 +23,8 @@ pub record IsRepository (lines : List (List ℕ)) (ds : List Declaration) : Type
   pub different : AreDistinct (names_of ds)
   pub few : length ds ≤ max_components
 
--- The first line, counted from 1, that is neither `end` nor with the lines before it a repository. No `end` comes before it.
+-- The number, from 1, of the first line that is neither `end` nor with the lines before it a repository. No `end` comes
+-- before it.
 pub record IsFirstFault (lines : List (List ℕ)) (place : ℕ) : Type 0 where
   pub before : List (List ℕ)
   pub line : List ℕ

@@ -36,9 +36,9 @@ pub fn answer_listing(
     }
 }
 
-/// The first `take` terms of type omega and of at most this size over so many components, each of which costs 1.
+/// The first `take` terms of type omega and of at most this size over `count` components, each of which costs 1.
 ///
-/// `TooManyTerms` comes if and only if more than `MAX_POOL` terms have the size that decides the page, or a smaller one.
+/// `TooManyTerms` comes if and only if more than `MAX_POOL` terms are no larger than the size that decides the page.
 pub fn list_omega(alloc: Global, count: u32, max: u32, take: u32) -> Result<Page, PageFault>
     requires size_within { max ≤ max_term_size }
     requires take_within { 1 ≤ take }
@@ -54,7 +54,8 @@ pub fn list_omega(alloc: Global, count: u32, max: u32, take: u32) -> Result<Page
 /// The text of a page: a line for each term, and a last one that says whether more terms follow.
 fn print_page(alloc: Global, page: &Page, components: &Names) -> Result<String, OutOfMemory>
     requires { All (IsTermOver (length components.now)) page.now.terms }
-    ensures { IfOk result (λ text. string_bytes text ≡ page_text (name_at components.now) page.now.terms page.now.more) }
+    ensures { IfOk result (λ text. string_bytes text
+        ≡ page_text (name_at components.now) page.now.terms page.now.more) }
 {
     let mut text = String::new(alloc);
     for term in page.terms.as_slice() {

@@ -9,7 +9,7 @@ use std::alloc::Global;
 use std::process::Abort;
 use std::test::Fail;
 
-/// The texts of so many components.
+/// The names of `count` components.
 fn names(alloc: Global, count: u32) -> Result<Vec<String>, Fail> {
     let mut names = Vec::new(alloc);
     for number in 0..count {
@@ -85,7 +85,7 @@ fn assert_page<R: Abort>(
     Ok(())
 }
 
-/// Asserts the same for sizes 1 and 2 over so many components, however many of up to 120 terms are asked for.
+/// Asserts the same for sizes 1 and 2 over `count` components, however many of up to 120 terms are asked for.
 fn assert_pages<R: Abort>(rt: &R, alloc: Global, count: u32) -> Result<(), Fail> {
     let names = names(alloc, count)?;
     for take in 1..121 {
