@@ -1,7 +1,8 @@
 -- Sources and sinks over memory, as contracts see them.
 use Rattle.std.specs.Prelude.{ℕ, ◌+◌, ◌-◌, ◌^◌, min, List}
 
--- What is left, how many bytes a read gives at most, the numbers of the reads that fail, and how many reads there were and failed.
+-- What is left, how many bytes a read gives at most, the numbers of the reads that fail, and how many reads there were
+-- and failed.
 pub record Input : Type 0 where
   pub left : List ℕ
   pub chunk : ℕ
@@ -9,8 +10,8 @@ pub record Input : Type 0 where
   pub reads : ℕ
   pub faults : ℕ
 
--- What is held and how much at most, how many bytes a write takes at most, the numbers of the writes that fail, and how many
--- writes there were and failed.
+-- What is held and how much at most, how many bytes a write takes at most, the numbers of the writes that fail, and how
+-- many writes there were and failed.
 pub record Output : Type 0 where
   pub held : List ℕ
   pub spare : ℕ

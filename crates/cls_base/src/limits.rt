@@ -1,7 +1,10 @@
 //! The numbers that the language fixes. Definitions have them from `specs/Limits`, and the code has them from here.
 
-/// The most bytes of an input that count. Where more come, only the lines that end within these do.
+/// The most bytes of an input that count. If more come, only the lines that end within these do.
 pub const MAX_INPUT_BYTES: usize = 1_048_576;
+
+/// The most bytes that a run reads at once.
+pub const MAX_READ_BYTES: usize = 4_096;
 
 /// The most bytes of a line, without its line feed.
 pub const MAX_LINE_BYTES: usize = 65_536;

@@ -39,10 +39,10 @@ impl Model for MemorySink {
 }
 
 impl MemorySink {
-    /// A sink that holds at most `spare` bytes and takes at most `chunk` bytes a write. A write fails where its number,
-    /// counted from 1, is in `fails`, and where the sink is full and the piece isn't empty.
+    /// A sink that holds at most `spare` bytes and takes at most `chunk` bytes a write. A write fails if its number,
+    /// counted from 1, is in `fails`, and if the sink is full and the piece isn't empty.
     ///
-    /// The memory is taken now, and `OutOfMemory` is the answer where there is none. A write takes none.
+    /// The memory is taken now, and `OutOfMemory` is the answer if there is none. A write takes none.
     pub fn new(
         alloc: Global,
         spare: usize,
@@ -78,14 +78,10 @@ impl MemorySink {
 }
 
 impl Sink for MemorySink {
-    ghost held = { λ s. Some s.held };
+    ghost seen = { λ s. record { held = Some s.held; room = None; faults = s.faults } };
 
-    ghost room = { λ _. None };
-
-    ghost faults = { λ s. s.faults };
-
-    /// Takes all that there is room for, up to the sink's chunk. Fails where the number of this write is one of those
-    /// that fail, and where the sink is full and the piece isn't empty.
+    /// Takes all that there is room for, up to the sink's chunk. Fails if the number of this write is one of those
+    /// that fail, and if the sink is full and the piece isn't empty.
     fn write(&mut self, piece: &[u8]) -> Result<usize, Failed>
         ensures fails { IsErr result
             ↔ (Contains self.old.fails (next_count self.old.writes)
@@ -93,7 +89,7 @@ impl Sink for MemorySink {
 
         ensures count { IfOk result (λ n. n
             ≡ min self.old.chunk (min (length piece.now) (self.old.spare - length self.old.held))) }
-        ensures some { IfOk result (λ n. 0 < length piece.now → 0 < n) }
+        ensures progress { IfOk result (λ n. 0 < length piece.now → 0 < n) }
         ensures taken { IfOk result (λ n. self.new ≡ record self.old {
           held = self.old.held ++ take n piece.now;
           writes = next_count self.old.writes;

@@ -35,7 +35,7 @@ impl Model for MemorySource {
 }
 
 impl MemorySource {
-    /// A source of these bytes that gives at most `chunk` bytes a read. A read fails where its number, counted from 1,
+    /// A source of these bytes that gives at most `chunk` bytes a read. A read fails if its number, counted from 1,
     /// is in `fails`. Takes no memory.
     pub fn new(bytes: Vec<u8>, chunk: usize, fails: Numbers) -> MemorySource
         requires { 0 < chunk }
@@ -58,11 +58,9 @@ impl MemorySource {
 }
 
 impl Source for MemorySource {
-    ghost left = { λ s. Some s.left };
+    ghost seen = { λ s. record { left = Some s.left; faults = s.faults } };
 
-    ghost faults = { λ s. s.faults };
-
-    /// Gives all that fits and is left, up to the source's chunk. Fails where the number of this read is one of those
+    /// Gives all that fits and is left, up to the source's chunk. Fails if the number of this read is one of those
     /// that fail.
     #[tactic(auto, using(crate::proofs::Lists::front_replaced))]
     fn read(&mut self, into: &mut [u8]) -> Result<usize, Failed>
@@ -70,7 +68,7 @@ impl Source for MemorySource {
 
         ensures count { IfOk result (λ n. n
             ≡ min self.old.chunk (min (length into.old) (length self.old.left))) }
-        // With room for a byte, none comes at the end alone.
+        // If there is room for a byte, none comes at the end alone.
         ensures end { IfOk result (λ n. n ≡ 0 → 0 < length into.old → self.new.left ≡ []) }
         ensures copied { IfOk result (λ n. into.new ≡ take n self.old.left ++ drop n into.old) }
         ensures given { IfOk result (λ n. self.new ≡ record self.old {

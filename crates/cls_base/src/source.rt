@@ -1,6 +1,6 @@
-ghost use Rattle.std.specs.Prelude.{◌≡◌, ℕ, ◌<◌, ◌≤◌, List, length, take, Option, OnOk, OnErr, IfOk};
+ghost use Rattle.std.specs.Prelude.{◌≡◌, ℕ, ◌<◌, ◌≤◌, length, take, OnOk, OnErr, IfOk};
 ghost use Rattle.std.specs.Io.KnownBytes.{Consumes, IsAtEnd, Keeps};
-ghost use Rattle.cls_base.specs.Outside.{HasRisen};
+ghost use Rattle.cls_base.specs.Outside.{SourceSeen, HasRisen};
 
 /// A read or a write failed.
 #[derive(Clone, Copy, Debug, PartialEq, Eq)]
@@ -8,21 +8,21 @@ pub struct Failed;
 
 /// Where the bytes of a run come from.
 pub trait Source {
-    /// The bytes that are left to read, where the source tells them.
-    ghost left: { Self → Option (List ℕ) };
-
-    /// How many reads have failed. The count stands still at its type's end.
-    ghost faults: { Self → ℕ };
+    /// What the source shows of itself: the bytes that are left, if it tells them, and how many reads have failed.
+    ghost seen: { Self → SourceSeen };
 
     /// Reads the next bytes into the front of `into`, and says how many there are.
+    ///
+    /// A read that fails takes no byte from the source, but it may leave other bytes in `into` than stood there. (Not
+    /// every source can promise more: standard input can't.)
     fn read(&mut self, into: &mut [u8]) -> Result<usize, Failed>
         ensures within { IfOk result (λ n. n ≤ length into.new) }
         // What was read are the next bytes, and is left no longer.
-        ensures bytes { IfOk result (λ n. Consumes (left self.old) (left self.new) (take n into.new)) }
-        // With room for a byte, none comes at the end alone.
-        ensures end { IfOk result (λ n. n ≡ 0 → 0 < length into.old → IsAtEnd (left self.new)) }
-        ensures ok { OnOk result (faults self.new ≡ faults self.old) }
+        ensures bytes { IfOk result (λ n. Consumes (seen self.old).left (seen self.new).left (take n into.new)) }
+        // If there is room for a byte, none comes at the end alone.
+        ensures end { IfOk result (λ n. n ≡ 0 → 0 < length into.old → IsAtEnd (seen self.new).left) }
+        ensures no_fault { OnOk result ((seen self.new).faults ≡ (seen self.old).faults) }
 
-        ensures failed { OnErr result (HasRisen (faults self.old) (faults self.new)) }
-        ensures stays { OnErr result (Keeps (left self.old) (left self.new)) };
+        ensures fault { OnErr result (HasRisen (seen self.old).faults (seen self.new).faults) }
+        ensures none_read { OnErr result (Keeps (seen self.old).left (seen self.new).left) };
 }

@@ -43,9 +43,7 @@ impl SureSource {
 }
 
 impl Source for SureSource {
-    ghost left = { λ s. Some s };
-
-    ghost faults = { λ _. 0 };
+    ghost seen = { λ s. record { left = Some s; faults = 0 } };
 
     /// Gives all that fits and is left.
     fn read(&mut self, into: &mut [u8]) -> Result<usize, Failed>
@@ -57,7 +55,7 @@ impl Source for SureSource {
     }
 }
 
-/// A sink over memory that never fails as long as there is room, and takes each piece whole.
+/// A sink over memory that never fails while there is room, and takes each piece whole.
 #[derive(Drop)]
 pub struct SureSink {
     held: Vec<u8>,
@@ -76,7 +74,7 @@ impl Model for SureSink {
 }
 
 impl SureSink {
-    /// A sink that takes `spare` bytes in all. The memory for them is taken now, and `OutOfMemory` is the answer where
+    /// A sink that takes `spare` bytes in all. The memory for them is taken now, and `OutOfMemory` is the answer if
     /// there is none.
     pub fn new(alloc: Global, spare: usize) -> Result<SureSink, OutOfMemory>
         ensures { IfOk result (λ s. s ≡ record { held = []; room = spare }) }
@@ -115,11 +113,7 @@ impl SureSink {
 }
 
 impl Sink for SureSink {
-    ghost held = { λ s. Some s.held };
-
-    ghost room = { λ s. Some s.room };
-
-    ghost faults = { λ _. 0 };
+    ghost seen = { λ s. record { held = Some s.held; room = Some s.room; faults = 0 } };
 
     /// Takes the whole piece.
     fn write(&mut self, piece: &[u8]) -> Result<usize, Failed>

@@ -38,7 +38,7 @@ fn pass_on<S: Source, K: Sink>(
     sink: &mut K,
     into: &mut [u8],
 ) -> Result<usize, Failed>
-    requires { Holds (K.room sink.old) (length into.old) }
+    requires { Holds (K.seen sink.old).room (length into.old) }
 {
     let count = source.read(into)?;
     sink.write(&into[..count])

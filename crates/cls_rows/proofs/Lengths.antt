@@ -5,6 +5,7 @@ use Rattle.std.specs.List.{flat_map, AllByRecursion}
 use Rattle.std.specs.Fmt.{decimal}
 use Rattle.std.proofs.lemmas.Fmt.{length-decimal-le_wide}
 use Rattle.std.proofs.lemmas.List.Elements.{All-contains_itself}
+use Rattle.cls_base.specs.Limits.{max_input_bytes}
 use Rattle.cls_base.specs.Terms.{Applicative, component, apply, length_of}
 use Rattle.cls_syntax.specs.declared.token.TokenKind.{TokenKind}
 use Rattle.cls_syntax.specs.declared.token.TokenKind.TheVariants.{Name, Number, To, And, Times, Open, Close, Comma, Dollar, Colon, Equals, Bar, AtMost, Bad}
@@ -21,7 +22,7 @@ use Rattle.cls_session.specs.Outputs.{Output, lines_read}
 use Rattle.cls_session.specs.Outputs as outputs
 use Rattle.cls_session.specs.Replies.{term_line, page_text, Reply, Answered, Replies}
 use Rattle.cls_session.specs.Replies as replies
-use Rattle.cls_session.specs.Repositories.{Entry, skipped, declares, Declares}
+use Rattle.cls_session.specs.Repositories.{Declared, skipped, declares, Declares}
 use Rattle.cls_session.specs.Transcripts.{IsAnswered, refusal, without_end, complete}
 use Rattle.cls_session.proofs.Outputs.{lines_read-short}
 
@@ -61,10 +62,10 @@ second_within line (t ∷ u ∷ ts) w ws xs e =
 
 component_within : (line : List ℕ) (d : Declaration) → IsDeclaration line d → length d.component ≤ length line
 unfolding words_of
-component_within line d p = second_within line (tokens_of line) _ _ d.component p.words
+component_within line d p = second_within line (tokens_of line) _ _ d.component p.tokens
 
 -- short lines declare short names
-entry_short : (line : List ℕ) (first rest : List Declaration) → IsShort line → Entry line first → ((x : ℕ) → IsShort (name_in rest x)) → (x : ℕ) → IsShort (name_in (first ++ rest) x)
+entry_short : (line : List ℕ) (first rest : List Declaration) → IsShort line → Declared line first → ((x : ℕ) → IsShort (name_in rest x)) → (x : ℕ) → IsShort (name_in (first ++ rest) x)
 entry_short line first rest h (skipped s e) r x = subst (λ (ds : List Declaration). IsShort (name_in (ds ++ rest) x)) (sym e) (r x)
 entry_short line first rest h (declares d p e) r zero = subst (λ (ds : List Declaration). IsShort (name_in (ds ++ rest) zero)) (sym e) (let w = component_within line d p in omega arith)
 entry_short line first rest h (declares d p e) r (suc x) = subst (λ (ds : List Declaration). IsShort (name_in (ds ++ rest) (suc x))) (sym e) (r x)
@@ -170,7 +171,7 @@ refusal_length place few =
     omega arith
 
 -- four lines of at most 24 bytes have no longer output
-pub output_length : (bytes text : List ℕ) (status : Status) → length bytes ≤ 1048576 → AllByRecursion IsShort (lines_of bytes) → length (lines_of bytes) ≤ 4 → Output [] bytes text status → length text ≤ 69240020
+pub output_length : (bytes text : List ℕ) (status : Status) → length bytes ≤ max_input_bytes → AllByRecursion IsShort (lines_of bytes) → length (lines_of bytes) ≤ 4 → Output [] bytes text status → length text ≤ 69240020
 output_length bytes text status small short few (outputs.no_session n e s) = absurd (n refl)
 output_length bytes text status small short few (outputs.refused a r s) =
     let split = ap length (sym (lines_read-short bytes small) ∙ r.fault.split) in

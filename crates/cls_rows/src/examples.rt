@@ -11,7 +11,7 @@ use std::thread::Threads;
 /// More bytes than a run here writes.
 const SPARE: usize = 65_536;
 
-/// The bytes of a read or a write, where the source and the sink are to cut nothing short.
+/// The bytes of a read or a write, if the source and the sink are to cut nothing short.
 pub const WHOLE: usize = 4_194_304;
 
 pub const TWO_COMPONENTS: &[u8] = b"comp x : A\ncomp y : B\nend\nlist omega max 2 take 10\n";
@@ -58,7 +58,7 @@ pub fn outcome<R: Threads + Wait + Sync>(
     Ok((status, output))
 }
 
-/// Asserts what the example says and that the run ends so, where at most so many bytes go at once.
+/// Asserts what the example says and that the run ends so, if at most `chunk` bytes go at once.
 pub fn assert_example<R: Abort + Threads + Wait + Sync>(
     rt: &R,
     alloc: Global,

@@ -16,3 +16,5 @@ mod listings;
 mod pieces;
 #[cfg(test)]
 mod refusals;
+#[cfg(test)]
+mod streaming;

@@ -33,11 +33,7 @@ impl Pieces {
 }
 
 impl Sink for Pieces {
-    ghost held = { λ _. None };
-
-    ghost room = { λ _. None };
-
-    ghost faults = { λ s. s.faults };
+    ghost seen = { λ s. record { held = None; room = None; faults = s.faults } };
 
     fn write(&mut self, piece: &[u8]) -> Result<usize, Failed> {
         match self.keep(piece) {

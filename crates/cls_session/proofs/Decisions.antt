@@ -5,12 +5,13 @@ use Rattle.std.proofs.lemmas.Slice.Eq.{bytes_eq-Decides}
 use Rattle.std.specs.Str.{is_utf8}
 use Rattle.std.proofs.lemmas.Str.{IsUtf8-from_is_utf8, is_utf8-from_IsUtf8}
 use Rattle.std.proofs.lemmas.Bool.{cases_lt}
+use Rattle.cls_base.specs.Limits.{max_term_size, max_page_terms}
 use Rattle.cls_syntax.specs.declared.token.TokenKind.TheVariants.{Colon}
 use Rattle.cls_syntax.specs.Skipped.{IsText, IsSkipped, says_nothing}
 use Rattle.cls_syntax.specs.Words.{Word, name, number, sign, words_of}
 use Rattle.cls_syntax.specs.Numerals.{number_value}
 use Rattle.cls_session.specs.Declarations.{Declaration}
-use Rattle.cls_session.specs.Forms.{IsRead, IsDeclaration, IsEnd, IsListing, declaration_words, end_words, listing_words}
+use Rattle.cls_session.specs.Forms.{IsRead, IsDeclaration, IsEnd, IsListing, declaration_tokens, end_tokens, listing_tokens}
 
 -- the fact or its refutation
 abbrev pub Decided : Type 0 → Type 0
@@ -28,7 +29,7 @@ text_decided xs ys =
       | false ↦ λ e. inr (λ p. let q : bytes_eq xs ys ≡ true = (bytes_eq-Decides xs ys).1 p in cc)
     ] refl
 
-declaration_decided : (ws : List Word) → Decided ((d : Declaration) × (ws ≡ declaration_words d))
+declaration_decided : (ws : List Word) → Decided ((d : Declaration) × (ws ≡ declaration_tokens d))
 declaration_decided (name c ∷ name x ∷ sign Colon ∷ name t ∷ []) =
     elim (text_decided c (codes "comp")) [
       | inl e ↦ inl (record { component = x; type = t }, ap (λ (z : List ℕ). name z ∷ name x ∷ sign Colon ∷ name t ∷ []) e)
@@ -36,7 +37,7 @@ declaration_decided (name c ∷ name x ∷ sign Colon ∷ name t ∷ []) =
     ]
 declaration_decided ws = inr (λ p. let e = p.1 in cc)
 
-end_decided : (ws : List Word) → Decided (ws ≡ end_words)
+end_decided : (ws : List Word) → Decided (ws ≡ end_tokens)
 end_decided (name e ∷ []) =
     elim (text_decided e (codes "end")) [
       | inl p ↦ inl (ap (λ (z : List ℕ). name z ∷ []) p)
@@ -44,7 +45,7 @@ end_decided (name e ∷ []) =
     ]
 end_decided ws = inr (λ p. cc)
 
-listing_decided : (ws : List Word) → Decided ((max take : List ℕ) × (ws ≡ listing_words max take))
+listing_decided : (ws : List Word) → Decided ((max take : List ℕ) × (ws ≡ listing_tokens max take))
 listing_decided (name l ∷ name o ∷ name m ∷ number max ∷ name t ∷ number take ∷ []) =
     elim (text_decided l (codes "list")) [
       | inr n ↦ inr (λ p. n (let e = p.2 in cc))
@@ -103,7 +104,7 @@ pub is_end_decided : (line : List ℕ) → Decided (IsEnd line)
 is_end_decided line =
     elim (read_decided line) [
       | inr n ↦ inr (λ e. n e.read)
-      | inl r ↦ elim (end_decided (words_of line)) [ inr n ↦ inr (λ e. n e.words) | inl w ↦ inl record { read = r; words = w } ]
+      | inl r ↦ elim (end_decided (words_of line)) [ inr n ↦ inr (λ e. n e.tokens) | inl w ↦ inl record { read = r; tokens = w } ]
     ]
 
 -- whether a line declares a component
@@ -112,11 +113,11 @@ is_declaration_decided line =
     elim (read_decided line) [
       | inr n ↦ inr (λ p. n p.1.read)
       | inl r ↦ elim (declaration_decided (words_of line)) [
-        | inr n ↦ inr (λ p. n (p.0, p.1.words))
+        | inr n ↦ inr (λ p. n (p.0, p.1.tokens))
         | inl w ↦
-            let same : (d : Declaration) → IsDeclaration line d → (d.component ≡ w.0.component) × (d.type ≡ w.0.type) = λ d q. (let e = sym q.words ∙ w.1 in (cc, cc)) in
+            let same : (d : Declaration) → IsDeclaration line d → (d.component ≡ w.0.component) × (d.type ≡ w.0.type) = λ d q. (let e = sym q.tokens ∙ w.1 in (cc, cc)) in
             elim (both_decided (not_decided (text_decided w.0.component (codes "omega"))) (not_decided (text_decided w.0.type (codes "omega")))) [
-              | inl b ↦ inl (w.0, record { read = r; words = w.1; component = b.0; type = b.1 })
+              | inl b ↦ inl (w.0, record { read = r; tokens = w.1; component = b.0; type = b.1 })
               | inr n ↦ inr (λ p. n (let e = same p.0 p.1 in ((λ q. p.1.component (e.0 ∙ q)), (λ q. p.1.type (e.1 ∙ q)))))
             ]
       ]
@@ -128,16 +129,16 @@ is_listing_decided line =
     elim (read_decided line) [
       | inr n ↦ inr (λ p. n p.2.read)
       | inl r ↦ elim (listing_decided (words_of line)) [
-        | inr n ↦ inr (λ p. n (p.2.max_digits, p.2.take_digits, p.2.words))
+        | inr n ↦ inr (λ p. n (p.2.max_digits, p.2.take_digits, p.2.tokens))
         | inl w ↦
             let max = number_value w.0 in
             let take = number_value w.1 in
-            let same : (m k : ℕ) → IsListing line m k → (m ≡ max) × (k ≡ take) = λ m k q. (let e = sym q.words ∙ w.2 in
+            let same : (m k : ℕ) → IsListing line m k → (m ≡ max) × (k ≡ take) = λ m k q. (let e = sym q.tokens ∙ w.2 in
             let a : q.max_digits ≡ w.0 = cc in
             let b : q.take_digits ≡ w.1 = cc in
             (sym q.max_value ∙ ap number_value a, sym q.take_value ∙ ap number_value b)) in
-            elim (both_decided (both_decided (at_most_decided 1 max) (at_most_decided max 1024)) (both_decided (at_most_decided 1 take) (at_most_decided take 10000))) [
-              | inl b ↦ inl (max, take, record { max_digits = w.0; take_digits = w.1; read = r; words = w.2; max_value = refl; take_value = refl; max_within = b.0; take_within = b.1 })
+            elim (both_decided (both_decided (at_most_decided 1 max) (at_most_decided max max_term_size)) (both_decided (at_most_decided 1 take) (at_most_decided take max_page_terms))) [
+              | inl b ↦ inl (max, take, record { max_digits = w.0; take_digits = w.1; read = r; tokens = w.2; max_value = refl; take_value = refl; max_within = b.0; take_within = b.1 })
               | inr n ↦ inr (λ p. n (let e = same p.0 p.1 p.2 in let a = p.2.max_within in let b = p.2.take_within in ((omega arith, omega arith), (omega arith, omega arith))))
             ]
       ]

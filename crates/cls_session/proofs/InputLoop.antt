@@ -2,34 +2,37 @@
 use Rattle.std.proofs.Common.{◌≡◌, ℕ, zero, suc, true, false, length-take-le, ◌+◌, ◌<◌, ◌≤◌, List, [], ◌∷◌, ◌++◌, length, take, drop, refl, sym, ap, ◌∙◌, subst, inl, inr, arith, append_assoc, append-nil, length-append, take-append-drop}
 use Rattle.std.specs.Prelude.{◌⊎◌, ◌==◌, Option, None, Some, Err}
 use Rattle.std.proofs.lemmas.Bool.Decides.{nat_tests}
-use Rattle.std.specs.Io.KnownBytes.{Appends, Consumes, Keeps, IsAtEnd}
+use Rattle.std.specs.Io.KnownBytes.{Consumes, Keeps, IsAtEnd}
 use Rattle.std.proofs.KnownBytes.{Appends-trans, Consumes-nil, Consumes-trans, Consumes-kept}
+use Rattle.cls_base.specs.Limits.{max_input_bytes, max_read_bytes}
+use Rattle.cls_base.specs.Outside.{SourceSeen, SinkSeen, Holds}
 use Rattle.cls_syntax.specs.Lines.{HasNoFeed, lines_of, ended_lines}
 use Rattle.cls_syntax.proofs.LinePieces.{ended_lines-HasNoFeed}
 use Rattle.cls_session.specs.declared.driver.Stop.{Stop}
 use Rattle.cls_session.specs.declared.driver.Stop.TheVariants as stops
 use Rattle.cls_session.specs.declared.status.Status.{Status}
 use Rattle.cls_session.specs.declared.status.Status.TheVariants as status
-use Rattle.cls_session.specs.Driving.{CutsLines, Writes, FitsLines, FitsLast, AnswersLines, RefusesLines, BreaksLines, RefusesLast, BreaksLast, IsEnded, EndsOutput, Comes}
-use Rattle.cls_session.specs.Outputs.{Output, IsWhole, IsCutOff, Answers, BeginsAnswers, AnswersTaken, BeginsTaken, HasRoom}
+use Rattle.cls_session.specs.Driving.{CutsLines, Writes, FitsLines, FitsLast, AnswersLines, RefusesLines, BreaksLines, RefusesLast, BreaksLast, IsEnded, EndsOutput, MatchStop}
+use Rattle.cls_session.specs.Outputs.{Output, IsWhole, IsCutOff, IsBrokenOff, Answers, BeginsAnswers, AnswersTaken, KeepsPace, HasRoom}
 use Rattle.cls_session.specs.Standings.{Standing, Stands}
 use Rattle.cls_session.specs.Stops.{status_of}
 use Rattle.cls_session.specs.Transcripts.{Transcript, IsRefused, Ending, without_end, complete}
 use Rattle.cls_session.proofs.Driving.{CutsLines-trans}
-use Rattle.cls_session.proofs.Outputs.{Begins, IsWholly, CutsLines-append, ended_lines-CutsLines, told, told_front, room_left, output_goes_on, output_refused, output_refused_last, output_ended, output_too_long, transcripts_go_on}
+use Rattle.cls_session.proofs.Outputs.{Begins, IsWholly, CutsLines-append, ended_lines-CutsLines, told, told_front, answers_ended, keeps_pace, room_left, output_goes_on, output_refused, output_refused_last, output_ended, output_too_long}
 use Rattle.cls_session.proofs.Standings.{Stands-transcript}
 use Rattle.cls_session.proofs.Writing.{Writes-none, Writes-trans}
 
 -- So many bytes were read: the lines that end in them were answered, and the reader holds the rest.
-pub record IsUnderWay (left left' held held' : Option (List ℕ)) (room room' : Option ℕ) (session : Standing) (reader : List ℕ) (taken : ℕ) : Type 0 where
+pub record IsUnderWay (source source' : SourceSeen) (sink sink' : SinkSeen) (session : Standing) (reader : List ℕ) (taken : ℕ) : Type 0 where
   pub bytes : List ℕ
   pub lines : List (List ℕ)
   pub written : List ℕ
   pub count : length bytes ≡ taken
-  pub consumes : Consumes left left' bytes
+  pub consumes : Consumes source.left source'.left bytes
   pub cuts : CutsLines bytes lines reader
+  pub no_feed : HasNoFeed reader
   pub stands : Stands lines written session
-  pub writes : Writes held held' room room' written
+  pub writes : Writes sink sink' written
 
 Consumes-begins : (a b : Option (List ℕ)) (front : List ℕ) → Consumes a b front → Begins a front
 Consumes-begins None b front p = tt
@@ -46,35 +49,51 @@ Begins-front None front more b = tt
 Begins-front (Some x) front more (tail, e) = (more ++ tail, e ∙ append_assoc front more tail)
 
 -- nothing was read
-pub none_read : (left held : Option (List ℕ)) (room : Option ℕ) (session : Standing) (reader : List ℕ) → Stands [] [] session → reader ≡ [] → IsUnderWay left left held held room room session reader 0
-none_read left held room session reader s e = record { bytes = []; lines = []; written = []; count = refl; consumes = Consumes-nil left; cuts = sym e; stands = s; writes = Writes-none held room }
+pub none_read : (source : SourceSeen) (sink : SinkSeen) (session : Standing) (reader : List ℕ) → Stands [] [] session → reader ≡ [] → IsUnderWay source source sink sink session reader 0
+none_read source sink session reader s e = record {
+  bytes = [];
+  lines = [];
+  written = [];
+  count = refl;
+  consumes = Consumes-nil source.left;
+  cuts = sym e;
+  no_feed = subst (λ (x : List ℕ). HasNoFeed x) (sym e) tt;
+  stands = s;
+  writes = Writes-none sink;
+}
 
 -- the end of the input was read
-pub none_more : (left left' left'' held held' : Option (List ℕ)) (room room' : Option ℕ) (session : Standing) (reader : List ℕ) (taken : ℕ) (count : ℕ) (buffer : List ℕ)
-    → IsUnderWay left left' held held' room room' session reader taken → count ≡ 0 → Consumes left' left'' (take count buffer) → IsUnderWay left left'' held held' room room' session reader taken
-none_more left left' left'' held held' room room' session reader taken count buffer u none consumes = record {
+pub none_more : {source source' : SourceSeen} {sink sink' : SinkSeen} {session : Standing} {reader : List ℕ} {taken : ℕ} (source'' : SourceSeen) (count : ℕ) (buffer : List ℕ)
+    → IsUnderWay source source' sink sink' session reader taken → count ≡ 0 → Consumes source'.left source''.left (take count buffer) → IsUnderWay source source'' sink sink' session reader taken
+none_more {source = source} {source' = source'} source'' count buffer u none consumes = record {
   bytes = u.bytes;
   lines = u.lines;
   written = u.written;
   count = u.count;
-  consumes = subst (λ (x : List ℕ). Consumes left left'' x) (append-nil u.bytes)
-      (Consumes-trans left left' left'' u.bytes [] u.consumes (subst (λ k. Consumes left' left'' (take k buffer)) none consumes));
+  consumes = subst (λ (x : List ℕ). Consumes source.left source''.left x) (append-nil u.bytes)
+      (Consumes-trans source.left source'.left source''.left u.bytes [] u.consumes (subst (λ k. Consumes source'.left source''.left (take k buffer)) none consumes));
   cuts = u.cuts;
+  no_feed = u.no_feed;
   stands = u.stands;
   writes = u.writes;
 }
 
--- What was read is cut into a piece and bytes that are too many.
-module _ (buffer piece over : List ℕ) (count place : ℕ) (front : piece ≡ take place (take count buffer)) (back : over ≡ drop place (take count buffer)) where
-  joined : piece ++ over ≡ take count buffer
-  joined = (λ i. front i ++ back i) ∙ take-append-drop place (take count buffer)
+-- A piece was read, and bytes that are too many.
+pub record IsPiece (source source' : SourceSeen) (piece over : List ℕ) (count : ℕ) : Type 0 where
+  pub consumes : Consumes source.left source'.left (piece ++ over)
+  pub lengths : length piece + length over ≡ count
+  pub short : count ≤ max_read_bytes
 
-  -- the piece and what is over are the bytes that were taken from the source
-  pub cut_consumes : (a b : Option (List ℕ)) → Consumes a b (take count buffer) → Consumes a b (piece ++ over)
-  cut_consumes a b h = subst (λ (x : List ℕ). Consumes a b x) (sym joined) h
-
-  pub cut_lengths : count ≤ length buffer → length piece + length over ≡ count
-  cut_lengths h = sym (length-append piece over) ∙ (ap length joined ∙ length-take-le count buffer h)
+-- what was read is cut into the two
+pub cut_piece : (source source' : SourceSeen) (buffer piece over : List ℕ) (count place : ℕ) → piece ≡ take place (take count buffer) → over ≡ drop place (take count buffer)
+    → Consumes source.left source'.left (take count buffer) → count ≤ length buffer → count ≤ max_read_bytes → IsPiece source source' piece over count
+cut_piece source source' buffer piece over count place front back consumes within short =
+    let joined : piece ++ over ≡ take count buffer = (λ i. front i ++ back i) ∙ take-append-drop place (take count buffer) in
+    record {
+      consumes = subst (λ (x : List ℕ). Consumes source.left source'.left x) (sym joined) consumes;
+      lengths = sym (length-append piece over) ∙ (ap length joined ∙ length-take-le count buffer within);
+      short = short;
+    }
 
 -- a length that isn't 0
 pub some_over : (n : ℕ) → false ≡ (n == 0) → 0 < n
@@ -92,19 +111,26 @@ pub none_over : (over : List ℕ) → true ≡ (length over == 0) → over ≡ [
 none_over [] e = refl
 none_over (x ∷ over) e = absurd (let n = is_none (length (x ∷ over)) e in omega arith)
 
--- where a run stops early, only a refusal is whole
+-- if a run stops early, only a refusal is whole
 stopped : (A : Type 0) (stop : Stop) (end : Status) (Well : A → Type 0) (Refuses Breaks : Type 0) (Claim : Status → Type 0)
-    → Comes {A = A} (Err stop) Well Refuses Breaks → end ≡ status_of stop → (Refuses → Claim status.Refused) → IsWhole end → Claim end
+    → MatchStop {A = A} (Err stop) Well Refuses Breaks → end ≡ status_of stop → (Refuses → Claim status.Refused) → IsWhole end → Claim end
 stopped A stops.Refused end Well Refuses Breaks Claim c e f w = subst Claim (sym e) (f c)
 stopped A stops.WriteFault end Well Refuses Breaks Claim c e f w = absurd (subst IsWhole e w)
 stopped A stops.NoMemory end Well Refuses Breaks Claim c e f w = absurd (subst IsWhole e w)
 
--- and else it was cut off
+-- and otherwise it was cut off
 cut_off : (A : Type 0) (stop : Stop) (end : Status) (Well : A → Type 0) (Refuses Breaks Claim : Type 0)
-    → Comes {A = A} (Err stop) Well Refuses Breaks → end ≡ status_of stop → (Breaks → Claim) → IsCutOff end → Claim
+    → MatchStop {A = A} (Err stop) Well Refuses Breaks → end ≡ status_of stop → (Breaks → Claim) → IsCutOff end → Claim
 cut_off A stops.Refused end Well Refuses Breaks Claim c e f w = absurd (subst IsCutOff e w)
 cut_off A stops.WriteFault end Well Refuses Breaks Claim c e f w = f c
 cut_off A stops.NoMemory end Well Refuses Breaks Claim c e f w = f c
+
+-- and broke off
+broken_off : (A : Type 0) (stop : Stop) (end : Status) (Well : A → Type 0) (Refuses Breaks Claim : Type 0)
+    → MatchStop {A = A} (Err stop) Well Refuses Breaks → end ≡ status_of stop → (Breaks → Claim) → IsBrokenOff end → Claim
+broken_off A stops.Refused end Well Refuses Breaks Claim c e f w = absurd (subst IsBrokenOff e w)
+broken_off A stops.WriteFault end Well Refuses Breaks Claim c e f w = f c
+broken_off A stops.NoMemory end Well Refuses Breaks Claim c e f w = f c
 
 -- the statuses that the end of the input gives
 abbrev pub IsEndStatus : Status → Type 0
@@ -124,6 +150,10 @@ pub end_is_not_cut_off : (end : Status) → IsEndStatus end → IsCutOff end →
 end_is_not_cut_off end (inl e) c = subst IsCutOff e c
 end_is_not_cut_off end (inr e) c = subst IsCutOff e c
 
+pub end_is_not_broken_off : (end : Status) → IsEndStatus end → IsBrokenOff end → ⊥
+end_is_not_broken_off end (inl e) c = subst IsBrokenOff e c
+end_is_not_broken_off end (inr e) c = subst IsBrokenOff e c
+
 pub end_is_no_usage : (end : Status) → IsEndStatus end → end ≡ status.Usage → ⊥
 end_is_no_usage end (inl e) u = done_differs (sym e ∙ u)
 end_is_no_usage end (inr e) u = refused_differs (sym e ∙ u)
@@ -132,174 +162,187 @@ Ending-status : (lines : List (List ℕ)) (text : List ℕ) (end : Status) → E
 Ending-status lines text end (without_end ds r t s) = inr s
 Ending-status lines text end (complete ds a s) = inl s
 
--- what was taken, where the source tells its bytes
-taken_so : (a b held held' : Option (List ℕ)) (bytes text : List ℕ) → Consumes a b bytes → length bytes ≤ 1048576 → Transcript (ended_lines bytes) text → Appends held held' text → AnswersTaken a b held held'
-taken_so None b held held' bytes text p l t w = tt
-taken_so (Some x) None held held' bytes text p l t w = absurd p
-taken_so (Some x) (Some y) held held' bytes text p l t w = (bytes, text, p, l, t, w)
+-- The input is read, and so many bytes of it were taken.
+module _ {source source' : SourceSeen} {sink sink' : SinkSeen} {session : Standing} {reader : List ℕ} {taken : ℕ}
+    (u : IsUnderWay source source' sink sink' session reader taken) where
+  -- the lines that end in the bytes are those that were answered
+  all_ended : ended_lines u.bytes ≡ u.lines
+  all_ended = ended_lines-CutsLines u.bytes reader u.lines u.cuts ∙ (ap (λ (xs : List (List ℕ)). u.lines ++ xs) (ended_lines-HasNoFeed reader u.no_feed) ∙ append-nil u.lines)
 
-module _ (left left' held held' : Option (List ℕ)) (room room' : Option ℕ) (session : Standing) (reader : List ℕ) (taken : ℕ)
-    (u : IsUnderWay left left' held held' room room' session reader taken) where
+  transcript : Transcript (ended_lines u.bytes) u.written
+  transcript = subst (λ (xs : List (List ℕ)). Transcript xs u.written) (sym all_ended) (Stands-transcript u.lines u.written session u.stands)
+
+  pub end_status : {sink'' : SinkSeen} {end : Status} → EndsOutput sink' sink'' session reader end → IsEndStatus end
+  end_status {end = end} h =
+      let (reply, ends, writes) = h.reply u.lines u.written u.stands in
+      Ending-status (u.lines ++ lines_of reader) (u.written ++ reply) end ends
+
+  -- a read failed
+  pub answers_taken : (source'' : SourceSeen) → taken ≤ max_input_bytes → Keeps source'.left source''.left → AnswersTaken [] source source'' sink sink'
+  answers_taken source'' short keeps =
+      answers_ended source source'' u.bytes u.written (Consumes-kept source.left source'.left source''.left u.bytes u.consumes keeps) transcript (let k = u.count in omega arith) u.writes
+
   -- The end of the input was reached.
-  module _ (short : taken ≤ 1048576) (at_end : IsAtEnd left') where
-    wholly : (bytes : List ℕ) → left ≡ Some bytes → IsWholly (Some bytes) u.bytes
-    wholly bytes e = subst (λ (x : Option (List ℕ)). IsWholly x u.bytes) e (Consumes-wholly left left' u.bytes u.consumes at_end)
+  module _ (short : taken ≤ max_input_bytes) (at_end : IsAtEnd source'.left) where
+    wholly : (bytes : List ℕ) → source.left ≡ Some bytes → IsWholly (Some bytes) u.bytes
+    wholly bytes e = subst (λ (x : Option (List ℕ)). IsWholly x u.bytes) e (Consumes-wholly source.left source'.left u.bytes u.consumes at_end)
 
-    few : length u.bytes ≤ 1048576
+    few : length u.bytes ≤ max_input_bytes
     few = (let k = u.count in omega arith)
 
-    refused_output : (reply bytes : List ℕ) → left ≡ Some bytes → IsRefused (u.lines ++ lines_of reader) (u.written ++ reply) → Output [] bytes (u.written ++ reply) status.Refused
+    refused_output : (reply bytes : List ℕ) → source.left ≡ Some bytes → IsRefused (u.lines ++ lines_of reader) (u.written ++ reply) → Output [] bytes (u.written ++ reply) status.Refused
     refused_output reply bytes e r = output_refused_last u.bytes reader (u.written ++ reply) u.lines u.cuts few bytes (wholly bytes e) r
 
-    ended_output : (reply : List ℕ) (end : Status) (bytes : List ℕ) → left ≡ Some bytes → Ending (u.lines ++ lines_of reader) (u.written ++ reply) end → Output [] bytes (u.written ++ reply) end
+    ended_output : (reply : List ℕ) (end : Status) (bytes : List ℕ) → source.left ≡ Some bytes → Ending (u.lines ++ lines_of reader) (u.written ++ reply) end → Output [] bytes (u.written ++ reply) end
     ended_output reply end bytes e r = output_ended u.bytes reader (u.written ++ reply) u.lines u.cuts few bytes end (wholly bytes e) r
 
     without_more : (reply bytes : List ℕ) (end : Status) → Output [] bytes (u.written ++ reply) end → (more : List ℕ) × (end : Status) × Output [] bytes ((u.written ++ reply) ++ more) end
     without_more reply bytes end o = ([], end, subst (λ (x : List ℕ). Output [] bytes x end) (sym (append-nil (u.written ++ reply))) o)
 
     -- the room is enough for what ends the output
-    pub last_has_room : HasRoom [] left room → FitsLast room' session reader
-    last_has_room h = (
-      u.lines,
-      u.written,
-      u.stands,
-      λ reply r. room_left left room room' u.written reply h u.writes.1 (λ bytes e. without_more reply bytes status.Refused (refused_output reply bytes e r)),
-      λ reply end r. room_left left room room' u.written reply h u.writes.1 (λ bytes e. without_more reply bytes end (ended_output reply end bytes e r)),
-    )
+    pub last_has_room : HasRoom [] source sink → FitsLast sink' session reader
+    last_has_room h = record {
+      lines = u.lines;
+      written = u.written;
+      stands = u.stands;
+      refused = λ reply r. room_left source u.written reply h u.writes (λ bytes e. without_more reply bytes status.Refused (refused_output reply bytes e r));
+      ended = λ reply end r. room_left source u.written reply h u.writes (λ bytes e. without_more reply bytes end (ended_output reply end bytes e r));
+    }
 
-    module _ (held'' : Option (List ℕ)) (room'' : Option ℕ) where
-      -- where the last line is answered the output is complete
-      pub answers_end : (end : Status) → EndsOutput held' held'' room' room'' session reader end → Answers [] left held held'' end
-      answers_end end h =
-          let (reply, ends, writes) = h u.lines u.written u.stands in
-          told left held held'' (u.written ++ reply) end (Appends-trans held held' held'' u.written reply u.writes.0 writes.0) (λ bytes e. ended_output reply end bytes e ends)
+    -- if the last line is answered the output is complete
+    pub answers_end : {sink'' : SinkSeen} {end : Status} → EndsOutput sink' sink'' session reader end → Answers [] source sink sink'' end
+    answers_end {end = end} h =
+        let (reply, ends, writes) = h.reply u.lines u.written u.stands in
+        told source (u.written ++ reply) end (Writes-trans u.writes writes) (λ bytes e. ended_output reply end bytes e ends)
 
-      answers_last_refused : RefusesLast held' held'' room' room'' session reader → Answers [] left held held'' status.Refused
-      answers_last_refused h =
-          let (reply, refused, writes) = h u.lines u.written u.stands in
-          told left held held'' (u.written ++ reply) status.Refused (Appends-trans held held' held'' u.written reply u.writes.0 writes.0) (λ bytes e. refused_output reply bytes e refused)
+    answers_last_refused : {sink'' : SinkSeen} → RefusesLast sink' sink'' session reader → Answers [] source sink sink'' status.Refused
+    answers_last_refused h =
+        let (reply, refused, writes) = h.reply u.lines u.written u.stands in
+        told source (u.written ++ reply) status.Refused (Writes-trans u.writes writes) (λ bytes e. refused_output reply bytes e refused)
 
-      -- where the last line stops the run, what was written is an output if anything was refused
-      pub answers_last_stopped : (stop : Stop) (end : Status) → Comes {A = Status} (Err stop) (EndsOutput held' held'' room' room'' session reader) (RefusesLast held' held'' room' room'' session reader) (BreaksLast held' held'' session reader)
-          → end ≡ status_of stop → IsWhole end → Answers [] left held held'' end
-      answers_last_stopped stop end comes e = stopped Status stop end (EndsOutput held' held'' room' room'' session reader) (RefusesLast held' held'' room' room'' session reader) (BreaksLast held' held'' session reader)
-          (λ x. Answers [] left held held'' x) comes e answers_last_refused
+    -- an end that was reached is an output
+    output_of_end : (reply bytes : List ℕ) → source.left ≡ Some bytes → IsEnded (u.lines ++ lines_of reader) (u.written ++ reply) → (end : Status) × Output [] bytes (u.written ++ reply) end
+    output_of_end reply bytes e (inl r) = (status.Refused, refused_output reply bytes e r)
+    output_of_end reply bytes e (inr (end, r)) = (end, ended_output reply end bytes e r)
 
-      -- an end that was reached is an output
-      output_of_end : (reply bytes : List ℕ) → left ≡ Some bytes → IsEnded (u.lines ++ lines_of reader) (u.written ++ reply) → (end : Status) × Output [] bytes (u.written ++ reply) end
-      output_of_end reply bytes e (inl r) = (status.Refused, refused_output reply bytes e r)
-      output_of_end reply bytes e (inr (end, r)) = (end, ended_output reply end bytes e r)
+    begins_last : {sink'' : SinkSeen} → BreaksLast sink' sink'' session reader → BeginsAnswers [] source sink sink''
+    begins_last {sink'' = sink''} h =
+        let (reply, ended, f) = h.reply u.lines u.written u.stands in
+        told_front sink sink'' source (u.written ++ f.front) f.rest (Appends-trans sink.held sink'.held sink''.held u.written f.front u.writes.held f.held)
+        (λ bytes e. let (end, output) = output_of_end reply bytes e ended in
+        ([], end, subst (λ (x : List ℕ). Output [] bytes x end) (ap (λ (x : List ℕ). u.written ++ x) f.split ∙ (sym (append_assoc u.written f.front f.rest) ∙ sym (append-nil ((u.written ++ f.front) ++ f.rest)))) output))
 
-      begins_last : BreaksLast held' held'' session reader → BeginsAnswers [] left held held''
-      begins_last h =
-          let (reply, ended, part) = h u.lines u.written u.stands in
-          let (front, rest, split, writes) = part in
-          told_front left held held'' (u.written ++ front) rest (Appends-trans held held' held'' u.written front u.writes.0 writes)
-          (λ bytes e. let (end, output) = output_of_end reply bytes e ended in
-          ([], end, subst (λ (x : List ℕ). Output [] bytes x end) (ap (λ (x : List ℕ). u.written ++ x) split ∙ (sym (append_assoc u.written front rest) ∙ sym (append-nil ((u.written ++ front) ++ rest)))) output))
+    last_keeps_pace : {sink'' : SinkSeen} → BreaksLast sink' sink'' session reader → KeepsPace source source' sink sink''
+    last_keeps_pace {sink'' = sink''} h =
+        let (reply, ended, f) = h.reply u.lines u.written u.stands in
+        keeps_pace sink sink'' source source' u.bytes [] u.written f.front (subst (λ (x : List ℕ). Consumes source.left source'.left x) (sym (append-nil u.bytes)) u.consumes) (omega arith) transcript
+        (Appends-trans sink.held sink'.held sink''.held u.written f.front u.writes.held f.held)
 
-      -- else it begins one
-      pub begins_last_stopped : (stop : Stop) (end : Status) → Comes {A = Status} (Err stop) (EndsOutput held' held'' room' room'' session reader) (RefusesLast held' held'' room' room'' session reader) (BreaksLast held' held'' session reader)
-          → end ≡ status_of stop → IsCutOff end → BeginsAnswers [] left held held''
-      begins_last_stopped stop end comes e = cut_off Status stop end (EndsOutput held' held'' room' room'' session reader) (RefusesLast held' held'' room' room'' session reader) (BreaksLast held' held'' session reader)
-          (BeginsAnswers [] left held held'') comes e begins_last
+    -- The last line stopped the run.
+    module _ (sink'' : SinkSeen) (stop : Stop) (end : Status)
+        (h : MatchStop {A = Status} (Err stop) (EndsOutput sink' sink'' session reader) (RefusesLast sink' sink'' session reader) (BreaksLast sink' sink'' session reader)) (is : end ≡ status_of stop) where
+      -- what was written is an output if anything was refused
+      pub answers_last_stopped : IsWhole end → Answers [] source sink sink'' end
+      answers_last_stopped = stopped Status stop end (EndsOutput sink' sink'' session reader) (RefusesLast sink' sink'' session reader) (BreaksLast sink' sink'' session reader)
+          (λ x. Answers [] source sink sink'' x) h is answers_last_refused
 
-  pub end_status : (held'' : Option (List ℕ)) (room'' : Option ℕ) (end : Status) → EndsOutput held' held'' room' room'' session reader end → IsEndStatus end
-  end_status held'' room'' end h =
-      let (reply, ends, writes) = h u.lines u.written u.stands in
-      Ending-status (u.lines ++ lines_of reader) (u.written ++ reply) end ends
+      -- otherwise it begins one
+      pub begins_last_stopped : IsCutOff end → BeginsAnswers [] source sink sink''
+      begins_last_stopped = cut_off Status stop end (EndsOutput sink' sink'' session reader) (RefusesLast sink' sink'' session reader) (BreaksLast sink' sink'' session reader)
+          (BeginsAnswers [] source sink sink'') h is begins_last
+
+      -- and all lines that came whole were answered
+      pub last_stopped_keeps_pace : IsBrokenOff end → KeepsPace source source' sink sink''
+      last_stopped_keeps_pace = broken_off Status stop end (EndsOutput sink' sink'' session reader) (RefusesLast sink' sink'' session reader) (BreaksLast sink' sink'' session reader)
+          (KeepsPace source source' sink sink'') h is last_keeps_pace
 
   -- A further piece was read, and bytes that are too many.
-  module _ (left'' : Option (List ℕ)) (piece over : List ℕ) (consumes : Consumes left' left'' (piece ++ over)) (short : taken + length piece ≤ 1048576) where
-    read : Consumes left left'' ((u.bytes ++ piece) ++ over)
-    read = subst (λ (x : List ℕ). Consumes left left'' x) (sym (append_assoc u.bytes piece over)) (Consumes-trans left left' left'' u.bytes (piece ++ over) u.consumes consumes)
+  module _ {source'' : SourceSeen} {piece over : List ℕ} {count : ℕ} (p : IsPiece source' source'' piece over count) (short : taken + length piece ≤ max_input_bytes) where
+    read : Consumes source.left source''.left ((u.bytes ++ piece) ++ over)
+    read = subst (λ (x : List ℕ). Consumes source.left source''.left x) (sym (append_assoc u.bytes piece over)) (Consumes-trans source.left source'.left source''.left u.bytes (piece ++ over) u.consumes p.consumes)
 
-    begins_over : (bytes : List ℕ) → left ≡ Some bytes → Begins (Some bytes) ((u.bytes ++ piece) ++ over)
-    begins_over bytes e = subst (λ (x : Option (List ℕ)). Begins x ((u.bytes ++ piece) ++ over)) e (Consumes-begins left left'' ((u.bytes ++ piece) ++ over) read)
+    begins_over : (bytes : List ℕ) → source.left ≡ Some bytes → Begins (Some bytes) ((u.bytes ++ piece) ++ over)
+    begins_over bytes e = subst (λ (x : Option (List ℕ)). Begins x ((u.bytes ++ piece) ++ over)) e (Consumes-begins source.left source''.left ((u.bytes ++ piece) ++ over) read)
 
-    begins : (bytes : List ℕ) → left ≡ Some bytes → Begins (Some bytes) (u.bytes ++ piece)
+    begins : (bytes : List ℕ) → source.left ≡ Some bytes → Begins (Some bytes) (u.bytes ++ piece)
     begins bytes e = Begins-front (Some bytes) (u.bytes ++ piece) over (begins_over bytes e)
 
-    few_bytes : length (u.bytes ++ piece) ≤ 1048576
+    few_bytes : length (u.bytes ++ piece) ≤ max_input_bytes
     few_bytes = (let k = u.count in let a = length-append u.bytes piece in omega arith)
 
     cuts_on : (more : List (List ℕ)) (rest : List ℕ) → CutsLines (reader ++ piece) more rest → CutsLines (u.bytes ++ piece) (u.lines ++ more) rest
     cuts_on more rest cs = CutsLines-trans (u.bytes ++ piece) (reader ++ piece) rest u.lines more (CutsLines-append u.bytes reader piece u.lines u.cuts) cs
 
     -- the room is enough for the replies to the lines of the piece
-    pub piece_has_room : HasRoom [] left room → FitsLines room' session (reader ++ piece)
-    piece_has_room h = (
-      u.lines,
-      u.written,
-      u.stands,
-      λ more rest reply cs w.
-          room_left left room room' u.written reply h u.writes.1 (λ bytes e. output_goes_on (u.bytes ++ piece) rest (u.written ++ reply) (u.lines ++ more) (cuts_on more rest cs) few_bytes bytes (begins bytes e) w),
-    )
+    pub piece_has_room : HasRoom [] source sink → FitsLines sink' session (reader ++ piece)
+    piece_has_room h = record {
+      lines = u.lines;
+      written = u.written;
+      stands = u.stands;
+      fits = λ more rest reply cs w.
+          room_left source u.written reply h u.writes (λ bytes e. output_goes_on (u.bytes ++ piece) rest (u.written ++ reply) (u.lines ++ more) (cuts_on more rest cs) few_bytes bytes (begins bytes e) w);
+    }
 
-    module _ (held'' : Option (List ℕ)) (room'' : Option ℕ) where
-      answers_refused : RefusesLines held' held'' room' room'' session (reader ++ piece) → Answers [] left held held'' status.Refused
-      answers_refused h =
-          let (more, rest, reply, cs, refused, writes) = h u.lines u.written u.stands in
-          told left held held'' (u.written ++ reply) status.Refused (Appends-trans held held' held'' u.written reply u.writes.0 writes.0)
-          (λ bytes e. output_refused (u.bytes ++ piece) rest (u.written ++ reply) (u.lines ++ more) (cuts_on more rest cs) few_bytes bytes (begins bytes e) refused)
+    answers_refused : {sink'' : SinkSeen} → RefusesLines sink' sink'' session (reader ++ piece) → Answers [] source sink sink'' status.Refused
+    answers_refused h =
+        let (more, rest, reply, cs, refused, writes) = h.reply u.lines u.written u.stands in
+        told source (u.written ++ reply) status.Refused (Writes-trans u.writes writes)
+        (λ bytes e. output_refused (u.bytes ++ piece) rest (u.written ++ reply) (u.lines ++ more) (cuts_on more rest cs) few_bytes bytes (begins bytes e) refused)
 
-      -- where a line of the piece stops the run, what was written is an output if anything was refused
-      pub answers_stopped : (A : Type 0) (session' : Standing) (reader' : List ℕ) (stop : Stop) (end : Status)
-          → Comes {A = A} (Err stop) (λ _. AnswersLines held' held'' room' room'' session session' (reader ++ piece) reader') (RefusesLines held' held'' room' room'' session (reader ++ piece)) (BreaksLines held' held'' session (reader ++ piece))
-          → end ≡ status_of stop → IsWhole end → Answers [] left held held'' end
-      answers_stopped A session' reader' stop end comes e = stopped A stop end (λ _. AnswersLines held' held'' room' room'' session session' (reader ++ piece) reader') (RefusesLines held' held'' room' room'' session (reader ++ piece))
-          (BreaksLines held' held'' session (reader ++ piece)) (λ x. Answers [] left held held'' x) comes e answers_refused
+    begins_lines : {sink'' : SinkSeen} → BreaksLines sink' sink'' session (reader ++ piece) → BeginsAnswers [] source sink sink''
+    begins_lines {sink'' = sink''} h =
+        let (more, rest, reply, cs, w, f) = h.reply u.lines u.written u.stands in
+        told_front sink sink'' source (u.written ++ f.front) f.rest (Appends-trans sink.held sink'.held sink''.held u.written f.front u.writes.held f.held)
+        (λ bytes e. let (on, end, output) = output_goes_on (u.bytes ++ piece) rest (u.written ++ reply) (u.lines ++ more) (cuts_on more rest cs) few_bytes bytes (begins bytes e) w in
+        (on, end, subst (λ (x : List ℕ). Output [] bytes (x ++ on) end) (ap (λ (x : List ℕ). u.written ++ x) f.split ∙ sym (append_assoc u.written f.front f.rest)) output))
 
-      begins_lines : BreaksLines held' held'' session (reader ++ piece) → BeginsAnswers [] left held held''
-      begins_lines h =
-          let (more, rest, reply, cs, w, part) = h u.lines u.written u.stands in
-          let (front, after, split, writes) = part in
-          told_front left held held'' (u.written ++ front) after (Appends-trans held held' held'' u.written front u.writes.0 writes)
-          (λ bytes e. let (on, end, output) = output_goes_on (u.bytes ++ piece) rest (u.written ++ reply) (u.lines ++ more) (cuts_on more rest cs) few_bytes bytes (begins bytes e) w in
-          (on, end, subst (λ (x : List ℕ). Output [] bytes (x ++ on) end) (ap (λ (x : List ℕ). u.written ++ x) split ∙ sym (append_assoc u.written front after)) output))
+    lines_keep_pace : {sink'' : SinkSeen} → BreaksLines sink' sink'' session (reader ++ piece) → KeepsPace source source'' sink sink''
+    lines_keep_pace {sink'' = sink''} h =
+        let (more, rest, reply, cs, w, f) = h.reply u.lines u.written u.stands in
+        keeps_pace sink sink'' source source'' u.bytes (piece ++ over) u.written f.front (subst (λ (x : List ℕ). Consumes source.left source''.left x) (append_assoc u.bytes piece over) read)
+        (let a = length-append piece over in let b = p.lengths in let c = p.short in omega arith) transcript (Appends-trans sink.held sink'.held sink''.held u.written f.front u.writes.held f.held)
 
-      -- else it begins one
-      pub begins_stopped : (A : Type 0) (session' : Standing) (reader' : List ℕ) (stop : Stop) (end : Status)
-          → Comes {A = A} (Err stop) (λ _. AnswersLines held' held'' room' room'' session session' (reader ++ piece) reader') (RefusesLines held' held'' room' room'' session (reader ++ piece)) (BreaksLines held' held'' session (reader ++ piece))
-          → end ≡ status_of stop → IsCutOff end → BeginsAnswers [] left held held''
-      begins_stopped A session' reader' stop end comes e = cut_off A stop end (λ _. AnswersLines held' held'' room' room'' session session' (reader ++ piece) reader') (RefusesLines held' held'' room' room'' session (reader ++ piece))
-          (BreaksLines held' held'' session (reader ++ piece)) (BeginsAnswers [] left held held'') comes e begins_lines
+    -- A line of the piece stopped the run.
+    module _ (A : Type 0) (sink'' : SinkSeen) (session' : Standing) (reader' : List ℕ) (stop : Stop) (end : Status)
+        (h : MatchStop {A = A} (Err stop) (λ _. AnswersLines sink' sink'' session session' (reader ++ piece) reader') (RefusesLines sink' sink'' session (reader ++ piece)) (BreaksLines sink' sink'' session (reader ++ piece)))
+        (is : end ≡ status_of stop) where
+      -- what was written is an output if anything was refused
+      pub answers_stopped : IsWhole end → Answers [] source sink sink'' end
+      answers_stopped = stopped A stop end (λ _. AnswersLines sink' sink'' session session' (reader ++ piece) reader') (RefusesLines sink' sink'' session (reader ++ piece)) (BreaksLines sink' sink'' session (reader ++ piece))
+          (λ x. Answers [] source sink sink'' x) h is answers_refused
 
-      module _ (session' : Standing) (reader' : List ℕ) (answers : AnswersLines held' held'' room' room'' session session' (reader ++ piece) reader') where
-        -- where bytes are too many, the replies to the lines that count are an output
-        pub answers_too_long : HasNoFeed reader' → taken + length piece ≡ 1048576 → 0 < length over → Answers [] left held held'' status.TooLong
-        answers_too_long free full some =
-            let (more, reply, cs, next, writes) = answers u.lines u.written u.stands in
-            let all : length (u.bytes ++ piece) ≡ 1048576 = (let k = u.count in let a = length-append u.bytes piece in omega arith) in
-            told left held held'' (u.written ++ reply) status.TooLong (Appends-trans held held' held'' u.written reply u.writes.0 writes.0)
-            (λ bytes e. output_too_long (u.bytes ++ piece) reader' (u.written ++ reply) (u.lines ++ more) (cuts_on more reader' cs) few_bytes bytes over (begins_over bytes e) all some free (Stands-transcript (u.lines ++ more) (u.written ++ reply) session' next))
+      -- otherwise it begins one
+      pub begins_stopped : IsCutOff end → BeginsAnswers [] source sink sink''
+      begins_stopped = cut_off A stop end (λ _. AnswersLines sink' sink'' session session' (reader ++ piece) reader') (RefusesLines sink' sink'' session (reader ++ piece)) (BreaksLines sink' sink'' session (reader ++ piece))
+          (BeginsAnswers [] source sink sink'') h is begins_lines
 
-        -- where none is too many, the run goes on
-        pub piece_answered : over ≡ [] → IsUnderWay left left'' held held'' room room'' session' reader' (taken + length piece)
-        piece_answered none =
-            let (more, reply, cs, next, writes) = answers u.lines u.written u.stands in
-            record {
-              bytes = u.bytes ++ piece;
-              lines = u.lines ++ more;
-              written = u.written ++ reply;
-              count = (let k = u.count in let a = length-append u.bytes piece in omega arith);
-              consumes = subst (λ (x : List ℕ). Consumes left left'' x) (ap (λ (x : List ℕ). (u.bytes ++ piece) ++ x) none ∙ append-nil (u.bytes ++ piece)) read;
-              cuts = cuts_on more reader' cs;
-              stands = next;
-              writes = Writes-trans held held' held'' room room' room'' u.written reply u.writes writes;
-            }
+      -- and all lines that had come whole before the piece were answered
+      pub stopped_keeps_pace : IsBrokenOff end → KeepsPace source source'' sink sink''
+      stopped_keeps_pace = broken_off A stop end (λ _. AnswersLines sink' sink'' session session' (reader ++ piece) reader') (RefusesLines sink' sink'' session (reader ++ piece)) (BreaksLines sink' sink'' session (reader ++ piece))
+          (KeepsPace source source'' sink sink'') h is lines_keep_pace
 
-  -- A read failed.
-  pub answers_taken : (left'' : Option (List ℕ)) → HasNoFeed reader → taken ≤ 1048576 → Keeps left' left'' → AnswersTaken left left'' held held'
-  answers_taken left'' free short keeps =
-      let same : ended_lines u.bytes ≡ u.lines = ended_lines-CutsLines u.bytes reader u.lines u.cuts ∙ (ap (λ (xs : List (List ℕ)). u.lines ++ xs) (ended_lines-HasNoFeed reader free) ∙ append-nil u.lines) in
-      let t = subst (λ (xs : List (List ℕ)). Transcript xs u.written) (sym same) (Stands-transcript u.lines u.written session u.stands) in
-      taken_so left left'' held held' u.bytes u.written (Consumes-kept left left' left'' u.bytes u.consumes keeps) (let k = u.count in omega arith) t u.writes.0
+    -- The lines of the piece were answered.
+    module _ {sink'' : SinkSeen} {session' : Standing} {reader' : List ℕ} (answers : AnswersLines sink' sink'' session session' (reader ++ piece) reader') (free : HasNoFeed reader') where
+      -- if bytes are too many, the replies to the lines that count are an output
+      pub answers_too_long : taken + length piece ≡ max_input_bytes → 0 < length over → Answers [] source sink sink'' status.TooLong
+      answers_too_long full some =
+          let (more, reply, cs, next, writes) = answers.reply u.lines u.written u.stands in
+          let all : length (u.bytes ++ piece) ≡ max_input_bytes = (let k = u.count in let a = length-append u.bytes piece in omega arith) in
+          told source (u.written ++ reply) status.TooLong (Writes-trans u.writes writes)
+          (λ bytes e. output_too_long (u.bytes ++ piece) reader' (u.written ++ reply) (u.lines ++ more) (cuts_on more reader' cs) few_bytes bytes over (begins_over bytes e) all some free (Stands-transcript (u.lines ++ more) (u.written ++ reply) session' next))
 
--- what was written for the lines that were taken whole begins an output for what was taken
-pub taken_begins : (left left' held held' : Option (List ℕ)) → AnswersTaken left left' held held' → BeginsTaken left left' held held'
-taken_begins None left' held held' a = tt
-taken_begins (Some bytes) None held held' a = a
-taken_begins (Some bytes) (Some rest) held held' (taken, text, split, short, t, w) =
-    let (more, end, output) = transcripts_go_on taken text short t in
-    (taken, split, (text, more, end, output, w))
+      -- if none is too many, the run goes on
+      pub piece_answered : over ≡ [] → IsUnderWay source source'' sink sink'' session' reader' (taken + length piece)
+      piece_answered none =
+          let (more, reply, cs, next, writes) = answers.reply u.lines u.written u.stands in
+          record {
+            bytes = u.bytes ++ piece;
+            lines = u.lines ++ more;
+            written = u.written ++ reply;
+            count = (let k = u.count in let a = length-append u.bytes piece in omega arith);
+            consumes = subst (λ (x : List ℕ). Consumes source.left source''.left x) (ap (λ (x : List ℕ). (u.bytes ++ piece) ++ x) none ∙ append-nil (u.bytes ++ piece)) read;
+            cuts = cuts_on more reader' cs;
+            no_feed = free;
+            stands = next;
+            writes = Writes-trans u.writes writes;
+          }

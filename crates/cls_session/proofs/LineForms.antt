@@ -2,6 +2,7 @@
 use Rattle.std.proofs.Common.{◌≡◌, ◌≢◌, ℕ, ◌≤◌, List, refl, sym, ap, ◌∙◌, subst, arith, Bool, true, false}
 use Rattle.std.specs.Prelude.{Option, Some, None, codes, bytes_eq, not, is_some, unwrap_or, IsTrue, ◌↔◌}
 use Rattle.std.specs.Option.{SomeIff}
+use Rattle.cls_base.specs.Limits.{max_term_size, max_page_terms}
 use Rattle.cls_syntax.specs.Numerals.{number_value}
 use Rattle.cls_syntax.specs.Skipped.{IsText, IsSkipped}
 use Rattle.cls_syntax.specs.Words.{Word, words_of}
@@ -10,8 +11,8 @@ use Rattle.cls_session.specs.declared.forms.RepositoryLine.TheVariants as reposi
 use Rattle.cls_session.specs.declared.forms.QueryLine.{QueryLine}
 use Rattle.cls_session.specs.declared.forms.QueryLine.TheVariants as query
 use Rattle.cls_session.specs.Declarations.{Declaration}
-use Rattle.cls_session.specs.Forms.{declaration_words, end_words, listing_words, IsRead}
-use Rattle.cls_session.specs.LineAnswers.{IsFree, IsWithin, IsRepositoryForm, IsQueryForm, IsRepositoryLine, IsQueryLine}
+use Rattle.cls_session.specs.Forms.{declaration_tokens, end_tokens, listing_tokens, IsRead}
+use Rattle.cls_session.specs.LineAnswers.{IsFree, AreInRange, IsRepositoryForm, IsQueryForm, IsRepositoryLine, IsQueryLine}
 use Rattle.cls_session.specs.Readings.{declaration_at, listing_at}
 use Rattle.std.proofs.lemmas.Slice.Eq.{bytes_eq-Decides}
 use Rattle.cls_session.proofs.Decisions.{same_bytes}
@@ -50,40 +51,40 @@ agrees answer xs word e f = same_bytes xs word (not_false (bytes_eq xs word) (sy
 
 -- a declaration whose names aren't both free isn't one
 module _ (ws : List Word) (component type : List ℕ) (read : declaration_at ws ≡ Some (component, type)) where
-  other_declaration : (d : Declaration) → ws ≡ declaration_words d → (component ≡ d.component) × (type ≡ d.type)
+  other_declaration : (d : Declaration) → ws ≡ declaration_tokens d → (component ≡ d.component) × (type ≡ d.type)
   other_declaration d e = pair_same component type d.component d.type (sym read ∙ declaration_reads ws d e)
 
-  pub reserved_component : component ≡ codes "omega" → (d : Declaration) → ws ≡ declaration_words d → IsFree d → ⊥
+  pub reserved_component : component ≡ codes "omega" → (d : Declaration) → ws ≡ declaration_tokens d → IsFree d → ⊥
   reserved_component p d e f = f.0 (sym (other_declaration d e).0 ∙ p)
 
-  pub reserved_type : type ≡ codes "omega" → (d : Declaration) → ws ≡ declaration_words d → IsFree d → ⊥
+  pub reserved_type : type ≡ codes "omega" → (d : Declaration) → ws ≡ declaration_tokens d → IsFree d → ⊥
   reserved_type p d e f = f.1 (sym (other_declaration d e).1 ∙ p)
 
 -- what wasn't read isn't there
-pub no_declaration : (ws : List Word) → declaration_at ws ≡ None → (d : Declaration) → ws ≡ declaration_words d → IsFree d → ⊥
+pub no_declaration : (ws : List Word) → declaration_at ws ≡ None → (d : Declaration) → ws ≡ declaration_tokens d → IsFree d → ⊥
 no_declaration ws n d e f = none_some (d.component, d.type) (sym n ∙ declaration_reads ws d e)
 
-pub no_end : (answer : Bool) (ws : List Word) → IsTrue answer ↔ (ws ≡ end_words) → answer ≡ false → ws ≡ end_words → ⊥
+pub no_end : (answer : Bool) (ws : List Word) → IsTrue answer ↔ (ws ≡ end_tokens) → answer ≡ false → ws ≡ end_tokens → ⊥
 no_end answer ws h f e = let t = h.1 e in absurd (cc)
 
-pub no_listing : (ws : List Word) → listing_at ws ≡ None → (m k : List ℕ) → ws ≡ listing_words m k → ⊥
+pub no_listing : (ws : List Word) → listing_at ws ≡ None → (m k : List ℕ) → ws ≡ listing_tokens m k → ⊥
 no_listing ws n m k e = none_some (m, k) (sym n ∙ listing_reads ws m k e)
 
 module _ (ws : List Word) (max take : List ℕ) (read : listing_at ws ≡ Some (max, take)) where
   -- the numbers of a listing are those that were read
-  pub other_listing : (m k : List ℕ) → ws ≡ listing_words m k → (max ≡ m) × (take ≡ k)
+  pub other_listing : (m k : List ℕ) → ws ≡ listing_tokens m k → (max ≡ m) × (take ≡ k)
   other_listing m k e = pair_same max take m k (sym read ∙ listing_reads ws m k e)
 
   -- a number that isn't within its limits makes no listing
-  pub wide_max : ((1 ≤ number_value max) × (number_value max ≤ 1024) → ⊥) → (m k : List ℕ) → ws ≡ listing_words m k → IsWithin (number_value m) (number_value k) → ⊥
-  wide_max n m k e w = n (subst (λ (x : List ℕ). (1 ≤ number_value x) × (number_value x ≤ 1024)) (sym (other_listing m k e).0) w.0)
+  pub wide_max : ((1 ≤ number_value max) × (number_value max ≤ max_term_size) → ⊥) → (m k : List ℕ) → ws ≡ listing_tokens m k → AreInRange (number_value m) (number_value k) → ⊥
+  wide_max n m k e w = n (subst (λ (x : List ℕ). (1 ≤ number_value x) × (number_value x ≤ max_term_size)) (sym (other_listing m k e).0) w.0)
 
-  pub wide_take : ((1 ≤ number_value take) × (number_value take ≤ 10000) → ⊥) → (m k : List ℕ) → ws ≡ listing_words m k → IsWithin (number_value m) (number_value k) → ⊥
-  wide_take n m k e w = n (subst (λ (x : List ℕ). (1 ≤ number_value x) × (number_value x ≤ 10000)) (sym (other_listing m k e).1) w.1)
+  pub wide_take : ((1 ≤ number_value take) × (number_value take ≤ max_page_terms) → ⊥) → (m k : List ℕ) → ws ≡ listing_tokens m k → AreInRange (number_value m) (number_value k) → ⊥
+  wide_take n m k e w = n (subst (λ (x : List ℕ). (1 ≤ number_value x) × (number_value x ≤ max_page_terms)) (sym (other_listing m k e).1) w.1)
 
   -- two numbers within their limits make one
-  pub within_both : (m k : ℕ) → ((1 ≤ number_value max) × (number_value max ≤ 1024)) × (number_value max ≡ m) → ((1 ≤ number_value take) × (number_value take ≤ 10000)) × (number_value take ≡ k)
-      → (a b : List ℕ) × (ws ≡ listing_words a b) × (number_value a ≡ m) × (number_value b ≡ k) × IsWithin m k
+  pub within_both : (m k : ℕ) → ((1 ≤ number_value max) × (number_value max ≤ max_term_size)) × (number_value max ≡ m) → ((1 ≤ number_value take) × (number_value take ≤ max_page_terms)) × (number_value take ≡ k)
+      → (a b : List ℕ) × (ws ≡ listing_tokens a b) × (number_value a ≡ m) × (number_value b ≡ k) × AreInRange m k
   within_both m k p q = (max, take, listing_read ws max take read, p.1, q.1, (let a = p.0 in let b = q.0 in let e = p.1 in let f = q.1 in ((omega arith, omega arith), (omega arith, omega arith))))
 
 -- the line of these words
@@ -94,16 +95,16 @@ module _ (line : List ℕ) (ws : List Word) (is : ws ≡ words_of line) (text : 
   pub repository_line : (r : RepositoryLine) → IsRepositoryForm ws r → IsRepositoryLine line r
   repository_line repository.Skipped f = absurd f
   repository_line (repository.Component name) (d, e, w, free) =
-      (d.type, record { read = read; words = sym is ∙ (w ∙ λ i. declaration_words record { component = e i; type = d.type }); component = λ p. free.0 (e ∙ p); type = free.1 })
-  repository_line repository.End w = record { read = read; words = sym is ∙ w }
-  repository_line repository.Unbuilt (n, m) = (unskipped, (λ d q. n d (is ∙ q.words) (q.component, q.type)), λ q. m (is ∙ q.words))
+      (d.type, record { read = read; tokens = sym is ∙ (w ∙ λ i. declaration_tokens record { component = e i; type = d.type }); component = λ p. free.0 (e ∙ p); type = free.1 })
+  repository_line repository.End w = record { read = read; tokens = sym is ∙ w }
+  repository_line repository.Unbuilt (n, m) = (unskipped, (λ d q. n d (is ∙ q.tokens) (q.component, q.type)), λ q. m (is ∙ q.tokens))
 
   pub query_line : (q : QueryLine) → IsQueryForm ws q → IsQueryLine line q
   query_line query.Skipped f = absurd f
-  query_line (query.Listing max take) (m, k, w, a, b, within) = record { max_digits = m; take_digits = k; read = read; words = sym is ∙ w; max_value = a; take_value = b; max_within = within.0; take_within = within.1 }
+  query_line (query.Listing max take) (m, k, w, a, b, within) = record { max_digits = m; take_digits = k; read = read; tokens = sym is ∙ w; max_value = a; take_value = b; max_within = within.0; take_within = within.1 }
   query_line query.Unbuilt n = (
     unskipped,
-    λ max take q. n q.max_digits q.take_digits (is ∙ q.words)
+    λ max take q. n q.max_digits q.take_digits (is ∙ q.tokens)
         (let a = q.max_within in let b = q.take_within in let c = q.max_value in let d = q.take_value in ((omega arith, omega arith), (omega arith, omega arith))),
   )
 

@@ -1,15 +1,15 @@
 -- The terms of a page of omega, as their texts are made.
 use Rattle.std.proofs.Common.{◌≡◌, ℕ, ◌<◌, List, length, sym, ap, ◌∙◌, subst, arith, Bool, get_or}
 use Rattle.std.specs.Prelude.{All, codes}
+use Rattle.cls_base.specs.Limits.{max_pool}
 use Rattle.cls_base.specs.Types as types
 use Rattle.cls_base.specs.Terms.{Applicative, component, apply, IsTermOver}
 use Rattle.cls_base.specs.Pages.{IsPage}
 use Rattle.cls_term.specs.Components.{greatest_of}
 use Rattle.cls_term.specs.Texts.{name_at}
 use Rattle.cls_session.specs.Declarations.{Declaration, names_of}
-use Rattle.cls_session.specs.Forms.{IsListing}
-use Rattle.cls_session.specs.Listings.{request, AreFew, AreMany}
-use Rattle.cls_session.specs.Replies.{reply_line, page_text, IsOmega, Reply, listing, too_many}
+use Rattle.cls_session.specs.Listings.{omega_request, AreFew, AreMany}
+use Rattle.cls_session.specs.Replies.{reply_line, page_text, IsOmega, ListsOmega, HasTooMany}
 use Rattle.cls_session.proofs.Repositories.{length-names_of}
 use Rattle.cls_session.proofs.Pools.{few_to, many_to}
 use Rattle.cls_session.proofs.Typing.{typed_from_over, over_from_typed, page_to}
@@ -31,17 +31,17 @@ module _ (names : List (List ℕ)) (declared : List Declaration) (is : names ≡
   over : (e : Applicative) → IsOmega declared e → IsTermOver (length names) e
   over e h = subst (λ k. IsTermOver k e) (sym (ap length is ∙ length-names_of declared)) (over_from_typed declared e types.omega h)
 
-  -- the reply that lists the page
-  pub lists_page : (line text : List ℕ) (es : List Applicative) (more : Bool) → IsListing line max take → IsPage (IsTermOver (length names)) (request max take) es more
-      → AreFew (IsTermOver (length names)) max take 200000 → text ≡ page_text (name_at names) es more → Reply declared line text
-  lists_page line text es more q p f e = listing max take q record {
+  -- the text that lists the page
+  pub lists_page : (text : List ℕ) (es : List Applicative) (more : Bool) → IsPage (IsTermOver (length names)) (omega_request max take) es more
+      → AreFew (IsTermOver (length names)) max take max_pool → text ≡ page_text (name_at names) es more → ListsOmega declared max take text
+  lists_page text es more p f e = record {
     terms = es;
     more = more;
-    page = page_to (IsTermOver (length names)) (IsOmega declared) (request max take) typed over es more p;
-    few = few_to (IsTermOver (length names)) (IsOmega declared) typed over max take 200000 f;
+    page = page_to (IsTermOver (length names)) (IsOmega declared) (omega_request max take) typed over es more p;
+    few = few_to (IsTermOver (length names)) (IsOmega declared) typed over max take max_pool f;
     written = e ∙ ap (λ (table : List (List ℕ)). page_text (name_at table) es more) is;
   }
 
-  -- the reply that there are too many terms
-  pub has_too_many : (line text : List ℕ) → IsListing line max take → AreMany (IsTermOver (length names)) max take 200000 → text ≡ reply_line (codes "error too-many-terms") → Reply declared line text
-  has_too_many line text q m e = too_many max take q record { many = many_to (IsTermOver (length names)) (IsOmega declared) typed over max take 200000 m; written = e }
+  -- the text that says that there are too many terms
+  pub has_too_many : (text : List ℕ) → AreMany (IsTermOver (length names)) max take max_pool → text ≡ reply_line (codes "error too-many-terms") → HasTooMany declared max take text
+  has_too_many text m e = record { many = many_to (IsTermOver (length names)) (IsOmega declared) typed over max take max_pool m; written = e }

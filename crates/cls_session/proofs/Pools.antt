@@ -21,7 +21,7 @@ use Rattle.cls_enum.specs.States as states
 use Rattle.cls_enum.proofs.Existence.{each_page-decided}
 use Rattle.cls_grammar.specs.Books.{omega_book}
 use Rattle.cls_grammar.proofs.Books.{omega_book-language}
-use Rattle.cls_session.specs.Listings.{request, IsCounted, CountIs, IsPool, AreFew, AreMany}
+use Rattle.cls_session.specs.Listings.{omega_request, IsCounted, CountIs, IsPool, AreFew, AreMany}
 use Rattle.cls_session.proofs.Typing.{due_to, due_back, page_to}
 
 -- Where all pairs are of node 0, no term stands twice among theirs.
@@ -72,11 +72,11 @@ module _ (book : List (List (Rule ℕ))) (single : length book ≡ 1) (s : ℕ) 
 
 -- the terms that have one property are counted as those that have an equivalent one
 module _ (P Q : Applicative → Type 0) (to : (e : Applicative) → P e → Q e) (back : (e : Applicative) → Q e → P e) (max take : ℕ) where
-  enough_to : (s : ℕ) → IsEnough (IsDue P (request max take)) one take s → IsEnough (IsDue Q (request max take)) one take s
-  enough_to s (terms, once, due, count) = (terms, once, (λ e c. let d = due e c in (due_to P Q (request max take) to back e d.0, d.1)), count)
+  enough_to : (s : ℕ) → IsEnough (IsDue P (omega_request max take)) one take s → IsEnough (IsDue Q (omega_request max take)) one take s
+  enough_to s (terms, once, due, count) = (terms, once, (λ e c. let d = due e c in (due_to P Q (omega_request max take) to back e d.0, d.1)), count)
 
-  enough_back : (s : ℕ) → IsEnough (IsDue Q (request max take)) one take s → IsEnough (IsDue P (request max take)) one take s
-  enough_back s (terms, once, due, count) = (terms, once, (λ e c. let d = due e c in (due_back P Q (request max take) to back e d.0, d.1)), count)
+  enough_back : (s : ℕ) → IsEnough (IsDue Q (omega_request max take)) one take s → IsEnough (IsDue P (omega_request max take)) one take s
+  enough_back s (terms, once, due, count) = (terms, once, (λ e c. let d = due e c in (due_back P Q (omega_request max take) to back e d.0, d.1)), count)
 
   count_to : (s n : ℕ) → CountIs P s n → CountIs Q s n
   count_to s n (terms, once, exact, count) = (
@@ -115,29 +115,29 @@ module _ (n max take : ℕ) where
   over_generated e = (omega_book-language n e).1
 
   -- the page of the rule book is theirs
-  pub book_page : (es : List Applicative) (more : Bool) → IsPage (IsGenerated (omega_book n) 0) (request max take) es more → IsPage (IsTermOver n) (request max take) es more
-  book_page es more p = page_to (IsGenerated (omega_book n) 0) (IsTermOver n) (request max take) generated_over over_generated es more p
+  pub book_page : (es : List Applicative) (more : Bool) → IsPage (IsGenerated (omega_book n) 0) (omega_request max take) es more → IsPage (IsTermOver n) (omega_request max take) es more
+  book_page es more p = page_to (IsGenerated (omega_book n) 0) (IsTermOver n) (omega_request max take) generated_over over_generated es more p
 
   -- and so many of them count as its pool has pairs
-  pub book_pool : (s k : ℕ) → IsDecidingSize (IsDue (IsGenerated (omega_book n) 0) (request max take)) one take max s → PoolIs (omega_book n) one s k → IsPool (IsTermOver n) max take k
+  pub book_pool : (s k : ℕ) → IsDecidingSize (IsDue (IsGenerated (omega_book n) 0) (omega_request max take)) one take max s → PoolIs (omega_book n) one s k → IsPool (IsTermOver n) max take k
   book_pool s k d p = pool_to (IsGenerated (omega_book n) 0) (IsTermOver n) generated_over over_generated max take k record { size = s; decides = d; count = count_from (omega_book n) refl s k p }
 
   -- the page has a deciding size, and a pool at it
-  pub book_decided : (s : ℕ) × IsDecidingSize (IsDue (IsGenerated (omega_book n) 0) (request max take)) one take max s × ((k : ℕ) × PoolIs (omega_book n) one s k)
-  book_decided = each_page-decided (omega_book n) (request max take) (omega arith) (λ x. omega arith)
+  pub book_decided : (s : ℕ) × IsDecidingSize (IsDue (IsGenerated (omega_book n) 0) (omega_request max take)) one take max s × ((k : ℕ) × PoolIs (omega_book n) one s k)
+  book_decided = each_page-decided (omega_book n) (omega_request max take) (omega arith) (λ x. omega arith)
 
   -- what was listed from the rule book is the page of the terms
-  pub page_listed : (r : Result Page PageFault) → IfOk r (λ p. IsPage (IsGenerated (omega_book n) 0) (request max take) p.terms p.more) → IfOk r (λ p. IsPage (IsTermOver n) (request max take) p.terms p.more)
+  pub page_listed : (r : Result Page PageFault) → IfOk r (λ p. IsPage (IsGenerated (omega_book n) 0) (omega_request max take) p.terms p.more) → IfOk r (λ p. IsPage (IsTermOver n) (omega_request max take) p.terms p.more)
   page_listed (Ok p) h = book_page p.terms p.more h
   page_listed (Err e) h = tt
 
   -- and few count
-  pub few_listed : (bound : ℕ) (r : Result Page PageFault) → IfOk r (λ _. IsWithin (omega_book n) (request max take) bound) → IfOk r (λ _. AreFew (IsTermOver n) max take bound)
+  pub few_listed : (bound : ℕ) (r : Result Page PageFault) → IfOk r (λ _. IsWithin (omega_book n) (omega_request max take) bound) → IfOk r (λ _. AreFew (IsTermOver n) max take bound)
   few_listed bound (Ok p) h = let d = book_decided in (d.2.0, book_pool d.0 d.2.0 d.1 d.2.1, h d.0 d.2.0 d.1 d.2.1)
   few_listed bound (Err e) h = tt
 
   -- where the rule book has too many terms, many count
-  pub many_found : (bound : ℕ) (r : Result Page PageFault) → IfErr r (λ fault. IfTooMany fault (states.IsTermOver (omega_book n) (request max take) bound)) → IfErr r (λ fault. IfTooMany fault (AreMany (IsTermOver n) max take bound))
+  pub many_found : (bound : ℕ) (r : Result Page PageFault) → IfErr r (λ fault. IfTooMany fault (states.IsOver (omega_book n) (omega_request max take) bound)) → IfErr r (λ fault. IfTooMany fault (AreMany (IsTermOver n) max take bound))
   many_found bound (Ok p) h = tt
   many_found bound (Err OutOfMemory) h = tt
   many_found bound (Err TooManyTerms) h = let d = book_decided in (d.2.0, book_pool d.0 d.2.0 d.1 d.2.1, h d.0 d.2.0 d.1 d.2.1)

@@ -6,7 +6,7 @@ use Rattle.cls_syntax.specs.Words.{Word, name, number, sign}
 use Rattle.cls_syntax.specs.Fronts.{first_name, first_number, after_word, after_sign}
 use Rattle.cls_syntax.proofs.WordFronts.{fronts_exact}
 use Rattle.cls_session.specs.Declarations.{Declaration}
-use Rattle.cls_session.specs.Forms.{declaration_words, listing_words}
+use Rattle.cls_session.specs.Forms.{declaration_tokens, listing_tokens}
 use Rattle.cls_session.specs.Readings.{◌>>=◌, whole, declaration_at, listing_at}
 
 -- what an option was, of which a second one came
@@ -49,16 +49,16 @@ both_at_end x y m n ws e =
 
 -- the words of a declaration, put together from their parts
 declaration_made : (ws a b c d : List Word) (x t component type : List ℕ) → ws ≡ name (codes "comp") ∷ a → a ≡ name x ∷ b → b ≡ sign Colon ∷ c → c ≡ name t ∷ d → d ≡ [] → x ≡ component → t ≡ type
-    → ws ≡ declaration_words record { component = component; type = type }
+    → ws ≡ declaration_tokens record { component = component; type = type }
 declaration_made ws a b c d x t component type p q r s e is was = cc
 
 -- the words of a listing, put together from their parts
 listing_made : (ws a b c d f g : List Word) (m k max take : List ℕ) → ws ≡ name (codes "list") ∷ a → a ≡ name (codes "omega") ∷ b → b ≡ name (codes "max") ∷ c → c ≡ number m ∷ d
-    → d ≡ name (codes "take") ∷ f → f ≡ number k ∷ g → g ≡ [] → m ≡ max → k ≡ take → ws ≡ listing_words max take
+    → d ≡ name (codes "take") ∷ f → f ≡ number k ∷ g → g ≡ [] → m ≡ max → k ≡ take → ws ≡ listing_tokens max take
 listing_made ws a b c d f g m k max take p q r s t u e is was = cc
 
 -- what is read as a declaration has its words
-pub declaration_read : (ws : List Word) (component type : List ℕ) → declaration_at ws ≡ Some (component, type) → ws ≡ declaration_words record { component = component; type = type }
+pub declaration_read : (ws : List Word) (component type : List ℕ) → declaration_at ws ≡ Some (component, type) → ws ≡ declaration_tokens record { component = component; type = type }
 unfolding declaration_at
 declaration_read ws component type e =
     let y : List ℕ × List ℕ = (component, type) in
@@ -70,7 +70,7 @@ declaration_read ws component type e =
     declaration_made ws a.0 b.1 c.0 d.1 b.0 d.0 component type a.1 b.2 c.1 d.2 z.0 z.1 z.2
 
 -- what is read as a listing has its words
-pub listing_read : (ws : List Word) (max take : List ℕ) → listing_at ws ≡ Some (max, take) → ws ≡ listing_words max take
+pub listing_read : (ws : List Word) (max take : List ℕ) → listing_at ws ≡ Some (max, take) → ws ≡ listing_tokens max take
 unfolding listing_at
 listing_read ws max take e =
     let y : List ℕ × List ℕ = (max, take) in
@@ -84,12 +84,12 @@ listing_read ws max take e =
     listing_made ws a.0 b.0 c.0 d.1 f.0 g.1 d.0 g.0 max take a.1 b.1 c.1 d.2 f.1 g.2 z.0 z.1 z.2
 
 -- the words of a declaration are read as one
-pub declaration_reads : (ws : List Word) (d : Declaration) → ws ≡ declaration_words d → declaration_at ws ≡ Some (d.component, d.type)
+pub declaration_reads : (ws : List Word) (d : Declaration) → ws ≡ declaration_tokens d → declaration_at ws ≡ Some (d.component, d.type)
 unfolding declaration_at
 declaration_reads ws d e = ap declaration_at e ∙ refl
 
 -- the words of a listing are read as one
-pub listing_reads : (ws : List Word) (max take : List ℕ) → ws ≡ listing_words max take → listing_at ws ≡ Some (max, take)
+pub listing_reads : (ws : List Word) (max take : List ℕ) → ws ≡ listing_tokens max take → listing_at ws ≡ Some (max, take)
 unfolding listing_at
 listing_reads ws max take e = ap listing_at e ∙ refl
 

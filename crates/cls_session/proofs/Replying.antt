@@ -3,10 +3,11 @@ use Rattle.std.proofs.Common.{◌≡◌, ℕ, ◌+◌, ◌<◌, List, [], ◌∷
 use Rattle.std.specs.Prelude.{Contains, IsTrue, ◌↔◌, bytes_eq, if◌then◌else◌}
 use Rattle.std.specs.List.{list_any}
 use Rattle.std.proofs.lemmas.Map.Views.{Contains-from_any}
+use Rattle.cls_base.specs.Limits.{max_components}
 use Rattle.cls_syntax.specs.Skipped.{IsSkipped}
 use Rattle.cls_session.specs.declared.status.Status.TheVariants.{Done, Refused}
 use Rattle.cls_session.specs.Declarations.{Declaration, names_of}
-use Rattle.cls_session.specs.Forms.{IsDeclaration, IsEnd, declaration_words, end_words}
+use Rattle.cls_session.specs.Forms.{IsDeclaration, IsEnd, declaration_tokens, end_tokens}
 use Rattle.cls_session.specs.Replies.{Reply}
 use Rattle.cls_session.specs.Transcripts.{refusal, IsRefused, Ending}
 use Rattle.cls_session.specs.Standings.{Standing, Stands}
@@ -43,7 +44,7 @@ module _ (names : List (List ℕ)) (count : ℕ) (ended : Bool) (s : Standing) (
 
   -- a line that declares a component
   pub declares : (line reply name type : List ℕ) (grown : List (List ℕ)) → s.ended ≡ false → reply ≡ [] → IsDeclaration line record { component = name; type = type }
-      → (Contains names name → ⊥) → length names < 1000 → grown ≡ names ++ name ∷ [] → Stands (lines ++ line ∷ []) (written ++ reply) record { components = grown; lines = count + 1; ended = ended }
+      → (Contains names name → ⊥) → length names < max_components → grown ≡ names ++ name ∷ [] → Stands (lines ++ line ∷ []) (written ++ reply) record { components = grown; lines = count + 1; ended = ended }
   declares line reply name type grown r e q new few g =
       let d : Declaration = record { component = name; type = type } in
       let h = Stands-declare lines written line names count d (is_reading (reads r)) q new few in
@@ -76,15 +77,15 @@ new_text table text n =
 
 -- a line that declares a component isn't the line `end`
 pub not_end : (line : List ℕ) (d : Declaration) → IsDeclaration line d → IsEnd line → ⊥
-not_end line d p q = let e : declaration_words d ≡ end_words = sym p.words ∙ q.words in cc
+not_end line d p q = let e : declaration_tokens d ≡ end_tokens = sym p.tokens ∙ q.tokens in cc
 
 -- a name that may not be declared makes the line faulty
 pub refused_name : (names : List (List ℕ)) (line name type : List ℕ) (may : Bool) → IsDeclaration line record { component = name; type = type }
-    → IsTrue may ↔ ((Contains names name → ⊥) × (length names < 1000)) → may ≡ false → IsFaulty names line
+    → IsTrue may ↔ ((Contains names name → ⊥) × (length names < max_components)) → may ≡ false → IsFaulty names line
 refused_name names line name type may d m e =
     elim (contains_decided names name) [
       | inl c ↦ repeated _ d c
-      | inr n ↦ elim (cases_lt (length names) 1000) [
+      | inr n ↦ elim (cases_lt (length names) max_components) [
         | inl l ↦ (let t = m.1 (n, l) in absurd (cc))
         | inr g ↦ full _ d g
       ]

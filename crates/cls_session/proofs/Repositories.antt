@@ -1,37 +1,37 @@
 -- How a repository grows by a line, and that its lines determine it.
 use Rattle.std.proofs.Common.{◌≡◌, ℕ, zero, suc, List, [], ◌∷◌, ◌++◌, length, refl, sym, ap, ◌∙◌, subst, inl, inr, arith, append_assoc, append-nil}
 use Rattle.cls_session.specs.Declarations.{Declaration, names_of}
-use Rattle.cls_session.specs.Forms.{IsDeclaration, declaration_words}
-use Rattle.cls_session.specs.Repositories.{Entry, skipped, declares, Declares}
+use Rattle.cls_session.specs.Forms.{IsDeclaration, declaration_tokens}
+use Rattle.cls_session.specs.Repositories.{Declared, skipped, declares, Declares}
 
 -- a line declares one component at most
 pub same_declaration : (line : List ℕ) (c d : Declaration) → IsDeclaration line c → IsDeclaration line d → c ≡ d
 same_declaration line c d p q =
-    let words : declaration_words c ≡ declaration_words d = sym p.words ∙ q.words in
+    let tokens : declaration_tokens c ≡ declaration_tokens d = sym p.tokens ∙ q.tokens in
     let component : c.component ≡ d.component = cc in
     let type : c.type ≡ d.type = cc in
     λ i. record { component = component i; type = type i }
 
-Entry-unique : (line : List ℕ) (a b : List Declaration) → Entry line a → Entry line b → a ≡ b
-Entry-unique line a b (skipped s e) (skipped t f) = e ∙ sym f
-Entry-unique line a b (skipped s e) (declares d q f) = absurd (q.read.unskipped s)
-Entry-unique line a b (declares c p e) (skipped t f) = absurd (p.read.unskipped t)
-Entry-unique line a b (declares c p e) (declares d q f) = e ∙ (ap (λ (x : Declaration). x ∷ []) (same_declaration line c d p q) ∙ sym f)
+Declared-unique : (line : List ℕ) (a b : List Declaration) → Declared line a → Declared line b → a ≡ b
+Declared-unique line a b (skipped s e) (skipped t f) = e ∙ sym f
+Declared-unique line a b (skipped s e) (declares d q f) = absurd (q.read.unskipped s)
+Declared-unique line a b (declares c p e) (skipped t f) = absurd (p.read.unskipped t)
+Declared-unique line a b (declares c p e) (declares d q f) = e ∙ (ap (λ (x : Declaration). x ∷ []) (same_declaration line c d p q) ∙ sym f)
 
 pub Declares-unique : (lines : List (List ℕ)) (a b : List Declaration) → Declares lines a → Declares lines b → a ≡ b
 Declares-unique [] a b p q = p ∙ sym q
 Declares-unique (line ∷ lines) a b (x, xs, p, ps, e) (y, ys, q, qs, f) =
-    let first : x ≡ y = Entry-unique line x y p q in
+    let first : x ≡ y = Declared-unique line x y p q in
     let rest : xs ≡ ys = Declares-unique lines xs ys ps qs in
     cc
 
 -- a further line goes on with what it declares
-pub Declares-push : (lines : List (List ℕ)) (line : List ℕ) (a b : List Declaration) → Declares lines a → Entry line b → Declares (lines ++ line ∷ []) (a ++ b)
+pub Declares-push : (lines : List (List ℕ)) (line : List ℕ) (a b : List Declaration) → Declares lines a → Declared line b → Declares (lines ++ line ∷ []) (a ++ b)
 Declares-push [] line a b e q = (b, [], q, refl, rw e (sym (append-nil b)))
 Declares-push (l ∷ lines) line a b (x, xs, p, ps, e) q = (x, xs ++ b, p, Declares-push lines line xs b ps q, rw e (append_assoc x xs b))
 
 -- and what it declares comes last
-pub Declares-pop : (lines : List (List ℕ)) (line : List ℕ) (c : List Declaration) → Declares (lines ++ line ∷ []) c → (a b : List Declaration) × Declares lines a × Entry line b × (c ≡ a ++ b)
+pub Declares-pop : (lines : List (List ℕ)) (line : List ℕ) (c : List Declaration) → Declares (lines ++ line ∷ []) c → (a b : List Declaration) × Declares lines a × Declared line b × (c ≡ a ++ b)
 Declares-pop [] line c (x, xs, p, e, f) = ([], x, refl, p, f ∙ (ap (λ (y : List Declaration). x ++ y) e ∙ append-nil x))
 Declares-pop (l ∷ lines) line c (x, xs, p, ps, f) =
     let r = Declares-pop lines line xs ps in

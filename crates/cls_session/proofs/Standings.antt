@@ -1,10 +1,12 @@
 -- What one line more does to a session.
 use Rattle.std.proofs.Common.{◌≡◌, ℕ, ◌+◌, ◌<◌, ◌≤◌, List, [], ◌∷◌, ◌++◌, length, refl, sym, ap, ◌∙◌, subst, arith, append_assoc, append-nil, length-append, true, false}
 use Rattle.std.specs.Prelude.{Contains}
+use Rattle.std.proofs.lemmas.List.{length_push}
+use Rattle.cls_base.specs.Limits.{max_components}
 use Rattle.cls_syntax.specs.Skipped.{IsSkipped}
 use Rattle.cls_session.specs.Declarations.{Declaration, names_of}
 use Rattle.cls_session.specs.Forms.{IsDeclaration, IsEnd}
-use Rattle.cls_session.specs.Repositories.{Entry, skipped, declares, IsRepository}
+use Rattle.cls_session.specs.Repositories.{Declared, skipped, declares, IsRepository}
 use Rattle.cls_base.specs.Lists.{AreDistinct}
 use Rattle.cls_session.specs.Replies.{Reply, of_line, Replies, none, next, begun}
 use Rattle.cls_session.specs.Transcripts.{IsAnswered, Transcript, opening, answering, refusal, IsRefused, Ending, without_end, complete}
@@ -14,31 +16,28 @@ use Rattle.cls_session.specs.Standings as standings
 use Rattle.cls_session.proofs.Repositories.{same_declaration, Declares-unique, Declares-push, Declares-pop, names_of-append, length-names_of}
 use Rattle.cls_base.proofs.Lists.{AreDistinct-last, AreDistinct-push}
 
-pub length-push : {A : Type 0} (xs : List A) (x : A) → length (xs ++ x ∷ []) ≡ length xs + 1
-length-push xs x = length-append xs (x ∷ [])
-
 -- a line that declares nothing
 pub IsRepository-skip : (lines : List (List ℕ)) (line : List ℕ) (ds : List Declaration) → IsRepository lines ds → IsSkipped line → IsRepository (lines ++ line ∷ []) ds
 IsRepository-skip lines line ds r s =
     subst (λ (xs : List Declaration). IsRepository (lines ++ line ∷ []) xs) (append-nil ds)
-    record { declared = Declares-push lines line ds [] r.declared (skipped s refl); different = subst (λ (xs : List Declaration). AreDistinct (names_of xs)) (sym (append-nil ds)) r.different; few = subst (λ (xs : List Declaration). length xs ≤ 1000) (sym (append-nil ds)) r.few }
+    record { declared = Declares-push lines line ds [] r.declared (skipped s refl); different = subst (λ (xs : List Declaration). AreDistinct (names_of xs)) (sym (append-nil ds)) r.different; few = subst (λ (xs : List Declaration). length xs ≤ max_components) (sym (append-nil ds)) r.few }
 
 -- a line that declares a new component
 pub IsRepository-declare : (lines : List (List ℕ)) (line : List ℕ) (ds : List Declaration) (d : Declaration) → IsRepository lines ds → IsDeclaration line d
-    → (Contains (names_of ds) d.component → ⊥) → length ds < 1000 → IsRepository (lines ++ line ∷ []) (ds ++ d ∷ [])
+    → (Contains (names_of ds) d.component → ⊥) → length ds < max_components → IsRepository (lines ++ line ∷ []) (ds ++ d ∷ [])
 IsRepository-declare lines line ds d r s new few = record {
   declared = Declares-push lines line ds (d ∷ []) r.declared (declares d s refl);
   different = rw (names_of-append ds (d ∷ [])) (AreDistinct-push (names_of ds) d.component r.different new);
-  few = omega (arith, length-push ds d);
+  few = omega (arith, length_push ds d);
 }
 
 -- the line is neither skipped nor declares a component that may stand here
 pub data IsFaulty (names : List (List ℕ)) (line : List ℕ) : Type 0 where
   foreign : (IsSkipped line → ⊥) → ((d : Declaration) → IsDeclaration line d → ⊥) → IsFaulty names line
   repeated : (d : Declaration) → IsDeclaration line d → Contains names d.component → IsFaulty names line
-  full : (d : Declaration) → IsDeclaration line d → 1000 ≤ length names → IsFaulty names line
+  full : (d : Declaration) → IsDeclaration line d → max_components ≤ length names → IsFaulty names line
 
-entry_of : (ds : List Declaration) (line : List ℕ) (b : List Declaration) → IsFaulty (names_of ds) line → Entry line b → AreDistinct (names_of (ds ++ b)) → length (ds ++ b) ≤ 1000 → ⊥
+entry_of : (ds : List Declaration) (line : List ℕ) (b : List Declaration) → IsFaulty (names_of ds) line → Declared line b → AreDistinct (names_of (ds ++ b)) → length (ds ++ b) ≤ max_components → ⊥
 entry_of ds line b (foreign n m) (skipped s e) different few = n s
 entry_of ds line b (foreign n m) (declares d q e) different few = m d q
 entry_of ds line b (repeated d p c) (skipped s e) different few = p.read.unskipped s
@@ -48,7 +47,7 @@ entry_of ds line b (repeated d p c) (declares f q e) different few =
     AreDistinct-last (names_of ds) f.component (subst (λ (xs : List (List ℕ)). AreDistinct xs) grown different) (subst (λ (x : Declaration). Contains (names_of ds) x.component) same c)
 entry_of ds line b (full d p c) (skipped s e) different few = p.read.unskipped s
 entry_of ds line b (full d p c) (declares f q e) different few =
-    let n = length-names_of ds in let m = ap (λ (xs : List Declaration). length (ds ++ xs)) e in let k = length-push ds f in absurd (omega arith)
+    let n = length-names_of ds in let m = ap (λ (xs : List Declaration). length (ds ++ xs)) e in let k = length_push ds f in absurd (omega arith)
 
 -- after a faulty line there is no repository
 pub IsRepository-none : (lines : List (List ℕ)) (line : List ℕ) (ds : List Declaration) → IsRepository lines ds → IsFaulty (names_of ds) line → (cs : List Declaration) → IsRepository (lines ++ line ∷ []) cs → ⊥
@@ -56,7 +55,7 @@ IsRepository-none lines line ds r f cs q =
     let p = Declares-pop lines line cs q.declared in
     let same : p.0 ≡ ds = Declares-unique lines p.0 ds p.2 r.declared in
     let is : cs ≡ ds ++ p.1 = p.4 ∙ ap (λ (xs : List Declaration). xs ++ p.1) same in
-    entry_of ds line p.1 f p.3 (subst (λ (xs : List Declaration). AreDistinct (names_of xs)) is q.different) (subst (λ (xs : List Declaration). length xs ≤ 1000) is q.few)
+    entry_of ds line p.1 f p.3 (subst (λ (xs : List Declaration). AreDistinct (names_of xs)) is q.different) (subst (λ (xs : List Declaration). length xs ≤ max_components) is q.few)
 
 pub Replies-push : (ds : List Declaration) (lines : List (List ℕ)) (line text reply : List ℕ) → Replies ds lines text → Reply ds line reply → Replies ds (lines ++ line ∷ []) (text ++ reply)
 Replies-push ds lines line text reply (none l t) q =
@@ -113,29 +112,29 @@ module _ (lines : List (List ℕ)) (text line : List ℕ) (names : List (List �
   pub Stands-skip : Stands lines text (reading names count) → IsSkipped line → Stands (lines ++ line ∷ []) (text ++ []) (reading names (count + 1))
   Stands-skip h s =
       let (ds, r, t, n, c) = Stands-reading lines text names count h in
-      standings.opening ds (IsRepository-skip lines line ds r s) (append-nil text ∙ t) (λ i. reading (n i) ((ap (λ k. k + 1) c ∙ sym (length-push lines line)) i))
+      standings.opening ds (IsRepository-skip lines line ds r s) (append-nil text ∙ t) (λ i. reading (n i) ((ap (λ k. k + 1) c ∙ sym (length_push lines line)) i))
 
-  pub Stands-declare : (d : Declaration) → Stands lines text (reading names count) → IsDeclaration line d → (Contains names d.component → ⊥) → length names < 1000
+  pub Stands-declare : (d : Declaration) → Stands lines text (reading names count) → IsDeclaration line d → (Contains names d.component → ⊥) → length names < max_components
       → Stands (lines ++ line ∷ []) (text ++ []) (reading (names ++ d.component ∷ []) (count + 1))
   Stands-declare d h s new few =
       let (ds, r, t, n, c) = Stands-reading lines text names count h in
       let grown : names ++ d.component ∷ [] ≡ names_of (ds ++ d ∷ []) = ap (λ (xs : List (List ℕ)). xs ++ d.component ∷ []) n ∙ sym (names_of-append ds (d ∷ [])) in
       let absent : Contains (names_of ds) d.component → ⊥ = λ k. new (subst (λ (xs : List (List ℕ)). Contains xs d.component) (sym n) k) in
-      let room : length ds < 1000 = (let a = length-names_of ds in let b = ap length n in omega arith) in
-      standings.opening (ds ++ d ∷ []) (IsRepository-declare lines line ds d r s absent room) (append-nil text ∙ t) (λ i. reading (grown i) ((ap (λ k. k + 1) c ∙ sym (length-push lines line)) i))
+      let room : length ds < max_components = (let a = length-names_of ds in let b = ap length n in omega arith) in
+      standings.opening (ds ++ d ∷ []) (IsRepository-declare lines line ds d r s absent room) (append-nil text ∙ t) (λ i. reading (grown i) ((ap (λ k. k + 1) c ∙ sym (length_push lines line)) i))
 
   pub Stands-end : Stands lines text (reading names count) → IsEnd line → Stands (lines ++ line ∷ []) (text ++ []) (querying names (count + 1))
   Stands-end h e =
       let (ds, r, t, n, c) = Stands-reading lines text names count h in
       let a : IsAnswered (lines ++ line ∷ []) ds (text ++ []) = subst (λ (x : List ℕ). IsAnswered (lines ++ line ∷ []) ds (x ++ [])) (sym t) (IsAnswered-end lines line ds r e) in
-      standings.answering ds a (λ i. querying (n i) ((ap (λ k. k + 1) c ∙ sym (length-push lines line)) i))
+      standings.answering ds a (λ i. querying (n i) ((ap (λ k. k + 1) c ∙ sym (length_push lines line)) i))
 
   pub Stands-refused : Stands lines text (reading names count) → IsFaulty names line → (IsEnd line → ⊥) → IsRefused (lines ++ line ∷ []) (text ++ refusal (count + 1))
   Stands-refused h f e =
       let (ds, r, t, n, c) = Stands-reading lines text names count h in
       record {
         place = count + 1;
-        fault = record { before = lines; line = line; after = []; split = refl; number = ap (λ k. k + 1) c; so_far = (ds, r); no_end = e; no_entry = IsRepository-none lines line ds r (subst (λ (xs : List (List ℕ)). IsFaulty xs line) n f) };
+        fault = record { before = lines; line = line; after = []; split = refl; number = ap (λ k. k + 1) c; so_far = (ds, r); no_end = e; no_repository = IsRepository-none lines line ds r (subst (λ (xs : List (List ℕ)). IsFaulty xs line) n f) };
         written = ap (λ (x : List ℕ). x ++ refusal (count + 1)) t;
       }
 
@@ -143,7 +142,7 @@ module _ (lines : List (List ℕ)) (text line : List ℕ) (names : List (List �
       → Stands (lines ++ line ∷ []) (text ++ reply) (querying names (count + 1))
   Stands-reply reply h q =
       let (ds, a, n, c) = Stands-querying lines text names count h in
-      standings.answering ds (IsAnswered-push lines line text reply ds a (q ds n)) (λ i. querying (n i) ((ap (λ k. k + 1) c ∙ sym (length-push lines line)) i))
+      standings.answering ds (IsAnswered-push lines line text reply ds a (q ds n)) (λ i. querying (n i) ((ap (λ k. k + 1) c ∙ sym (length_push lines line)) i))
 
 -- no line is the repository without components
 pub Stands-nothing : Stands [] [] (reading [] 0)

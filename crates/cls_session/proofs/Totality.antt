@@ -1,6 +1,8 @@
 -- Whatever lines follow, there is something to be written for them: a prefix of the lines has a prefix of an output.
 use Rattle.std.proofs.Common.{◌≡◌, ℕ, ◌+◌, ◌<◌, ◌≤◌, List, [], ◌∷◌, ◌++◌, length, refl, sym, ap, ◌∙◌, subst, inl, inr, arith, append_assoc, append-nil}
+use Rattle.std.specs.Prelude.{◌⊎◌}
 use Rattle.std.proofs.lemmas.Bool.{cases_lt}
+use Rattle.cls_base.specs.Limits.{max_components, max_pool}
 use Rattle.cls_base.specs.Terms.{IsTermOver}
 use Rattle.cls_grammar.specs.Books.{omega_book}
 use Rattle.cls_enum.proofs.Existence.{each_page-exists}
@@ -8,9 +10,10 @@ use Rattle.cls_session.specs.declared.status.Status.{Status}
 use Rattle.cls_session.specs.declared.status.Status.TheVariants.{Done, Refused}
 use Rattle.cls_session.specs.Declarations.{Declaration, names_of}
 use Rattle.cls_session.specs.Forms.{IsEnd, IsListing}
-use Rattle.cls_session.specs.Listings.{request, IsPool}
+use Rattle.cls_session.specs.Listings.{omega_request, IsPool}
 use Rattle.cls_session.specs.Repositories.{IsRepository}
-use Rattle.cls_session.specs.Replies.{Reply, skipped, unbuilt}
+use Rattle.cls_session.specs.Replies.{ListsOmega, HasTooMany, ListingsAreDecided, Reply, skipped, listing, too_many, unbuilt}
+use Rattle.cls_session.proofs.Counts.{few_or_many}
 use Rattle.cls_session.specs.Transcripts.{IsAnswered, Transcript, opening, answering, refusal, IsRefused, Ending, without_end, complete}
 use Rattle.cls_session.proofs.Pools.{book_page, book_pool, book_decided}
 use Rattle.cls_session.proofs.Pages.{lists_page, has_too_many}
@@ -18,23 +21,33 @@ use Rattle.cls_session.proofs.Repositories.{length-names_of}
 use Rattle.cls_session.proofs.Standings.{IsFaulty, foreign, repeated, full, IsRepository-skip, IsRepository-declare, IsRepository-none, IsAnswered-push, IsAnswered-end}
 use Rattle.cls_session.proofs.Decisions.{skipped_decided, is_end_decided, is_declaration_decided, is_listing_decided, contains_decided}
 
--- the reply to a listing: its page, where not too many terms count for it
-listing_reply : (ds : List Declaration) (line : List ℕ) (max take : ℕ) → IsListing line max take → (text : List ℕ) × Reply ds line text
-listing_reply ds line max take q =
+-- a listing has its page, unless too many terms count for it
+listing_text : (ds : List Declaration) (max take : ℕ) → 1 ≤ take → (text : List ℕ) × (ListsOmega ds max take text ⊎ HasTooMany ds max take text)
+listing_text ds max take some_terms =
     let names = names_of ds in
     let n = length names in
-    let r = request max take in
+    let r = omega_request max take in
     let some : 0 < length (omega_book n) = omega arith in
     let ones : (x : ℕ) → 1 ≤ r.cost x = λ x. omega arith in
     let d = book_decided n max take in
     let pool : IsPool (IsTermOver n) max take d.2.0 = book_pool n max take d.0 d.2.0 d.1 d.2.1 in
-    elim (cases_lt 200000 d.2.0) [
-      | inl l ↦ (_, has_too_many names ds refl max take line _ q (d.2.0, pool, l) refl)
+    elim (cases_lt max_pool d.2.0) [
+      | inl l ↦ (_, inr (has_too_many names ds refl max take _ (d.2.0, pool, l) refl))
       | inr g ↦
-          let taken = q.take_within in
-          let p = each_page-exists (omega_book n) r some ones (omega (arith, taken.0)) in
-          (_, lists_page names ds refl max take line _ p.0 p.1.0 q (book_page n max take p.0 p.1.0 p.1.1) (d.2.0, pool, g) refl)
+          let p = each_page-exists (omega_book n) r some ones some_terms in
+          (_, inl (lists_page names ds refl max take _ p.0 p.1.0 (book_page n max take p.0 p.1.0 p.1.1) (d.2.0, pool, g) refl))
     ]
+
+pub listings_are_decided : ListingsAreDecided
+listings_are_decided = record {
+  never_both = λ declared max take text other l h. few_or_many _ max take max_pool l.few h.many;
+  always_one = listing_text;
+}
+
+listing_reply : (ds : List Declaration) (line : List ℕ) (max take : ℕ) → IsListing line max take → (text : List ℕ) × Reply ds line text
+listing_reply ds line max take q =
+    let r = listing_text ds max take (let w = q.take_within in w.0) in
+    (r.0, elim r.1 [ inl l ↦ listing max take q l | inr m ↦ too_many max take q m ])
 
 -- each line after the repository has a reply
 pub reply_exists : (ds : List Declaration) (line : List ℕ) → (text : List ℕ) × Reply ds line text
@@ -63,7 +76,7 @@ next lines line ds r =
           | inr f ↦ fails (foreign n (λ d q. f (d, q))) m
           | inl p ↦ elim (contains_decided (names_of ds) p.0.component) [
             | inl c ↦ fails (repeated p.0 p.1 c) m
-            | inr new ↦ elim (cases_lt (length ds) 1000) [
+            | inr new ↦ elim (cases_lt (length ds) max_components) [
               | inl l ↦ grows (ds ++ p.0 ∷ []) (IsRepository-declare lines line ds p.0 r p.1 new l)
               | inr g ↦ fails (full p.0 p.1 (let e = length-names_of ds in omega arith)) m
             ]
@@ -73,9 +86,9 @@ next lines line ds r =
     ]
 
 -- what may come of all lines
-pub data Goes (lines : List (List ℕ)) (text : List ℕ) : Type 0 where
-  refused : (more : List ℕ) → IsRefused lines (text ++ more) → Goes lines text
-  stands : (more : List ℕ) → Transcript lines (text ++ more) → Goes lines text
+pub data Continuation (lines : List (List ℕ)) (text : List ℕ) : Type 0 where
+  refused : (more : List ℕ) → IsRefused lines (text ++ more) → Continuation lines text
+  stands : (more : List ℕ) → Transcript lines (text ++ more) → Continuation lines text
 
 -- a first fault stays the first
 pub IsRefused-append : (lines more : List (List ℕ)) (text : List ℕ) → IsRefused lines text → IsRefused (lines ++ more) text
@@ -89,7 +102,7 @@ IsRefused-append lines more text r = record {
     number = f.number;
     so_far = f.so_far;
     no_end = f.no_end;
-    no_entry = f.no_entry;
+    no_repository = f.no_repository;
   });
   written = r.written;
 }
@@ -101,23 +114,23 @@ answers_on ds lines (line ∷ more) text a =
     let on = answers_on ds (lines ++ line ∷ []) more (text ++ r.0) (IsAnswered-push lines line text r.0 ds a r.1) in
     (r.0 ++ on.0, subst (λ (x : List ℕ). IsAnswered (lines ++ line ∷ more) ds x) (append_assoc text r.0 on.0) (subst (λ (xs : List (List ℕ)). IsAnswered xs ds ((text ++ r.0) ++ on.0)) (append_assoc lines (line ∷ []) more) on.1))
 
-reads_on : (ds : List Declaration) (lines more : List (List ℕ)) → IsRepository lines ds → Goes (lines ++ more) []
+reads_on : (ds : List Declaration) (lines more : List (List ℕ)) → IsRepository lines ds → Continuation (lines ++ more) []
 reads_on ds lines [] r = stands [] (opening ds (subst (λ (xs : List (List ℕ)). IsRepository xs ds) (sym (append-nil lines)) r) refl)
 reads_on ds lines (line ∷ more) r =
     let joined : (lines ++ line ∷ []) ++ more ≡ lines ++ line ∷ more = append_assoc lines (line ∷ []) more in
     elim (next lines line ds r) [
-      | grows cs q ↦ subst (λ (xs : List (List ℕ)). Goes xs []) joined (reads_on cs (lines ++ line ∷ []) more q)
-      | ends e ↦ (let on = answers_on ds (lines ++ line ∷ []) more [] (IsAnswered-end lines line ds r e) in subst (λ (xs : List (List ℕ)). Goes xs []) joined (stands on.0 (answering ds on.1)))
+      | grows cs q ↦ subst (λ (xs : List (List ℕ)). Continuation xs []) joined (reads_on cs (lines ++ line ∷ []) more q)
+      | ends e ↦ (let on = answers_on ds (lines ++ line ∷ []) more [] (IsAnswered-end lines line ds r e) in subst (λ (xs : List (List ℕ)). Continuation xs []) joined (stands on.0 (answering ds on.1)))
       | fails f n ↦ refused (refusal (length lines + 1)) record {
         place = length lines + 1;
-        fault = record { before = lines; line = line; after = more; split = refl; number = refl; so_far = (ds, r); no_end = n; no_entry = IsRepository-none lines line ds r f };
+        fault = record { before = lines; line = line; after = more; split = refl; number = refl; so_far = (ds, r); no_end = n; no_repository = IsRepository-none lines line ds r f };
         written = refl;
       }
     ]
 
 -- what was written goes on to what is written for all lines
-pub goes_on : (lines more : List (List ℕ)) (text : List ℕ) → Transcript lines text → Goes (lines ++ more) text
-goes_on lines more text (opening ds r e) = subst (λ (x : List ℕ). Goes (lines ++ more) x) (sym e) (reads_on ds lines more r)
+pub goes_on : (lines more : List (List ℕ)) (text : List ℕ) → Transcript lines text → Continuation (lines ++ more) text
+goes_on lines more text (opening ds r e) = subst (λ (x : List ℕ). Continuation (lines ++ more) x) (sym e) (reads_on ds lines more r)
 goes_on lines more text (answering ds a) = let on = answers_on ds lines more text a in stands on.0 (answering ds on.1)
 
 -- where no more lines follow, there is an end of what is written

@@ -11,7 +11,7 @@ use Rattle.cls_base.specs.Typing.{by_instance, by_application, by_intersection, 
 use Rattle.cls_base.specs.Pages.{Request, IsDue, IsPage}
 use Rattle.cls_session.specs.Declarations.{Declaration}
 use Rattle.cls_syntax.specs.Names.{with_text}
-use Rattle.cls_session.specs.Typings.{constructors_from, Has}
+use Rattle.cls_session.specs.Typings.{constructors_from, HasTypeIn}
 use Rattle.cls_session.proofs.Decisions.{same_bytes}
 
 get_append : {A : Type 0} (xs ys : List A) (i : ℕ) (x : A) → slice_get xs i ≡ Some x → slice_get (xs ++ ys) i ≡ Some x
@@ -67,14 +67,14 @@ declared_at (d ∷ ds) (suc x) h = declared_at ds x (omega arith)
 
 module _ (ds : List Declaration) where
   -- a term with a type has declared components alone
-  pub over_from_typed : (e : Applicative) (s : ClosedType) → Has ds e s → IsTermOver (length ds) e
+  pub over_from_typed : (e : Applicative) (s : ClosedType) → HasTypeIn ds e s → IsTermOver (length ds) e
   over_from_typed (component x) s (by_instance i) = slice_get_within ds x i.declaration i.place
   over_from_typed (apply f a) s (by_application {s = r} p q) = (over_from_typed f (arrow r s) p, over_from_typed a r q)
   over_from_typed e s (by_intersection {s = r} p q) = over_from_typed e r p
   over_from_typed e s (by_subsumption {s = r} p q) = over_from_typed e r p
 
   -- and with those it has type omega
-  pub typed_from_over : (e : Applicative) → IsTermOver (length ds) e → Has ds e types.omega
+  pub typed_from_over : (e : Applicative) → IsTermOver (length ds) e → HasTypeIn ds e types.omega
   typed_from_over (component x) o =
       let d = declared_at ds x o in
       let n = named ds [] x d.0 d.1 in

@@ -1,22 +1,27 @@
 -- The output of a run.
-use Rattle.std.specs.Prelude.{ℕ, ◌≡◌, ◌≤◌, ◌<◌, List, [], ◌++◌, length, take, nat_lt, if◌then◌else◌, Option, Some, None}
+use Rattle.std.specs.Prelude.{ℕ, ◌≡◌, ◌≤◌, ◌<◌, List, [], ◌++◌, length, take, nat_lt, if◌then◌else◌, Option, Some, None, IfSome}
 use Rattle.std.specs.Io.KnownBytes.{Appends}
+use Rattle.cls_base.specs.Limits.{max_input_bytes, max_read_bytes}
+use Rattle.cls_base.specs.Outside.{SourceSeen, SinkSeen}
 use Rattle.cls_syntax.specs.Lines.{lines_of, ended_lines}
 use Rattle.cls_session.specs.declared.status.Status.{Status}
 use Rattle.cls_session.specs.declared.status.Status.TheVariants.{Done, Usage, Refused, ReadFault, WriteFault, NoMemory, TooLong}
 use Rattle.cls_session.specs.Commands.{AsksSession, usage}
 use Rattle.cls_session.specs.Transcripts.{Transcript, IsRefused, Ending}
 
--- The lines that count: where more than 1,048,576 bytes come, those that end within the first 1,048,576.
+-- The lines that count: if more than `max_input_bytes` come, those that end within the first `max_input_bytes`.
 abbrev pub lines_read : List ℕ → List (List ℕ)
-lines_read bytes = if nat_lt 1048576 (length bytes) then ended_lines (take 1048576 bytes) else lines_of bytes
+lines_read bytes =
+    if nat_lt max_input_bytes (length bytes) then ended_lines (take max_input_bytes bytes) else lines_of bytes
 
--- With these words and these bytes to read, a run may write this text and end with this status.
+-- With these words of the command line and these bytes to read, a run may write this text and end with this status.
 pub data Output (words : List (List ℕ)) (bytes text : List ℕ) (status : Status) : Type 0 where
   no_session : (AsksSession words → ⊥) → text ≡ usage → status ≡ Usage → Output words bytes text status
   refused : AsksSession words → IsRefused (lines_read bytes) text → status ≡ Refused → Output words bytes text status
-  ended : AsksSession words → length bytes ≤ 1048576 → Ending (lines_of bytes) text status → Output words bytes text status
-  too_long : AsksSession words → 1048576 < length bytes → Transcript (lines_read bytes) text → status ≡ TooLong → Output words bytes text status
+  ended : AsksSession words → length bytes ≤ max_input_bytes → Ending (lines_of bytes) text status
+      → Output words bytes text status
+  too_long : AsksSession words → max_input_bytes < length bytes → Transcript (lines_read bytes) text → status ≡ TooLong
+      → Output words bytes text status
 
 -- the statuses of a run without fault and with memory
 abbrev pub IsWhole : Status → Type 0
@@ -28,7 +33,17 @@ IsWhole ReadFault = ⊥
 IsWhole WriteFault = ⊥
 IsWhole NoMemory = ⊥
 
--- the statuses of a run that was cut off by a failed write or out of memory
+-- the statuses of a run that broke off: a read failed, a write failed, or no memory was found
+abbrev pub IsBrokenOff : Status → Type 0
+IsBrokenOff Done = ⊥
+IsBrokenOff Usage = ⊥
+IsBrokenOff Refused = ⊥
+IsBrokenOff TooLong = ⊥
+IsBrokenOff ReadFault = Unit {0}
+IsBrokenOff WriteFault = Unit {0}
+IsBrokenOff NoMemory = Unit {0}
+
+-- those of a run that may have broken off within a reply: a write failed, or no memory was found
 abbrev pub IsCutOff : Status → Type 0
 IsCutOff Done = ⊥
 IsCutOff Usage = ⊥
@@ -38,37 +53,89 @@ IsCutOff ReadFault = ⊥
 IsCutOff WriteFault = Unit {0}
 IsCutOff NoMemory = Unit {0}
 
--- Where the source tells its bytes, what the sink was given is an output for them.
-abbrev pub Answers : List (List ℕ) → Option (List ℕ) → Option (List ℕ) → Option (List ℕ) → Status → Type 0
-Answers words None old new status = Unit {0}
-Answers words (Some bytes) old new status = (text : List ℕ) × Output words bytes text status × Appends old new text
+-- What the sink was given is an output for the bytes.
+pub record GivesOutput (words : List (List ℕ)) (bytes : List ℕ) (sink sink' : SinkSeen) (status : Status) : Type 0 where
+  pub text : List ℕ
+  pub output : Output words bytes text status
+  pub written : Appends sink.held sink'.held text
 
--- Where the source tells its bytes, what the sink was given begins an output for them.
-abbrev pub BeginsAnswers : List (List ℕ) → Option (List ℕ) → Option (List ℕ) → Option (List ℕ) → Type 0
-BeginsAnswers words None old new = Unit {0}
-BeginsAnswers words (Some bytes) old new = (front rest : List ℕ) × (status : Status) × Output words bytes (front ++ rest) status × Appends old new front
+-- If the source tells its bytes, what the sink was given is an output for them.
+abbrev pub Answers : List (List ℕ) → SourceSeen → SinkSeen → SinkSeen → Status → Type 0
+Answers words source sink sink' status = IfSome source.left (λ bytes. GivesOutput words bytes sink sink' status)
+
+-- What the sink was given begins an output for the bytes.
+pub record BeginsOutput (words : List (List ℕ)) (bytes : List ℕ) (sink sink' : SinkSeen) : Type 0 where
+  pub front : List ℕ
+  pub rest : List ℕ
+  pub status : Status
+  pub output : Output words bytes (front ++ rest) status
+  pub written : Appends sink.held sink'.held front
+
+-- If the source tells its bytes, what the sink was given begins an output for them.
+abbrev pub BeginsAnswers : List (List ℕ) → SourceSeen → SinkSeen → SinkSeen → Type 0
+BeginsAnswers words source sink sink' = IfSome source.left (λ bytes. BeginsOutput words bytes sink sink')
+
+-- n bytes are enough for each output for the bytes that the source tells. Otherwise no number is sure to be.
+abbrev pub IsEnoughRoom : List (List ℕ) → Option (List ℕ) → ℕ → Type 0
+IsEnoughRoom words None n = ⊥
+IsEnoughRoom words (Some bytes) n = (text : List ℕ) (status : Status) → Output words bytes text status → length text ≤ n
 
 -- The room that the sink tells is enough for each output for the bytes that the source tells.
-abbrev pub HasRoom : List (List ℕ) → Option (List ℕ) → Option ℕ → Type 0
-HasRoom words bytes None = Unit {0}
-HasRoom words None (Some room) = ⊥
-HasRoom words (Some bytes) (Some room) = (text : List ℕ) (status : Status) → Output words bytes text status → length text ≤ room
+abbrev pub HasRoom : List (List ℕ) → SourceSeen → SinkSeen → Type 0
+HasRoom words source sink = IfSome sink.room (λ n. IsEnoughRoom words source.left n)
 
--- Where a read failed: so much of the bytes that the source told was taken, and what was written is exactly what the lines
--- ask for that were taken whole. No fault of the repository stands in these, and no reply to one of them is missing.
-abbrev pub AnswersTaken : Option (List ℕ) → Option (List ℕ) → Option (List ℕ) → Option (List ℕ) → Type 0
-AnswersTaken None left' held held' = Unit {0}
-AnswersTaken (Some bytes) None held held' = ⊥
-AnswersTaken (Some bytes) (Some rest) held held' = (taken text : List ℕ) × (bytes ≡ taken ++ rest) × (length taken ≤ 1048576)
-    × Transcript (ended_lines taken) text × Appends held held' text
+-- A fact of the bytes that were left to read and those that are left now, if they are told. A source that told them goes
+-- on doing so.
+abbrev pub IfTold : Option (List ℕ) → Option (List ℕ) → (List ℕ → List ℕ → Type 0) → Type 0
+IfTold None after P = Unit {0}
+IfTold (Some bytes) None P = ⊥
+IfTold (Some bytes) (Some rest) P = P bytes rest
 
--- Where a read failed: so much of the bytes that the source told was taken, and what was written begins an output for these.
-abbrev pub BeginsTaken : Option (List ℕ) → Option (List ℕ) → Option (List ℕ) → Option (List ℕ) → Type 0
-BeginsTaken None left' held held' = Unit {0}
-BeginsTaken (Some bytes) None held held' = ⊥
-BeginsTaken (Some bytes) (Some rest) held held' = (taken : List ℕ) × (bytes ≡ taken ++ rest) × BeginsAnswers [] (Some taken) held held'
+-- What was taken of the bytes, and a text that is exactly what the lines ask for that were taken whole: no fault of the
+-- repository stands in these, and no reply to one of them is missing. The text is what the sink was given.
+pub record AnswersEnded (bytes rest : List ℕ) (sink sink' : SinkSeen) : Type 0 where
+  pub taken : List ℕ
+  pub text : List ℕ
+  pub split : bytes ≡ taken ++ rest
+  pub short : length taken ≤ max_input_bytes
+  pub transcript : Transcript (ended_lines taken) text
+  pub written : Appends sink.held sink'.held text
+
+-- If a read failed: the words ask for a session, and the lines that were taken whole are answered, all of them.
+pub record AnswersTaken (words : List (List ℕ)) (source source' : SourceSeen) (sink sink' : SinkSeen) : Type 0 where
+  pub asked : AsksSession words
+  pub answered : IfTold source.left source'.left (λ bytes rest. AnswersEnded bytes rest sink sink')
+
+-- What was taken of the bytes, and that what the sink was given begins an output for it.
+pub record BeginsForTaken (words : List (List ℕ)) (bytes rest : List ℕ) (sink sink' : SinkSeen) : Type 0 where
+  pub taken : List ℕ
+  pub split : bytes ≡ taken ++ rest
+  pub begins : BeginsOutput words taken sink sink'
+
+-- If a read failed: what was written begins an output for the bytes that were taken.
+abbrev pub BeginsTaken : List (List ℕ) → SourceSeen → SourceSeen → SinkSeen → SinkSeen → Type 0
+BeginsTaken words source source' sink sink' =
+    IfTold source.left source'.left (λ bytes rest. BeginsForTaken words bytes rest sink sink')
+
+-- Of the bytes `before` were taken and then `last`, which are at most `max_read_bytes`. All replies to the lines that end in
+-- `before` stand written, and more may follow them.
+pub record AnswersBeforeLast (bytes rest : List ℕ) (sink sink' : SinkSeen) : Type 0 where
+  pub before : List ℕ
+  pub last : List ℕ
+  pub text : List ℕ
+  pub more : List ℕ
+  pub taken : bytes ≡ before ++ last ++ rest
+  pub short : length last ≤ max_read_bytes
+  pub transcript : Transcript (ended_lines before) text
+  pub written : Appends sink.held sink'.held (text ++ more)
+
+-- If a run broke off: all lines that had come whole before the last `max_read_bytes` that it took, or fewer, were answered.
+-- Any write may be the one that fails, so a run that reads on before it has answered doesn't keep pace.
+abbrev pub KeepsPace : SourceSeen → SourceSeen → SinkSeen → SinkSeen → Type 0
+KeepsPace source source' sink sink' =
+    IfTold source.left source'.left (λ bytes rest. AnswersBeforeLast bytes rest sink sink')
 
 -- What is written for the whole lines of a text that isn't too long is the beginning of an output for it.
 abbrev pub TranscriptsGoOn : Type 0
-TranscriptsGoOn = (bytes text : List ℕ) → length bytes ≤ 1048576 → Transcript (ended_lines bytes) text
+TranscriptsGoOn = (bytes text : List ℕ) → length bytes ≤ max_input_bytes → Transcript (ended_lines bytes) text
     → (more : List ℕ) × (status : Status) × Output [] bytes (text ++ more) status

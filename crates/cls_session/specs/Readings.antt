@@ -8,7 +8,7 @@ infixl 10 ◌>>=◌
 abbrev pub ◌>>=◌ : {A B : Type 0} → Option A → (A → Option B) → Option B
 o >>= f = option_and_then f o
 
--- the value, where nothing is left
+-- the value, if nothing is left
 abbrev pub whole : {A : Type 0} → A → List Word → Option A
 whole x [] = Some x
 whole x (w ∷ ws) = None

@@ -1,14 +1,15 @@
 -- The replies to queries.
-use Rattle.std.specs.Prelude.{ℕ, ◌≡◌, List, [], ◌∷◌, ◌++◌, Bool, if◌then◌else◌, codes}
+use Rattle.std.specs.Prelude.{ℕ, ◌≡◌, ◌≤◌, ◌⊎◌, List, [], ◌∷◌, ◌++◌, Bool, if◌then◌else◌, codes}
 use Rattle.std.specs.List.{flat_map}
+use Rattle.cls_base.specs.Limits.{max_pool}
 use Rattle.cls_base.specs.Types as types
 use Rattle.cls_base.specs.Terms.{Applicative}
 use Rattle.cls_base.specs.Pages.{IsPage}
 use Rattle.cls_syntax.specs.Skipped.{IsSkipped}
 use Rattle.cls_session.specs.Declarations.{Declaration, names_of}
 use Rattle.cls_session.specs.Forms.{IsListing}
-use Rattle.cls_session.specs.Listings.{request, AreFew, AreMany}
-use Rattle.cls_session.specs.Typings.{Has}
+use Rattle.cls_session.specs.Listings.{omega_request, AreFew, AreMany}
+use Rattle.cls_session.specs.Typings.{HasTypeIn}
 use Rattle.cls_term.specs.Texts.{name_at, text_of}
 
 -- a line of the output
@@ -21,48 +22,54 @@ term_line names e = reply_line (codes "term " ++ text_of names e)
 
 -- a line for each term, and whether more terms follow
 abbrev pub page_text : (ℕ → List ℕ) → List Applicative → Bool → List ℕ
-page_text names terms more = flat_map (term_line names) terms ++ reply_line (if more then codes "more" else codes "done")
+page_text names terms more =
+    flat_map (term_line names) terms ++ reply_line (if more then codes "more" else codes "done")
 
 -- the term has type omega
 abbrev pub IsOmega : List Declaration → Applicative → Type 0
-IsOmega declared e = Has declared e types.omega
+IsOmega declared e = HasTypeIn declared e types.omega
 
--- The text lists the one page of the terms of type omega, of which at most 200,000 count at the size that decides it.
+-- The text lists the one page of the terms of type omega. At most `max_pool` of these count at the size that decides it.
 pub record ListsOmega (declared : List Declaration) (max take : ℕ) (text : List ℕ) : Type 0 where
   pub terms : List Applicative
   pub more : Bool
-  pub page : IsPage (IsOmega declared) (request max take) terms more
-  pub few : AreFew (IsOmega declared) max take 200000
+  pub page : IsPage (IsOmega declared) (omega_request max take) terms more
+  pub few : AreFew (IsOmega declared) max take max_pool
   pub written : text ≡ page_text (name_at (names_of declared)) terms more
 
--- More than 200,000 terms of type omega count at the size that decides their page, and the text says so.
+-- More than `max_pool` terms of type omega count at the size that decides their page, and the text says so.
 pub record HasTooMany (declared : List Declaration) (max take : ℕ) (text : List ℕ) : Type 0 where
-  pub many : AreMany (IsOmega declared) max take 200000
+  pub many : AreMany (IsOmega declared) max take max_pool
   pub written : text ≡ reply_line (codes "error too-many-terms")
 
--- no listing has both replies
-abbrev pub ListingsAreDecided : Type 0
-ListingsAreDecided = (declared : List Declaration) (max take : ℕ) (text other : List ℕ) → ListsOmega declared max take text → HasTooMany declared max take other → ⊥
+-- A listing is answered by its page or by too many terms, and never by both.
+pub record ListingsAreDecided : Type 0 where
+  pub never_both : (declared : List Declaration) (max take : ℕ) (text other : List ℕ)
+      → ListsOmega declared max take text → HasTooMany declared max take other → ⊥
+  pub always_one : (declared : List Declaration) (max take : ℕ) → 1 ≤ take
+      → (text : List ℕ) × (ListsOmega declared max take text ⊎ HasTooMany declared max take text)
 
 -- what is written for a line after the repository
 pub data Reply (declared : List Declaration) (line text : List ℕ) : Type 0 where
   skipped : IsSkipped line → text ≡ [] → Reply declared line text
   listing : (max take : ℕ) → IsListing line max take → ListsOmega declared max take text → Reply declared line text
   too_many : (max take : ℕ) → IsListing line max take → HasTooMany declared max take text → Reply declared line text
-  unbuilt : (IsSkipped line → ⊥) → ((max take : ℕ) → IsListing line max take → ⊥) → text ≡ reply_line (codes "error unbuilt") → Reply declared line text
+  unbuilt : (IsSkipped line → ⊥) → ((max take : ℕ) → IsListing line max take → ⊥)
+      → text ≡ reply_line (codes "error unbuilt") → Reply declared line text
 
--- What is written for a query where all its lines are whole. Each query has one line.
+-- What is written for a query of which all lines are whole. Each query has one line.
 pub data Answered (declared : List Declaration) (query : List (List ℕ)) (text : List ℕ) : Type 0 where
   of_line : (line : List ℕ) → query ≡ line ∷ [] → Reply declared line text → Answered declared query text
 
 -- The lines begin a query that further lines complete. There is no such query yet.
-abbrev pub IsBegun : List (List ℕ) → Type 0
-IsBegun lines = ⊥
+abbrev pub BeginsQuery : List (List ℕ) → Type 0
+BeginsQuery lines = ⊥
 
--- What is written for lines after the repository, in turn: for each query whose lines are whole its reply, and nothing for one
--- that is begun.
+-- What is written for lines after the repository, in turn: its reply for each query whose lines are whole, and nothing
+-- for one that is begun.
 pub data Replies (declared : List Declaration) : List (List ℕ) → List ℕ → Type 0 where
   none : {lines : List (List ℕ)} {text : List ℕ} → lines ≡ [] → text ≡ [] → Replies declared lines text
-  next : {lines : List (List ℕ)} {text : List ℕ} → (query others : List (List ℕ)) (first rest : List ℕ) → lines ≡ query ++ others
-      → Answered declared query first → Replies declared others rest → text ≡ first ++ rest → Replies declared lines text
-  begun : {lines : List (List ℕ)} {text : List ℕ} → IsBegun lines → text ≡ [] → Replies declared lines text
+  next : {lines : List (List ℕ)} {text : List ℕ} → (query others : List (List ℕ)) (first rest : List ℕ)
+      → lines ≡ query ++ others → Answered declared query first → Replies declared others rest
+      → text ≡ first ++ rest → Replies declared lines text
+  begun : {lines : List (List ℕ)} {text : List ℕ} → BeginsQuery lines → text ≡ [] → Replies declared lines text

@@ -6,6 +6,8 @@ use Rattle.cls_session.specs.Standings.{Standing, Stands}
 use Rattle.cls_session.specs.Transcripts.{IsRefused}
 
 -- Whatever was fed and written before, the reply goes on with it, and the session knows the line from then on.
-abbrev pub AnswersFeed : Standing → List ℕ → Answer → Standing → Type 0
-AnswersFeed old line (answer.Reply text) new = (lines : List (List ℕ)) (written : List ℕ) → Stands lines written old → Stands (lines ++ line ∷ []) (written ++ string_bytes text) new
-AnswersFeed old line (answer.Refusal text) new = (lines : List (List ℕ)) (written : List ℕ) → Stands lines written old → IsRefused (lines ++ line ∷ []) (written ++ string_bytes text)
+abbrev pub IsAnswerTo : Standing → List ℕ → Answer → Standing → Type 0
+IsAnswerTo old line (answer.Reply text) new = (lines : List (List ℕ)) (written : List ℕ)
+    → Stands lines written old → Stands (lines ++ line ∷ []) (written ++ string_bytes text) new
+IsAnswerTo old line (answer.Refusal text) new = (lines : List (List ℕ)) (written : List ℕ)
+    → Stands lines written old → IsRefused (lines ++ line ∷ []) (written ++ string_bytes text)

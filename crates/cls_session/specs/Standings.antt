@@ -12,5 +12,7 @@ pub record Standing : Type 0 where
 
 -- The session was fed these lines, and this text is what is written for them.
 pub data Stands (lines : List (List ℕ)) (text : List ℕ) (s : Standing) : Type 0 where
-  opening : (declared : List Declaration) → IsRepository lines declared → text ≡ [] → s ≡ record { components = names_of declared; lines = length lines; ended = false } → Stands lines text s
-  answering : (declared : List Declaration) → IsAnswered lines declared text → s ≡ record { components = names_of declared; lines = length lines; ended = true } → Stands lines text s
+  opening : (declared : List Declaration) → IsRepository lines declared → text ≡ []
+      → s ≡ record { components = names_of declared; lines = length lines; ended = false } → Stands lines text s
+  answering : (declared : List Declaration) → IsAnswered lines declared text
+      → s ≡ record { components = names_of declared; lines = length lines; ended = true } → Stands lines text s

@@ -18,7 +18,7 @@ pub record IsAnswered (lines : List (List ℕ)) (declared : List Declaration) (t
   pub reads : IsRepository repository declared
   pub replies : Replies declared queries text
 
--- What is written for these lines where more may follow: nothing before the line `end`, and then the replies.
+-- What is written for these lines if more may follow: nothing before the line `end`, and then the replies.
 pub data Transcript (lines : List (List ℕ)) (text : List ℕ) : Type 0 where
   opening : (declared : List Declaration) → IsRepository lines declared → text ≡ [] → Transcript lines text
   answering : (declared : List Declaration) → IsAnswered lines declared text → Transcript lines text
@@ -33,7 +33,9 @@ pub record IsRefused (lines : List (List ℕ)) (text : List ℕ) : Type 0 where
   pub fault : IsFirstFault lines place
   pub written : text ≡ refusal place
 
--- What is written for these lines where no more follow, and the status. Where the line `end` is missing, the number of lines is the place of the fault.
+-- What is written for these lines if no more follow, and the status. If the line `end` is missing, the number of lines is
+-- the place of the fault.
 pub data Ending (lines : List (List ℕ)) (text : List ℕ) (status : Status) : Type 0 where
-  without_end : (declared : List Declaration) → IsRepository lines declared → text ≡ refusal (length lines) → status ≡ Refused → Ending lines text status
+  without_end : (declared : List Declaration) → IsRepository lines declared → text ≡ refusal (length lines)
+      → status ≡ Refused → Ending lines text status
   complete : (declared : List Declaration) → IsAnswered lines declared text → status ≡ Done → Ending lines text status

@@ -21,5 +21,5 @@ pub record IsInstance (declared : List Declaration) (x : ℕ) (s : ClosedType) :
   pub type : s ≡ constructor name omega
 
 -- The term has the type by the typing rules. No name is declared below another, and each is covariant.
-abbrev pub Has : List Declaration → Applicative → ClosedType → Type 0
-Has declared e s = HasType (Chain []) (λ _. covariant) (IsInstance declared) e s
+abbrev pub HasTypeIn : List Declaration → Applicative → ClosedType → Type 0
+HasTypeIn declared e s = HasType (Chain []) (λ _. covariant) (IsInstance declared) e s

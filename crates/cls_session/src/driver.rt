@@ -2,7 +2,10 @@ ghost use Rattle.std.specs.Prelude.{◌≡◌, ℕ, ◌+◌, ◌^◌, ◌<◌, �
 ghost use Rattle.cls_base.specs.Outside.{HasRisen, Holds};
 ghost use Rattle.cls_syntax.specs.Lines.{HasNoFeed};
 ghost use Rattle.cls_session.specs.declared.driver.Stop.TheVariants.{WriteFault, NoMemory};
-ghost use Rattle.cls_session.specs.Driving.{Writes, WritesFront, FitsLine, FitsLines, FitsLast, AnswersLine, RefusesLine, BreaksLine, AnswersLines, RefusesLines, BreaksLines, AnswersLast, RefusesLast, BreaksLast, EndsOutput, Comes, CountsFaults};
+ghost use Rattle.cls_session.specs.Driving.{Writes, WritesFront, MatchStop, CountsFaults};
+ghost use Rattle.cls_session.specs.Driving.{FitsLine, AnswersLine, RefusesLine, BreaksLine};
+ghost use Rattle.cls_session.specs.Driving.{FitsLines, AnswersLines, RefusesLines, BreaksLines};
+ghost use Rattle.cls_session.specs.Driving.{FitsLast, AnswersLast, RefusesLast, BreaksLast, EndsOutput};
 
 use crate::session::{Answer, Session};
 use crate::status::Status;
@@ -39,11 +42,12 @@ impl From<Failed> for Stop {
 
 /// Writes the text, all of it.
 pub fn write_all<K: Sink>(sink: &mut K, text: &[u8]) -> Result<(), Failed>
-    requires { Holds (K.room sink.old) (length text.now) }
-    ensures written { OnOk result (Writes (K.held sink.old) (K.held sink.new) (K.room sink.old) (K.room sink.new) text.now) }
-    ensures ok { OnOk result (K.faults sink.new ≡ K.faults sink.old) }
-    ensures failed { OnErr result (HasRisen (K.faults sink.old) (K.faults sink.new)) }
-    ensures part { OnErr result (WritesFront (K.held sink.old) (K.held sink.new) text.now) }
+    requires { Holds (K.seen sink.old).room (length text.now) }
+    ensures written { OnOk result (Writes (K.seen sink.old) (K.seen sink.new) text.now) }
+    ensures no_fault { OnOk result ((K.seen sink.new).faults ≡ (K.seen sink.old).faults) }
+
+    ensures front { OnErr result (WritesFront (K.seen sink.old) (K.seen sink.new) text.now) }
+    ensures fault { OnErr result (HasRisen (K.seen sink.old).faults (K.seen sink.new).faults) }
 {
     let mut rest = text;
     while !rest.is_empty() {
@@ -60,14 +64,14 @@ pub fn answer_line<K: Sink>(
     line: &Line,
     sink: &mut K,
 ) -> Result<(), Stop>
-    requires few { session.old.lines < 2 ^ 32 }
-    requires room { FitsLine (K.room sink.old) session.old line.now }
-    ensures comes { Comes result
-        (λ _. AnswersLine (K.held sink.old) (K.held sink.new) (K.room sink.old) (K.room sink.new) session.old session.new line.now)
-        (RefusesLine (K.held sink.old) (K.held sink.new) (K.room sink.old) (K.room sink.new) session.old line.now)
-        (BreaksLine (K.held sink.old) (K.held sink.new) session.old line.now) }
+    requires few_lines { session.old.lines < 2 ^ 32 }
+    requires room { FitsLine (K.seen sink.old) session.old line.now }
+    ensures answers { MatchStop result
+        (λ _. AnswersLine (K.seen sink.old) (K.seen sink.new) session.old session.new line.now)
+        (RefusesLine (K.seen sink.old) (K.seen sink.new) session.old line.now)
+        (BreaksLine (K.seen sink.old) (K.seen sink.new) session.old line.now) }
     ensures counted { OnOk result (session.new.lines ≤ session.old.lines + 1) }
-    ensures faults { CountsFaults result (K.faults sink.old) (K.faults sink.new) }
+    ensures faults { CountsFaults result (K.seen sink.old) (K.seen sink.new) }
 {
     match session.feed(alloc, line)? {
         Answer::Reply(text) => {
@@ -89,15 +93,16 @@ pub fn answer_lines<K: Sink>(
     piece: &[u8],
     sink: &mut K,
 ) -> Result<(), Stop>
-    requires few { session.old.lines + length (reader.old ++ piece.now) < 2 ^ 32 }
-    requires room { FitsLines (K.room sink.old) session.old (reader.old ++ piece.now) }
-    ensures comes { Comes result
-        (λ _. AnswersLines (K.held sink.old) (K.held sink.new) (K.room sink.old) (K.room sink.new) session.old session.new (reader.old ++ piece.now) reader.new)
-        (RefusesLines (K.held sink.old) (K.held sink.new) (K.room sink.old) (K.room sink.new) session.old (reader.old ++ piece.now))
-        (BreaksLines (K.held sink.old) (K.held sink.new) session.old (reader.old ++ piece.now)) }
+    requires few_lines { session.old.lines + length (reader.old ++ piece.now) < 2 ^ 32 }
+    requires room { FitsLines (K.seen sink.old) session.old (reader.old ++ piece.now) }
+    ensures answers { let text = reader.old ++ piece.now in MatchStop result
+        (λ _. AnswersLines (K.seen sink.old) (K.seen sink.new) session.old session.new text reader.new)
+        (RefusesLines (K.seen sink.old) (K.seen sink.new) session.old text)
+        (BreaksLines (K.seen sink.old) (K.seen sink.new) session.old text) }
     ensures no_feed { OnOk result (HasNoFeed reader.new) }
-    ensures counted { OnOk result (session.new.lines + length reader.new ≤ session.old.lines + length (reader.old ++ piece.now)) }
-    ensures faults { CountsFaults result (K.faults sink.old) (K.faults sink.new) }
+    ensures counted { OnOk result
+        (session.new.lines + length reader.new ≤ session.old.lines + length (reader.old ++ piece.now)) }
+    ensures faults { CountsFaults result (K.seen sink.old) (K.seen sink.new) }
 {
     let mut rest = piece;
     'lines: loop {
@@ -110,20 +115,20 @@ pub fn answer_lines<K: Sink>(
     }
 }
 
-/// Answers the last line, which has no line feed, where a byte stands in it.
+/// Answers the last line, which has no line feed, if a byte stands in it.
 pub fn answer_last<K: Sink>(
     alloc: Global,
     session: &mut Session,
     reader: LineReader,
     sink: &mut K,
 ) -> Result<(), Stop>
-    requires few { session.old.lines < 2 ^ 32 }
-    requires room { FitsLast (K.room sink.old) session.old reader }
-    ensures comes { Comes result
-        (λ _. AnswersLast (K.held sink.old) (K.held sink.new) (K.room sink.old) (K.room sink.new) session.old session.new reader)
-        (RefusesLast (K.held sink.old) (K.held sink.new) (K.room sink.old) (K.room sink.new) session.old reader)
-        (BreaksLast (K.held sink.old) (K.held sink.new) session.old reader) }
-    ensures faults { CountsFaults result (K.faults sink.old) (K.faults sink.new) }
+    requires few_lines { session.old.lines < 2 ^ 32 }
+    requires room { FitsLast (K.seen sink.old) session.old reader }
+    ensures answers { MatchStop result
+        (λ _. AnswersLast (K.seen sink.old) (K.seen sink.new) session.old session.new reader)
+        (RefusesLast (K.seen sink.old) (K.seen sink.new) session.old reader)
+        (BreaksLast (K.seen sink.old) (K.seen sink.new) session.old reader) }
+    ensures faults { CountsFaults result (K.seen sink.old) (K.seen sink.new) }
 {
     match reader.finish() {
         None => Ok(()),
@@ -141,13 +146,13 @@ pub fn finish<K: Sink>(
     reader: LineReader,
     sink: &mut K,
 ) -> Result<Status, Stop>
-    requires few { session.lines < 2 ^ 32 }
-    requires room { FitsLast (K.room sink.old) session reader }
-    ensures comes { Comes result
-        (EndsOutput (K.held sink.old) (K.held sink.new) (K.room sink.old) (K.room sink.new) session reader)
-        (RefusesLast (K.held sink.old) (K.held sink.new) (K.room sink.old) (K.room sink.new) session reader)
-        (BreaksLast (K.held sink.old) (K.held sink.new) session reader) }
-    ensures faults { CountsFaults result (K.faults sink.old) (K.faults sink.new) }
+    requires few_lines { session.lines < 2 ^ 32 }
+    requires room { FitsLast (K.seen sink.old) session reader }
+    ensures answers { MatchStop result
+        (EndsOutput (K.seen sink.old) (K.seen sink.new) session reader)
+        (RefusesLast (K.seen sink.old) (K.seen sink.new) session reader)
+        (BreaksLast (K.seen sink.old) (K.seen sink.new) session reader) }
+    ensures faults { CountsFaults result (K.seen sink.old) (K.seen sink.new) }
 {
     answer_last(alloc, &mut session, reader, sink)?;
     let outcome = session.finish(alloc)?;

@@ -3,21 +3,16 @@ ghost use Rattle.std.specs.Option.{SomeIff};
 ghost use Rattle.cls_syntax.specs.Fronts.{words};
 ghost use Rattle.cls_syntax.specs.Numerals.{number_value};
 ghost use Rattle.cls_syntax.specs.Words.{words_of};
-ghost use Rattle.cls_session.specs.Forms.{end_words};
+ghost use Rattle.cls_session.specs.Forms.{end_tokens};
 ghost use Rattle.cls_session.specs.LineAnswers.{IsRepositoryLine, IsQueryLine, IsRepositoryForm, IsQueryForm};
 ghost use Rattle.cls_session.specs.Readings.{declaration_at, listing_at};
 
 use cls_base::OutOfMemory;
+use cls_base::limits::{MAX_PAGE_TERMS, MAX_TERM_SIZE};
 use cls_syntax::{
     Lexeme, Line, TokenKind, end_at, lexemes, name_at, number_at, sign_at, tokens, word_at,
 };
 use std::alloc::Global;
-
-/// The greatest size of a term that a listing may ask for.
-pub const MAX_SIZE: u32 = 1_024;
-
-/// The most terms that a listing may ask for.
-pub const MAX_TAKE: u32 = 10_000;
 
 /// What a line of the repository says.
 #[derive(Clone, Copy, Debug)]
@@ -96,8 +91,8 @@ fn query_form(lexemes: &[Lexeme]) -> QueryLine
         return QueryLine::Unbuilt;
     };
     match (
-        number_within(&max, MAX_SIZE),
-        number_within(&take, MAX_TAKE),
+        number_within(&max, MAX_TERM_SIZE),
+        number_within(&take, MAX_PAGE_TERMS),
     ) {
         (Some(max), Some(take)) => QueryLine::Listing { max, take },
         _ => QueryLine::Unbuilt,
@@ -107,7 +102,9 @@ fn query_form(lexemes: &[Lexeme]) -> QueryLine
 /// The names of a line `comp NAME : NAME`.
 #[tactic(auto, unfolding(crate::specs::Readings::declaration_at))]
 fn declaration<'a>(lexemes: &[Lexeme<'a>]) -> Option<(&'a str, &'a str)>
-    ensures { MatchOption result (declaration_at (words lexemes.now) ≡ None) (λ x. declaration_at (words lexemes.now) ≡ Some (x.0.now, x.1.now)) }
+    ensures { MatchOption result
+        (declaration_at (words lexemes.now) ≡ None)
+        (λ x. declaration_at (words lexemes.now) ≡ Some (x.0.now, x.1.now)) }
 {
     let rest = word_at(lexemes, "comp")?;
     let (component, rest) = name_at(rest)?;
@@ -120,7 +117,9 @@ fn declaration<'a>(lexemes: &[Lexeme<'a>]) -> Option<(&'a str, &'a str)>
 /// The numbers of a line `list omega max N take K`.
 #[tactic(auto, unfolding(crate::specs::Readings::listing_at))]
 fn listing<'a>(lexemes: &[Lexeme<'a>]) -> Option<(Lexeme<'a>, Lexeme<'a>)>
-    ensures front { MatchOption result (listing_at (words lexemes.now) ≡ None) (λ x. listing_at (words lexemes.now) ≡ Some (x.0.text.now, x.1.text.now)) }
+    ensures front { MatchOption result
+        (listing_at (words lexemes.now) ≡ None)
+        (λ x. listing_at (words lexemes.now) ≡ Some (x.0.text.now, x.1.text.now)) }
     ensures kinds { IfSome result (λ x. (x.0.kind ≡ TokenKind.Number) × (x.1.kind ≡ TokenKind.Number)) }
 {
     let rest = word_at(lexemes, "list")?;
@@ -135,7 +134,7 @@ fn listing<'a>(lexemes: &[Lexeme<'a>]) -> Option<(Lexeme<'a>, Lexeme<'a>)>
 
 /// Whether the line is `end`.
 fn is_end(lexemes: &[Lexeme]) -> bool
-    ensures { IsTrue result ↔ (words lexemes.now ≡ end_words) }
+    ensures { IsTrue result ↔ (words lexemes.now ≡ end_tokens) }
 {
     match word_at(lexemes, "end") {
         Some(rest) => rest.is_empty(),
@@ -143,10 +142,12 @@ fn is_end(lexemes: &[Lexeme]) -> bool
     }
 }
 
-/// The number, where it is from 1 to the greatest one.
+/// The number, if it is from 1 to the greatest one.
 fn number_within(lexeme: &Lexeme, greatest: u32) -> Option<u32>
     requires { lexeme.now.kind ≡ TokenKind.Number }
-    ensures { SomeIff result ((1 ≤ number_value lexeme.now.text.now) × (number_value lexeme.now.text.now ≤ greatest)) (number_value lexeme.now.text.now) }
+    ensures { SomeIff result
+        ((1 ≤ number_value lexeme.now.text.now) × (number_value lexeme.now.text.now ≤ greatest))
+        (number_value lexeme.now.text.now) }
 {
     match lexeme.number() {
         Some(number) if 1 <= number && number <= greatest => Some(number),

@@ -7,7 +7,7 @@ pub fn transcripts_go_on()
     ensures { TranscriptsGoOn }
 {}
 
-/// No listing is answered both by its page and by too many terms.
+/// Each listing is answered by its page or by too many terms, and none by both.
 pub fn listings_are_decided()
     ensures { ListingsAreDecided }
 {}

@@ -1,22 +1,21 @@
 ghost use Rattle.std.specs.Prelude.{◌≡◌, ◌≤◌, List, length, IfOk, IfErr, All, ℕ, string_bytes};
+ghost use Rattle.cls_base.specs.Limits.{max_pool, max_term_size};
 ghost use Rattle.cls_base.specs.Pages.{IsPage};
 ghost use Rattle.cls_base.specs.Terms.{IsTermOver};
 ghost use Rattle.cls_enum.specs.Faults.{IfTooMany};
 ghost use Rattle.cls_session.specs.Declarations.{Declaration, names_of};
 ghost use Rattle.cls_session.specs.Forms.{IsListing};
-ghost use Rattle.cls_session.specs.Listings.{request, AreFew, AreMany};
+ghost use Rattle.cls_session.specs.Listings.{omega_request, AreFew, AreMany};
 ghost use Rattle.cls_session.specs.Replies.{page_text};
 ghost use Rattle.cls_session.specs.Replies as replies;
 ghost use Rattle.cls_term.specs.Texts.{name_at};
 
+use cls_base::limits::MAX_POOL;
 use cls_base::{Numbers, OutOfMemory};
 use cls_enum::{Page, PageFault, page};
 use cls_grammar::OmegaBook;
 use cls_syntax::Names;
 use std::alloc::Global;
-
-/// The most terms that may be made for a page.
-const MAX_POOL: u64 = 200_000;
 
 /// The reply to a listing of at most `take` terms of at most the size `max`. The only error is out of memory.
 pub fn answer_listing(
@@ -25,8 +24,8 @@ pub fn answer_listing(
     max: u32,
     take: u32,
 ) -> Result<String, OutOfMemory>
-    requires high { max ≤ 1024 }
-    requires some { 1 ≤ take }
+    requires size_within { max ≤ max_term_size }
+    requires take_within { 1 ≤ take }
     ensures { IfOk result (λ text. (declared : List Declaration) (line : List ℕ) → components.now ≡ names_of declared
         → IsListing line max take → replies.Reply declared line (string_bytes text)) }
 {
@@ -37,15 +36,15 @@ pub fn answer_listing(
     }
 }
 
-/// The first `take` terms of type omega and of at most this size over so many components, each of which costs 1.
+/// The first `take` terms of type omega and of at most this size over `count` components, each of which costs 1.
 ///
-/// `TooManyTerms` comes if and only if more than 200,000 terms have the size that decides the page, or a smaller one.
+/// `TooManyTerms` comes if and only if more than `MAX_POOL` terms are no larger than the size that decides the page.
 pub fn list_omega(alloc: Global, count: u32, max: u32, take: u32) -> Result<Page, PageFault>
-    requires high { max ≤ 1024 }
-    requires some { 1 ≤ take }
-    ensures page { IfOk result (λ p. IsPage (IsTermOver count) (request max take) p.terms p.more) }
-    ensures few { IfOk result (λ _. AreFew (IsTermOver count) max take 200000) }
-    ensures many { IfErr result (λ fault. IfTooMany fault (AreMany (IsTermOver count) max take 200000)) }
+    requires size_within { max ≤ max_term_size }
+    requires take_within { 1 ≤ take }
+    ensures page { IfOk result (λ p. IsPage (IsTermOver count) (omega_request max take) p.terms p.more) }
+    ensures few { IfOk result (λ _. AreFew (IsTermOver count) max take max_pool) }
+    ensures many { IfErr result (λ fault. IfTooMany fault (AreMany (IsTermOver count) max take max_pool)) }
 {
     let book = OmegaBook::new(alloc, count)?;
     let costs = Numbers::new(Vec::new(alloc));
@@ -55,7 +54,8 @@ pub fn list_omega(alloc: Global, count: u32, max: u32, take: u32) -> Result<Page
 /// The text of a page: a line for each term, and a last one that says whether more terms follow.
 fn print_page(alloc: Global, page: &Page, components: &Names) -> Result<String, OutOfMemory>
     requires { All (IsTermOver (length components.now)) page.now.terms }
-    ensures { IfOk result (λ text. string_bytes text ≡ page_text (name_at components.now) page.now.terms page.now.more) }
+    ensures { IfOk result (λ text. string_bytes text
+        ≡ page_text (name_at components.now) page.now.terms page.now.more) }
 {
     let mut text = String::new(alloc);
     for term in page.terms.as_slice() {

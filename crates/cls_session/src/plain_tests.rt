@@ -1,14 +1,15 @@
 //! The terms of size 1 and 2 by their definition, beside the pages that are made of a rule book.
 ghost use Rattle.std.specs.Prelude.{◌≤◌};
+ghost use Rattle.cls_base.specs.Limits.{max_term_size};
 
 use crate::listing::answer_listing;
-use crate::session::MAX_COMPONENTS;
+use cls_base::limits::MAX_COMPONENTS;
 use cls_syntax::Names;
 use std::alloc::Global;
 use std::process::Abort;
 use std::test::Fail;
 
-/// The texts of so many components.
+/// The names of `count` components.
 fn names(alloc: Global, count: u32) -> Result<Vec<String>, Fail> {
     let mut names = Vec::new(alloc);
     for number in 0..count {
@@ -17,7 +18,7 @@ fn names(alloc: Global, count: u32) -> Result<Vec<String>, Fail> {
     Ok(names)
 }
 
-/// The table of these names, of 1,000 at most.
+/// The table of these names, of `MAX_COMPONENTS` at most.
 fn table(alloc: Global, names: &[String]) -> Result<Names, Fail> {
     let mut table = Names::new(alloc);
     for name in names {
@@ -74,8 +75,8 @@ fn assert_page<R: Abort>(
     max: u32,
     take: u32,
 ) -> Result<(), Fail>
-    requires high { max ≤ 1024 }
-    requires some { 1 ≤ take }
+    requires size_within { max ≤ max_term_size }
+    requires take_within { 1 ≤ take }
 {
     let texts = plain_texts(alloc, names, max)?;
     let expected = plain_reply(alloc, &texts, take as usize)?;
@@ -84,7 +85,7 @@ fn assert_page<R: Abort>(
     Ok(())
 }
 
-/// Asserts the same for sizes 1 and 2 over so many components, however many of up to 120 terms are asked for.
+/// Asserts the same for sizes 1 and 2 over `count` components, however many of up to 120 terms are asked for.
 fn assert_pages<R: Abort>(rt: &R, alloc: Global, count: u32) -> Result<(), Fail> {
     let names = names(alloc, count)?;
     for take in 1..121 {

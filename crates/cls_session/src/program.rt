@@ -1,7 +1,9 @@
-ghost use Rattle.std.specs.Prelude.{◌≡◌, ◌≢◌, List, [], map, string_bytes};
+ghost use Rattle.std.specs.Prelude.{◌≡◌, ◌≢◌, List, []};
 ghost use Rattle.std.specs.Io.KnownBytes.{IsAtEnd, Keeps};
 ghost use Rattle.cls_base.specs.Outside.{HasRisen};
-ghost use Rattle.cls_session.specs.Outputs.{IsWhole, IsCutOff, Answers, BeginsAnswers, AnswersTaken, BeginsTaken, HasRoom};
+ghost use Rattle.cls_session.specs.Commands.{texts_of, AsksSession};
+ghost use Rattle.cls_session.specs.Outputs.{IsWhole, IsBrokenOff, IsCutOff, HasRoom};
+ghost use Rattle.cls_session.specs.Outputs.{Answers, BeginsAnswers, AnswersTaken, BeginsTaken, KeepsPace};
 ghost use Rattle.cls_session.specs.Stops.{status_of};
 ghost use Rattle.cls_session.specs.declared.status.Status.TheVariants.{Done, Usage, ReadFault, WriteFault};
 
@@ -9,16 +11,14 @@ use crate::driver::{Stop, answer_lines, finish, write_all};
 use crate::session::Session;
 use crate::status::Status;
 use crate::words::{Command, read_words};
+use cls_base::limits::{MAX_INPUT_BYTES, MAX_READ_BYTES};
 use cls_base::{Gate, Sink, Source};
 use cls_syntax::LineReader;
 use std::alloc::Global;
 use std::sync::Wait;
 use std::thread::Threads;
 
-/// The most bytes that are read. Where more come, only the lines that end within these count.
-const MAX_INPUT_BYTES: usize = 1_048_576;
-
-/// What the program writes where its words aren't in the form that this line gives.
+/// What the program writes if its words aren't in the form that this line gives.
 const USAGE: &str =
     "usage: clsynth [--workers N] [--max-goals N] [--max-rules N] [--pool N] [generate N]\n";
 
@@ -43,17 +43,30 @@ pub fn run<R: Threads + Wait + Sync, S: Source, K: Sink, G: Gate + Sync>(
     sink: &mut K,
     gate: &G,
 ) -> Status
-    requires room { HasRoom (map string_bytes words.now) (S.left source.old) (K.room sink.old) }
-    ensures output { IsWhole result → Answers (map string_bytes words.now) (S.left source.old) (K.held sink.old) (K.held sink.new) result }
-    ensures read_whole { result ≡ Done → IsAtEnd (S.left source.new) }
-    ensures unread { result ≡ Usage → Keeps (S.left source.old) (S.left source.new) }
-    ensures none_waits { result ≡ ReadFault → AnswersTaken (S.left source.old) (S.left source.new) (K.held sink.old) (K.held sink.new) }
-    ensures begins_taken { result ≡ ReadFault → BeginsTaken (S.left source.old) (S.left source.new) (K.held sink.old) (K.held sink.new) }
-    ensures begins { IsCutOff result → BeginsAnswers (map string_bytes words.now) (S.left source.old) (K.held sink.old) (K.held sink.new) }
-    ensures read_fault { result ≡ ReadFault → HasRisen (S.faults source.old) (S.faults source.new) }
-    ensures write_fault { result ≡ WriteFault → HasRisen (K.faults sink.old) (K.faults sink.new) }
-    ensures no_read_fault { IsWhole result → S.faults source.new ≡ S.faults source.old }
-    ensures no_write_fault { IsWhole result → K.faults sink.new ≡ K.faults sink.old }
+    requires room { HasRoom (texts_of words.now) (S.seen source.old) (K.seen sink.old) }
+
+    // The output, if nothing failed.
+    ensures output { IsWhole result
+        → Answers (texts_of words.now) (S.seen source.old) (K.seen sink.old) (K.seen sink.new) result }
+    ensures read_whole { result ≡ Done → IsAtEnd (S.seen source.new).left }
+    ensures unread { result ≡ Usage → Keeps (S.seen source.old).left (S.seen source.new).left }
+    ensures unasked { (AsksSession (texts_of words.now) → ⊥) → S.seen source.new ≡ S.seen source.old }
+
+    // What stands written if a read or a write failed or no memory was found.
+    ensures none_waits { result ≡ ReadFault → AnswersTaken (texts_of words.now)
+        (S.seen source.old) (S.seen source.new) (K.seen sink.old) (K.seen sink.new) }
+    ensures begins_taken { result ≡ ReadFault → BeginsTaken (texts_of words.now)
+        (S.seen source.old) (S.seen source.new) (K.seen sink.old) (K.seen sink.new) }
+    ensures begins { IsCutOff result
+        → BeginsAnswers (texts_of words.now) (S.seen source.old) (K.seen sink.old) (K.seen sink.new) }
+    ensures keeps_pace { IsBrokenOff result
+        → KeepsPace (S.seen source.old) (S.seen source.new) (K.seen sink.old) (K.seen sink.new) }
+
+    // The counts of faults.
+    ensures read_fault { result ≡ ReadFault → HasRisen (S.seen source.old).faults (S.seen source.new).faults }
+    ensures write_fault { result ≡ WriteFault → HasRisen (K.seen sink.old).faults (K.seen sink.new).faults }
+    ensures no_read_fault { IsWhole result → (S.seen source.new).faults ≡ (S.seen source.old).faults }
+    ensures no_write_fault { IsWhole result → (K.seen sink.new).faults ≡ (K.seen sink.old).faults }
 {
     match read_words(words) {
         Ok(Command::Session) => answer_input(alloc, source, sink),
@@ -66,20 +79,26 @@ pub fn run<R: Threads + Wait + Sync, S: Source, K: Sink, G: Gate + Sync>(
 
 /// Answers the lines of the source while they come, and ends the output.
 fn answer_input<S: Source, K: Sink>(alloc: Global, source: &mut S, sink: &mut K) -> Status
-    requires room { HasRoom [] (S.left source.old) (K.room sink.old) }
-    ensures output { IsWhole result → Answers [] (S.left source.old) (K.held sink.old) (K.held sink.new) result }
-    ensures read_whole { result ≡ Done → IsAtEnd (S.left source.new) }
+    requires room { HasRoom [] (S.seen source.old) (K.seen sink.old) }
+
+    ensures output { IsWhole result → Answers [] (S.seen source.old) (K.seen sink.old) (K.seen sink.new) result }
+    ensures read_whole { result ≡ Done → IsAtEnd (S.seen source.new).left }
     ensures never_usage { result ≢ Usage }
-    ensures none_waits { result ≡ ReadFault → AnswersTaken (S.left source.old) (S.left source.new) (K.held sink.old) (K.held sink.new) }
-    ensures begins { IsCutOff result → BeginsAnswers [] (S.left source.old) (K.held sink.old) (K.held sink.new) }
-    ensures read_fault { result ≡ ReadFault → HasRisen (S.faults source.old) (S.faults source.new) }
-    ensures write_fault { result ≡ WriteFault → HasRisen (K.faults sink.old) (K.faults sink.new) }
-    ensures no_read_fault { IsWhole result → S.faults source.new ≡ S.faults source.old }
-    ensures no_write_fault { IsWhole result → K.faults sink.new ≡ K.faults sink.old }
+
+    ensures none_waits { result ≡ ReadFault
+        → AnswersTaken [] (S.seen source.old) (S.seen source.new) (K.seen sink.old) (K.seen sink.new) }
+    ensures begins { IsCutOff result → BeginsAnswers [] (S.seen source.old) (K.seen sink.old) (K.seen sink.new) }
+    ensures keeps_pace { IsBrokenOff result
+        → KeepsPace (S.seen source.old) (S.seen source.new) (K.seen sink.old) (K.seen sink.new) }
+
+    ensures read_fault { result ≡ ReadFault → HasRisen (S.seen source.old).faults (S.seen source.new).faults }
+    ensures write_fault { result ≡ WriteFault → HasRisen (K.seen sink.old).faults (K.seen sink.new).faults }
+    ensures no_read_fault { IsWhole result → (S.seen source.new).faults ≡ (S.seen source.old).faults }
+    ensures no_write_fault { IsWhole result → (K.seen sink.new).faults ≡ (K.seen sink.old).faults }
 {
     let mut session = Session::new(alloc);
     let mut reader = LineReader::new(alloc);
-    let mut buffer = [0u8; 4096];
+    let mut buffer = [0u8; MAX_READ_BYTES];
     let mut taken = 0;
     'pieces: loop {
         let Ok(count) = source.read(&mut buffer) else {

@@ -1,4 +1,5 @@
 ghost use Rattle.std.specs.Prelude.{◌≡◌, ℕ, ◌+◌, ◌^◌, ◌<◌, ◌≤◌, ◌↔◌, IfOk, OnErr, IsTrue, Contains, length, map, false, string_bytes, List};
+ghost use Rattle.cls_base.specs.Limits.{max_components};
 ghost use Rattle.cls_session.specs.Declarations.{Declaration, names_of};
 ghost use Rattle.cls_session.specs.Replies.{reply_line};
 ghost use Rattle.cls_session.specs.Replies as replies;
@@ -9,12 +10,10 @@ use crate::forms::{QueryLine, RepositoryLine, query_line, repository_line};
 use crate::listing::answer_listing;
 use crate::status::Status;
 use cls_base::OutOfMemory;
+use cls_base::limits::MAX_COMPONENTS;
 use cls_syntax::{Line, Names};
 use std::alloc::Global;
 use std::marker::Model;
-
-/// The most components that a repository declares.
-pub const MAX_COMPONENTS: u32 = 1_000;
 
 /// What a session answers to a line.
 #[derive(Drop)]
@@ -54,7 +53,7 @@ impl Model for Session {
 
 impl Session {
     ghost use Rattle.std.specs.Prelude.{[], ◌++◌};
-    ghost use Rattle.cls_session.specs.Sessions.{AnswersFeed};
+    ghost use Rattle.cls_session.specs.Sessions.{IsAnswerTo};
     ghost use Rattle.cls_session.specs.Standings.{Stands};
     ghost use Rattle.cls_session.specs.Transcripts.{Ending};
 
@@ -72,7 +71,7 @@ impl Session {
     /// Takes the next line and answers it. After a refusal no further line is to be fed.
     pub fn feed(&mut self, alloc: Global, line: &Line) -> Result<Answer, OutOfMemory>
         requires { self.old.lines < 2 ^ 32 }
-        ensures answered { IfOk result (λ answer. AnswersFeed self.old line.now answer self.new) }
+        ensures answered { IfOk result (λ answer. IsAnswerTo self.old line.now answer self.new) }
         ensures counted { IfOk result (λ _. self.new.lines ≤ self.old.lines + 1) }
         ensures err { OnErr result (self.new ≡ self.old) }
     {
@@ -84,7 +83,7 @@ impl Session {
         Ok(Answer::Reply(text))
     }
 
-    /// Ends the output where no further line comes: a repository without the line `end` is refused.
+    /// Ends the output if no further line comes: a repository without the line `end` is refused.
     pub fn finish(&self, alloc: Global) -> Result<Outcome, OutOfMemory>
         ensures { IfOk result (λ outcome. (lines : List (List ℕ)) (written : List ℕ) → Stands lines written self.now
             → Ending lines (written ++ string_bytes outcome.text) outcome.status) }
@@ -105,8 +104,8 @@ impl Session {
     /// Takes a line of the repository.
     fn declare(&mut self, alloc: Global, line: &Line) -> Result<Answer, OutOfMemory>
         requires reading { self.old.ended ≡ false }
-        requires few { self.old.lines < 2 ^ 32 }
-        ensures answered { IfOk result (λ answer. AnswersFeed self.old line.now answer self.new) }
+        requires few_lines { self.old.lines < 2 ^ 32 }
+        ensures answered { IfOk result (λ answer. IsAnswerTo self.old line.now answer self.new) }
         ensures counted { IfOk result (λ _. self.new.lines ≤ self.old.lines + 1) }
         ensures err { OnErr result (self.new ≡ self.old) }
     {
@@ -132,7 +131,7 @@ impl Session {
 
 /// Whether a further component may have this name.
 fn may_declare(components: &Names, name: &str) -> bool
-    ensures { IsTrue result ↔ ((Contains components.now name.now → ⊥) × (length components.now < 1000)) }
+    ensures { IsTrue result ↔ ((Contains components.now name.now → ⊥) × (length components.now < max_components)) }
 {
     components.find(name).is_none() && components.len() < MAX_COMPONENTS
 }
@@ -146,7 +145,8 @@ fn refusal(alloc: Global, place: u64) -> Result<String, OutOfMemory>
 
 /// The reply to a line after the repository.
 fn answer_query(alloc: Global, components: &Names, line: &Line) -> Result<String, OutOfMemory>
-    ensures { IfOk result (λ text. (declared : List Declaration) → components.now ≡ names_of declared → replies.Reply declared line.now (string_bytes text)) }
+    ensures { IfOk result (λ text. (declared : List Declaration) → components.now ≡ names_of declared
+        → replies.Reply declared line.now (string_bytes text)) }
 {
     match query_line(alloc, line)? {
         QueryLine::Skipped => Ok(String::new(alloc)),

@@ -1,5 +1,5 @@
-ghost use Rattle.std.specs.Prelude.{◌↔◌, map, string_bytes, IsOk};
-ghost use Rattle.cls_session.specs.Commands.{AsksSession};
+ghost use Rattle.std.specs.Prelude.{◌↔◌, IsOk};
+ghost use Rattle.cls_session.specs.Commands.{texts_of, AsksSession};
 
 use thiserror::Error;
 
@@ -18,7 +18,7 @@ pub struct UsageFault;
 /// Reads the words of the command line, the program's own name left out. No option is built yet, so that all words but
 /// none are a fault.
 pub fn read_words(words: &[String]) -> Result<Command, UsageFault>
-    ensures { IsOk result ↔ AsksSession (map string_bytes words.now) }
+    ensures { IsOk result ↔ AsksSession (texts_of words.now) }
 {
     if words.is_empty() {
         Ok(Command::Session)

@@ -4,8 +4,8 @@ use Rattle.cls_session.proofs.driver.write_all.Given as goal
 
 abbrev pub invariant-loop-rest : goal.invariant-loop-rest
 invariant-loop-rest g l = record {
-  part : IsPartWritten (g.K.Sink.held l.initial.sink) (g.K.Sink.held l.sink) (g.K.Sink.room l.initial.sink) (g.K.Sink.room l.sink) l.text l.rest;
-  faults : g.K.Sink.faults l.sink ≡ g.K.Sink.faults l.initial.sink;
+  part : IsPartWritten (g.K.Sink.seen l.initial.sink) (g.K.Sink.seen l.sink) l.text l.rest;
+  faults : (g.K.Sink.seen l.sink).faults ≡ (g.K.Sink.seen l.initial.sink).faults;
 }
 
 abbrev pub decreases-loop-rest : goal.decreases-loop-rest

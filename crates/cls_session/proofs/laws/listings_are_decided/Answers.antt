@@ -1,4 +1,4 @@
-use Rattle.cls_session.proofs.Counts.{listings_are_decided}
+use Rattle.cls_session.proofs.Totality.{listings_are_decided}
 use Rattle.cls_session.proofs.laws.listings_are_decided.Goals as goal
 
 pub returns : goal.returns

@@ -20,9 +20,7 @@ impl StdSource {
 }
 
 impl Source for StdSource {
-    ghost left = { λ _. None };
-
-    ghost faults = { λ s. s.faults };
+    ghost seen = { λ s. record { left = None; faults = s.faults } };
 
     /// Reads what standard input has next.
     fn read(&mut self, into: &mut [u8]) -> Result<usize, Failed> {

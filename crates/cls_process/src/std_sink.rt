@@ -20,11 +20,7 @@ impl StdSink {
 }
 
 impl Sink for StdSink {
-    ghost held = { λ _. None };
-
-    ghost room = { λ _. None };
-
-    ghost faults = { λ s. s.faults };
+    ghost seen = { λ s. record { held = None; room = None; faults = s.faults } };
 
     /// Writes from the front of the piece. That nothing is taken of a piece with bytes is a fault too.
     fn write(&mut self, piece: &[u8]) -> Result<usize, Failed> {
