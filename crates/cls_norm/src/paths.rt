@@ -3,7 +3,8 @@ ghost use Rattle.std.specs.Prelude.{◌≡◌, ◌∷◌, ◌++◌, [], IfOk, On
 ghost use Rattle.cls_base.specs.Ty.{type_of};
 ghost use Rattle.cls_base.specs.Taxa.{Below};
 ghost use Rattle.cls_path.specs.Paths.{atom, inside, unit, left, right, function, sealed, listed};
-ghost use Rattle.cls_norm.specs.PathLists.{or_else, ArePathsOf};
+ghost use Rattle.cls_path.specs.PathLists.{ArePathsOf};
+ghost use Rattle.cls_norm.specs.PathLists.{or_else};
 
 use cls_base::{Name, OutOfMemory, Taxa, Ty, Variance};
 use cls_path::{Nf, Path};

@@ -63,6 +63,14 @@ module _ (below : ℕ → ℕ → Type 0) (variance : ℕ → Variance) where
         both none m s t = t
         both (more p n) m s t = (s.0, both n m s.1 t)
 
+    -- where the whole are paths whose intersection is the type, and all are put in
+    pub whole_of : (t : ClosedType) (whole out : Paths) → PathsLe below variance whole (paths_of variance t) → PathsLe below variance (paths_of variance t) whole → Remains whole out none → IsNormalForm below variance t out
+    whole_of t whole out lower upper h = record {
+      normal = h.normal;
+      lower = covers_trans below variance reflexive transitive out whole (paths_of variance t) (subst (λ l. PathsLe below variance l whole) (append_none out) h.lower) lower;
+      upper = covers_trans below variance reflexive transitive (paths_of variance t) whole out upper (subst (λ l. PathsLe below variance whole l) (append_none out) h.upper);
+    }
+
     self : (n : Paths) (q : TypePath) → SuitsAll variance n → In q n → Some below variance reflexive transitive n q
     self n q s i = (q, i, le_refl below variance reflexive transitive q (suits_at n q s i))
 

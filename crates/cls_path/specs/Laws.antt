@@ -39,6 +39,13 @@ PathsArePrime = (test : ℕ → ℕ → Bool) (variance : ℕ → Variance) → 
 abbrev pub FormsAreEquivalent : Type 0
 FormsAreEquivalent = (test : ℕ → ℕ → Bool) (variance : ℕ → Variance) → IsPartialOrder (Below test) → (t : ClosedType) (n : Paths) → IsNormalForm (Below test) variance t n → Subtype (Below test) variance t (type_of_paths n) × Subtype (Below test) variance (type_of_paths n) t
 
+-- each type has a normal form
+abbrev pub FormsExist : Type 0
+FormsExist =
+    (test : ℕ → ℕ → Bool) (variance : ℕ → Variance) → IsPartialOrder (Below test)
+    → ((c d : ℕ) → Below test c d → variance c ≡ variance d)
+    → (t : ClosedType) → (n : Paths) × IsNormalForm (Below test) variance t n
+
 -- two types are equivalent if and only if their normal forms are equal
 abbrev pub FormsAreExact : Type 0
 FormsAreExact = (test : ℕ → ℕ → Bool) (variance : ℕ → Variance) → IsPartialOrder (Below test) → (s t : ClosedType) (n m : Paths) → IsNormalForm (Below test) variance s n → IsNormalForm (Below test) variance t m → (Subtype (Below test) variance s t × Subtype (Below test) variance t s) ↔ (n ≡ m)

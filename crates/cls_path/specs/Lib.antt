@@ -5,6 +5,7 @@ pub mod Laws
 pub mod NormalForms
 pub mod OrderLaws
 pub mod PathOrder
+pub mod PathLists
 pub mod Paths
 pub mod Seen
 pub mod Sizes
