@@ -22,14 +22,18 @@ module _ (test : ℕ → ℕ → Bool) (variance : ℕ → Variance) (reflexive 
   abbrev Parted : ClosedType → Type 0
   Parted t = (n : Paths) × ArePathsOf (Below test) variance t n
 
-  with_path : (p : TypePath) (n : List TypePath) → Suits variance p → IsCanonicalPath (Below test) variance p → IsNormal (Below test) variance (listed n) → Formed (meet (type_of_paths (listed n)) (type_of_path p))
+  with_path :
+      (p : TypePath) (n : List TypePath) → Suits variance p → IsCanonicalPath (Below test) variance p
+      → IsNormal (Below test) variance (listed n) → Formed (meet (type_of_paths (listed n)) (type_of_path p))
   with_path p n s d h = step (some_below test variance (listed n) p) refl
     where
       step : (v : Bool) → some_below test variance (listed n) p ≡ v → Formed (meet (type_of_paths (listed n)) (type_of_path p))
       step true e = (n, kept_form test variance reflexive transitive one_variance p n s h e)
       step false e = (place p (without_above test variance p n), inserted_form test variance reflexive transitive one_variance p n s d h e)
 
-  all_put : (whole : Paths) (out : List TypePath) (rest : Paths) → Remains (Below test) variance whole (listed out) rest → (n : List TypePath) × Remains (Below test) variance whole (listed n) none
+  all_put :
+      (whole : Paths) (out : List TypePath) (rest : Paths) → Remains (Below test) variance whole (listed out) rest
+      → (n : List TypePath) × Remains (Below test) variance whole (listed n) none
   all_put whole out none h = (out, h)
   all_put whole out (more p rest) h =
       let f = with_path p out (next_suits (Below test) variance p h first_in) (next_canonical (Below test) variance p h first_in) h.normal in

@@ -18,7 +18,10 @@ module _ (below : ℕ → ℕ → Type 0) (variance : ℕ → Variance) (reflexi
   canonical_append none m s t = t
   canonical_append (more p n) m s t = (s.0, canonical_append n m s.1 t)
 
-  canonical_map : (f : TypePath → TypePath) → ((p : TypePath) → IsCanonicalPath below variance p → IsCanonicalPath below variance (f p)) → (n : Paths) → EachCanonical below variance n → EachCanonical below variance (map_paths f n)
+  canonical_map :
+      (f : TypePath → TypePath)
+      → ((p : TypePath) → IsCanonicalPath below variance p → IsCanonicalPath below variance (f p)) → (n : Paths)
+      → EachCanonical below variance n → EachCanonical below variance (map_paths f n)
   canonical_map f g none s = tt
   canonical_map f g (more p n) s = (g p s.0, canonical_map f g n s.1)
 
@@ -27,7 +30,9 @@ module _ (below : ℕ → ℕ → Type 0) (variance : ℕ → Variance) (reflexi
   canonical_or_one p (more q n) s t = t
 
   -- the normal form of the intersection of a type's paths is that of the type
-  pub form_of_paths : (t : ClosedType) (n m : Paths) → ArePathsOf below variance t n → IsNormalForm below variance (type_of_paths n) m → IsNormalForm below variance t m
+  pub form_of_paths :
+      (t : ClosedType) (n m : Paths) → ArePathsOf below variance t n → IsNormalForm below variance (type_of_paths n) m
+      → IsNormalForm below variance t m
   form_of_paths t n m h k =
       let e = paths_back n variance h.suits in
       record {
@@ -39,7 +44,9 @@ module _ (below : ℕ → ℕ → Type 0) (variance : ℕ → Variance) (reflexi
   pub omega_paths : ArePathsOf below variance types.omega none
   omega_paths = record { suits = tt; canonical = tt; lower = empty; upper = empty }
 
-  pub name_paths : (c : ℕ) (s : ClosedType) (n : Paths) → variance c ≡ covariant → ArePathsOf below variance s n → ArePathsOf below variance (constructor c s) (or_one (atom c) (map_paths (inside c) n))
+  pub name_paths :
+      (c : ℕ) (s : ClosedType) (n : Paths) → variance c ≡ covariant → ArePathsOf below variance s n
+      → ArePathsOf below variance (constructor c s) (or_one (atom c) (map_paths (inside c) n))
   name_paths c s n v h =
       let m = or_one (atom c) (map_paths (inside c) n) in
       record {
@@ -51,7 +58,9 @@ module _ (below : ℕ → ℕ → Type 0) (variance : ℕ → Variance) (reflexi
             (covers_covariant below variance reflexive transitive c c (paths_of variance s) n (reflexive c) h.upper);
       }
 
-  pub sealed_paths : (c : ℕ) (s : ClosedType) (n : Paths) → (variance c ≡ contravariant) ⊎ (variance c ≡ invariant) → IsNormalForm below variance s n → ArePathsOf below variance (constructor c s) (more (sealed c n) none)
+  pub sealed_paths :
+      (c : ℕ) (s : ClosedType) (n : Paths) → (variance c ≡ contravariant) ⊎ (variance c ≡ invariant)
+      → IsNormalForm below variance s n → ArePathsOf below variance (constructor c s) (more (sealed c n) none)
   sealed_paths c s n v h = record {
     suits = ((v, h.normal.suits), tt);
     canonical = (h.normal.canonical, tt);
@@ -69,7 +78,9 @@ module _ (below : ℕ → ℕ → Type 0) (variance : ℕ → Variance) (reflexi
     ];
   }
 
-  pub product_paths : (s t : ClosedType) (n m : Paths) → ArePathsOf below variance s n → ArePathsOf below variance t m → ArePathsOf below variance (product s t) (or_one unit (append (map_paths left n) (map_paths right m)))
+  pub product_paths :
+      (s t : ClosedType) (n m : Paths) → ArePathsOf below variance s n → ArePathsOf below variance t m
+      → ArePathsOf below variance (product s t) (or_one unit (append (map_paths left n) (map_paths right m)))
   product_paths s t n m h k = record {
     suits = suits_or_one below variance reflexive transitive unit (append (map_paths left n) (map_paths right m)) tt
         (suits_append below variance reflexive transitive (map_paths left n) (map_paths right m) (suits_map below variance reflexive transitive left (λ p u. u) n h.suits) (suits_map below variance reflexive transitive right (λ p u. u) m k.suits));
@@ -79,7 +90,9 @@ module _ (below : ℕ → ℕ → Type 0) (variance : ℕ → Variance) (reflexi
     upper = covers_products below variance reflexive transitive (paths_of variance s) (paths_of variance t) n m h.upper k.upper;
   }
 
-  pub arrow_paths : (s t : ClosedType) (n m : Paths) → IsNormalForm below variance s n → ArePathsOf below variance t m → ArePathsOf below variance (arrow s t) (map_paths (function n) m)
+  pub arrow_paths :
+      (s t : ClosedType) (n m : Paths) → IsNormalForm below variance s n → ArePathsOf below variance t m
+      → ArePathsOf below variance (arrow s t) (map_paths (function n) m)
   arrow_paths s t n m h k = record {
     suits = suits_map below variance reflexive transitive (function n) (λ p u. (h.normal.suits, u)) m k.suits;
     canonical = canonical_map (function n) (λ p u. (h.normal.canonical, u)) m k.canonical;
@@ -93,7 +106,9 @@ module _ (below : ℕ → ℕ → Type 0) (variance : ℕ → Variance) (reflexi
     | inr j ↦ some_right below variance reflexive transitive q n m (covered below variance reflexive transitive m b k q j)
   ])
 
-  pub meet_paths : (s t : ClosedType) (n m : Paths) → ArePathsOf below variance s n → ArePathsOf below variance t m → ArePathsOf below variance (meet s t) (append n m)
+  pub meet_paths :
+      (s t : ClosedType) (n m : Paths) → ArePathsOf below variance s n → ArePathsOf below variance t m
+      → ArePathsOf below variance (meet s t) (append n m)
   meet_paths s t n m h k = record {
     suits = suits_append below variance reflexive transitive n m h.suits k.suits;
     canonical = canonical_append n m h.canonical k.canonical;

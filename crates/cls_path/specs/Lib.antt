@@ -1,3 +1,5 @@
+-- To be read and believed: Paths, NormalForms and Laws. The other modules follow the code or serve the prover. What is
+-- proved of them ties them to these three.
 pub mod Falls
 pub mod Feed
 pub mod Insertion

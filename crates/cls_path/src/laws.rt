@@ -17,7 +17,8 @@ pub fn below_is_transitive()
     ensures { BelowIsTransitive }
 {}
 
-/// A derivation that one type is below another exists if and only if each path of the other is above some path of the one.
+/// A derivation that one type is below another exists if and only if each path of the other is above some path of the
+/// one.
 pub fn derivations_are_decided()
     ensures { DerivationsAreDecided }
 {}
