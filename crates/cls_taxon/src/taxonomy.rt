@@ -1,11 +1,11 @@
 //! The order of names that declared pairs make.
 ghost use Rattle.std.specs.Prelude.{◌≡◌, ◌<◌, ◌↔◌, map, IsTrue, IfOk, OnOk, IfErr, length};
+ghost use Rattle.cls_base.specs.Lists.{AreDistinct};
 ghost use Rattle.cls_base.specs.Taxonomies.{Chain};
 ghost use Rattle.cls_taxon.specs.Closures.{spans_at};
 ghost use Rattle.cls_taxon.specs.Faults.{Means};
 ghost use Rattle.cls_taxon.specs.Orders.{IsOrder};
 ghost use Rattle.cls_taxon.specs.PairGraphs.{pair_of, AreHeld};
-ghost use Rattle.cls_taxon.specs.Places.{AreDifferent};
 ghost use Rattle.cls_taxon.specs.Spans.{InSpans};
 ghost use Rattle.cls_taxon.specs.Variances.{declared_of};
 
@@ -58,7 +58,7 @@ impl Taxonomy {
         pairs: &[(Name, Name)],
         variances: &[(Name, Variance)],
     ) -> Result<Taxonomy, TaxonFault>
-        requires { AreDifferent (map (λ v. v.0.0) variances.now) }
+        requires { AreDistinct (map (λ v. v.0.0) variances.now) }
         ensures declared { IfOk result (λ t. t ≡ record { pairs = map pair_of pairs.now; variances = map declared_of variances.now }) }
         ensures order { OnOk result (IsOrder (record { pairs = map pair_of pairs.now; variances = map declared_of variances.now })) }
         ensures fault { IfErr result (Means (record { pairs = map pair_of pairs.now; variances = map declared_of variances.now })) }
@@ -97,7 +97,8 @@ impl Taxonomy {
 }
 
 impl Taxa for Taxonomy {
-    ghost use Rattle.cls_taxon.specs.Decisions.{is_below, is_below-reflexive, is_below-transitive, is_below-antisymmetric, is_below-one_variance};
+    ghost use Rattle.cls_taxon.specs.Decisions.{is_below};
+    ghost use Rattle.cls_taxon.specs.DecisionLaws.{is_below-reflexive, is_below-transitive, is_below-antisymmetric, is_below-one_variance};
     ghost use Rattle.cls_taxon.specs.Orders.{variance_in};
 
     ghost is_below = { λ t a b. is_below t a b };
