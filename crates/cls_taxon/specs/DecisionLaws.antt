@@ -38,7 +38,9 @@ Chain-more p pairs a b stay = stay
 Chain-more p pairs a b (step {d = e} q h) = step (Contains-later (a, e) p pairs q) (Chain-more p pairs e b h)
 
 -- a chain goes through the first pair at most once
-Chain-split : (p : ℕ × ℕ) (pairs : List (ℕ × ℕ)) (a b : ℕ) → Chain (p ∷ pairs) a b → Chain pairs a b ⊎ (Chain pairs a p.0 × Chain pairs p.1 b)
+Chain-split :
+    (p : ℕ × ℕ) (pairs : List (ℕ × ℕ)) (a b : ℕ) → Chain (p ∷ pairs) a b
+    → Chain pairs a b ⊎ (Chain pairs a p.0 × Chain pairs p.1 b)
 Chain-split p pairs a b stay = inl stay
 Chain-split p pairs a b (step {d = e} q h) = elim (Contains-cases p pairs (a, e) q) [
   | inl here ↦
@@ -116,7 +118,9 @@ abbrev IsForward : List (ℕ × ℕ) → ℕ × ℕ → Type 0
 IsForward pairs p = (p.0 ≡ p.1) ⊎ (Chain pairs p.1 p.0 → ⊥)
 
 -- if no pair goes back, a chain to another name doesn't either
-Chain-antisymmetric : (pairs : List (ℕ × ℕ)) → ((p : ℕ × ℕ) → Contains pairs p → IsForward pairs p) → (a b : ℕ) → Chain pairs a b → Chain pairs b a → a ≡ b
+Chain-antisymmetric :
+    (pairs : List (ℕ × ℕ)) → ((p : ℕ × ℕ) → Contains pairs p → IsForward pairs p) → (a b : ℕ) → Chain pairs a b
+    → Chain pairs b a → a ≡ b
 Chain-antisymmetric pairs forward a b stay q = refl
 Chain-antisymmetric pairs forward a b (step {d = e} p h) q = elim (forward (a, e) p) [
   | inl same ↦ same ∙ Chain-antisymmetric pairs forward e b h (subst (λ (x : ℕ). Chain pairs b x) same q)
@@ -124,17 +128,19 @@ Chain-antisymmetric pairs forward a b (step {d = e} p h) q = elim (forward (a, e
 ]
 
 -- without a cycle no pair goes back
-Chain-forward : (pairs : List (ℕ × ℕ)) → ((a : ℕ) → IsOnCycle pairs a → ⊥) → (p : ℕ × ℕ) → Contains pairs p → IsForward pairs p
+Chain-forward :
+    (pairs : List (ℕ × ℕ)) → ((a : ℕ) → IsOnCycle pairs a → ⊥) → (p : ℕ × ℕ) → Contains pairs p → IsForward pairs p
 Chain-forward pairs acyclic p h = elim (cases_eq p.0 p.1) [
   | inl e ↦ inl e
   | inr n ↦ inr (λ back. acyclic p.0 (p.1, n, step h stay, back))
 ]
 
-fits_forward : (d : Declared) (p : ℕ × ℕ) → fits_order d p ≡ true → IsForward d.pairs p × (variance_in d.variances p.0 ≡ variance_in d.variances p.1)
+fits_forward :
+    (d : Declared) (p : ℕ × ℕ) → fits_order d p ≡ true
+    → IsForward d.pairs p × (variance_in d.variances p.0 ≡ variance_in d.variances p.1)
 unfolding fits_order
 fits_forward d p h =
-    let both = and_parts (p.0 == p.1 || not (leads d.pairs p.1 p.0)) (same_variance (variance_in d.variances p.0) (variance_in d.variances p.1)) h in
-    (
+    let both = and_parts (p.0 == p.1 || not (leads d.pairs p.1 p.0)) (same_variance (variance_in d.variances p.0) (variance_in d.variances p.1)) h in (
       elim (or_cases (p.0 == p.1) (not (leads d.pairs p.1 p.0)) both.0) [
         | inl e ↦ inl (same_name p.0 p.1 e)
         | inr n ↦ inr (λ back. not_true (leads d.pairs p.1 p.0) n (Chain-leads d.pairs p.1 p.0 back))
@@ -142,7 +148,9 @@ fits_forward d p h =
       same_variance-same _ _ both.1,
     )
 
-forward_fits : (d : Declared) (p : ℕ × ℕ) → IsForward d.pairs p → variance_in d.variances p.0 ≡ variance_in d.variances p.1 → fits_order d p ≡ true
+forward_fits :
+    (d : Declared) (p : ℕ × ℕ) → IsForward d.pairs p → variance_in d.variances p.0 ≡ variance_in d.variances p.1
+    → fits_order d p ≡ true
 unfolding fits_order
 forward_fits d p f e =
     let forward : (p.0 == p.1 || not (leads d.pairs p.1 p.0)) ≡ true = elim f [
@@ -164,7 +172,9 @@ IsOrder-is_order : (d : Declared) → IsOrder d → is_order d ≡ true
 unfolding is_order
 IsOrder-is_order d o = passes_all (fits_order d) d.pairs (λ p c. forward_fits d p (Chain-forward d.pairs o.acyclic p c) (o.keeps p c))
 
-Chain-variance : (d : Declared) → KeepsVariance d → (a b : ℕ) → Chain d.pairs a b → variance_in d.variances a ≡ variance_in d.variances b
+Chain-variance :
+    (d : Declared) → KeepsVariance d → (a b : ℕ) → Chain d.pairs a b
+    → variance_in d.variances a ≡ variance_in d.variances b
 Chain-variance d keeps a b stay = refl
 Chain-variance d keeps a b (step {d = e} p h) = keeps (a, e) p ∙ Chain-variance d keeps e b h
 
@@ -196,7 +206,8 @@ is_below-reflexive d a = elim (cases_Bool (is_order d)) [
   | inr e ↦ by_answer d a a (inr ((λ o. let f = IsOrder-is_order d o in let g : false ≡ true = sym e ∙ f in cc), refl))
 ]
 
-pub is_below-transitive : (d : Declared) (a b c : ℕ) → IsTrue (is_below d a b) → IsTrue (is_below d b c) → IsTrue (is_below d a c)
+pub is_below-transitive :
+    (d : Declared) (a b c : ℕ) → IsTrue (is_below d a b) → IsTrue (is_below d b c) → IsTrue (is_below d a c)
 is_below-transitive d a b c p q = go (answer d a b p) (answer d b c q)
   where
     go : Answer d a b → Answer d b c → IsTrue (is_below d a c)
@@ -213,7 +224,8 @@ is_below-antisymmetric d a b p q = go (answer d a b p) (answer d b a q)
     go (inl (o, h)) (inr (n, e)) = absurd (n o)
     go (inr (n, e)) _ = e
 
-pub is_below-one_variance : (d : Declared) (a b : ℕ) → IsTrue (is_below d a b) → variance_in d.variances a ≡ variance_in d.variances b
+pub is_below-one_variance :
+    (d : Declared) (a b : ℕ) → IsTrue (is_below d a b) → variance_in d.variances a ≡ variance_in d.variances b
 is_below-one_variance d a b p = elim (answer d a b p) [
   | inl (o, h) ↦ Chain-variance d o.keeps a b h
   | inr (n, e) ↦ ap (variance_in d.variances) e
@@ -227,7 +239,9 @@ lookups_are_chains d o a b = (
 )
 
 -- an answer that says whether a chain leads from the one name to the other
-pub chain_answer : (d : Declared) → IsOrder d → (a b : ℕ) (answer : Bool) → IsTrue answer ↔ Chain d.pairs a b → answer ≡ is_below d a b
+pub chain_answer :
+    (d : Declared) → IsOrder d → (a b : ℕ) (answer : Bool) → IsTrue answer ↔ Chain d.pairs a b
+    → answer ≡ is_below d a b
 chain_answer d o a b true h = sym ((lookups_are_chains d o a b).1 (h.0 refl))
 chain_answer d o a b false h = elim (cases_Bool (is_below d a b)) [
   | inl e ↦ h.1 ((lookups_are_chains d o a b).0 e) ∙ sym e
