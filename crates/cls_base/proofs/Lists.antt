@@ -1,8 +1,9 @@
 -- The laws of the words on lists.
 use Rattle.std.proofs.Common.{◌≡◌, ℕ, zero, suc, ◌<◌, ◌≤◌, List, [], ◌∷◌, ◌++◌, Some, length, map, take, drop, get_or, slice_get, refl, sym, ap, ◌∙◌, subst, inl, inr, arith, append_assoc, take-append-drop}
-use Rattle.std.specs.Prelude.{Contains, ◌⊎◌}
-use Rattle.std.specs.List.{sum_by}
+use Rattle.std.specs.Prelude.{Contains, ◌⊎◌, ◌==◌, true, false}
+use Rattle.std.specs.List.{sum_by, IsDistinct, AllByRecursion}
 use Rattle.std.specs.Coded.{×_prop, Unit-prop, le_prop}
+use Rattle.std.proofs.lemmas.Bool.Decides.{nat_tests}
 use Rattle.std.proofs.lemmas.List.{drop-append-le}
 use Rattle.std.proofs.lemmas.List.Elements.{Contains-push, Contains-push_cases}
 use Rattle.std.proofs.lemmas.List.Sums.{sum_by-cons}
@@ -125,3 +126,16 @@ module _ {A B : Type 0} (f : A → B) where
   pub AreDistinct-from_map : (xs : List A) → AreDistinct (map f xs) → AreDistinct xs
   AreDistinct-from_map [] d = tt
   AreDistinct-from_map (x ∷ xs) d = (λ h. d.0 (Contains-map xs x h), AreDistinct-from_map xs d.1)
+
+-- what std's word says of numbers
+pub AreDistinct-from_IsDistinct : (numbers : List ℕ) → IsDistinct (λ a b. a == b) numbers → AreDistinct numbers
+unfolding IsDistinct
+AreDistinct-from_IsDistinct [] d = tt
+AreDistinct-from_IsDistinct (a ∷ numbers) d = (apart numbers d.0, AreDistinct-from_IsDistinct numbers d.1)
+  where
+    apart : (numbers : List ℕ) → AllByRecursion (λ b. (a == b) ≡ false) numbers → Contains numbers a → ⊥
+    apart [] all c = Contains-nil a c
+    apart (b ∷ numbers) all c = elim (Contains-cases b numbers a c) [
+      | inl e ↦ absurd (let same : (a == b) ≡ true = grind (arith, nat_tests) in let one : false ≡ true = sym all.0 ∙ same in cc)
+      | inr there ↦ apart numbers all.1 there
+    ]

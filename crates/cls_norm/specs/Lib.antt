@@ -1,3 +1,2 @@
 pub mod Fit
 pub mod PathLists
-pub mod Zoo

@@ -1,19 +1,8 @@
--- Lists of paths that a type falls into.
-use Rattle.std.specs.Prelude.{ℕ, List, [], ◌∷◌}
-use Rattle.cls_base.specs.Types.{ClosedType}
-use Rattle.cls_base.specs.Taxonomies.{Variance}
-use Rattle.cls_path.specs.Paths.{TypePath, Paths, PathsLe, paths_of, SuitsAll}
-use Rattle.cls_path.specs.NormalForms.{EachCanonical}
+-- internal: the list that the code makes of the paths under a covariant name or in a product
+use Rattle.std.specs.Prelude.{List, [], ◌∷◌}
+use Rattle.cls_path.specs.Paths.{TypePath}
 
--- the list, or the path where it is empty
+-- the list, or the path alone if the list is empty
 abbrev pub or_else : TypePath → List TypePath → List TypePath
 or_else p [] = p ∷ []
 or_else p (q ∷ n) = q ∷ n
-
-module _ (below : ℕ → ℕ → Type 0) (variance : ℕ → Variance) where
-  -- Paths whose intersection is the type. They need not be sorted, but the lists inside them are canonical.
-  pub record ArePathsOf (t : ClosedType) (n : Paths) : Type 0 where
-    pub suits : SuitsAll variance n
-    pub canonical : EachCanonical below variance n
-    pub lower : PathsLe below variance n (paths_of variance t)
-    pub upper : PathsLe below variance (paths_of variance t) n

@@ -5,14 +5,14 @@ ghost use Rattle.cls_norm.specs.Fit.{IsFit, up_to_fit};
 
 use crate::types::type_of;
 use cls_base::OutOfMemory;
+use cls_base::limits::{MAX_TYPE_DEPTH, MAX_TYPE_NODES, MAX_TYPE_SPREAD};
 use cls_path::{Form, Nf, Path};
 use std::alloc::Global;
 
 /// One more than the greatest number of nodes that is fit.
-const TOO_MANY: u64 = 1025;
+const TOO_MANY: u64 = MAX_TYPE_NODES + 1;
 
-/// Whether the type of the normal form has at most 1,024 nodes, a depth of at most 64 and a spread of at most 16,384. The
-/// only error is out of memory.
+/// Whether the type of the normal form keeps the limits of nodes, depth and spread. The only error is out of memory.
 ///
 /// The nodes are counted first, so no type of more nodes is made, however long the list.
 pub fn fit(alloc: Global, nf: &Nf) -> Result<bool, OutOfMemory>
@@ -22,10 +22,10 @@ pub fn fit(alloc: Global, nf: &Nf) -> Result<bool, OutOfMemory>
         return Ok(false);
     }
     let ty = type_of(alloc, nf)?;
-    Ok(ty.depth() <= 64 && ty.spread() <= 16_384)
+    Ok(ty.depth() <= MAX_TYPE_DEPTH && ty.spread() <= MAX_TYPE_SPREAD)
 }
 
-/// The number of nodes of the type of the list, or 1,025 where there are more.
+/// The number of nodes of the type of the list, or [`TOO_MANY`] if there are more.
 #[cycle(nodes)]
 fn list_nodes(nf: &Nf) -> u64
     ensures { result ≡ up_to_fit (nodes (type_of_paths (listed nf.now))) }
@@ -45,7 +45,7 @@ fn list_nodes(nf: &Nf) -> u64
     }
 }
 
-/// The number of nodes of the type of the path, or 1,025 where there are more.
+/// The number of nodes of the type of the path, or [`TOO_MANY`] if there are more.
 #[cycle(nodes)]
 fn path_nodes(path: &Path) -> u64
     ensures { result ≡ up_to_fit (nodes (type_of_path path.now)) }

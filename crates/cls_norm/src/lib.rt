@@ -1,7 +1,7 @@
 //! Normal forms of types, and subtyping.
 //!
 //! - [`normal`] gives the normal form of a type, [`type_of`] the type of a normal form.
-//! - [`subtype`] says exactly whether a derivation of subtyping exists.
+//! - [`subtype`] says whether a derivation of subtyping exists.
 //! - [`fit`] says whether the type of a normal form is small enough to be worked on further.
 #![tactic(auto)]
 

@@ -10,8 +10,8 @@ use cls_base::{OutOfMemory, Taxa, Ty};
 use cls_path::Nf;
 use std::alloc::Global;
 
-/// The normal form of the type: the least of its paths, strictly sorted. Equivalent types have equal normal forms, which
-/// a law of the crate of paths says.
+/// The normal form of the type: the least of its paths, strictly sorted. Each type has one, and equivalent types have equal
+/// ones: these are laws of cls_path.
 ///
 /// Time and memory are bounded by the spread of the type, which callers keep at 16,384 or below, and the stack by its
 /// depth as a tree, so by its nodes. The only error is out of memory.
@@ -19,9 +19,11 @@ pub fn normal<T: Taxa>(alloc: Global, taxa: &T, ty: &Ty) -> Result<Nf, OutOfMemo
     ensures form { IfOk result (λ nf.
         IsNormalForm (Below (T.is_below taxa.now)) (T.variance_of_name taxa.now) (type_of ty.now) (listed nf)) }
     ensures below { IfOk result (λ nf.
-        Subtype (Below (T.is_below taxa.now)) (T.variance_of_name taxa.now) (type_of_paths (listed nf)) (type_of ty.now)) }
+        Subtype (Below (T.is_below taxa.now)) (T.variance_of_name taxa.now)
+        (type_of_paths (listed nf)) (type_of ty.now)) }
     ensures above { IfOk result (λ nf.
-        Subtype (Below (T.is_below taxa.now)) (T.variance_of_name taxa.now) (type_of ty.now) (type_of_paths (listed nf))) }
+        Subtype (Below (T.is_below taxa.now)) (T.variance_of_name taxa.now)
+        (type_of ty.now) (type_of_paths (listed nf))) }
 {
     let paths = paths_of(alloc, taxa, ty)?;
     Ok(Nf::from_paths(alloc, taxa, paths)?)
@@ -36,7 +38,8 @@ pub fn subtype<T: Taxa>(
     upper: &Ty,
 ) -> Result<bool, OutOfMemory>
     ensures { IfOk result (λ answer. IsTrue answer
-        ↔ Subtype (Below (T.is_below taxa.now)) (T.variance_of_name taxa.now) (type_of lower.now) (type_of upper.now)) }
+        ↔ Subtype (Below (T.is_below taxa.now)) (T.variance_of_name taxa.now)
+        (type_of lower.now) (type_of upper.now)) }
 {
     let lower = normal(alloc, taxa, lower)?;
     let upper = normal(alloc, taxa, upper)?;

@@ -3,7 +3,8 @@ ghost use Rattle.std.specs.Prelude.{◌≡◌, ◌∷◌, ◌++◌, [], IfOk, On
 ghost use Rattle.cls_base.specs.Ty.{type_of};
 ghost use Rattle.cls_base.specs.Taxa.{Below};
 ghost use Rattle.cls_path.specs.Paths.{atom, inside, unit, left, right, function, sealed, listed};
-ghost use Rattle.cls_norm.specs.PathLists.{or_else, ArePathsOf};
+ghost use Rattle.cls_path.specs.PathLists.{ArePathsOf};
+ghost use Rattle.cls_norm.specs.PathLists.{or_else};
 
 use cls_base::{Name, OutOfMemory, Taxa, Ty, Variance};
 use cls_path::{Nf, Path};
@@ -45,7 +46,7 @@ pub(crate) fn paths_of<T: Taxa>(alloc: Global, taxa: &T, ty: &Ty) -> Result<Vec<
     }
 }
 
-/// Each path under the name, or the name alone where there is none.
+/// Each path under the name, or the name alone if there is none.
 fn under_name(alloc: Global, name: Name, paths: Vec<Path>) -> Result<Vec<Path>, OutOfMemory>
     ensures { IfOk result (λ named. named.items ≡ or_else (atom name.0) (map (inside name.0) paths.items)) }
 {
@@ -65,7 +66,7 @@ fn under_sealed_name(alloc: Global, name: Name, argument: Nf) -> Result<Vec<Path
     Ok(named)
 }
 
-/// The list, or the path where it is empty.
+/// The list, or the path alone if the list is empty.
 fn or_path(mut paths: Vec<Path>, path: Path) -> Result<Vec<Path>, OutOfMemory>
     ensures { IfOk result (λ some. some.items ≡ or_else path paths.items) }
 {

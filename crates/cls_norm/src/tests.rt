@@ -1,41 +1,21 @@
 use crate::{fit, normal, subtype, type_of};
-use cls_base::{Flat, Key, Name, Taxa, Ty, Variance};
+use cls_base::{Flat, Key, Name, Ty, Variance};
+use cls_taxon::Taxonomy;
 use std::alloc::Global;
 use std::test::Fail;
 
-/// The names of the tests: D and K are below P, N is below I, S is contravariant and R invariant.
-struct Zoo;
-
-impl Taxa for Zoo {
-    ghost use Rattle.cls_norm.specs.Zoo.{zoo_below, zoo_kind, zoo_reflexive, zoo_transitive, zoo_antisymmetric, zoo_one_variance};
-
-    ghost is_below = { λ t a b. zoo_below a b };
-
-    ghost variance_of_name = { λ t a. zoo_kind a };
-
-    fn below(&self, lower: Name, upper: Name) -> bool {
-        lower.0 == upper.0
-            || (((lower.0 == 3 || lower.0 == 10) && upper.0 == 15)
-                || (lower.0 == 13 && upper.0 == 8))
+/// The order of names of the tests: D and K are below P, N is below I, S is contravariant and R invariant.
+fn order_of_names(alloc: Global) -> Result<Taxonomy, Fail> {
+    let pairs = [
+        (Name(3), Name(15)),
+        (Name(10), Name(15)),
+        (Name(13), Name(8)),
+    ];
+    let variances = [(Name(18), Variance::Contra), (Name(17), Variance::Inv)];
+    match Taxonomy::new(alloc, &pairs, &variances) {
+        Ok(taxonomy) => Ok(taxonomy),
+        Err(fault) => Err(Fail::from(fault)),
     }
-
-    fn variance(&self, name: Name) -> Variance {
-        if name.0 == 18 {
-            Variance::Contra
-        } else if name.0 == 17 {
-            Variance::Inv
-        } else {
-            Variance::Co
-        }
-    }
-
-    ghost reflexive = { λ t a. zoo_reflexive a };
-
-    ghost transitive = { λ t a b c. zoo_transitive a b c };
-
-    ghost antisymmetric = { λ t a b. zoo_antisymmetric a b };
-
-    ghost one_variance = { λ t a b. zoo_one_variance a b };
 }
 
 /// The type of a word in which an operator stands behind its two parts: `&` meets, `*` multiplies, `>` makes an arrow, and
@@ -116,9 +96,9 @@ fn operator(ty: &Ty) -> &'static str {
 }
 
 /// The text of the normal form of the type that the word spells.
-fn normal_text(alloc: Global, word: &str) -> Result<String, Fail> {
+fn normal_text(alloc: Global, taxonomy: &Taxonomy, word: &str) -> Result<String, Fail> {
     let ty = read(alloc, word)?;
-    let nf = normal(alloc, &Zoo, &ty)?;
+    let nf = normal(alloc, taxonomy, &ty)?;
     let mut text = String::new(alloc);
     show(&type_of(alloc, &nf)?, &mut text)?;
     Ok(text)
@@ -126,6 +106,7 @@ fn normal_text(alloc: Global, word: &str) -> Result<String, Fail> {
 
 #[test]
 fn normal_forms_by_hand(rt: HostRuntime) -> Result<(), Fail> {
+    let taxonomy = order_of_names(rt.alloc())?;
     for (word, text) in [
         ("0", "omega"),
         ("A0>", "omega"),
@@ -149,13 +130,14 @@ fn normal_forms_by_hand(rt: HostRuntime) -> Result<(), Fail> {
         ("S0@", "S"),
         ("SA@A&A0>B>&", "((A & (omega -> B)) & S[A])"),
     ] {
-        assert_eq!(rt; normal_text(rt.alloc(), word)?.as_str(), text);
+        assert_eq!(rt; normal_text(rt.alloc(), &taxonomy, word)?.as_str(), text);
     }
     Ok(())
 }
 
 #[test]
 fn subtypes(rt: HostRuntime) -> Result<(), Fail> {
+    let taxonomy = order_of_names(rt.alloc())?;
     for (lower, upper, answer) in [
         ("0", "A0>", true),
         ("0", "00*", false),
@@ -177,14 +159,30 @@ fn subtypes(rt: HostRuntime) -> Result<(), Fail> {
     ] {
         let lower = read(rt.alloc(), lower)?;
         let upper = read(rt.alloc(), upper)?;
-        assert!(rt; subtype(rt.alloc(), &Zoo, &lower, &upper)? == answer);
+        assert!(rt; subtype(rt.alloc(), &taxonomy, &lower, &upper)? == answer);
     }
     Ok(())
+}
+
+/// Whether the normal forms of the two words meet in that of the intersection, which is equal to its copy.
+fn meets_in_normal_form(
+    alloc: Global,
+    taxonomy: &Taxonomy,
+    left: &str,
+    right: &str,
+) -> Result<bool, Fail> {
+    let first = normal(alloc, taxonomy, &read(alloc, left)?)?;
+    let second = normal(alloc, taxonomy, &read(alloc, right)?)?;
+    let both = pair(alloc, b'&', read(alloc, left)?, read(alloc, right)?)?;
+    let met = first.meet(alloc, taxonomy, &second)?;
+    let copy = Key::copy(&met, alloc)?;
+    Ok(met == normal(alloc, taxonomy, &both)? && copy == met)
 }
 
 #[test]
 fn intersections_and_copies(rt: HostRuntime) -> Result<(), Fail> {
     let alloc = rt.alloc();
+    let taxonomy = order_of_names(alloc)?;
     for (left, right) in [
         ("A", "B"),
         ("AB>C&", "AC>"),
@@ -192,16 +190,7 @@ fn intersections_and_copies(rt: HostRuntime) -> Result<(), Fail> {
         ("0", "DA@"),
         ("PA@", "DA@"),
     ] {
-        let first = normal(alloc, &Zoo, &read(alloc, left)?)?;
-        let second = normal(alloc, &Zoo, &read(alloc, right)?)?;
-        let both = Ty::Meet(
-            Box::new(alloc, read(alloc, left)?)?,
-            Box::new(alloc, read(alloc, right)?)?,
-        );
-        let met = first.meet(alloc, &Zoo, &second)?;
-        assert!(rt; met == normal(alloc, &Zoo, &both)?);
-        assert!(rt; Key::copy(&met, alloc)? == met);
-        assert!(rt; met != first || second.paths().is_empty() || met.order(&second).is_lt());
+        assert!(rt; meets_in_normal_form(alloc, &taxonomy, left, right)?);
     }
     Ok(())
 }
@@ -224,7 +213,7 @@ fn what_is_fit(rt: HostRuntime) -> Result<(), Fail> {
     Ok(())
 }
 
-/// So many invariant names over one another, each over the intersection of what is below it with a name.
+/// As many invariant names over one another as the height says, each over the intersection of what is inside with a name.
 fn nested(alloc: Global, height: u32, word: &str) -> Result<Ty, Fail> {
     let mut ty = read(alloc, word)?;
     for _ in 0..height {
@@ -238,6 +227,7 @@ fn nested(alloc: Global, height: u32, word: &str) -> Result<Ty, Fail> {
 #[test]
 fn deep_invariant_names(rt: HostRuntime) -> Result<(), Fail> {
     let alloc = rt.alloc();
+    let taxonomy = order_of_names(alloc)?;
     for (lower, upper, answer) in [
         ("A", "A", true),
         ("A", "C", false),
@@ -247,7 +237,7 @@ fn deep_invariant_names(rt: HostRuntime) -> Result<(), Fail> {
     ] {
         let lower = nested(alloc, 60, lower)?;
         let upper = nested(alloc, 60, upper)?;
-        assert!(rt; subtype(alloc, &Zoo, &lower, &upper)? == answer);
+        assert!(rt; subtype(alloc, &taxonomy, &lower, &upper)? == answer);
     }
     Ok(())
 }

@@ -42,7 +42,9 @@ in_or_one₀ : (p q : TypePath) (n : Paths) → In q n → In q (or_one p n)
 in_or_one₀ p q none h = elim h [ ]
 in_or_one₀ p q (more r n) h = h
 
-within_covariant : (c : ℕ) (q : TypePath) (n m : Paths) → In q (constructor_paths covariant c (append n m)) → In q (append (constructor_paths covariant c n) (constructor_paths covariant c m))
+within_covariant :
+    (c : ℕ) (q : TypePath) (n m : Paths) → In q (constructor_paths covariant c (append n m))
+    → In q (append (constructor_paths covariant c n) (constructor_paths covariant c m))
 within_covariant c q none m i = later_in i
 within_covariant c q (more p n) m i =
     let r = map_in (inside c) q (append (more p n) m) i in
@@ -93,7 +95,9 @@ module _ (below : ℕ → ℕ → Type 0) (variance : ℕ → Variance) (reflexi
   suits_append none m s t = t
   suits_append (more p n) m s t = (s.0, suits_append n m s.1 t)
 
-  pub suits_map : (f : TypePath → TypePath) → ((p : TypePath) → Suits variance p → Suits variance (f p)) → (n : Paths) → SuitsAll variance n → SuitsAll variance (map_paths f n)
+  pub suits_map :
+      (f : TypePath → TypePath) → ((p : TypePath) → Suits variance p → Suits variance (f p)) → (n : Paths)
+      → SuitsAll variance n → SuitsAll variance (map_paths f n)
   suits_map f g none s = tt
   suits_map f g (more p n) s = (g p s.0, suits_map f g n s.1)
 
@@ -126,10 +130,14 @@ module _ (below : ℕ → ℕ → Type 0) (variance : ℕ → Variance) (reflexi
   covers_append n none l h k = k
   covers_append n (more q m) l (each a h) k = each a (covers_append n m l h k)
 
-  pub covers_map_both : (f g : TypePath → TypePath) → ((p q : TypePath) → PathLe below variance p q → PathLe below variance (f p) (g q)) → (n m : Paths) → PathsLe below variance n m → PathsLe below variance (map_paths f n) (map_paths g m)
+  pub covers_map_both :
+      (f g : TypePath → TypePath) → ((p q : TypePath) → PathLe below variance p q → PathLe below variance (f p) (g q))
+      → (n m : Paths) → PathsLe below variance n m → PathsLe below variance (map_paths f n) (map_paths g m)
   covers_map_both f g u n m h = covers_all _ _ (λ q i. let r = map_in g q m i in let s = covered n m h r.0 r.1 in (f s.0, in_map f s.0 n s.1, subst (λ x. PathLe below variance (f s.0) x) (sym r.2) (u s.0 r.0 s.2)))
 
-  self_some : (f : TypePath → TypePath) (q r : TypePath) (n : Paths) → q ≡ f r → In r n → ((p : TypePath) → Suits variance p → Suits variance (f p)) → SuitsAll variance n → Some (map_paths f n) q
+  self_some :
+      (f : TypePath → TypePath) (q r : TypePath) (n : Paths) → q ≡ f r → In r n
+      → ((p : TypePath) → Suits variance p → Suits variance (f p)) → SuitsAll variance n → Some (map_paths f n) q
   self_some f q r n e i g s = subst (λ x. Some (map_paths f n) x) (sym e) (f r, in_map f r n i, le_refl (f r) (g r (suits_in n r s i)))
 
   pub at_variance : (P : Variance → Type 0) (x v : Variance) → x ≡ v → P v → P x
@@ -155,13 +163,17 @@ module _ (below : ℕ → ℕ → Type 0) (variance : ℕ → Variance) (reflexi
   below_atom : (c d : ℕ) → below c d → (q : TypePath) (n : Paths) → In q (map_paths (inside c) n) → PathLe below variance q (atom d)
   below_atom c d b q n i = let r = map_in (inside c) q n i in subst (λ x. PathLe below variance x (atom d)) (sym r.2) (inside_atom b)
 
-  pub covers_covariant : (c d : ℕ) (n m : Paths) → below c d → PathsLe below variance n m → PathsLe below variance (constructor_paths covariant c n) (constructor_paths covariant d m)
+  pub covers_covariant :
+      (c d : ℕ) (n m : Paths) → below c d → PathsLe below variance n m
+      → PathsLe below variance (constructor_paths covariant c n) (constructor_paths covariant d m)
   covers_covariant c d n m b h =
       covers_or_one _ (atom d) (map_paths (inside d) m)
       (some_of (atom c) (atom d) (map_paths (inside c) n) (atoms b) (λ q i. below_atom c d b q n i))
       (λ q i. some_or_one (atom c) q _ (covered _ _ (covers_map_both (inside c) (inside d) (λ x y l. insides b l) n m h) q i))
 
-  covers_covariant_meet : (c : ℕ) (n m : Paths) → variance c ≡ covariant → SuitsAll variance n → SuitsAll variance m → PathsLe below variance (append (constructor_paths covariant c n) (constructor_paths covariant c m)) (constructor_paths covariant c (append n m))
+  covers_covariant_meet :
+      (c : ℕ) (n m : Paths) → variance c ≡ covariant → SuitsAll variance n → SuitsAll variance m
+      → PathsLe below variance (append (constructor_paths covariant c n) (constructor_paths covariant c m)) (constructor_paths covariant c (append n m))
   covers_covariant_meet c n m v s t =
       covers_subset _ _ (suits_or_one (atom c) _ v (suits_map (inside c) (λ p u. (v, u)) _ (suits_append n m s t))) (λ q i. within_covariant c q n m i)
 
@@ -170,7 +182,10 @@ module _ (below : ℕ → ℕ → Type 0) (variance : ℕ → Variance) (reflexi
   product_paths n m = append (map_paths left n) (map_paths right m)
 
   product_below : (n m : Paths) (q : TypePath) → In q (product_paths n m) → PathLe below variance q unit
-  product_below n m q i = elim (in_append q _ _ i) [ inl a ↦ (let r = map_in left q n a in subst (λ x. PathLe below variance x unit) (sym r.2) left_unit) | inr b ↦ (let r = map_in right q m b in subst (λ x. PathLe below variance x unit) (sym r.2) right_unit) ]
+  product_below n m q i = elim (in_append q _ _ i) [
+    | inl a ↦ (let r = map_in left q n a in subst (λ x. PathLe below variance x unit) (sym r.2) left_unit)
+    | inr b ↦ (let r = map_in right q m b in subst (λ x. PathLe below variance x unit) (sym r.2) right_unit)
+  ]
 
   pub some_left : (q : TypePath) (n m : Paths) → Some n q → Some (append n m) q
   some_left q n m s = (s.0, in_append_left s.0 n m s.1, s.2)
@@ -178,17 +193,44 @@ module _ (below : ℕ → ℕ → Type 0) (variance : ℕ → Variance) (reflexi
   pub some_right : (q : TypePath) (n m : Paths) → Some m q → Some (append n m) q
   some_right q n m s = (s.0, in_append_right s.0 n m s.1, s.2)
 
-  pub covers_products : (n m n' m' : Paths) → PathsLe below variance n n' → PathsLe below variance m m' → PathsLe below variance (or_one unit (product_paths n m)) (or_one unit (product_paths n' m'))
+  pub covers_products :
+      (n m n' m' : Paths) → PathsLe below variance n n' → PathsLe below variance m m'
+      → PathsLe below variance (or_one unit (product_paths n m)) (or_one unit (product_paths n' m'))
   covers_products n m n' m' h k =
       covers_or_one _ unit (product_paths n' m')
       (some_of unit unit (product_paths n m) units (λ q i. product_below n m q i))
-      (λ q i. some_or_one unit q (product_paths n m) (elim (in_append q _ _ i) [ inl a ↦ some_left q _ _ (covered _ _ (covers_map_both left left (λ x y l. lefts l) n n' h) q a) | inr b ↦ some_right q _ _ (covered _ _ (covers_map_both right right (λ x y l. rights l) m m' k) q b) ]))
+      (λ q i. some_or_one unit q (product_paths n m) (elim (in_append q _ _ i) [
+        | inl a ↦ some_left q _ _ (covered _ _ (covers_map_both left left (λ x y l. lefts l) n n' h) q a)
+        | inr b ↦ some_right q _ _ (covered _ _ (covers_map_both right right (λ x y l. rights l) m m' k) q b)
+      ]))
 
-  covers_product_meet : (n m n' m' : Paths) → SuitsAll variance n → SuitsAll variance m → SuitsAll variance n' → SuitsAll variance m' → PathsLe below variance (append (or_one unit (product_paths n m)) (or_one unit (product_paths n' m'))) (or_one unit (product_paths (append n n') (append m m')))
+  covers_product_meet :
+      (n m n' m' : Paths) → SuitsAll variance n → SuitsAll variance m → SuitsAll variance n' → SuitsAll variance m'
+      → PathsLe below variance (append (or_one unit (product_paths n m)) (or_one unit (product_paths n' m'))) (or_one unit (product_paths (append n n') (append m m')))
   covers_product_meet n m n' m' s t s' t' =
       covers_or_one _ unit (product_paths (append n n') (append m m'))
       (some_left unit _ _ (some_of unit unit (product_paths n m) units (λ q i. product_below n m q i)))
-      (λ q i. elim (in_append q _ _ i) [ inl a ↦ (let r = map_in left q _ a in elim (in_append r.0 n n' r.1) [ inl b ↦ some_left q _ _ (some_or_one unit q _ (some_left q _ _ (self_some left q r.0 n (r.2) b (λ p u. u) s))) | inr b ↦ some_right q _ _ (some_or_one unit q _ (some_left q _ _ (self_some left q r.0 n' (r.2) b (λ p u. u) s'))) ]) | inr a ↦ (let r = map_in right q _ a in elim (in_append r.0 m m' r.1) [ inl b ↦ some_left q _ _ (some_or_one unit q _ (some_right q _ _ (self_some right q r.0 m (r.2) b (λ p u. u) t))) | inr b ↦ some_right q _ _ (some_or_one unit q _ (some_right q _ _ (self_some right q r.0 m' (r.2) b (λ p u. u) t'))) ]) ])
+      (λ q i. elim (in_append q _ _ i) [
+        | inl a ↦ (let r = map_in left q _ a in elim (in_append r.0 n n' r.1) [
+          | inl b ↦ some_left q _ _ (some_or_one unit q _ (some_left q _ _ (self_some left q r.0 n r.2 b (λ p u. u) s)))
+          | inr b ↦ some_right q _ _ (some_or_one unit q _ (some_left q _ _ (self_some left q r.0 n' r.2 b (λ p u. u) s')))
+        ])
+        | inr a ↦ (let r = map_in right q _ a in elim (in_append r.0 m m' r.1) [
+          | inl b ↦ some_left q _ _ (some_or_one unit q _ (some_right q _ _ (self_some right q r.0 m r.2 b (λ p u. u) t)))
+          | inr b ↦ some_right q _ _ (some_or_one unit q _ (some_right q _ _ (self_some right q r.0 m' r.2 b (λ p u. u) t')))
+        ])
+      ])
+
+  -- under two names of the variance
+  under_names :
+      (v : Variance) (c d : ℕ) (s t : ClosedType) → variance c ≡ v → variance d ≡ v
+      → PathsLe below variance (constructor_paths v c (paths_of variance s)) (constructor_paths v d (paths_of variance t))
+      → PathsLe below variance (paths_of variance (constructor c s)) (paths_of variance (constructor d t))
+  under_names v c d s t e f h =
+      let n = paths_of variance s in
+      let m = paths_of variance t in
+      at_variance (λ x. PathsLe below variance (constructor_paths x c n) (constructor_paths (variance d) d m)) _ v e
+      (at_variance (λ x. PathsLe below variance (constructor_paths v c n) (constructor_paths x d m)) _ v f h)
 
   pub complete : {s t : ClosedType} → Subtype below variance s t → PathsLe below variance (paths_of variance s) (paths_of variance t)
   complete (reflexivity {s = s}) = covers_refl _ (suits_paths s)
@@ -198,11 +240,21 @@ module _ (below : ℕ → ℕ → Type 0) (variance : ℕ → Variance) (reflexi
   complete (meet_left {s = s} {t = t}) = covers_subset _ _ (suits_paths s) (λ q i. in_append_left q _ _ i)
   complete (meet_right {s = s} {t = t}) = covers_subset _ _ (suits_paths t) (λ q i. in_append_right q _ _ i)
   complete (to_meet h k) = covers_append _ _ _ (complete h) (complete k)
-  complete (arrow_meet {s = s} {t = t} {u = u}) = subst (λ x. PathsLe below variance x (paths_of variance (arrow s (meet t u)))) (map_append (function (paths_of variance s)) (paths_of variance t) (paths_of variance u)) (covers_refl _ (suits_paths (arrow s (meet t u))))
+  complete (arrow_meet {s = s} {t = t} {u = u}) =
+      subst (λ x. PathsLe below variance x (paths_of variance (arrow s (meet t u))))
+      (map_append (function (paths_of variance s)) (paths_of variance t) (paths_of variance u))
+      (covers_refl _ (suits_paths (arrow s (meet t u))))
   complete (arrows h k) = covers_map_both _ _ (λ p q x. functions (complete h) x) _ _ (complete k)
-  complete (covariants {c = c} {d = d} {s = s} {t = t} v w b h) = at_variance (λ x. PathsLe below variance (constructor_paths x c (paths_of variance s)) (constructor_paths (variance d) d (paths_of variance t))) _ covariant v (at_variance (λ x. PathsLe below variance (constructor_paths covariant c (paths_of variance s)) (constructor_paths x d (paths_of variance t))) _ covariant w (covers_covariant c d _ _ b (complete h)))
-  complete (covariant_meet {c = c} {s = s} {t = t} v) = at_variance (λ x. PathsLe below variance (append (constructor_paths x c (paths_of variance s)) (constructor_paths x c (paths_of variance t))) (constructor_paths x c (append (paths_of variance s) (paths_of variance t)))) _ covariant v (covers_covariant_meet c _ _ v (suits_paths s) (suits_paths t))
-  complete (sub_contra {c = c} {d = d} {s = s} {t = t} v w b h) = at_variance (λ x. PathsLe below variance (constructor_paths x c (paths_of variance s)) (constructor_paths (variance d) d (paths_of variance t))) _ contravariant v (at_variance (λ x. PathsLe below variance (constructor_paths contravariant c (paths_of variance s)) (constructor_paths x d (paths_of variance t))) _ contravariant w (each (here (contravariants v w b (complete h))) empty))
-  complete (sub_inv {c = c} {d = d} {s = s} {t = t} v w b h k) = at_variance (λ x. PathsLe below variance (constructor_paths x c (paths_of variance s)) (constructor_paths (variance d) d (paths_of variance t))) _ invariant v (at_variance (λ x. PathsLe below variance (constructor_paths invariant c (paths_of variance s)) (constructor_paths x d (paths_of variance t))) _ invariant w (each (here (invariants v w b (complete h) (complete k))) empty))
+  complete (covariants {c = c} {d = d} {s = s} {t = t} v w b h) =
+      under_names covariant c d s t v w (covers_covariant c d _ _ b (complete h))
+  complete (covariant_meet {c = c} {s = s} {t = t} v) =
+      let n = paths_of variance s in
+      let m = paths_of variance t in
+      at_variance (λ x. PathsLe below variance (append (constructor_paths x c n) (constructor_paths x c m)) (constructor_paths x c (append n m)))
+      _ covariant v (covers_covariant_meet c _ _ v (suits_paths s) (suits_paths t))
+  complete (sub_contra {c = c} {d = d} {s = s} {t = t} v w b h) =
+      under_names contravariant c d s t v w (each (here (contravariants v w b (complete h))) empty)
+  complete (sub_inv {c = c} {d = d} {s = s} {t = t} v w b h k) =
+      under_names invariant c d s t v w (each (here (invariants v w b (complete h) (complete k))) empty)
   complete (products h k) = covers_products _ _ _ _ (complete h) (complete k)
   complete (product_meet {s = s} {t = t} {s' = s'} {t' = t'}) = covers_product_meet _ _ _ _ (suits_paths s) (suits_paths t) (suits_paths s') (suits_paths t')

@@ -72,25 +72,37 @@ module _ (test : ℕ → ℕ → Bool) (variance : ℕ → Variance) where
     EachDecided (more p n) = Decided p × EachDecided n
 
     -- a list whose paths are decided, against any other list
-    some_from : (n : Paths) (q : TypePath) → SuitsAll variance n → ((p : TypePath) → Suits variance p → path_below test variance p q ≡ true → Le p q) → some_below test variance n q ≡ true → SomeLe (Below test) variance n q
+    some_from :
+        (n : Paths) (q : TypePath) → SuitsAll variance n
+        → ((p : TypePath) → Suits variance p → path_below test variance p q ≡ true → Le p q)
+        → some_below test variance n q ≡ true → SomeLe (Below test) variance n q
     some_from none q s f h = absurd (false≢true h)
     some_from (more p n) q s f h = elim (or_cases _ _ h) [ inl e ↦ here (f p s.0 e) | inr e ↦ there (some_from n q s.1 f e) ]
 
-    some_from_each : (n : Paths) (q : TypePath) → EachDecided n → SuitsAll variance n → Suits variance q → some_below test variance n q ≡ true → SomeLe (Below test) variance n q
+    some_from_each :
+        (n : Paths) (q : TypePath) → EachDecided n → SuitsAll variance n → Suits variance q
+        → some_below test variance n q ≡ true → SomeLe (Below test) variance n q
     some_from_each none q d s t h = absurd (false≢true h)
     some_from_each (more p n) q d s t h = elim (or_cases _ _ h) [ inl e ↦ here ((d.0 s.0 q t).0 e) | inr e ↦ there (some_from_each n q d.1 s.1 t e) ]
 
-    paths_from : (n m : Paths) → EachDecided m → SuitsAll variance n → SuitsAll variance m → list_below test variance n m ≡ true → PathsLe (Below test) variance n m
+    paths_from :
+        (n m : Paths) → EachDecided m → SuitsAll variance n → SuitsAll variance m
+        → list_below test variance n m ≡ true → PathsLe (Below test) variance n m
     paths_from n none d s t h = empty
     paths_from n (more q m) d s t h =
         let r = and_parts _ _ h in each (some_from n q s (λ p u. (d.0 t.0 p u).1) r.0) (paths_from n m d.1 s t.1 r.1)
 
-    paths_to : (n m : Paths) → EachDecided n → SuitsAll variance n → SuitsAll variance m → list_below test variance n m ≡ true → PathsLe (Below test) variance n m
+    paths_to :
+        (n m : Paths) → EachDecided n → SuitsAll variance n → SuitsAll variance m
+        → list_below test variance n m ≡ true → PathsLe (Below test) variance n m
     paths_to n none d s t h = empty
     paths_to n (more q m) d s t h =
         let r = and_parts _ _ h in each (some_from_each n q d s t.0 r.0) (paths_to n m d s t.1 r.1)
 
-    sealed_from : (c d : ℕ) (n m : Paths) → (list_below test variance m n ≡ true → PathsLe (Below test) variance m n) → (list_below test variance n m ≡ true → PathsLe (Below test) variance n m) → SuitsAll variance n → path_below test variance (sealed c n) (sealed d m) ≡ true → Le (sealed c n) (sealed d m)
+    sealed_from :
+        (c d : ℕ) (n m : Paths) → (list_below test variance m n ≡ true → PathsLe (Below test) variance m n)
+        → (list_below test variance n m ≡ true → PathsLe (Below test) variance n m) → SuitsAll variance n
+        → path_below test variance (sealed c n) (sealed d m) ≡ true → Le (sealed c n) (sealed d m)
     sealed_from c d n m f g s h =
         let r = and_parts (test c d) _ h in
         by_variance r.0 (variance c) refl r.1
@@ -100,7 +112,10 @@ module _ (test : ℕ → ℕ → Bool) (variance : ℕ → Variance) where
             let k = covers_refl (Below test) variance reflexive transitive n s in
             subst (λ l. Le (sealed c n) (sealed d l)) e (invariants v (sym (one_variance c d b) ∙ v) b k k)
 
-        by_variance : Below test c d → (v : Variance) → variance c ≡ v → sealed_below v (same_paths n m) (each_above test variance n m) (each_passes (λ q. some_below test variance n q) m) ≡ true → Le (sealed c n) (sealed d m)
+        by_variance :
+            Below test c d → (v : Variance) → variance c ≡ v
+            → sealed_below v (same_paths n m) (each_above test variance n m) (each_passes (λ q. some_below test variance n q) m) ≡ true
+            → Le (sealed c n) (sealed d m)
         by_variance b covariant e k = absurd (false≢true k)
         by_variance b contravariant e k = contravariants e (sym (one_variance c d b) ∙ e) b (f (sym (each_above-list_below test variance n m) ∙ k))
         by_variance b invariant e k = elim (or_cases _ _ k) [
@@ -139,7 +154,9 @@ module _ (test : ℕ → ℕ → Bool) (variance : ℕ → Variance) where
     pub tested_le : (p q : TypePath) → Suits variance p → Suits variance q → path_below test variance p q ≡ true → Le p q
     tested_le p q s t h = (decided p s q t).0 h
 
-    pub tested_some : (n : Paths) (q : TypePath) → SuitsAll variance n → Suits variance q → some_below test variance n q ≡ true → SomeLe (Below test) variance n q
+    pub tested_some :
+        (n : Paths) (q : TypePath) → SuitsAll variance n → Suits variance q → some_below test variance n q ≡ true
+        → SomeLe (Below test) variance n q
     tested_some n q s t h = some_from_each n q (each_decided n) s t h
 
     pub tested_paths : (n m : Paths) → SuitsAll variance n → SuitsAll variance m → list_below test variance n m ≡ true → PathsLe (Below test) variance n m

@@ -24,7 +24,9 @@ module _ (below : ℕ → ℕ → Type 0) (variance : ℕ → Variance) (reflexi
   into s none f = to_omega
   into s (more q n) f = to_meets below variance s (type_of_path q) n (f q first_in) (into s n (λ r i. f r (later_in i)))
 
-  each_map : (f : TypePath → TypePath) (s t : ClosedType) (n : Paths) → ((q : TypePath) → S s (type_of_path q) → S t (type_of_path (f q))) → Each s n → Each t (map_paths f n)
+  each_map :
+      (f : TypePath → TypePath) (s t : ClosedType) (n : Paths)
+      → ((q : TypePath) → S s (type_of_path q) → S t (type_of_path (f q))) → Each s n → Each t (map_paths f n)
   each_map f s t n g h q i = let r = map_in f q n i in subst (λ x. S t (type_of_path x)) (sym r.2) (g r.0 (h r.0 r.1))
 
   each_or_one : (s : ClosedType) (p : TypePath) (n : Paths) → S s (type_of_path p) → Each s n → Each s (or_one p n)
@@ -36,11 +38,15 @@ module _ (below : ℕ → ℕ → Type 0) (variance : ℕ → Variance) (reflexi
   each_append s n m f g q i = elim (in_append q n m i) [ inl a ↦ f q a | inr b ↦ g q b ]
 
   -- intersections under one name, behind one source, on one side
-  joined_inside : (c : ℕ) (t : ClosedType) (n : Paths) → variance c ≡ covariant → S (meets (constructor c t) (map_paths (inside c) n)) (constructor c (meets t n))
+  joined_inside :
+      (c : ℕ) (t : ClosedType) (n : Paths) → variance c ≡ covariant
+      → S (meets (constructor c t) (map_paths (inside c) n)) (constructor c (meets t n))
   joined_inside c t none v = reflexivity
   joined_inside c t (more q n) v = transitivity (meets_mono below variance _ _ (map_paths (inside c) n) (covariant_meet v)) (joined_inside c (meet t (type_of_path q)) n v)
 
-  joined_arrow : (m : Paths) (t : ClosedType) (n : Paths) → S (meets (arrow (type_of_paths m) t) (map_paths (function m) n)) (arrow (type_of_paths m) (meets t n))
+  joined_arrow :
+      (m : Paths) (t : ClosedType) (n : Paths)
+      → S (meets (arrow (type_of_paths m) t) (map_paths (function m) n)) (arrow (type_of_paths m) (meets t n))
   joined_arrow m t none = reflexivity
   joined_arrow m t (more q n) = transitivity (meets_mono below variance _ _ (map_paths (function m) n) arrow_meet) (joined_arrow m (meet t (type_of_path q)) n)
 
@@ -68,7 +74,9 @@ module _ (below : ℕ → ℕ → Type 0) (variance : ℕ → Variance) (reflexi
   suits_product n m s t =
       suits_or_one below variance reflexive transitive unit _ tt (suits_append below variance reflexive transitive _ _ (suits_map below variance reflexive transitive left (λ p h. h) n s) (suits_map below variance reflexive transitive right (λ p h. h) m t))
 
-  product_left : (n m : Paths) → SuitsAll variance n → SuitsAll variance m → S (type_of_paths (or_one unit (append (map_paths left n) (map_paths right m)))) (product (type_of_paths n) types.omega)
+  product_left :
+      (n m : Paths) → SuitsAll variance n → SuitsAll variance m
+      → S (type_of_paths (or_one unit (append (map_paths left n) (map_paths right m)))) (product (type_of_paths n) types.omega)
   product_left none m s t = product_unit none m
   product_left (more p n) m s t =
       transitivity
@@ -76,7 +84,9 @@ module _ (below : ℕ → ℕ → Type 0) (variance : ℕ → Variance) (reflexi
       (λ q i. in_append_left q (map_paths left (more p n)) (map_paths right m) i))
       (joined_left (type_of_path p) n)
 
-  product_right : (n m : Paths) → SuitsAll variance n → SuitsAll variance m → S (type_of_paths (or_one unit (append (map_paths left n) (map_paths right m)))) (product types.omega (type_of_paths m))
+  product_right :
+      (n m : Paths) → SuitsAll variance n → SuitsAll variance m
+      → S (type_of_paths (or_one unit (append (map_paths left n) (map_paths right m)))) (product types.omega (type_of_paths m))
   product_right n none s t = product_unit n none
   product_right n (more q m) s t =
       transitivity
@@ -89,11 +99,15 @@ module _ (below : ℕ → ℕ → Type 0) (variance : ℕ → Variance) (reflexi
     down : Each t n
     up : S (type_of_paths n) t
 
-  inside_up : (c : ℕ) (s : ClosedType) (n : Paths) → variance c ≡ covariant → S (type_of_paths n) s → S (type_of_paths (or_one (atom c) (map_paths (inside c) n))) (constructor c s)
+  inside_up :
+      (c : ℕ) (s : ClosedType) (n : Paths) → variance c ≡ covariant → S (type_of_paths n) s
+      → S (type_of_paths (or_one (atom c) (map_paths (inside c) n))) (constructor c s)
   inside_up c s none v d = covariants v v (reflexive c) d
   inside_up c s (more q n) v d = transitivity (joined_inside c (type_of_path q) n v) (covariants v v (reflexive c) d)
 
-  arrow_up : (m : Paths) (s t : ClosedType) (n : Paths) → S s (type_of_paths m) → S (type_of_paths n) t → S (type_of_paths (map_paths (function m) n)) (arrow s t)
+  arrow_up :
+      (m : Paths) (s t : ClosedType) (n : Paths) → S s (type_of_paths m) → S (type_of_paths n) t
+      → S (type_of_paths (map_paths (function m) n)) (arrow s t)
   arrow_up m s t none d e = transitivity omega_arrow (arrows to_omega e)
   arrow_up m s t (more q n) d e = transitivity (joined_arrow m (type_of_path q) n) (arrows d e)
 

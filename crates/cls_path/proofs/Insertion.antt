@@ -59,11 +59,17 @@ placed_in p (q ∷ n) r i = step (is_lt (path_order p q)) i (λ x j. placed_in p
     at_head _ first_in = inl refl
     at_head r (later_in j) = inr j
 
-    past : (r : TypePath) → In r (more q (listed (place p n))) → ((x : TypePath) → In x (listed (place p n)) → (x ≡ p) ⊎ In x (listed n)) → (r ≡ p) ⊎ In r (more q (listed n))
+    past :
+        (r : TypePath) → In r (more q (listed (place p n)))
+        → ((x : TypePath) → In x (listed (place p n)) → (x ≡ p) ⊎ In x (listed n))
+        → (r ≡ p) ⊎ In r (more q (listed n))
     past _ first_in f = inr first_in
     past r (later_in j) f = elim (f r j) [ inl e ↦ inl e | inr k ↦ inr (later_in k) ]
 
-    step : (v : Bool) → In r (listed (cond v (p ∷ q ∷ n) (q ∷ place p n))) → ((x : TypePath) → In x (listed (place p n)) → (x ≡ p) ⊎ In x (listed n)) → (r ≡ p) ⊎ In r (more q (listed n))
+    step :
+        (v : Bool) → In r (listed (cond v (p ∷ q ∷ n) (q ∷ place p n)))
+        → ((x : TypePath) → In x (listed (place p n)) → (x ≡ p) ⊎ In x (listed n))
+        → (r ≡ p) ⊎ In r (more q (listed n))
     step true j f = at_head r j
     step false j f = past r j f
 
@@ -75,7 +81,9 @@ filtered_in f (q ∷ n) r i = step (f q) i (λ x j. filtered_in f n x j)
     past _ first_in g = first_in
     past r (later_in j) g = later_in (g r j)
 
-    step : (v : Bool) → In r (listed (cond v (q ∷ filter f n) (filter f n))) → ((x : TypePath) → In x (listed (filter f n)) → In x (listed n)) → In r (more q (listed n))
+    step :
+        (v : Bool) → In r (listed (cond v (q ∷ filter f n) (filter f n)))
+        → ((x : TypePath) → In x (listed (filter f n)) → In x (listed n)) → In r (more q (listed n))
     step true j g = past r j g
     step false j g = later_in (g r j)
 
@@ -107,7 +115,9 @@ module _ (below : ℕ → ℕ → Type 0) (variance : ℕ → Variance) where
     canonical_sorted none h = tt
     canonical_sorted (more p n) h = (sorted_path p h.0, leads_of p n h.1, canonical_sorted n h.2)
 
-  leads_filter : (f : TypePath → Bool) (p : TypePath) (n : List TypePath) → LeadsAntichain below variance p (listed n) → LeadsAntichain below variance p (listed (filter f n))
+  leads_filter :
+      (f : TypePath → Bool) (p : TypePath) (n : List TypePath) → LeadsAntichain below variance p (listed n)
+      → LeadsAntichain below variance p (listed (filter f n))
   leads_filter f p [] h = tt
   leads_filter f p (q ∷ n) h = elim (f q) as (λ v. LeadsAntichain below variance p (listed (cond v (q ∷ filter f n) (filter f n)))) [
     | true ↦ (h.0, h.1, h.2, leads_filter f p n h.3)
@@ -140,22 +150,31 @@ module _ (below : ℕ → ℕ → Type 0) (variance : ℕ → Variance) where
   IsClear p [] = Unit {0}
   IsClear p (q ∷ n) = (PathLe below variance p q → ⊥) × (PathLe below variance q p → ⊥) × IsClear p n
 
-  leads_on : (p q : TypePath) (n : List TypePath) → PathBefore p q → LeadsAntichain below variance q (listed n) → IsClear p n → LeadsAntichain below variance p (listed n)
+  leads_on :
+      (p q : TypePath) (n : List TypePath) → PathBefore p q → LeadsAntichain below variance q (listed n) → IsClear p n
+      → LeadsAntichain below variance p (listed n)
   leads_on p q [] b h k = tt
   leads_on p q (r ∷ n) b h k = (before_trans p q r b h.0, k.0, k.1, leads_on p q n b h.3 k.2)
 
-  leads_place : (q p : TypePath) (n : List TypePath) → PathBefore q p → (PathLe below variance q p → ⊥) → (PathLe below variance p q → ⊥) → LeadsAntichain below variance q (listed n) → LeadsAntichain below variance q (listed (place p n))
+  leads_place :
+      (q p : TypePath) (n : List TypePath) → PathBefore q p → (PathLe below variance q p → ⊥)
+      → (PathLe below variance p q → ⊥) → LeadsAntichain below variance q (listed n)
+      → LeadsAntichain below variance q (listed (place p n))
   leads_place q p [] b f g h = (b, f, g, tt)
   leads_place q p (r ∷ n) b f g h = elim (is_lt (path_order p r)) as (λ v. LeadsAntichain below variance q (listed (cond v (p ∷ r ∷ n) (r ∷ place p n)))) [
     | true ↦ (b, f, g, h)
     | false ↦ (h.0, h.1, h.2, leads_place q p n b f g h.3)
   ]
 
-  canonical_place : (p : TypePath) (n : List TypePath) → PathLe below variance p p → IsCanonicalPath below variance p → IsCanonical below variance (listed n) → IsClear p n → IsCanonical below variance (listed (place p n))
+  canonical_place :
+      (p : TypePath) (n : List TypePath) → PathLe below variance p p → IsCanonicalPath below variance p
+      → IsCanonical below variance (listed n) → IsClear p n → IsCanonical below variance (listed (place p n))
   canonical_place p [] self d h k = (d, tt, tt)
   canonical_place p (q ∷ n) self d h k = step (path_order p q) refl (canonical_place p n self d h.2 k.2)
     where
-      step : (o : Ordering) → path_order p q ≡ o → IsCanonical below variance (listed (place p n)) → IsCanonical below variance (listed (cond (is_lt o) (p ∷ q ∷ n) (q ∷ place p n)))
+      step :
+          (o : Ordering) → path_order p q ≡ o → IsCanonical below variance (listed (place p n))
+          → IsCanonical below variance (listed (cond (is_lt o) (p ∷ q ∷ n) (q ∷ place p n)))
       step Less e c = let b = less_before p q e in (d, (b, k.0, k.1, leads_on p q n b h.1 k.2), h)
       step Equal e c = absurd (k.0 (subst (λ x. PathLe below variance p x) (order_same p q e) self))
       step Greater e c = (h.0, leads_place q p n ((path_order-greater p q).0 e) k.1 k.0 h.1, c)
@@ -167,16 +186,22 @@ module _ (test : ℕ → ℕ → Bool) (variance : ℕ → Variance) (reflexive 
   not_le : (p q : TypePath) → path_below test variance p q ≡ false → PathLe (Below test) variance p q → ⊥
   not_le p q e h = false≢true (sym e ∙ le_tested test variance h)
 
-  -- where no path of the list is below the path, those that aren't above it are clear of it
+  -- if no path of the list is below the path, those that aren't above it are clear of it
   clear_kept : (p : TypePath) (n : List TypePath) → some_below test variance (listed n) p ≡ false → IsClear (Below test) variance p (Kept p n)
   clear_kept p [] e = tt
   clear_kept p (q ∷ n) e = step (path_below test variance p q) refl (or_no_left _ _ e) (clear_kept p n (or_no_right (path_below test variance q p) _ e))
     where
-      step : (v : Bool) → path_below test variance p q ≡ v → path_below test variance q p ≡ false → IsClear (Below test) variance p (Kept p n) → IsClear (Below test) variance p (cond (not v) (q ∷ Kept p n) (Kept p n))
+      step :
+          (v : Bool) → path_below test variance p q ≡ v → path_below test variance q p ≡ false
+          → IsClear (Below test) variance p (Kept p n)
+          → IsClear (Below test) variance p (cond (not v) (q ∷ Kept p n) (Kept p n))
       step true f g h = h
       step false f g h = (not_le p q f, not_le q p g, h)
 
-  pub insertion_canonical : (p : TypePath) (n : List TypePath) → Suits variance p → IsCanonicalPath (Below test) variance p → IsCanonical (Below test) variance (listed n) → some_below test variance (listed n) p ≡ false → IsCanonical (Below test) variance (listed (place p (Kept p n)))
+  pub insertion_canonical :
+      (p : TypePath) (n : List TypePath) → Suits variance p → IsCanonicalPath (Below test) variance p
+      → IsCanonical (Below test) variance (listed n) → some_below test variance (listed n) p ≡ false
+      → IsCanonical (Below test) variance (listed (place p (Kept p n)))
   insertion_canonical p n s d h e =
       canonical_place (Below test) variance p (Kept p n) (le_refl (Below test) variance reflexive transitive p s) d (canonical_filter (Below test) variance (λ q. not (path_below test variance p q)) n h) (clear_kept p n e)
 
@@ -191,27 +216,39 @@ module _ (test : ℕ → ℕ → Bool) (variance : ℕ → Variance) (reflexive 
       only _ first_in = inl refl
       only q (later_in j) = elim j [ ]
 
-  inserted_over : (p : TypePath) (n : List TypePath) → Suits variance p → SuitsAll variance (listed n) → PathsLe (Below test) variance (listed (place p (Kept p n))) (Together p n)
+  inserted_over :
+      (p : TypePath) (n : List TypePath) → Suits variance p → SuitsAll variance (listed n)
+      → PathsLe (Below test) variance (listed (place p (Kept p n))) (Together p n)
   inserted_over p n s h = covers_all (Below test) variance reflexive transitive (listed (place p (Kept p n))) (Together p n) (λ q i. elim (in_together p n q i) [
     | inl e ↦ (p, in_place p (Kept p n), subst (λ x. PathLe (Below test) variance p x) (sym e) (le_refl (Below test) variance reflexive transitive p s))
     | inr j ↦ either q j (path_below test variance p q) refl
   ])
     where
-      either : (q : TypePath) → In q (listed n) → (v : Bool) → path_below test variance p q ≡ v → Some (Below test) variance reflexive transitive (listed (place p (Kept p n))) q
+      either :
+          (q : TypePath) → In q (listed n) → (v : Bool) → path_below test variance p q ≡ v
+          → Some (Below test) variance reflexive transitive (listed (place p (Kept p n))) q
       either q j true e = (p, in_place p (Kept p n), tested_le test variance reflexive transitive one_variance p q s (suits_in (Below test) variance reflexive transitive (listed n) q h j) e)
       either q j false e = (q, in_placed p (Kept p n) q (in_filtered (λ r. not (path_below test variance p r)) n q j (ap not e)), le_refl (Below test) variance reflexive transitive q (suits_in (Below test) variance reflexive transitive (listed n) q h j))
 
-  over_inserted : (p : TypePath) (n : List TypePath) → Suits variance p → SuitsAll variance (listed n) → PathsLe (Below test) variance (Together p n) (listed (place p (Kept p n)))
-  over_inserted p n s h = covers_subset (Below test) variance reflexive transitive (Together p n) (listed (place p (Kept p n))) (suits_place (Below test) variance p (Kept p n) s (suits_filter (Below test) variance (λ q. not (path_below test variance p q)) n h)) (λ q i. elim (placed_in p (Kept p n) q i) [
-    | inl e ↦ subst (λ x. In x (Together p n)) (sym e) (in_append_right p (listed n) (more p none) first_in)
-    | inr j ↦ in_append_left q (listed n) (more p none) (filtered_in (λ r. not (path_below test variance p r)) n q j)
-  ])
+  over_inserted :
+      (p : TypePath) (n : List TypePath) → Suits variance p → SuitsAll variance (listed n)
+      → PathsLe (Below test) variance (Together p n) (listed (place p (Kept p n)))
+  over_inserted p n s h = covers_subset (Below test) variance reflexive transitive (Together p n) (listed (place p (Kept p n)))
+      (suits_place (Below test) variance p (Kept p n) s (suits_filter (Below test) variance (λ q. not (path_below test variance p q)) n h)) (λ q i. elim (placed_in p (Kept p n) q i) [
+        | inl e ↦ subst (λ x. In x (Together p n)) (sym e) (in_append_right p (listed n) (more p none) first_in)
+        | inr j ↦ in_append_left q (listed n) (more p none) (filtered_in (λ r. not (path_below test variance p r)) n q j)
+      ])
 
   -- the paths of the intersection of a list and a path
-  together_paths : (p : TypePath) (n : List TypePath) → Suits variance p → SuitsAll variance (listed n) → paths_of variance (meet (type_of_paths (listed n)) (type_of_path p)) ≡ Together p n
+  together_paths :
+      (p : TypePath) (n : List TypePath) → Suits variance p → SuitsAll variance (listed n)
+      → paths_of variance (meet (type_of_paths (listed n)) (type_of_path p)) ≡ Together p n
   together_paths p n s h = λ i. append (paths_back (listed n) variance h i) (path_back p variance s i)
 
-  pub inserted_form : (p : TypePath) (n : List TypePath) → Suits variance p → IsCanonicalPath (Below test) variance p → IsNormal (Below test) variance (listed n) → some_below test variance (listed n) p ≡ false → IsNormalForm (Below test) variance (meet (type_of_paths (listed n)) (type_of_path p)) (listed (place p (Kept p n)))
+  pub inserted_form :
+      (p : TypePath) (n : List TypePath) → Suits variance p → IsCanonicalPath (Below test) variance p
+      → IsNormal (Below test) variance (listed n) → some_below test variance (listed n) p ≡ false
+      → IsNormalForm (Below test) variance (meet (type_of_paths (listed n)) (type_of_path p)) (listed (place p (Kept p n)))
   inserted_form p n s d h e =
       let m = listed (place p (Kept p n)) in
       let t = sym (together_paths p n s h.suits) in
@@ -224,8 +261,11 @@ module _ (test : ℕ → ℕ → Bool) (variance : ℕ → Variance) (reflexive 
         upper = subst (λ l. PathsLe (Below test) variance l m) t (over_inserted p n s h.suits);
       }
 
-  -- where a path of the list is below the path, the list stays
-  pub kept_form : (p : TypePath) (n : List TypePath) → Suits variance p → IsNormal (Below test) variance (listed n) → some_below test variance (listed n) p ≡ true → IsNormalForm (Below test) variance (meet (type_of_paths (listed n)) (type_of_path p)) (listed n)
+  -- if a path of the list is below the path, the list stays
+  pub kept_form :
+      (p : TypePath) (n : List TypePath) → Suits variance p → IsNormal (Below test) variance (listed n)
+      → some_below test variance (listed n) p ≡ true
+      → IsNormalForm (Below test) variance (meet (type_of_paths (listed n)) (type_of_path p)) (listed n)
   kept_form p n s h e =
       let m = listed n in
       let t = sym (together_paths p n s h.suits) in

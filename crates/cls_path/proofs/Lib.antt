@@ -2,6 +2,7 @@ pub mod Completeness
 pub mod Decided
 pub mod Derivations
 pub mod Equivalence
+pub mod Existence
 pub mod Insertion
 pub mod Orders
 pub mod PathLaws
@@ -11,4 +12,5 @@ pub mod Sorting
 pub mod Soundness
 pub mod Transitivity
 pub mod Turning
+pub mod TypeParts
 pub mod Uniqueness

@@ -1,4 +1,4 @@
--- The order of lists inside paths is that of the lists, and where one list has ended the lengths decide.
+-- The order of lists inside paths is that of the lists, and if one list has ended, the lengths decide.
 use Rattle.std.proofs.Common.{◌≡◌, refl, sym, ◌∙◌, ap, List, [], ◌∷◌, ℕ, zero, suc, ◌≤◌, length, drop, arith, inl, inr}
 use Rattle.std.specs.Prelude.{◌⊎◌}
 use Rattle.std.proofs.lemmas.Bool.Decides.{nat_tests}
@@ -15,7 +15,9 @@ paths_order-listed (p ∷ m) (q ∷ n) = ap (λ o. ordering_then (path_order p q
 nat_cmp-suc : (m n : ℕ) → nat_cmp (suc m) (suc n) ≡ nat_cmp m n
 nat_cmp-suc m n = grind (arith, nat_tests)
 
-pub exhausted : (i : ℕ) (xs ys : List TypePath) → i ≤ length xs → i ≤ length ys → (length xs ≤ i) ⊎ (length ys ≤ i) → list_order (drop i xs) (drop i ys) ≡ nat_cmp (length xs) (length ys)
+pub exhausted :
+    (i : ℕ) (xs ys : List TypePath) → i ≤ length xs → i ≤ length ys → (length xs ≤ i) ⊎ (length ys ≤ i)
+    → list_order (drop i xs) (drop i ys) ≡ nat_cmp (length xs) (length ys)
 exhausted zero [] [] p q h = refl
 exhausted zero [] (y ∷ ys) p q h = grind (arith, nat_tests)
 exhausted zero (x ∷ xs) [] p q h = grind (arith, nat_tests)

@@ -54,7 +54,9 @@ module _ (below : ℕ → ℕ → Type 0) (variance : ℕ → Variance) where
 
   module _ (reflexive : (c : ℕ) → below c c) (transitive : (c d e : ℕ) → below c d → below d e → below c e) where
     -- nothing is put in yet
-    pub remains_all : (out rest : Paths) → IsNormal below variance out → SuitsAll variance rest → EachCanonical below variance rest → Remains (append out rest) out rest
+    pub remains_all :
+        (out rest : Paths) → IsNormal below variance out → SuitsAll variance rest → EachCanonical below variance rest
+        → Remains (append out rest) out rest
     remains_all out rest h s c =
         let k = covers_refl below variance reflexive transitive (append out rest) (both out rest h.suits s) in
         record { normal = h; suits = s; canonical = c; lower = k; upper = k }
@@ -62,6 +64,17 @@ module _ (below : ℕ → ℕ → Type 0) (variance : ℕ → Variance) where
         both : (n m : Paths) → SuitsAll variance n → SuitsAll variance m → SuitsAll variance (append n m)
         both none m s t = t
         both (more p n) m s t = (s.0, both n m s.1 t)
+
+    -- the whole are paths whose intersection is the type, and all are put in
+    pub whole_of :
+        (t : ClosedType) (whole out : Paths) → PathsLe below variance whole (paths_of variance t)
+        → PathsLe below variance (paths_of variance t) whole → Remains whole out none
+        → IsNormalForm below variance t out
+    whole_of t whole out lower upper h = record {
+      normal = h.normal;
+      lower = covers_trans below variance reflexive transitive out whole (paths_of variance t) (subst (λ l. PathsLe below variance l whole) (append_none out) h.lower) lower;
+      upper = covers_trans below variance reflexive transitive (paths_of variance t) whole out upper (subst (λ l. PathsLe below variance whole l) (append_none out) h.upper);
+    }
 
     self : (n : Paths) (q : TypePath) → SuitsAll variance n → In q n → Some below variance reflexive transitive n q
     self n q s i = (q, i, le_refl below variance reflexive transitive q (suits_at n q s i))
@@ -72,11 +85,16 @@ module _ (below : ℕ → ℕ → Type 0) (variance : ℕ → Variance) where
     into_right : (n m : Paths) (q : TypePath) → Some below variance reflexive transitive m q → Some below variance reflexive transitive (append n m) q
     into_right n m q s = (s.0, in_append_right s.0 n m s.1, s.2)
 
-    together_paths : (n : Paths) (p : TypePath) → SuitsAll variance n → Suits variance p → paths_of variance (meet (type_of_paths n) (type_of_path p)) ≡ append n (more p none)
+    together_paths :
+        (n : Paths) (p : TypePath) → SuitsAll variance n → Suits variance p
+        → paths_of variance (meet (type_of_paths n) (type_of_path p)) ≡ append n (more p none)
     together_paths n p s t = λ i. append (paths_back n variance s i) (path_back p variance t i)
 
     -- one path of the rest is put in
-    pub remains_step : {whole out rest : Paths} (p : TypePath) (less next : Paths) → Remains whole out rest → In p rest → ((q : TypePath) → In q rest → (q ≡ p) ⊎ In q less) → ((q : TypePath) → In q less → In q rest) → IsNormalForm below variance (meet (type_of_paths out) (type_of_path p)) next → Remains whole next less
+    pub remains_step :
+        {whole out rest : Paths} (p : TypePath) (less next : Paths) → Remains whole out rest → In p rest
+        → ((q : TypePath) → In q rest → (q ≡ p) ⊎ In q less) → ((q : TypePath) → In q less → In q rest)
+        → IsNormalForm below variance (meet (type_of_paths out) (type_of_path p)) next → Remains whole next less
     remains_step {whole = whole} {out = out} {rest = rest} p less next h i split back form =
         let e = together_paths out p h.normal.suits (suits_at rest p h.suits i) in
         let down = subst (λ l. PathsLe below variance next l) e form.lower in
@@ -99,7 +117,9 @@ module _ (below : ℕ → ℕ → Type 0) (variance : ℕ → Variance) where
           ]
         ])
 
-        from_out : (q : TypePath) → Some below variance reflexive transitive (append out (more p none)) q → Some below variance reflexive transitive (append out rest) q
+        from_out :
+            (q : TypePath) → Some below variance reflexive transitive (append out (more p none)) q
+            → Some below variance reflexive transitive (append out rest) q
         from_out q s = (s.0, elim (in_append s.0 out (more p none) s.1) [ inl a ↦ in_append_left s.0 out rest a | inr b ↦ in_append_right s.0 out rest (only s.0 b) ], s.2)
           where
             only : (x : TypePath) → In x (more p none) → In x rest

@@ -73,7 +73,7 @@ mutual
   paths_before_less (first h) = then_first _ _ (before_less h)
   paths_before_less (rest {p = p} h) = then_second _ _ _ (path_self p) (paths_before_less h)
 
--- two orderings, the second of which decides where the first is a tie
+-- two orderings, the second of which decides if the first is a tie
 less_parts : (o p : Ordering) → ordering_then o p ≡ Less → (o ≡ Less) ⊎ ((o ≡ Equal) × (p ≡ Less))
 less_parts Less p h = inl refl
 less_parts Equal p h = inr (refl, h)

@@ -37,10 +37,14 @@ module _ (below : ℕ → ℕ → Type 0) (variance : ℕ → Variance) where
     le_sound (contravariants v w b c) s t = sub_contra v w b (covers_sound c t.1 s.1)
     le_sound (invariants v w b c d) s t = sub_inv v w b (covers_sound c s.1 t.1) (covers_sound d t.1 s.1)
 
-    pub above_sound : {n : Paths} {q : TypePath} → SomeLe below variance n q → SuitsAll variance n → Suits variance q → Subtype below variance (type_of_paths n) (type_of_path q)
+    pub above_sound :
+        {n : Paths} {q : TypePath} → SomeLe below variance n q → SuitsAll variance n → Suits variance q
+        → Subtype below variance (type_of_paths n) (type_of_path q)
     above_sound (here {p = p} {n = n} h) s t = transitivity (meets_head (type_of_path p) n) (le_sound h s.0 t)
     above_sound (there {p = p} {n = n} a) s t = transitivity (meets_rest (type_of_path p) n) (above_sound a s.1 t)
 
-    pub covers_sound : {n m : Paths} → PathsLe below variance n m → SuitsAll variance n → SuitsAll variance m → Subtype below variance (type_of_paths n) (type_of_paths m)
+    pub covers_sound :
+        {n m : Paths} → PathsLe below variance n m → SuitsAll variance n → SuitsAll variance m
+        → Subtype below variance (type_of_paths n) (type_of_paths m)
     covers_sound empty s t = to_omega
     covers_sound (each {q = q} {n = n} {m = m} a h) s t = to_meets (type_of_paths n) (type_of_path q) m (above_sound a s t.0) (covers_sound h s t.1)

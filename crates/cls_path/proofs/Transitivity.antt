@@ -12,12 +12,16 @@ module _ (below : ℕ → ℕ → Type 0) (variance : ℕ → Variance) (reflexi
   widen n (more q m) p (each a h) = each (there a) (widen n m p h)
 
   -- what is below one path is below another, so what is above the one in a list is above the other
-  pub above_map : (n : Paths) (q r : TypePath) → ((p : TypePath) → PathLe below variance p q → PathLe below variance p r) → SomeLe below variance n q → SomeLe below variance n r
+  pub above_map :
+      (n : Paths) (q r : TypePath) → ((p : TypePath) → PathLe below variance p q → PathLe below variance p r)
+      → SomeLe below variance n q → SomeLe below variance n r
   above_map none q r f h = elim h [ ]
   above_map (more p n) q r f (here h) = here (f p h)
   above_map (more p n) q r f (there a) = there (above_map n q r f a)
 
-  pub covers_map : (n m l : Paths) → ((q : TypePath) → SomeLe below variance m q → SomeLe below variance n q) → PathsLe below variance m l → PathsLe below variance n l
+  pub covers_map :
+      (n m l : Paths) → ((q : TypePath) → SomeLe below variance m q → SomeLe below variance n q)
+      → PathsLe below variance m l → PathsLe below variance n l
   covers_map n m none f h = empty
   covers_map n m (more q l) f (each a h) = each (f q a) (covers_map n m l f h)
 

@@ -57,5 +57,7 @@ module _ (test : ℕ → ℕ → Bool) (variance : ℕ → Variance) where
   each_passes-list_below n (more q m) = λ i. some_below test variance n q && each_passes-list_below n m i
 
   -- the test of sealed paths by the tests of their lists
-  pub sealed-list_below : (c d : ℕ) (n m : Paths) → path_below test variance (sealed c n) (sealed d m) ≡ (test c d && sealed_below (variance c) (same_paths n m) (list_below test variance m n) (list_below test variance n m))
+  pub sealed-list_below :
+      (c d : ℕ) (n m : Paths)
+      → path_below test variance (sealed c n) (sealed d m) ≡ (test c d && sealed_below (variance c) (same_paths n m) (list_below test variance m n) (list_below test variance n m))
   sealed-list_below c d n m = λ i. test c d && sealed_below (variance c) (same_paths n m) (each_above-list_below n m i) (each_passes-list_below n m i)

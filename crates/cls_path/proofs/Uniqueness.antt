@@ -190,11 +190,15 @@ module _ (below : ℕ → ℕ → Type 0) (variance : ℕ → Variance) (reflexi
     each_single none = tt
     each_single (more p n) = (single p, each_single n)
 
-  pub canonical_unique : (n m : Paths) → IsCanonical below variance n → IsCanonical below variance m → PathsLe below variance n m → PathsLe below variance m n → n ≡ m
+  pub canonical_unique :
+      (n m : Paths) → IsCanonical below variance n → IsCanonical below variance m → PathsLe below variance n m
+      → PathsLe below variance m n → n ≡ m
   canonical_unique n m h k c d = same_lists n m (each_single n) h k c d
 
   -- equivalent types have one normal form
-  pub form_unique : (s t : ClosedType) (n m : Paths) → IsNormalForm below variance s n → IsNormalForm below variance t m → Subtype below variance s t → Subtype below variance t s → n ≡ m
+  pub form_unique :
+      (s t : ClosedType) (n m : Paths) → IsNormalForm below variance s n → IsNormalForm below variance t m
+      → Subtype below variance s t → Subtype below variance t s → n ≡ m
   form_unique s t n m h k d e =
       canonical_unique n m h.normal.canonical k.normal.canonical
       (through n m (paths_of variance s) (paths_of variance t) h.lower (complete below variance reflexive transitive d) k.upper)

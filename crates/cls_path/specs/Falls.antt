@@ -1,4 +1,4 @@
--- What lies inside a path or a list is smaller.
+-- internal: what lies inside a path or a list is smaller
 use Rattle.std.specs.Prelude.{◌+◌, ◌≤◌, List, [], ◌∷◌, max, ◌≡◌, refl}
 use Rattle.std.proofs.Common.{arith, ap}
 use denote.Param.Weighed.{most}

@@ -1,4 +1,4 @@
--- What a path gives to a hasher.
+-- internal: what a path gives to a hasher
 use Rattle.std.specs.Prelude.{ℕ, List, ◌++◌}
 use Rattle.std.specs.Hash as fed
 use Rattle.cls_path.specs.Paths.{TypePath, atom, inside, unit, left, right, function, sealed, Paths, none, more, listed}

@@ -1,4 +1,4 @@
--- A path put into a list of paths.
+-- internal: a path put into a list of paths, as the code does it
 use Rattle.std.specs.Prelude.{ℕ, Bool, List, [], ◌∷◌, cond, not, filter}
 use Rattle.std.specs.Ordering.{is_lt}
 use Rattle.cls_base.specs.Taxonomies.{Variance}

@@ -1,3 +1,5 @@
+-- To be read and believed: Paths, NormalForms and Laws. The other modules follow the code or serve the prover. What is
+-- proved of them ties them to these three.
 pub mod Falls
 pub mod Feed
 pub mod Insertion
@@ -5,6 +7,7 @@ pub mod Laws
 pub mod NormalForms
 pub mod OrderLaws
 pub mod PathOrder
+pub mod PathLists
 pub mod Paths
 pub mod Seen
 pub mod Sizes

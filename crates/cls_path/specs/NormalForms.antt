@@ -58,7 +58,8 @@ module _ (below : ℕ → ℕ → Type 0) (variance : ℕ → Variance) where
   -- the path is before each of the list, and neither below nor above any of it
   abbrev pub LeadsAntichain : TypePath → Paths → Type 0
   LeadsAntichain p none = Unit {0}
-  LeadsAntichain p (more q n) = PathBefore p q × (PathLe below variance p q → ⊥) × (PathLe below variance q p → ⊥) × LeadsAntichain p n
+  LeadsAntichain p (more q n) =
+      PathBefore p q × (PathLe below variance p q → ⊥) × (PathLe below variance q p → ⊥) × LeadsAntichain p n
 
   abbrev mutual
     pub IsCanonicalPath : TypePath → Type 0

@@ -1,4 +1,5 @@
--- The order of paths is total: it is the order of lists of numbers.
+-- internal: the order of paths is total, since it is the order of lists of numbers. Kept here since the laws of an `impl`
+-- are cited from specs/.
 use Rattle.std.proofs.Common.{◌≡◌, refl, sym, ◌∙◌, ap, ℕ, true, List, [], ◌∷◌}
 use Rattle.std.specs.declared.cmp.Ordering.{Ordering}
 use Rattle.std.specs.declared.cmp.Ordering.TheVariants.{Less, Equal, Greater}
@@ -54,7 +55,9 @@ end_last x y (function n p) = refl
 end_last x y (sealed c n) = refl
 
 mutual
-  digits_order : (p q : TypePath) (x y : List ℕ) → slice_cmp nat_cmp (digits p x) (digits q y) ≡ ordering_then (path_order p q) (slice_cmp nat_cmp x y)
+  digits_order :
+      (p q : TypePath) (x y : List ℕ)
+      → slice_cmp nat_cmp (digits p x) (digits q y) ≡ ordering_then (path_order p q) (slice_cmp nat_cmp x y)
   digits_order (atom c) (atom d) x y = refl
   digits_order (inside c p) (inside d q) x y =
       ap (ordering_then (nat_cmp c d)) (digits_order p q x y) ∙ sym (then_assoc (nat_cmp c d) (path_order p q) (slice_cmp nat_cmp x y))
@@ -68,7 +71,9 @@ mutual
       ap (ordering_then (nat_cmp c d)) (all_digits_order n m x y) ∙ sym (then_assoc (nat_cmp c d) (paths_order n m) (slice_cmp nat_cmp x y))
   digits_order _ _ x y = refl
 
-  all_digits_order : (n m : Paths) (x y : List ℕ) → slice_cmp nat_cmp (all_digits n x) (all_digits m y) ≡ ordering_then (paths_order n m) (slice_cmp nat_cmp x y)
+  all_digits_order :
+      (n m : Paths) (x y : List ℕ)
+      → slice_cmp nat_cmp (all_digits n x) (all_digits m y) ≡ ordering_then (paths_order n m) (slice_cmp nat_cmp x y)
   all_digits_order none none x y = refl
   all_digits_order none (more q m) x y = end_first x (all_digits m y) q
   all_digits_order (more p n) none x y = end_last y (all_digits n x) p

@@ -32,8 +32,12 @@ module _ (below : ℕ → ℕ → Type 0) (variance : ℕ → Variance) where
       lefts : {p q : TypePath} → PathLe p q → PathLe (left p) (left q)
       rights : {p q : TypePath} → PathLe p q → PathLe (right p) (right q)
       functions : {n m : Paths} {p q : TypePath} → PathsLe m n → PathLe p q → PathLe (function n p) (function m q)
-      contravariants : {c d : ℕ} {n m : Paths} → variance c ≡ contravariant → variance d ≡ contravariant → below c d → PathsLe m n → PathLe (sealed c n) (sealed d m)
-      invariants : {c d : ℕ} {n m : Paths} → variance c ≡ invariant → variance d ≡ invariant → below c d → PathsLe n m → PathsLe m n → PathLe (sealed c n) (sealed d m)
+      contravariants :
+          {c d : ℕ} {n m : Paths} → variance c ≡ contravariant → variance d ≡ contravariant → below c d
+          → PathsLe m n → PathLe (sealed c n) (sealed d m)
+      invariants :
+          {c d : ℕ} {n m : Paths} → variance c ≡ invariant → variance d ≡ invariant → below c d
+          → PathsLe n m → PathsLe m n → PathLe (sealed c n) (sealed d m)
 
     -- some path of the list is below the path
     pub data SomeLe : Paths → TypePath → Type 0 where
@@ -61,27 +65,32 @@ abbrev mutual
   type_of_paths none = omega
   type_of_paths (more p n) = meets (type_of_path p) n
 
+  -- the type met with those of the paths, one after the other
   pub meets : ClosedType → Paths → ClosedType
   meets s none = s
   meets s (more p n) = meets (meet s (type_of_path p)) n
 
+-- membership: std's `Contains`, over lists inside paths
 pub data InPaths : Paths → TypePath → Type 0 where
   first_in : {p : TypePath} {n : Paths} → InPaths (more p n) p
   later_in : {p q : TypePath} {n : Paths} → InPaths n p → InPaths (more q n) p
 
+-- the one list and then the other
 abbrev pub append : Paths → Paths → Paths
 append none m = m
 append (more p n) m = more p (append n m)
 
+-- the function at each path
 abbrev pub map_paths : (TypePath → TypePath) → Paths → Paths
 map_paths f none = none
 map_paths f (more p n) = more (f p) (map_paths f n)
 
--- the list, or the one path where it is empty
+-- the list, or the one path if the list is empty
 abbrev pub or_one : TypePath → Paths → Paths
 or_one p none = more p none
 or_one p (more q n) = more q n
 
+-- the paths of a name of the variance over the paths
 abbrev pub constructor_paths : Variance → ℕ → Paths → Paths
 constructor_paths covariant c n = or_one (atom c) (map_paths (inside c) n)
 constructor_paths contravariant c n = more (sealed c n) none

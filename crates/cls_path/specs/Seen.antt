@@ -1,4 +1,4 @@
--- The path that a form stands for, wherever its parts lie.
+-- internal: the path that a form stands for, wherever its parts lie
 use Rattle.cls_path.specs.Paths.{TypePath, atom, inside, unit, left, right, function, sealed, listed}
 use Rattle.cls_path.specs.declared.path.Form.{Form}
 use Rattle.cls_path.specs.declared.path.Form.TheVariants.{Atom, Con, Unit, Left, Right, Arrow, Sealed}

@@ -1,4 +1,4 @@
--- How large a path is. Each call that goes down a path stands on it.
+-- internal: how large a path is. Each call that goes down a path stands on it.
 use Rattle.std.specs.Prelude.{ℕ, ◌+◌, List, [], ◌∷◌}
 use Rattle.cls_path.specs.Paths.{TypePath, atom, inside, unit, left, right, function, sealed, Paths, none, more}
 

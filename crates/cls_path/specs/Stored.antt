@@ -1,4 +1,4 @@
--- Paths as the trees of numbers under which values that contracts see are kept.
+-- internal: paths as the trees of numbers under which values that contracts see are kept
 use Rattle.std.specs.Prelude.{zero, suc, ◌≡◌, refl}
 use Rattle.std.proofs.Common.{sym, ap, ◌∙◌}
 use base.Stored.{Gv, gnil, gnum, gcons, num, Coded}

@@ -9,14 +9,16 @@ use crate::path::{Form, Nf, Path};
 use cls_base::{Taxa, Variance};
 
 impl Path {
-    /// Whether the type of this path is a subtype of the type of the other. Each name has to stand in a kind of path that
-    /// fits its variance. Takes no memory.
+    /// Whether the type of this path is a subtype of the type of the other. Each name has to stand in a kind of path
+    /// that fits its variance. Takes no memory.
     pub fn le<T: Taxa>(&self, taxa: &T, other: &Path) -> bool
         requires suits { Suits (T.variance_of_name taxa.now) self.now }
         requires other_suits { Suits (T.variance_of_name taxa.now) other.now }
         ensures exact { IsTrue result
-            ↔ Subtype (Below (T.is_below taxa.now)) (T.variance_of_name taxa.now) (type_of_path self.now) (type_of_path other.now) }
-        ensures cases { IsTrue result ↔ PathLe (Below (T.is_below taxa.now)) (T.variance_of_name taxa.now) self.now other.now }
+            ↔ Subtype (Below (T.is_below taxa.now)) (T.variance_of_name taxa.now)
+            (type_of_path self.now) (type_of_path other.now) }
+        ensures cases { IsTrue result
+            ↔ PathLe (Below (T.is_below taxa.now)) (T.variance_of_name taxa.now) self.now other.now }
     {
         self.is_below(taxa, other)
     }
@@ -51,7 +53,8 @@ impl Nf {
             ↔ Subtype (Below (T.is_below taxa.now)) (T.variance_of_name taxa.now)
             (type_of_paths (listed self.now)) (type_of_paths (listed other.now)) }
         ensures cases { IsTrue result
-            ↔ PathsLe (Below (T.is_below taxa.now)) (T.variance_of_name taxa.now) (listed self.now) (listed other.now) }
+            ↔ PathsLe (Below (T.is_below taxa.now)) (T.variance_of_name taxa.now)
+            (listed self.now) (listed other.now) }
     {
         self.is_below(taxa, other)
     }
@@ -59,7 +62,8 @@ impl Nf {
     /// Whether each path of the other is above some path of this one.
     #[cycle(below)]
     fn is_below<T: Taxa>(&self, taxa: &T, other: &Nf) -> bool
-        ensures { result ≡ list_below (T.is_below taxa.now) (T.variance_of_name taxa.now) (listed self.now) (listed other.now) }
+        ensures { result
+            ≡ list_below (T.is_below taxa.now) (T.variance_of_name taxa.now) (listed self.now) (listed other.now) }
     {
         for path in &other.paths {
             if !self.some_below(taxa, path) {
@@ -69,7 +73,7 @@ impl Nf {
         true
     }
 
-    /// Whether a name of this variance over this list is below one over the other, where the name itself is.
+    /// Whether a name of this variance over this list is below one over the other, if the name itself is.
     #[cycle(below)]
     fn is_sealed_below<T: Taxa>(&self, taxa: &T, variance: Variance, other: &Nf) -> bool
         ensures { result ≡ sealed_below (variance_of variance) (same_paths (listed self.now) (listed other.now))
@@ -79,7 +83,7 @@ impl Nf {
         match variance {
             Variance::Co => false,
             Variance::Contra => other.is_below(taxa, self),
-            // Equal lists are told at once, since each depth of invariant names would else double the work.
+            // Equal lists pass at once. Otherwise each depth of invariant names would double the work.
             Variance::Inv => {
                 self.order_by_path(other).is_eq()
                     || (other.is_below(taxa, self) && self.is_below(taxa, other))

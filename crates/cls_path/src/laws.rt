@@ -1,5 +1,5 @@
 //! What holds of all paths and normal forms, as calls that do nothing and promise the law.
-ghost use Rattle.cls_path.specs.Laws.{PathsAreOrdered, ListsAreOrdered, TypesArePaths, BelowIsTransitive, DerivationsAreDecided, PathsArePrime, FormsAreEquivalent, FormsAreExact};
+ghost use Rattle.cls_path.specs.Laws.{PathsAreOrdered, ListsAreOrdered, TypesArePaths, BelowIsTransitive, DerivationsAreDecided, PathsArePrime, FormsAreEquivalent, FormsExist, FormsAreExact};
 
 /// The orders of paths and of lists of paths are strict and total.
 pub fn orders_are_total()
@@ -17,7 +17,8 @@ pub fn below_is_transitive()
     ensures { BelowIsTransitive }
 {}
 
-/// A derivation that one type is below another exists if and only if each path of the other is above some path of the one.
+/// A derivation that one type is below another exists if and only if each path of the other is above some path of the
+/// one.
 pub fn derivations_are_decided()
     ensures { DerivationsAreDecided }
 {}
@@ -30,6 +31,11 @@ pub fn paths_are_prime()
 /// Each type is equivalent to its normal form.
 pub fn forms_are_equivalent()
     ensures { FormsAreEquivalent }
+{}
+
+/// Each type has a normal form, if a name has the variance of those above it.
+pub fn forms_exist()
+    ensures { FormsExist }
 {}
 
 /// Two types are equivalent if and only if their normal forms are equal.

@@ -21,6 +21,7 @@ impl Path {
     pub fn con(name: Name, rest: Box<Path>) -> Path
         ensures { result ≡ inside name.0 rest.value }
     {
+        // For the prover: opens the model of the inner path, whose lists are sorted.
         let path: &Path = &rest;
         let _ = &path.form;
         Path {
@@ -39,6 +40,7 @@ impl Path {
     pub fn left(rest: Box<Path>) -> Path
         ensures { result ≡ left rest.value }
     {
+        // For the prover: opens the model of the inner path, whose lists are sorted.
         let path: &Path = &rest;
         let _ = &path.form;
         Path {
@@ -50,6 +52,7 @@ impl Path {
     pub fn right(rest: Box<Path>) -> Path
         ensures { result ≡ right rest.value }
     {
+        // For the prover: opens the model of the inner path, whose lists are sorted.
         let path: &Path = &rest;
         let _ = &path.form;
         Path {
@@ -61,6 +64,7 @@ impl Path {
     pub fn arrow(source: Nf, rest: Box<Path>) -> Path
         ensures { result ≡ function (listed source) rest.value }
     {
+        // For the prover: opens the models of the intersection and the inner path, whose lists are sorted.
         let _ = &source.paths;
         let path: &Path = &rest;
         let _ = &path.form;
@@ -73,6 +77,7 @@ impl Path {
     pub fn sealed(name: Name, argument: Nf) -> Path
         ensures { result ≡ sealed name.0 (listed argument) }
     {
+        // For the prover: opens the model of the intersection, which is sorted.
         let _ = &argument.paths;
         Path {
             form: Form::Sealed(name, argument),

@@ -27,7 +27,7 @@ impl Form {
 
 impl Path {
     /// Compares by kind, then by the number of the name, then by the list inside, then by the rest of the path: `Less`
-    /// where this path comes before the other. This order is the project's own choice.
+    /// if this path comes before the other. This order is the project's own choice.
     pub fn order(&self, other: &Path) -> Ordering
         ensures less { (result ≡ Ordering.Less) ↔ PathBefore self.now other.now }
         ensures equal { (result ≡ Ordering.Equal) ↔ (self.now ≡ other.now) }
@@ -53,7 +53,7 @@ impl Path {
 }
 
 impl Nf {
-    /// Compares path by path, a proper prefix first: `Less` where this list comes before the other.
+    /// Compares path by path, a proper prefix first: `Less` if this list comes before the other.
     pub fn order(&self, other: &Nf) -> Ordering
         ensures less { (result ≡ Ordering.Less) ↔ PathsBefore (listed self.now) (listed other.now) }
         ensures equal { (result ≡ Ordering.Equal) ↔ (self.now ≡ other.now) }

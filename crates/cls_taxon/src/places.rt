@@ -1,28 +1,29 @@
 //! Names and their places.
 ghost use Rattle.std.specs.Prelude.{◌≡◌, [], length, OnOk};
-ghost use Rattle.cls_taxon.specs.Places.{place_of, with_name, AreDifferent};
+ghost use Rattle.cls_base.specs.Lists.{AreDistinct};
+ghost use Rattle.cls_taxon.specs.Places.{place_of, with_name};
 
 use cls_base::OutOfMemory;
 use indexmap::IndexSet;
 use std::alloc::Global;
 use std::marker::Model;
 
-/// Names, each of which has a place: 0 for the first, and so on in the order in which they first came. It is seen as the
-/// list of the names, which all differ.
+/// Names, each of which has a place: 0 for the first, and so on in the order in which they first came. It is seen as
+/// the list of the names, none of which stands twice.
 #[derive(Drop)]
 pub struct Places {
     names: IndexSet<u32>,
 }
 
 impl Model for Places {
-    ghost use Rattle.std.specs.Prelude.{ℕ, List};
-    ghost use Rattle.cls_taxon.specs.Places.{AreDifferent};
+    ghost use Rattle.std.specs.Prelude.{ℕ, List, ◌==◌};
+    ghost use Rattle.std.specs.List.{IsDistinct};
 
     ghost Value = { List ℕ };
 
     ghost view = { λ p. p.names.keys };
 
-    ghost invariant = { λ p. AreDifferent p.names.keys };
+    ghost invariant = { λ p. IsDistinct (λ a b. a == b) p.names.keys };
 }
 
 impl Places {
@@ -38,7 +39,7 @@ impl Places {
     /// How many names there are.
     pub fn len(&self) -> usize
         ensures count { result ≡ length self.now }
-        ensures different { AreDifferent self.now }
+        ensures distinct { AreDistinct self.now }
     {
         self.names.len()
     }
@@ -51,7 +52,7 @@ impl Places {
         Ok(())
     }
 
-    /// The place of the name, or the number of names where it isn't there.
+    /// The place of the name, or the number of names if it isn't there.
     pub fn place(&self, name: u32) -> usize
         ensures { result ≡ place_of self.now name }
     {
@@ -64,7 +65,7 @@ impl Places {
     /// The names in order.
     pub fn as_slice(&self) -> &[u32]
         ensures names { result.now ≡ self.now }
-        ensures different { AreDifferent self.now }
+        ensures distinct { AreDistinct self.now }
     {
         self.names.as_slice()
     }

@@ -1,4 +1,4 @@
-//! Sets of numbers as spans.
+//! Sets of numbers as sorted lists of intervals, here called spans.
 ghost use Rattle.std.specs.Prelude.{◌≡◌, ℕ, ◌↔◌, All, IsTrue, IfOk};
 ghost use Rattle.cls_taxon.specs.Spans.{InSpans, IsSpan, IsRising, start_of};
 

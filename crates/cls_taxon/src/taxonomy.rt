@@ -1,13 +1,13 @@
 //! The order of names that declared pairs make.
 ghost use Rattle.std.specs.Prelude.{◌≡◌, ◌<◌, ◌↔◌, map, IsTrue, IfOk, OnOk, IfErr, length};
+ghost use Rattle.cls_base.specs.Lists.{AreDistinct};
 ghost use Rattle.cls_base.specs.Taxonomies.{Chain};
 ghost use Rattle.cls_taxon.specs.Closures.{spans_at};
-ghost use Rattle.cls_taxon.specs.Faults.{Means};
+ghost use Rattle.cls_taxon.specs.Faults.{IsFaultOf};
 ghost use Rattle.cls_taxon.specs.Orders.{IsOrder};
 ghost use Rattle.cls_taxon.specs.PairGraphs.{pair_of, AreHeld};
-ghost use Rattle.cls_taxon.specs.Places.{AreDifferent};
 ghost use Rattle.cls_taxon.specs.Spans.{InSpans};
-ghost use Rattle.cls_taxon.specs.Variances.{declared_of};
+ghost use Rattle.cls_taxon.specs.Variances.{declaration};
 
 use crate::closure::close;
 use crate::cycles::least_on_cycle;
@@ -24,8 +24,8 @@ use std::marker::Model;
 
 /// A partial order of names that keeps their variance, seen as the pairs and variances that were declared.
 ///
-/// A name is below another one where a chain of declared pairs leads from it to that one. For each name the set of those
-/// below it is kept.
+/// A name is below another one if a chain of declared pairs leads from it to that one. The set of the names below it is kept
+/// for each name.
 #[derive(Drop)]
 pub struct Taxonomy {
     pairs: Vec<(Name, Name)>,
@@ -44,24 +44,25 @@ impl Model for Taxonomy {
 
     ghost view = { λ t. record { pairs = map pair_of t.pairs.items; variances = t.variances } };
 
-    ghost invariant = { λ t. IsTaxonomy (record { pairs = map pair_of t.pairs.items; variances = t.variances }) t.places t.below.items };
+    ghost invariant = { λ t.
+        IsTaxonomy (record { pairs = map pair_of t.pairs.items; variances = t.variances }) t.places t.below.items };
 }
 
 impl Taxonomy {
     /// The order that these pairs make, the first name of each below the second. A name without a variance is covariant,
     /// and no name has two.
     ///
-    /// `Cycle` names the least name that another one is above and below. Otherwise `Mix` names the first name of the first pair
-    /// whose names differ in variance.
+    /// `Cycle` names the least name that another one is both above and below. Otherwise `Mix` names the first name of the
+    /// first pair whose names differ in variance.
     pub fn new(
         alloc: Global,
         pairs: &[(Name, Name)],
         variances: &[(Name, Variance)],
     ) -> Result<Taxonomy, TaxonFault>
-        requires { AreDifferent (map (λ v. v.0.0) variances.now) }
-        ensures declared { IfOk result (λ t. t ≡ record { pairs = map pair_of pairs.now; variances = map declared_of variances.now }) }
-        ensures order { OnOk result (IsOrder (record { pairs = map pair_of pairs.now; variances = map declared_of variances.now })) }
-        ensures fault { IfErr result (Means (record { pairs = map pair_of pairs.now; variances = map declared_of variances.now })) }
+        requires { AreDistinct (map (λ v. v.0.0) variances.now) }
+        ensures declared { IfOk result (λ t. t ≡ declaration pairs.now variances.now) }
+        ensures order { OnOk result (IsOrder (declaration pairs.now variances.now)) }
+        ensures fault { IfErr result (IsFaultOf (declaration pairs.now variances.now)) }
     {
         let variances = Variances::new(alloc, variances)?;
         let places = places_of(alloc, pairs)?;
@@ -97,7 +98,8 @@ impl Taxonomy {
 }
 
 impl Taxa for Taxonomy {
-    ghost use Rattle.cls_taxon.specs.Decisions.{is_below, is_below-reflexive, is_below-transitive, is_below-antisymmetric, is_below-one_variance};
+    ghost use Rattle.cls_taxon.specs.Decisions.{is_below};
+    ghost use Rattle.cls_taxon.specs.DecisionLaws.{is_below-reflexive, is_below-transitive, is_below-antisymmetric, is_below-one_variance};
     ghost use Rattle.cls_taxon.specs.Orders.{variance_in};
 
     ghost is_below = { λ t a b. is_below t a b };

@@ -1,8 +1,8 @@
 //! The variances of names.
 ghost use Rattle.std.specs.Prelude.{◌≡◌, map, IfOk, OnOk};
+ghost use Rattle.cls_base.specs.Lists.{AreDistinct};
 ghost use Rattle.cls_base.specs.Taxa.{variance_of};
 ghost use Rattle.cls_taxon.specs.Orders.{variance_in};
-ghost use Rattle.cls_taxon.specs.Places.{AreDifferent};
 ghost use Rattle.cls_taxon.specs.Variances.{declared_of};
 
 use cls_base::{Name, OutOfMemory, Variance};
@@ -29,7 +29,7 @@ impl Model for Variances {
 impl Variances {
     /// These names with their variances. No name stands twice.
     pub fn new(alloc: Global, declared: &[(Name, Variance)]) -> Result<Variances, OutOfMemory>
-        requires { AreDifferent (map (λ d. d.0.0) declared.now) }
+        requires { AreDistinct (map (λ d. d.0.0) declared.now) }
         ensures { IfOk result (λ v. v ≡ map declared_of declared.now) }
     {
         let mut by_name = IndexMap::new(alloc);

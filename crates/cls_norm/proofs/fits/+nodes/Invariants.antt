@@ -1,4 +1,5 @@
 use Rattle.std.proofs.Common.{◌≡◌, ◌+◌, ◌≤◌, drop}
+use Rattle.cls_base.specs.Limits.{max_type_nodes}
 use Rattle.cls_base.specs.Types.{nodes}
 use Rattle.cls_path.specs.Sizes.{size_of, list_size}
 use Rattle.cls_path.specs.Paths.{type_of_paths, listed}
@@ -14,6 +15,6 @@ decreases-path_nodes l = size_of l.path.now
 
 abbrev pub invariant-list_nodes-loop-path : goal.invariant-list_nodes-loop-path
 invariant-list_nodes-loop-path l = record {
-  at_most : l.count ≤ 1025;
+  at_most : l.count ≤ max_type_nodes + 1;
   rest : up_to_fit (nodes (type_of_paths (listed l.fn.nf))) ≡ up_to_fit (l.count + further_nodes (listed (drop l.path-index l.rest)));
 }

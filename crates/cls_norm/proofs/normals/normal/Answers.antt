@@ -2,7 +2,7 @@ use Rattle.cls_base.specs.Ty.{type_of}
 use Rattle.cls_base.specs.Taxa.{Below}
 use Rattle.cls_path.specs.Paths.{listed}
 use Rattle.cls_path.proofs.Equivalence.{to_form, from_form}
-use Rattle.cls_norm.proofs.PathLists.{form_of_paths}
+use Rattle.cls_path.proofs.TypeParts.{form_of_paths}
 use Rattle.cls_norm.proofs.normals.normal.Goals as goal
 
 pub returns-clause-form : goal.returns-clause-form

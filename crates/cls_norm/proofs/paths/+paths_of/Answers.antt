@@ -4,8 +4,9 @@ use Rattle.cls_base.specs.Taxa.{Below, variance_of}
 use Rattle.cls_base.specs.Taxonomies.{covariant, contravariant, invariant}
 use Rattle.cls_path.specs.Paths.{function, listed}
 use Rattle.cls_path.specs.NormalForms.{IsNormalForm}
-use Rattle.cls_norm.specs.PathLists.{ArePathsOf}
-use Rattle.cls_norm.proofs.PathLists.{listed-map, listed-append, listed-inside, listed-product, form_of_paths, omega_paths, name_paths, sealed_paths, product_paths, arrow_paths, meet_paths}
+use Rattle.cls_path.specs.PathLists.{ArePathsOf}
+use Rattle.cls_path.proofs.TypeParts.{form_of_paths, omega_paths, name_paths, sealed_paths, product_paths, arrow_paths, meet_paths}
+use Rattle.cls_norm.proofs.PathLists.{listed-map, listed-append, listed-inside, listed-product}
 use Rattle.cls_norm.proofs.paths.+paths_of.Goals as goal
 
 pub returns-in-Omega : goal.returns-in-Omega
