@@ -138,7 +138,7 @@ module _ {G : Type 0} (IsAnswer : G → Answer G → Type 0) (start : G) (unique
     stream : Stream (front ++ rest) (p ++ s)
     reached : AllReached IsAnswer start (p ++ s)
 
-  -- behind a common front two numberings go on alike, where no more than k goals are left
+  -- behind a common front two numberings go on alike, if at most k goals are left
   abbrev Settles : ℕ → Type 0
   Settles k = (p s t : List G) (front : List (Answer G)) → length s ≤ k → AllZip IsAnswer p front → GoesOn p s front → GoesOn p t front → s ≡ t
 

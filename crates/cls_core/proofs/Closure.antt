@@ -90,7 +90,7 @@ module _ {G : Type 0} (eq : G → G → Bool) (exact : (x y : G) → eq x y ≡ 
   not-held : (worker : ℕ) (a : Answer ℕ) → Some (Held worker) ≡ Some (Filed a) → ⊥
   not-held worker a e = cc
 
-  -- a filed row stays filed where another row is written
+  -- a filed row stays filed when another row is written
   unclaimed : (r : Machine G) (worker row : ℕ) → slice_get r.states row ≡ Some Free → (k : ℕ) (a : Answer ℕ) → slice_get (set r.states row (Held worker)) k ≡ Some (Filed a) → slice_get r.states k ≡ Some (Filed a)
   unclaimed r worker row free k a f = by (k == row) refl
     where
@@ -257,7 +257,7 @@ module _ {G : Type 0} (eq : G → G → Bool) (exact : (x y : G) → eq x y ≡ 
     filed-answer (Held worker) q = absurd q
     filed-answer (Filed a) q = (a, refl)
 
-    -- the row of a goal, where all rows are filed
+    -- the row of a goal, if all rows are filed
     row-of : (r : Machine G) → IsSound r → AllFiled r → (g : G) → Contains r.goals g → (k : ℕ) × (a : Answer ℕ) × (slice_get r.goals k ≡ Some g) × (slice_get r.states k ≡ Some (Filed a))
     row-of r s f g m =
         let p = Contains-place r.goals g m in
@@ -265,7 +265,7 @@ module _ {G : Type 0} (eq : G → G → Bool) (exact : (x y : G) → eq x y ≡ 
         let a = filed-answer x.0 (f p.0 x.0 x.1) in
         (p.0, a.0, p.1, x.1 ∙ ap Some a.1)
 
-    -- what is reached has a row, where all rows are filed
+    -- what is reached has a row, if all rows are filed
     pub complete-reaches : (r : Machine G) → IsSound r → AllFiled r → (g : G) → IsReached IsAnswer start g → Contains r.goals g
     complete-reaches r s f start' at_start = Contains-at r.goals 0 start s.begins
     complete-reaches r s f h (at_argument g h' a reached is m) =
@@ -309,7 +309,7 @@ module _ {G : Type 0} (eq : G → G → Bool) (exact : (x y : G) → eq x y ≡ 
         let rest = filed-rules gs ss (omega arith) (λ k s h. f (suc k) s h) in
         omega (arith, sum_by-cons row_rules row (filed_rows gs ss), sum_by-cons rules_weight (Filed a) ss)
 
-    -- where all rows are filed, each goal of the closure has the row that its answer gives
+    -- if all rows are filed, each goal of the closure has the row that its answer gives
     row-there : (r : Machine G) → IsSound r → AllFiled r → (g : G) (a : Answer G) → IsReached IsAnswer start g → IsAnswer g a → Contains (filed_rows r.goals r.states) (record { goal = g; answer = numbered eq r.goals a })
     row-there r s f g a reached is =
         let p = row-of r s f g (complete-reaches r s f g reached) in
@@ -329,7 +329,7 @@ module _ {G : Type 0} (eq : G → G → Bool) (exact : (x y : G) → eq x y ≡ 
           | inr n ↦ rows-within r s f gs answers z.1 (λ x k. q x (Contains-later x g gs k)) row n
         ]
 
-    -- where all rows are filed, goals of the closure have no more rules than the rows
+    -- if all rows are filed, goals of the closure have no more rules than the rows
     rules-within : (r : Machine G) → IsSound r → AllFiled r → (n : ℕ) → HasMoreRules IsAnswer start n → n < rules_in r.states
     rules-within r s f n m =
         let rows = answer_rows r.goals m.goals m.answers in

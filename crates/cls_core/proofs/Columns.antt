@@ -69,7 +69,7 @@ held-counts [] row worker e = cc
 held-counts (s ∷ ss) zero worker e = let is : s ≡ Held worker = cc in omega (arith, sum_by-cons held_weight s ss, ap held_weight is)
 held-counts (s ∷ ss) (suc row) worker e = let h = held-counts ss row worker e in omega (arith, sum_by-cons held_weight s ss)
 
--- what a count becomes where one state is written
+-- what a count becomes when one state is written
 count-set : (f : RowState → ℕ) (ss : List RowState) (row : ℕ) (was now : RowState) → slice_get ss row ≡ Some was → sum_by f (set ss row now) + f was ≡ sum_by f ss + f now
 count-set f ss row was now e = subst (λ s. sum_by f (set ss row now) + f s ≡ sum_by f ss + f now) (get_or_from_slice_get ss row was was e) (sum_by-set f ss row now was (slice_get_within ss row was e))
 

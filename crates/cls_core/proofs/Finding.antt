@@ -49,7 +49,7 @@ module _ {G : Type 0} (eq : G → G → Bool) (exact : (x y : G) → eq x y ≡ 
       by true e = more-again y h (inr (any-contains eq exact reflexive us y e))
       by false e = more-fresh y h (λ m. Contains-nil y m) (λ m. let t = contains-any eq exact reflexive us y m in cc)
 
-  -- what is put behind the first ones of a list, where it isn't among them, goes on with its first ones
+  -- the first ones of a list, with what is put behind them unless it is among them, are the first ones of a longer list
   more-all : (xs us ys : List G) → FirstOnes [] xs us → FirstOnes [] (xs ++ ys) (insert_all eq us ys)
   more-all xs us [] h = subst (λ l. FirstOnes [] l us) (sym (append-nil xs)) h
   more-all xs us (y ∷ ys) h = subst (λ l. FirstOnes [] l (insert_all eq us (y ∷ ys))) (append_assoc xs (y ∷ []) ys) (more-all (xs ++ y ∷ []) (insert_key eq us y) ys (more-key xs us y h))

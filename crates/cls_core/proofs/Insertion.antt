@@ -1,4 +1,4 @@
--- Goals that are put behind others where they aren't among them, and the places at which they then stand.
+-- Goals that are put behind others, unless they are among them, and the places at which they then stand.
 use Rattle.std.proofs.Common.{◌≡◌, ℕ, suc, ◌+◌, ◌<◌, ◌≤◌, Bool, true, false, cond, not, List, [], ◌∷◌, ◌++◌, length, map, take, drop, get_or, refl, sym, ap, subst, ◌∙◌, arith, append_assoc, append-nil, length-append, if◌then◌else◌, ◌||◌, Some}
 use Rattle.std.specs.List.{position, position_or_len, list_any}
 use Rattle.std.proofs.lemmas.List.{append_cancel_left, take_more, take-append-drop}

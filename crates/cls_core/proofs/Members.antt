@@ -7,7 +7,7 @@ use Rattle.indexmap.specs.IndexSet.{insert_key, insert_all}
 use Rattle.cls_base.specs.Lists.{AreDistinct}
 use Rattle.cls_base.proofs.Lists.{Contains-nil, Contains-head, Contains-later, Contains-cases, AreDistinct-push}
 
--- goals that are put behind others where they aren't among them
+-- goals that are put behind others, unless they are among them
 module _ {G : Type 0} (eq : G → G → Bool) (exact : (x y : G) → eq x y ≡ true → x ≡ y) (reflexive : (x : G) → eq x x ≡ true) where
   pub any-contains : (gs : List G) (x : G) → list_any (eq x) gs ≡ true → Contains gs x
   any-contains [] x e = cc

@@ -1,4 +1,4 @@
--- Numbers in place of goals, where different goals have different numbers.
+-- Numbers in place of goals. Different goals have different numbers.
 use Rattle.std.proofs.Common.{ℕ, ◌≡◌, ◌++◌, ◌+◌, ◌⊎◌, refl, sym, ◌∙◌, subst, ap, inl, inr, List, [], ◌∷◌, map, Bool, true, false, cond, not, ◌||◌, if◌then◌else◌, arith}
 use Rattle.std.specs.Prelude.{nat_eq, Contains}
 use Rattle.std.specs.List.{list_any, position_or_len}

@@ -23,7 +23,7 @@ pub record Row (G : Type 0) : Type 0 where
   pub goal : G
   pub answer : Answer ℕ
 
--- the rows as a list, where all are filed
+-- the rows as a list, if all are filed
 abbrev pub filed_rows : {G : Type 0} → List G → List RowState → List (Row G)
 filed_rows [] states = []
 filed_rows (g ∷ gs) [] = []
