@@ -6,9 +6,9 @@ use Rattle.cls_core.specs.declared.answer.Answer.TheVariants.{Wide}
 use Rattle.cls_core.specs.Machine.{grown, numbered}
 use Rattle.cls_core.specs.Rows.{Row}
 
--- Goals that are found breadth first. The function `answer` gives the answer of each goal.
+-- Goals that are found breadth first. The function `answer` gives an answer of each goal.
 module _ {G : Type 0} (eq : G → G → Bool) (answer : G → Answer G) where
-  -- the goals, and behind them in order those arguments of this one that aren't among them; no goal adds nothing
+  -- the goals, and behind them in order the arguments of this goal that aren't among them, if there is a goal
   abbrev pub worked_off : List G → Option G → List G
   worked_off gs None = gs
   worked_off gs (Some g) = grown eq gs (answer g)
