@@ -21,6 +21,16 @@ pub record TableSeen (B G : Type 0) : Type 0 where
   pub large : Bool
   pub stopped : Bool
 
+abbrev pub table_of : {B G : Type 0} → ProgressSeen B G → ℕ → Bool → Bool → TableSeen B G
+table_of p claims large stopped = record {
+  tag = p.tag;
+  rows = p.rows;
+  history = p.history;
+  claims = claims;
+  large = large;
+  stopped = stopped;
+}
+
 pub record ClaimSeen (B G : Type 0) : Type 0 where
   pub tag : Tag B G
   pub worker : ℕ

@@ -1,7 +1,7 @@
 use Rattle.std.proofs.Common.{sym, subst, ◌≡◌, Some, slice_get}
 use Rattle.std.proofs.lemmas.Option.{slice_get_within}
 use Rattle.cls_core.specs.declared.state.RowState.TheVariants.{Free}
-use Rattle.cls_table.proofs.Going.{row-goal, seen}
+use Rattle.cls_table.proofs.Lawful.{row-goal, seen}
 use Rattle.cls_table.proofs.progress.Progress.claim.Goals as goal
 
 pub goal-requires : goal.goal-requires

@@ -3,9 +3,9 @@ use Rattle.std.proofs.lemmas.Bool.{false≢true}
 use Rattle.std.specs.Prelude.{All}
 use Rattle.cls_core.specs.declared.state.RowState.TheVariants.{Held}
 use Rattle.cls_core.specs.Arguments.{arguments_of}
-use Rattle.cls_table.specs.Going.{IsLarge}
-use Rattle.cls_table.specs.Steps.{HasRoom}
-use Rattle.cls_table.proofs.Going.{row-goal, seen, going-file, beyond-large}
+use Rattle.cls_table.specs.Lawful.{IsLarge}
+use Rattle.cls_table.specs.Holdings.{HasRoom}
+use Rattle.cls_table.proofs.Lawful.{row-goal, seen, lawful-file, beyond-large}
 use Rattle.cls_table.proofs.progress.Progress.file.Goals as goal
 
 pub returns-then-not-room-clause-large : goal.returns-then-not-room-clause-large
@@ -37,5 +37,5 @@ invariant_of-self-2 g c =
     let is = subst (λ v. c.args.answer ≡ answer v.tag.by at.0) (sym c.self.view_is) (c.requires.answer at.0 (subst (λ v. slice_get v.rows.goals c.args.row ≡ Some at.0) c.self.view_is at.1)) in
     let room = subst (λ v. HasRoom eq v.tag v.rows c.args.answer) (sym c.self.view_is) (c.in-Ok.ensures.0 c.if-not-room.false) in
     let k = c.self.invariant in
-    let all : All (ready i.origin.by) (arguments_of c.args.answer) = subst (λ a. All (ready i.origin.by) (arguments_of a)) (sym is) (g.met.E.Expand.arguments_ready i.origin.by at.0 (k.all_ready c.args.row at.0 at.1)) in
-    going-file eq answer ready exact reflexive p c.args.worker c.args.row at.0 c.args.answer _ _ k held at.1 is room all c.in_ok-file.ensures.rows c.in_ok-file.ensures.history
+    let all : All (ready i.origin.by) (arguments_of c.args.answer) = subst (λ a. All (ready i.origin.by) (arguments_of a)) (sym is) (g.met.E.Expand.arguments_ready i.origin.by at.0 (k.goals_ready c.args.row at.0 at.1)) in
+    lawful-file eq answer ready exact reflexive p c.args.worker c.args.row at.0 c.args.answer _ _ k held at.1 is room all c.in_ok-file.ensures.rows c.in_ok-file.ensures.history

@@ -1,5 +1,5 @@
 use Rattle.std.proofs.Common.{arith, ◌∙◌, ap, subst, sym}
-use Rattle.cls_table.specs.Going.{claims_in, IsLarge}
+use Rattle.cls_table.specs.Lawful.{claims_in, IsLarge}
 use Rattle.cls_table.proofs.Counting.{claims_in_claim, claims_in_bound}
 use Rattle.cls_table.proofs.table.Table.claim.Goals as goal
 

@@ -1,5 +1,5 @@
 use Rattle.std.proofs.Common.{◌∙◌, subst, sym}
-use Rattle.cls_table.specs.Going.{IsLarge}
+use Rattle.cls_table.specs.Lawful.{IsLarge}
 use Rattle.cls_table.proofs.table.Table.file.Goals as goal
 
 pub invariant_of-self : goal.invariant_of-self

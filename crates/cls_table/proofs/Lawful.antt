@@ -1,4 +1,4 @@
--- A machine under a tag stays one at each event.
+-- What holds of the machine under a tag holds after each event.
 use Rattle.std.proofs.Common.{◌≡◌, ℕ, zero, suc, ◌+◌, ◌-◌, ◌<◌, ◌≤◌, ◌^◌, Bool, true, false, List, [], ◌∷◌, ◌++◌, Some, length, slice_get, refl, sym, ap, subst, ◌∙◌, arith, inl, inr, length-set, set, ◌==◌, ◌≢◌}
 use Rattle.std.specs.Prelude.{replicate}
 use Rattle.std.specs.Prelude.{All}
@@ -20,9 +20,9 @@ use Rattle.cls_core.proofs.Members.{has-at, at-has, all-only}
 use Rattle.cls_core.proofs.Closure.{replay-sound, shows-goals, shows-rules, mapped-count}
 use Rattle.cls_core.proofs.Columns.{filed-counts, claimed-counts, get-set-same, get-set-other, get-within, get-behind, some-inside}
 use Rattle.cls_table.specs.declared.tag.Tag.{Tag}
-use Rattle.cls_table.specs.Seen.{ProgressSeen}
-use Rattle.cls_table.specs.Going.{NamesUpTo, IsGoing, IsLarge}
-use Rattle.cls_table.specs.Steps.{HasRoom}
+use Rattle.cls_table.specs.Seen.{ProgressSeen, TableSeen}
+use Rattle.cls_table.specs.Lawful.{claims_in, NamesUpTo, IsLawful, IsLawfulTable, IsLarge}
+use Rattle.cls_table.specs.Holdings.{HasRoom}
 
 names-claim : (most : ℕ) (es : List Entry) (worker row : ℕ) → NamesUpTo most es → worker ≤ most → NamesUpTo most (es ++ Claim worker row ∷ [])
 names-claim most [] worker row h w = (w, tt)
@@ -84,45 +84,45 @@ module _ {G : Type 0} (eq : G → G → Bool) (answer : G → Answer G) where
   held-named most (File worker row ∷ es) r t h n k = held-named most es h.0 t h.2 n.1 (subst (λ (m : Machine G). HoldersUpTo most m.states) (sym h.1.1.2) (append-holders most (set r.states row (Filed (numbered eq (grown eq r.goals (answer h.1.1.0)) (answer h.1.1.0)))) _ (set-holders most r.states row (Filed (numbered eq (grown eq r.goals (answer h.1.1.0)) (answer h.1.1.0))) k (λ w e. cc))))
 
 module _ {B G : Type 0} (eq : G → G → Bool) (answer : B → G → Answer G) (ready : B → G → Type 0) where
-  pub going-begun : (tag : Tag B G) (rows : Machine G) (history : List Entry) → rows ≡ begun tag.start → history ≡ [] → 0 < tag.goals → tag.goals < 2 ^ 32 → tag.rules < 2 ^ 32 → ready tag.by tag.start → IsGoing eq answer ready (seen tag rows history)
-  going-begun tag rows history r h some small small_rules is_ready = subst (λ es. IsGoing eq answer ready (seen tag rows es)) (sym h) (subst (λ m. IsGoing eq answer ready (seen tag m [])) (sym r) start)
+  pub lawful-begun : (tag : Tag B G) (rows : Machine G) (history : List Entry) → rows ≡ begun tag.start → history ≡ [] → 0 < tag.goals → tag.goals < 2 ^ 32 → tag.rules < 2 ^ 32 → ready tag.by tag.start → IsLawful eq answer ready (seen tag rows history)
+  lawful-begun tag rows history r h some small small_rules is_ready = subst (λ es. IsLawful eq answer ready (seen tag rows es)) (sym h) (subst (λ m. IsLawful eq answer ready (seen tag m [])) (sym r) start)
     where
-      start : IsGoing eq answer ready (seen tag (begun tag.start) [])
+      start : IsLawful eq answer ready (seen tag (begun tag.start) [])
       start = record {
         legal = refl;
-        named = tt;
-        within = omega arith;
-        few = omega arith;
-        small = small;
-        small_rules = small_rules;
-        all_ready = λ row g e. first row g e;
+        workers_named = tt;
+        goals_within = omega arith;
+        rules_within = omega arith;
+        goal_limit = small;
+        rule_limit = small_rules;
+        goals_ready = λ row g e. first row g e;
       }
         where
           first : (row : ℕ) (g : G) → slice_get (tag.start ∷ []) row ≡ Some g → ready tag.by g
           first zero g e = subst (ready tag.by) (let s : tag.start ≡ g = cc in s) is_ready
           first (suc row) g e = cc
 
-  pub going-claim : (p : ProgressSeen B G) (worker row : ℕ) (rows : Machine G) (history : List Entry) → IsGoing eq answer ready p → worker ≤ p.tag.workers → slice_get p.rows.states row ≡ Some Free → rows ≡ claimed p.rows worker row → history ≡ p.history ++ Claim worker row ∷ [] → IsGoing eq answer ready (seen p.tag rows history)
-  going-claim p worker row rows history k w free r h = subst (λ es. IsGoing eq answer ready (seen p.tag rows es)) (sym h) (subst (λ m. IsGoing eq answer ready (seen p.tag m (p.history ++ Claim worker row ∷ []))) (sym r) after)
+  pub lawful-claim : (p : ProgressSeen B G) (worker row : ℕ) (rows : Machine G) (history : List Entry) → IsLawful eq answer ready p → worker ≤ p.tag.workers → slice_get p.rows.states row ≡ Some Free → rows ≡ claimed p.rows worker row → history ≡ p.history ++ Claim worker row ∷ [] → IsLawful eq answer ready (seen p.tag rows history)
+  lawful-claim p worker row rows history k w free r h = subst (λ es. IsLawful eq answer ready (seen p.tag rows es)) (sym h) (subst (λ m. IsLawful eq answer ready (seen p.tag m (p.history ++ Claim worker row ∷ []))) (sym r) after)
     where
-      after : IsGoing eq answer ready (seen p.tag (claimed p.rows worker row) (p.history ++ Claim worker row ∷ []))
+      after : IsLawful eq answer ready (seen p.tag (claimed p.rows worker row) (p.history ++ Claim worker row ∷ []))
       after = record {
         legal = replays-snoc eq (answer p.tag.by) p.history (Claim worker row) (begun p.tag.start) p.rows (claimed p.rows worker row) k.legal (free, refl);
-        named = names-claim p.tag.workers p.history worker row k.named w;
-        within = k.within;
-        few = (let c = claimed-counts p.rows.states row worker free in omega (arith, k.few));
-        small = k.small;
-        small_rules = k.small_rules;
-        all_ready = k.all_ready;
+        workers_named = names-claim p.tag.workers p.history worker row k.workers_named w;
+        goals_within = k.goals_within;
+        rules_within = (let c = claimed-counts p.rows.states row worker free in omega (arith, k.rules_within));
+        goal_limit = k.goal_limit;
+        rule_limit = k.rule_limit;
+        goals_ready = k.goals_ready;
       }
 
   -- the step of a filing
-  legal-file : (p : ProgressSeen B G) (worker row : ℕ) (g : G) (a : Answer G) → IsGoing eq answer ready p → slice_get p.rows.states row ≡ Some (Held worker) → slice_get p.rows.goals row ≡ Some g → a ≡ answer p.tag.by g → Replays eq (answer p.tag.by) (begun p.tag.start) (p.history ++ File worker row ∷ []) (filed eq p.rows row a)
+  legal-file : (p : ProgressSeen B G) (worker row : ℕ) (g : G) (a : Answer G) → IsLawful eq answer ready p → slice_get p.rows.states row ≡ Some (Held worker) → slice_get p.rows.goals row ≡ Some g → a ≡ answer p.tag.by g → Replays eq (answer p.tag.by) (begun p.tag.start) (p.history ++ File worker row ∷ []) (filed eq p.rows row a)
   legal-file p worker row g a k held at is = replays-snoc eq (answer p.tag.by) p.history (File worker row) (begun p.tag.start) p.rows (filed eq p.rows row a) k.legal (held, (g, at, ap (λ x. filed eq p.rows row x) is))
 
   module _ (exact : (x y : G) → eq x y ≡ true → x ≡ y) (reflexive : (x : G) → eq x x ≡ true) where
     -- a filing for which there is no room shows that the closure is too large
-    pub beyond-large : (p : ProgressSeen B G) (worker row : ℕ) (g : G) (a : Answer G) → IsGoing eq answer ready p → slice_get p.rows.states row ≡ Some (Held worker) → slice_get p.rows.goals row ≡ Some g → a ≡ answer p.tag.by g → (HasRoom eq p.tag p.rows a → ⊥) → IsLarge answer p.tag
+    pub beyond-large : (p : ProgressSeen B G) (worker row : ℕ) (g : G) (a : Answer G) → IsLawful eq answer ready p → slice_get p.rows.states row ≡ Some (Held worker) → slice_get p.rows.goals row ≡ Some g → a ≡ answer p.tag.by g → (HasRoom eq p.tag p.rows a → ⊥) → IsLarge answer p.tag
     beyond-large p worker row g a k held at is none =
         let sound = replay-sound eq exact reflexive (answer p.tag.by) p.tag.start (p.history ++ File worker row ∷ []) (filed eq p.rows row a) (legal-file p worker row g a k held at is) in
         let rules = filed-counts p.rows.states row worker (length (grown eq p.rows.goals a) - length p.rows.goals) (numbered eq (grown eq p.rows.goals a) a) held in
@@ -138,28 +138,28 @@ module _ {B G : Type 0} (eq : G → G → Bool) (answer : B → G → Answer G) 
         more false e true f x y = inr (y (grind (arith, nat_tests)))
         more false e false f x y = absurd (none (grind (arith, nat_tests), grind (arith, nat_tests)))
 
-    pub going-file : (p : ProgressSeen B G) (worker row : ℕ) (g : G) (a : Answer G) (rows : Machine G) (history : List Entry) → IsGoing eq answer ready p → slice_get p.rows.states row ≡ Some (Held worker) → slice_get p.rows.goals row ≡ Some g → a ≡ answer p.tag.by g → HasRoom eq p.tag p.rows a → All (ready p.tag.by) (arguments_of a)
-        → rows ≡ filed eq p.rows row a → history ≡ p.history ++ File worker row ∷ [] → IsGoing eq answer ready (seen p.tag rows history)
-    going-file p worker row g a rows history k held at is room all r h = subst (λ es. IsGoing eq answer ready (seen p.tag rows es)) (sym h) (subst (λ m. IsGoing eq answer ready (seen p.tag m (p.history ++ File worker row ∷ []))) (sym r) after)
+    pub lawful-file : (p : ProgressSeen B G) (worker row : ℕ) (g : G) (a : Answer G) (rows : Machine G) (history : List Entry) → IsLawful eq answer ready p → slice_get p.rows.states row ≡ Some (Held worker) → slice_get p.rows.goals row ≡ Some g → a ≡ answer p.tag.by g → HasRoom eq p.tag p.rows a → All (ready p.tag.by) (arguments_of a)
+        → rows ≡ filed eq p.rows row a → history ≡ p.history ++ File worker row ∷ [] → IsLawful eq answer ready (seen p.tag rows history)
+    lawful-file p worker row g a rows history k held at is room all r h = subst (λ es. IsLawful eq answer ready (seen p.tag rows es)) (sym h) (subst (λ m. IsLawful eq answer ready (seen p.tag m (p.history ++ File worker row ∷ []))) (sym r) after)
       where
-        after : IsGoing eq answer ready (seen p.tag (filed eq p.rows row a) (p.history ++ File worker row ∷ []))
+        after : IsLawful eq answer ready (seen p.tag (filed eq p.rows row a) (p.history ++ File worker row ∷ []))
         after = record {
           legal = legal-file p worker row g a k held at is;
-          named = names-file p.tag.workers p.history worker row k.named (held-named eq (answer p.tag.by) p.tag.workers p.history (begun p.tag.start) p.rows k.legal k.named (begun-named p.tag.workers p.tag.start) row worker held);
-          within = room.0;
-          few =
+          workers_named = names-file p.tag.workers p.history worker row k.workers_named (held-named eq (answer p.tag.by) p.tag.workers p.history (begun p.tag.start) p.rows k.legal k.workers_named (begun-named p.tag.workers p.tag.start) row worker held);
+          goals_within = room.0;
+          rules_within =
               (let c = filed-counts p.rows.states row worker (length (grown eq p.rows.goals a) - length p.rows.goals) (numbered eq (grown eq p.rows.goals a) a) held in
               omega (arith, room.1, mapped-count (λ x. position_or_len (eq x) (grown eq p.rows.goals a)) a));
-          small = k.small;
-          small_rules = k.small_rules;
-          all_ready = λ i x e. elim (all-only eq exact reflexive p.rows.goals (arguments_of a) x (has-at (grown eq p.rows.goals a) i x e)) [
-            | inl m ↦ (let q = at-has p.rows.goals x m in k.all_ready q.0 x q.1)
+          goal_limit = k.goal_limit;
+          rule_limit = k.rule_limit;
+          goals_ready = λ i x e. elim (all-only eq exact reflexive p.rows.goals (arguments_of a) x (has-at (grown eq p.rows.goals a) i x e)) [
+            | inl m ↦ (let q = at-has p.rows.goals x m in k.goals_ready q.0 x q.1)
             | inr m ↦ (let q = at-has (arguments_of a) x m in subst (ready p.tag.by) (get_or_from_slice_get (arguments_of a) q.0 x x q.1) (all q.0 x (slice_get_within (arguments_of a) q.0 x q.1)))
           ];
         }
 
     -- each row with a state has a goal
-    pub row-goal : (p : ProgressSeen B G) (row : ℕ) (s : RowState) → IsGoing eq answer ready p → slice_get p.rows.states row ≡ Some s → (g : G) × (slice_get p.rows.goals row ≡ Some g)
+    pub row-goal : (p : ProgressSeen B G) (row : ℕ) (s : RowState) → IsLawful eq answer ready p → slice_get p.rows.states row ≡ Some s → (g : G) × (slice_get p.rows.goals row ≡ Some g)
     row-goal p row s k e =
         let sound = replay-sound eq exact reflexive (answer p.tag.by) p.tag.start p.history p.rows k.legal in
         at p.rows.goals row (omega (arith, sound.paired, slice_get_within p.rows.states row s e))
@@ -168,3 +168,18 @@ module _ {B G : Type 0} (eq : G → G → Bool) (answer : B → G → Answer G) 
         at [] i h = absurd (omega arith)
         at (g ∷ gs) zero h = (g, refl)
         at (g ∷ gs) (suc i) h = at gs i (omega arith)
+
+    -- what holds of a table, from what holds of the machine in it
+    pub lawful-table : (t : TableSeen B G) → IsLawful eq answer ready (seen t.tag t.rows t.history) → claims_in t.history ≡ t.claims → (t.large ≡ true → IsLarge answer t.tag) → IsLawfulTable eq answer t
+    lawful-table t k counted large =
+        let sound = replay-sound eq exact reflexive (answer t.tag.by) t.tag.start t.history t.rows k.legal in
+        record {
+          legal = k.legal;
+          start_is_first = sound.begins;
+          answered = sound.answered;
+          goals_within = k.goals_within;
+          rules_within = k.rules_within;
+          workers_named = k.workers_named;
+          claims_counted = counted;
+          large_with_cause = large;
+        }

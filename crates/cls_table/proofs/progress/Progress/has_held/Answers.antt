@@ -1,6 +1,6 @@
 use Rattle.std.proofs.lemmas.Option.{slice_get_within}
-use Rattle.cls_table.proofs.Going.{row-goal, seen}
-use Rattle.cls_table.proofs.progress.Progress.fits.Goals as goal
+use Rattle.cls_table.proofs.Lawful.{row-goal, seen}
+use Rattle.cls_table.proofs.progress.Progress.has_held.Goals as goal
 
 pub goal-requires : goal.goal-requires
 goal-requires g c =
