@@ -36,9 +36,9 @@ pub record IsFinishOf {G : Type 0} (rows : Machine G) (history : List Entry) (f 
   pub same_rows : f.rows ≡ filed_rows rows.goals rows.states
   pub same_history : f.history ≡ history
 
--- What was finished under the tag: its history is legal and complete, and has the rows as its replay, within the limits of
--- the tag and by workers that are named up to the greatest. So the rows are the closure of the tag's start goal, each is
--- claimed once and filed once, and the closure is within the limits.
+-- What was finished under the tag: its history is legal and complete, and has the rows as its replay, within the limits
+-- of the tag and by workers that are named up to the greatest. So the rows are the closure of the tag's start goal,
+-- each is claimed once and filed once, and the closure is within the limits.
 pub record IsComplete {B G : Type 0} (eq : G → G → Bool) (answer : B → G → Answer G) (tag : Tag B G) (f : Finished G)
     : Type 0 where
   pub rows : Machine G

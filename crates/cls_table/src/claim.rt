@@ -88,8 +88,8 @@ impl<E: Expand> Claim<E> {
         let _ = &self.goal;
     }
 
-    /// Works on the claim's goal, by an expander that means what the claim's tag says. The Err means out of memory alone, and
-    /// hands the claim back.
+    /// Works on the claim's goal, by an expander that means what the claim's tag says. The Err means out of memory
+    /// alone, and hands the claim back.
     pub fn expand(self, alloc: Global, by: &E) -> Result<Filed<E>, Claim<E>>
         requires { E.tag by.now ≡ self.tag.by }
         ensures claim { IfOk result (λ f. f.claim ≡ self) }

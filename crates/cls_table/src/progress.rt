@@ -38,7 +38,8 @@ impl<E: Expand> Model for Progress<E> {
 
     ghost view = { λ p. record { tag = p.origin; rows = p.core.rows; history = p.core.history } };
 
-    ghost invariant = { λ p. IsLawful E.Goal.eq E.answer E.ready (record { tag = p.origin; rows = p.core.rows; history = p.core.history }) };
+    ghost invariant = { λ p. IsLawful E.Goal.eq E.answer E.ready
+        (record { tag = p.origin; rows = p.core.rows; history = p.core.history }) };
 }
 
 /// What became of a filing.
@@ -204,7 +205,8 @@ impl<E: Expand> Progress<E> {
         }
     }
 
-    /// The rows and the history, copied. None comes if and only if some row isn't filed. The only error is out of memory.
+    /// The rows and the history, copied. None comes if and only if some row isn't filed. The only error is out of
+    /// memory.
     pub(crate) fn read(&self, alloc: Global) -> Result<Option<Finished<E::Goal>>, OutOfMemory>
         ensures finish { IfOk result (λ r. IfSome r (IsFinishOf self.now.rows self.now.history)) }
         ensures complete { IfOk result (λ r. IfSome r (λ f. IsComplete E.Goal.eq E.answer self.now.tag f)) }

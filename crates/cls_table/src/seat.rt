@@ -20,12 +20,13 @@ impl<E: Expand, L: Ledger> Model for TableSeat<E, L> {
 
     ghost Value = { SeatSeen E.Tag E.Goal };
 
-    ghost view = {
-        λ s. record {
-            turn = turn_of s.seat; tag = tag_of s.seat; worker = s.worker;
-            parts = s.share.parts; amount = s.share.amount
-        }
-    };
+    ghost view = { λ s. record {
+      turn = turn_of s.seat;
+      tag = tag_of s.seat;
+      worker = s.worker;
+      parts = s.share.parts;
+      amount = s.share.amount;
+    } };
 
     ghost invariant = { λ s. IsSeated s.seat s.worker s.share.parts };
 }

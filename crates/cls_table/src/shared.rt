@@ -37,8 +37,8 @@ impl<E: Expand, L: Ledger> SharedTable<E, L> {
     ghost use Rattle.cls_table.specs.Seating.{IsClaimAnswer};
     ghost use Rattle.cls_table.specs.Completing.{IsComplete};
 
-    /// A table with one free row, the goal, and the seat of the worker 0 with every part of the ledger. The only error is
-    /// out of memory.
+    /// A table with one free row, the goal, and the seat of the worker 0 with every part of the ledger. The only error
+    /// is out of memory.
     pub fn start(
         alloc: Global,
         by: &E,
@@ -89,11 +89,10 @@ impl<E: Expand, L: Ledger> SharedTable<E, L> {
     pub fn join(&self, seat: &mut TableSeat<E, L>, other: TableSeat<E, L>)
         requires seat_of_this { seat.old.turn ≡ id_of self.now.turn }
         requires other_of_this { other.turn ≡ id_of self.now.turn }
-        ensures {
-            seat.new ≡ record seat.old {
-                parts = seat.old.parts + other.parts; amount = seat.old.amount + other.amount
-            }
-        }
+        ensures { seat.new ≡ record seat.old {
+          parts = seat.old.parts + other.parts;
+          amount = seat.old.amount + other.amount;
+        } }
     {
         let TableSeat {
             seat: ended,
@@ -106,7 +105,8 @@ impl<E: Expand, L: Ledger> SharedTable<E, L> {
 
     /// Takes the turn, and asks for a goal: what `Table::claim` answers at that holding.
     ///
-    /// It tells that the closure is too large only if it is. `OutOfMemory` comes at out of memory, and if the table is stopped.
+    /// It tells that the closure is too large only if it is. `OutOfMemory` comes at out of memory, and if the table is
+    /// stopped.
     pub fn claim<R: Wait>(
         &self,
         rt: &R,
@@ -150,8 +150,8 @@ impl<E: Expand, L: Ledger> SharedTable<E, L> {
         answer
     }
 
-    /// Waits for a holding at which the claim's row is held by its worker and has the claim's goal, and files there what
-    /// `Table::file` files. The Err means out of memory alone, and hands the filing back.
+    /// Waits for a holding at which the claim's row is held by its worker and has the claim's goal, and files there
+    /// what `Table::file` files. The Err means out of memory alone, and hands the filing back.
     pub fn file<R: Wait>(
         &self,
         rt: &R,
@@ -194,9 +194,7 @@ impl<E: Expand, L: Ledger> SharedTable<E, L> {
     ) -> Result<Option<Finished<E::Goal>>, OutOfMemory>
         requires seat_of_this { seat.old.turn ≡ id_of self.now.turn }
         ensures same { seat.new ≡ seat.old }
-        ensures complete {
-            IfOk result (λ r. IfSome r (λ f. ForSome seat.old.tag (λ t. IsComplete E.Goal.eq E.answer t f)))
-        }
+        ensures complete { IfOk result (λ r. IfSome r (λ f. ForSome seat.old.tag (λ t. IsComplete E.Goal.eq E.answer t f))) }
     {
         let TableSeat { seat, .. } = seat;
         let table = self.turn.take(rt, seat);
@@ -205,9 +203,9 @@ impl<E: Expand, L: Ledger> SharedTable<E, L> {
         answer
     }
 
-    /// Waits for a holding at which all rows are filed, and copies the rows and the history: what `Table::read` gives there.
-    /// At any other holding it puts the table back and takes the turn again. The table stays as it is. The only error is out
-    /// of memory.
+    /// Waits for a holding at which all rows are filed, and copies the rows and the history: what `Table::read` gives
+    /// there. At any other holding it puts the table back and takes the turn again. The table stays as it is. The only
+    /// error is out of memory.
     pub fn read<R: Wait>(
         &self,
         rt: &R,
@@ -226,8 +224,9 @@ impl<E: Expand, L: Ledger> SharedTable<E, L> {
         unreachable!()
     }
 
-    /// Takes the table out for good: the rows and the history if all rows are filed, and the table if and only if some row isn't.
-    /// If the seat has every part of the ledger, the history of either has as many claims as the seat's share counts.
+    /// Takes the table out for good: the rows and the history if all rows are filed, and the table if and only if some
+    /// row isn't. If the seat has every part of the ledger, the history of either has as many claims as the seat's
+    /// share counts.
     pub fn close<R: Wait>(
         self,
         rt: &R,

@@ -15,10 +15,10 @@ use std::sync::ledger::{Book, Ledger, Share};
 
 /// The rows, the history, the count of claims made and the marks, under a tag.
 ///
-/// Of each table holds what `facts` says: its history is legal and has the rows as its replay, the first row is the tag's start
-/// goal, each filed row holds the answer that the tag gives for its goal, all is within the tag's limits, no entry names a
-/// worker above the greatest, the claims of the history are as many as the count, and it is marked as too large only if the
-/// closure is.
+/// Of each table holds what `facts` says: its history is legal and has the rows as its replay, the first row is the
+/// tag's start goal, each filed row holds the answer that the tag gives for its goal, all is within the tag's limits,
+/// no entry names a worker above the greatest, the claims of the history are as many as the count, and it is marked as
+/// too large only if the closure is.
 #[derive(Drop)]
 pub struct Table<E: Expand, L: Ledger> {
     progress: Progress<E>,
@@ -37,10 +37,8 @@ impl<E: Expand, L: Ledger> Model for Table<E, L> {
 
     ghost view = { λ t. table_of t.progress t.claims.total t.large t.stopped };
 
-    ghost invariant = {
-        λ t. (claims_in t.progress.history ≡ t.claims.total) × (t.made ≡ t.claims.total)
-            × (t.large ≡ true → IsLarge E.answer t.progress.tag)
-    };
+    ghost invariant = { λ t. (claims_in t.progress.history ≡ t.claims.total) × (t.made ≡ t.claims.total)
+        × (t.large ≡ true → IsLarge E.answer t.progress.tag) };
 }
 
 impl<E: Expand, L: Ledger> Tagged<Tag<E::Tag, E::Goal>> for Table<E, L> {
@@ -88,10 +86,11 @@ impl<E: Expand, L: Ledger> Table<E, L> {
 
     /// Gives a goal to the worker, or says why it doesn't: the whole work of one holding of `SharedTable::claim`.
     ///
-    /// If the table is stopped the answer is `OutOfMemory`, which also comes at out of memory. Otherwise it is `TooLarge` if and
-    /// only if the table is marked so, `Job` if some row is free, `Again` if and only if no row is free and some row is held,
-    /// and `Finished` if and only if all rows are filed. `Job` makes the row held by the worker, adds the entry of the claim
-    /// and raises the share by one. With any other answer the table and the share are as before.
+    /// If the table is stopped the answer is `OutOfMemory`, which also comes at out of memory. Otherwise it is
+    /// `TooLarge` if and only if the table is marked so, `Job` if some row is free, `Again` if and only if no row is
+    /// free and some row is held, and `Finished` if and only if all rows are filed. `Job` makes the row held by the
+    /// worker, adds the entry of the claim and raises the share by one. With any other answer the table and the share
+    /// are as before.
     pub fn claim(
         &mut self,
         alloc: Global,
@@ -128,9 +127,10 @@ impl<E: Expand, L: Ledger> Table<E, L> {
 
     /// Files a claim's goal: the whole work of one holding of `SharedTable::file`.
     ///
-    /// It hands the filing back if and only if the claim's row isn't held by its worker or has another goal, and the table is
-    /// then as before. Otherwise it files the row if that stays within the limits, and marks the table as too large if it
-    /// doesn't. The Err means out of memory alone. It hands the filing back too, and the table is as before.
+    /// It hands the filing back if and only if the claim's row isn't held by its worker or has another goal, and the
+    /// table is then as before. Otherwise it files the row if that stays within the limits, and marks the table as too
+    /// large if it doesn't. The Err means out of memory alone. It hands the filing back too, and the table is as
+    /// before.
     pub fn file(&mut self, alloc: Global, filed: Filed<E>) -> Result<Option<Filed<E>>, Filed<E>>
         requires { filed.claim.tag ≡ self.old.tag }
         ensures outcome { IfOk result (λ r. IfNone r (FileOutcome E.Goal.eq self.old filed self.new)) }
@@ -183,8 +183,8 @@ impl<E: Expand, L: Ledger> Table<E, L> {
         claim.spend();
     }
 
-    /// Copies the rows and the history if all rows are filed: the whole work of one holding of `SharedTable::read`. None comes
-    /// if and only if some row isn't filed. The only error is out of memory.
+    /// Copies the rows and the history if all rows are filed: the whole work of one holding of `SharedTable::read`.
+    /// None comes if and only if some row isn't filed. The only error is out of memory.
     pub fn read(&self, alloc: Global) -> Result<Option<Finished<E::Goal>>, OutOfMemory>
         ensures finish { IfOk result (λ r. IfSome r (IsFinishOf self.now.rows self.now.history)) }
         ensures claims { IfOk result (λ r. IfSome r (λ f. claims_in f.history ≡ self.now.claims)) }
