@@ -1,9 +1,12 @@
 -- The laws of the words on lists.
-use Rattle.std.proofs.Common.{◌≡◌, ℕ, zero, suc, ◌+◌, ◌<◌, ◌≤◌, List, [], ◌∷◌, ◌++◌, length, take, drop, get_or, refl, sym, ap, ◌∙◌, subst, inl, inr, arith, append_assoc, take-append-drop}
+use Rattle.std.proofs.Common.{◌≡◌, ℕ, zero, suc, ◌+◌, ◌<◌, ◌≤◌, List, [], ◌∷◌, ◌++◌, Some, length, map, take, drop, get_or, slice_get, refl, sym, ap, ◌∙◌, subst, inl, inr, arith, append_assoc, take-append-drop}
 use Rattle.std.specs.Prelude.{Contains, ◌⊎◌}
+use Rattle.std.specs.List.{sum_by}
 use Rattle.std.specs.Coded.{×_prop, Unit-prop, le_prop}
 use Rattle.std.proofs.lemmas.List.{drop-append-le}
 use Rattle.std.proofs.lemmas.List.Elements.{Contains-push, Contains-push_cases}
+use Rattle.std.proofs.lemmas.List.Sums.{sum_by-cons}
+use Rattle.std.proofs.lemmas.Option.{slice_get_within, get_or_from_slice_get, slice_get-get_or}
 use Rattle.cls_base.specs.Lists.{AreDistinct, AreBelow}
 
 -- to replace the first n items of a front is to replace them in the whole list
@@ -55,3 +58,70 @@ pub AreBelow-at : (n : ℕ) (bs : List ℕ) (i : ℕ) → AreBelow n bs → i < 
 AreBelow-at n [] i h l = absurd (omega arith)
 AreBelow-at n (b ∷ bs) zero h l = h.0
 AreBelow-at n (b ∷ bs) (suc i) h l = AreBelow-at n bs i h.1 (omega arith)
+
+module _ {A : Type 0} where
+  pub Contains-head : (x y : A) (xs : List A) → x ≡ y → Contains (y ∷ xs) x
+  Contains-head x y xs e = (0, omega arith, sym e)
+
+  pub Contains-at : (xs : List A) (i : ℕ) (x : A) → slice_get xs i ≡ Some x → Contains xs x
+  Contains-at xs i x e = (i, slice_get_within xs i x e, get_or_from_slice_get xs i x x e)
+
+  pub Contains-place : (xs : List A) (x : A) → Contains xs x → (i : ℕ) × (slice_get xs i ≡ Some x)
+  Contains-place xs x c = (c.0, slice_get-get_or xs c.0 x c.1 ∙ ap Some c.2)
+
+  -- in a list without repetition each element has one place
+  pub AreDistinct-one_place : (xs : List A) (i j : ℕ) (x : A) → AreDistinct xs → slice_get xs i ≡ Some x → slice_get xs j ≡ Some x → i ≡ j
+  AreDistinct-one_place [] i j x d e f = cc
+  AreDistinct-one_place (y ∷ xs) zero zero x d e f = refl
+  AreDistinct-one_place (y ∷ xs) zero (suc j) x d e f = absurd (d.0 (subst (λ z. Contains xs z) (let s : x ≡ y = cc in s) (Contains-at xs j x f)))
+  AreDistinct-one_place (y ∷ xs) (suc i) zero x d e f = absurd (d.0 (subst (λ z. Contains xs z) (let s : x ≡ y = cc in s) (Contains-at xs i x e)))
+  AreDistinct-one_place (y ∷ xs) (suc i) (suc j) x d e f = ap suc (AreDistinct-one_place xs i j x d.1 e f)
+
+  module _ (f : A → ℕ) where
+    -- the list without one place of x
+    without : (xs : List A) (x : A) → Contains xs x → (ys : List A) × (sum_by f xs ≡ f x + sum_by f ys) × ((y : A) → Contains xs y → (y ≡ x) ⊎ Contains ys y)
+    without [] x h = absurd (Contains-nil x h)
+    without (y ∷ xs) x h = elim (Contains-cases y xs x h) [
+      | inl e ↦ (xs, subst (λ w. sum_by f (y ∷ xs) ≡ f w + sum_by f xs) (sym e) (sum_by-cons f y xs), λ z m. elim (Contains-cases y xs z m) [ inl a ↦ inl (a ∙ sym e) | inr b ↦ inr b ])
+      | inr k ↦
+          let r = without xs x k in (
+            y ∷ r.0,
+            omega (arith, sum_by-cons f y xs, sum_by-cons f y r.0, r.1),
+            λ z m. elim (Contains-cases y xs z m) [ inl a ↦ inr (Contains-head z y r.0 a) | inr b ↦ elim (r.2 z b) [ inl s ↦ inl s | inr t ↦ inr (Contains-later z y r.0 t) ] ],
+          )
+    ]
+
+    -- distinct elements that stand in a list sum up to no more than the list
+    pub sum_by-within : (xs ys : List A) → AreDistinct xs → ((x : A) → Contains xs x → Contains ys x) → sum_by f xs ≤ sum_by f ys
+    sum_by-within [] ys d h = omega arith
+    sum_by-within (x ∷ xs) ys d h =
+        let r = without ys x (h x (Contains-here x xs)) in
+        let rest = sum_by-within xs r.0 d.1 (λ z m. elim (r.2 z (h z (Contains-later z x xs m))) [ inl s ↦ absurd (d.0 (subst (λ w. Contains xs w) s m)) | inr t ↦ t ]) in
+        omega (arith, sum_by-cons f x xs, r.1)
+
+  ones : (xs : List A) → sum_by (λ (x : A). 1) xs ≡ length xs
+  ones [] = refl
+  ones (x ∷ xs) = sum_by-cons (λ (x : A). 1) x xs ∙ (let h = ones xs in omega arith)
+
+  -- distinct elements that stand in a list are no more than the list
+  pub length-within : (xs ys : List A) → AreDistinct xs → ((x : A) → Contains xs x → Contains ys x) → length xs ≤ length ys
+  length-within xs ys d h = omega (arith, sum_by-within (λ (x : A). 1) xs ys d h, ones xs, ones ys)
+
+module _ {A B : Type 0} (f : A → B) where
+  pub Contains-map : (xs : List A) (x : A) → Contains xs x → Contains (map f xs) (f x)
+  Contains-map [] x h = absurd (Contains-nil x h)
+  Contains-map (y ∷ xs) x h = elim (Contains-cases y xs x h) [
+    | inl e ↦ Contains-head (f x) (f y) (map f xs) (ap f e)
+    | inr k ↦ Contains-later (f x) (f y) (map f xs) (Contains-map xs x k)
+  ]
+
+  pub Contains-from_map : (xs : List A) (y : B) → Contains (map f xs) y → (x : A) × Contains xs x × (y ≡ f x)
+  Contains-from_map [] y h = absurd (Contains-nil y h)
+  Contains-from_map (z ∷ xs) y h = elim (Contains-cases (f z) (map f xs) y h) [
+    | inl e ↦ (z, Contains-here z xs, e)
+    | inr k ↦ (let r = Contains-from_map xs y k in (r.0, Contains-later r.0 z xs r.1, r.2))
+  ]
+
+  pub AreDistinct-from_map : (xs : List A) → AreDistinct (map f xs) → AreDistinct xs
+  AreDistinct-from_map [] d = tt
+  AreDistinct-from_map (x ∷ xs) d = (λ h. d.0 (Contains-map xs x h), AreDistinct-from_map xs d.1)

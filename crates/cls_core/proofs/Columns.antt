@@ -13,7 +13,8 @@ use Rattle.cls_core.specs.declared.entry.Entry.{Entry}
 use Rattle.cls_core.specs.declared.answer.Answer.{Answer}
 use Rattle.cls_core.specs.Arguments.{rule_count}
 use Rattle.cls_core.specs.Machine.{held_weight, rules_weight, held_in, rules_in}
-use Rattle.cls_core.specs.Kept.{IsKept}
+use Rattle.cls_core.specs.Rows.{machine}
+use Rattle.cls_core.specs.Consistency.{IsConsistent}
 
 module _ {A : Type 0} where
   pub get-set-same : (xs : List A) (i : ℕ) (v : A) → i < length xs → slice_get (set xs i v) i ≡ Some v
@@ -74,25 +75,25 @@ count-set f ss row was now e = subst (λ s. sum_by f (set ss row now) + f s ≡ 
 
 module _ {G : Type 0} (goals : List G) (states : List RowState) (first held rules room : ℕ) (history : List Entry) where
   pub kept-claim : (row worker next more : ℕ) (entry : Entry) (after : List Entry)
-      → IsKept goals states first held rules history room
+      → IsConsistent (machine goals states) first held rules history room
       → slice_get states row ≡ Some Free → after ≡ history ++ entry ∷ [] → length history + (held + 2) ≤ more
       → (next ≡ first) ⊎ ((next ≡ first + 1) × (row ≡ first))
-      → IsKept goals (set states row (Held worker)) next (held + 1) rules after more
+      → IsConsistent (machine goals (set states row (Held worker))) next (held + 1) rules after more
   kept-claim row worker next more entry after k free is wide step = record {
     paired = length-set states row (Held worker) ∙ k.paired;
     small = k.small;
-    taken = taken_after step;
-    within = within_after step;
-    holds = let n = count-set held_weight states row Free (Held worker) free in omega (arith, k.holds);
-    counts = let n = count-set rules_weight states row Free (Held worker) free in omega (arith, k.counts);
-    reserved = omega (arith, ap length is, length-append history (entry ∷ []));
+    none_free_below = taken_after step;
+    first_within = within_after step;
+    held_counted = let n = count-set held_weight states row Free (Held worker) free in omega (arith, k.held_counted);
+    rules_counted = let n = count-set rules_weight states row Free (Held worker) free in omega (arith, k.rules_counted);
+    entries_fit = omega (arith, ap length is, length-append history (entry ∷ []));
   }
     where
       claimed_row : slice_get (set states row (Held worker)) row ≢ Some Free
       claimed_row e = let h = get-set-same states row (Held worker) (slice_get_within states row Free free) in cc
 
       other_row : (k : ℕ) → k < first → slice_get (set states row (Held worker)) k ≢ Some Free
-      other_row i h e = k.taken i h (sym (get-set-other states row i (Held worker) (λ same. k.taken i h (subst (λ r. slice_get states r ≡ Some Free) (sym same) free))) ∙ e)
+      other_row i h e = k.none_free_below i h (sym (get-set-other states row i (Held worker) (λ same. k.none_free_below i h (subst (λ r. slice_get states r ≡ Some Free) (sym same) free))) ∙ e)
 
       taken_after : (next ≡ first) ⊎ ((next ≡ first + 1) × (row ≡ first)) → (i : ℕ) → i < next → slice_get (set states row (Held worker)) i ≢ Some Free
       taken_after (inl same) i h = other_row i (omega arith)
@@ -103,28 +104,28 @@ module _ {G : Type 0} (goals : List G) (states : List RowState) (first held rule
           cases (inr e) = λ f. claimed_row (subst (λ r. slice_get (set states row (Held worker)) r ≡ Some Free) (e ∙ sym on.1) f)
 
       within_after : (next ≡ first) ⊎ ((next ≡ first + 1) × (row ≡ first)) → next ≤ length (set states row (Held worker))
-      within_after (inl same) = omega (arith, length-set states row (Held worker), k.within)
+      within_after (inl same) = omega (arith, length-set states row (Held worker), k.first_within)
       within_after (inr on) = omega (arith, length-set states row (Held worker), slice_get_within states row Free free)
 
 module _ {G : Type 0} (goals : List G) (states : List RowState) (first held rules room : ℕ) (history : List Entry) where
   -- a filing: rows are put behind the others, and the state of one is written
   pub kept-file : (row worker n : ℕ) (a : Answer ℕ) (more : List G) (behind : List RowState) (entry : Entry) (after : List Entry)
-      → IsKept goals states first held rules history room
+      → IsConsistent (machine goals states) first held rules history room
       → slice_get states row ≡ Some (Held worker) → length more ≡ length goals + n → length more < 2 ^ 32 → behind ≡ states ++ replicate n Free → after ≡ history ++ entry ∷ []
       → (now total wide : ℕ) → now + 1 ≡ held → total ≡ rules + rule_count a → wide ≡ room
-      → IsKept more (set behind row (Filed a)) first now total after wide
+      → IsConsistent (machine more (set behind row (Filed a))) first now total after wide
   kept-file row worker n a more behind entry after k is_held grows small are is now total wide less sums same = record {
     paired = omega (arith, length-set behind row (Filed a), long, k.paired);
     small = small;
-    taken = λ i h. untaken i h;
-    within = omega (arith, length-set behind row (Filed a), long, k.within);
-    holds =
+    none_free_below = λ i h. untaken i h;
+    first_within = omega (arith, length-set behind row (Filed a), long, k.first_within);
+    held_counted =
         (let c = count-set held_weight behind row (Held worker) (Filed a) there in
-        omega (arith, k.holds, ap held_in are, sum_by-append held_weight states (replicate n Free), sum_by-replicate held_weight n Free));
-    counts =
+        omega (arith, k.held_counted, ap held_in are, sum_by-append held_weight states (replicate n Free), sum_by-replicate held_weight n Free));
+    rules_counted =
         (let c = count-set rules_weight behind row (Held worker) (Filed a) there in
-        omega (arith, k.counts, ap rules_in are, sum_by-append rules_weight states (replicate n Free), sum_by-replicate rules_weight n Free));
-    reserved = omega (arith, ap length is, length-append history (entry ∷ []), k.reserved);
+        omega (arith, k.rules_counted, ap rules_in are, sum_by-append rules_weight states (replicate n Free), sum_by-replicate rules_weight n Free));
+    entries_fit = omega (arith, ap length is, length-append history (entry ∷ []), k.entries_fit);
   }
     where
       long : length behind ≡ length states + n
@@ -144,8 +145,8 @@ module _ {G : Type 0} (goals : List G) (states : List RowState) (first held rule
               cc
           by false e f =
               let other : i ≢ row = grind (arith, nat_tests) in
-              let at : slice_get behind i ≡ slice_get states i = ap (λ l. slice_get l i) are ∙ get-within states (replicate n Free) i (omega (arith, k.within)) in
-              k.taken i h (sym at ∙ (sym (get-set-other behind row i (Filed a) other) ∙ f))
+              let at : slice_get behind i ≡ slice_get states i = ap (λ l. slice_get l i) are ∙ get-within states (replicate n Free) i (omega (arith, k.first_within)) in
+              k.none_free_below i h (sym at ∙ (sym (get-set-other behind row i (Filed a) other) ∙ f))
 
 -- a claim leaves the count of rules
 pub claimed-counts : (ss : List RowState) (row worker : ℕ) → slice_get ss row ≡ Some Free → rules_in (set ss row (Held worker)) ≡ rules_in ss

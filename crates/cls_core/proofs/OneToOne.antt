@@ -1,6 +1,6 @@
 -- Numbers in place of goals, where different goals have different numbers.
-use Rattle.std.proofs.Common.{ℕ, ◌≡◌, ◌++◌, ◌+◌, refl, sym, ◌∙◌, subst, ap, inl, inr, List, [], ◌∷◌, map, Bool, true, false, cond, not, ◌||◌, if◌then◌else◌, arith}
-use Rattle.std.specs.Prelude.{nat_eq}
+use Rattle.std.proofs.Common.{ℕ, ◌≡◌, ◌++◌, ◌+◌, ◌⊎◌, refl, sym, ◌∙◌, subst, ap, inl, inr, List, [], ◌∷◌, map, Bool, true, false, cond, not, ◌||◌, if◌then◌else◌, arith}
+use Rattle.std.specs.Prelude.{nat_eq, Contains}
 use Rattle.std.specs.List.{list_any, position_or_len}
 use Rattle.std.proofs.lemmas.Bool.Decides.{nat_tests}
 use Rattle.std.proofs.lemmas.List.{map-append}
@@ -11,20 +11,10 @@ use Rattle.cls_base.specs.declared.rule.Rule.TheVariants.{Head, Any}
 use Rattle.cls_core.specs.declared.answer.Answer.{Answer}
 use Rattle.cls_core.specs.declared.answer.Answer.TheVariants.{Rules, Wide}
 use Rattle.cls_core.specs.Arguments.{arguments_of_rule, arguments_in, arguments_of, map_rule, map_answer}
-use Rattle.cls_core.specs.Closure.{Has}
+use Rattle.cls_base.proofs.Lists.{Contains-nil, Contains-here, Contains-later, Contains-cases, Contains-map, Contains-from_map}
 use Rattle.cls_core.proofs.Members.{all-only}
 
 module _ {G : Type 0} (f : G → ℕ) where
-  map-has : (xs : List G) (x : G) → Has xs x → Has (map f xs) (f x)
-  map-has [] x h = absurd h
-  map-has (y ∷ xs) x (inl e) = inl (ap f e)
-  map-has (y ∷ xs) x (inr h) = inr (map-has xs x h)
-
-  map-from : (xs : List G) (n : ℕ) → Has (map f xs) n → (x : G) × Has xs x × (n ≡ f x)
-  map-from [] n h = absurd h
-  map-from (y ∷ xs) n (inl e) = (y, inl refl, e)
-  map-from (y ∷ xs) n (inr h) = let r = map-from xs n h in (r.0, inr r.1, r.2)
-
   rule-arguments : (r : Rule G) → arguments_of_rule (map_rule f r) ≡ map f (arguments_of_rule r)
   rule-arguments (Head component args) = refl
   rule-arguments (Any left right) = refl
@@ -38,11 +28,11 @@ module _ {G : Type 0} (f : G → ℕ) where
   answer-arguments (Rules rs) = rules-arguments rs
   answer-arguments Wide = refl
 
-  pub argument-there : (a : Answer G) (g : G) → Has (arguments_of a) g → Has (arguments_of (map_answer f a)) (f g)
-  argument-there a g h = subst (λ l. Has l (f g)) (sym (answer-arguments a)) (map-has (arguments_of a) g h)
+  pub argument-there : (a : Answer G) (g : G) → Contains (arguments_of a) g → Contains (arguments_of (map_answer f a)) (f g)
+  argument-there a g h = subst (λ l. Contains l (f g)) (sym (answer-arguments a)) (Contains-map f (arguments_of a) g h)
 
-  pub argument-back : (a : Answer G) (n : ℕ) → Has (arguments_of (map_answer f a)) n → (g : G) × Has (arguments_of a) g × (n ≡ f g)
-  argument-back a n h = map-from (arguments_of a) n (subst (λ l. Has l n) (answer-arguments a) h)
+  pub argument-back : (a : Answer G) (n : ℕ) → Contains (arguments_of (map_answer f a)) n → (g : G) × Contains (arguments_of a) g × (n ≡ f g)
+  argument-back a n h = Contains-from_map f (arguments_of a) n (subst (λ l. Contains l n) (answer-arguments a) h)
 
   module _ (h : ℕ → ℕ) where
     rule-twice : (r : Rule G) → map_rule h (map_rule f r) ≡ map_rule (λ g. h (f g)) r
@@ -58,11 +48,11 @@ module _ {G : Type 0} (f : G → ℕ) where
     answer-twice (Rules rs) = ap Rules (rules-twice rs)
     answer-twice Wide = refl
 
-module _ {G : Type 0} (eq : G → G → Bool) (exact : (x y : G) → eq x y ≡ true → x ≡ y) (reflexive : (x : G) → eq x x ≡ true) (f : G → ℕ) (all : List G) (apart : (g h : G) → Has all g → Has all h → f g ≡ f h → g ≡ h) where
+module _ {G : Type 0} (eq : G → G → Bool) (exact : (x y : G) → eq x y ≡ true → x ≡ y) (reflexive : (x : G) → eq x x ≡ true) (f : G → ℕ) (all : List G) (apart : (g h : G) → Contains all g → Contains all h → f g ≡ f h → g ≡ h) where
   abbrev Within : List G → Type 0
-  Within gs = (g : G) → Has gs g → Has all g
+  Within gs = (g : G) → Contains gs g → Contains all g
 
-  test-same : (x y : G) → Has all x → Has all y → nat_eq (f x) (f y) ≡ eq x y
+  test-same : (x y : G) → Contains all x → Contains all y → nat_eq (f x) (f y) ≡ eq x y
   test-same x y m n = by (eq x y) refl (nat_eq (f x) (f y)) refl
     where
       by : (b : Bool) → eq x y ≡ b → (c : Bool) → nat_eq (f x) (f y) ≡ c → c ≡ b
@@ -71,16 +61,16 @@ module _ {G : Type 0} (eq : G → G → Bool) (exact : (x y : G) → eq x y ≡ 
       by false e true d = (let s : f x ≡ f y = grind (arith, nat_tests) in let t = subst (λ z. eq x z ≡ true) (apart x y m n s) (reflexive x) in cc)
       by false e false d = refl
 
-  any-same : (gs : List G) (x : G) → Within gs → Has all x → list_any (nat_eq (f x)) (map f gs) ≡ list_any (eq x) gs
+  any-same : (gs : List G) (x : G) → Within gs → Contains all x → list_any (nat_eq (f x)) (map f gs) ≡ list_any (eq x) gs
   any-same [] x q m = refl
-  any-same (g ∷ gs) x q m = λ k. test-same x g m (q g (inl refl)) k || any-same gs x (λ y n. q y (inr n)) m k
+  any-same (g ∷ gs) x q m = λ k. test-same x g m (q g (Contains-here g gs)) k || any-same gs x (λ y n. q y (Contains-later y g gs n)) m k
 
   -- a goal's number stands where the goal stands
-  pub place-same : (gs : List G) (x : G) → Within gs → Has all x → position_or_len (nat_eq (f x)) (map f gs) ≡ position_or_len (eq x) gs
+  pub place-same : (gs : List G) (x : G) → Within gs → Contains all x → position_or_len (nat_eq (f x)) (map f gs) ≡ position_or_len (eq x) gs
   place-same [] x q m = refl
-  place-same (g ∷ gs) x q m = λ k. cond (not (test-same x g m (q g (inl refl)) k)) (1 + place-same gs x (λ y n. q y (inr n)) m k) 0
+  place-same (g ∷ gs) x q m = λ k. cond (not (test-same x g m (q g (Contains-here g gs)) k)) (1 + place-same gs x (λ y n. q y (Contains-later y g gs n)) m k) 0
 
-  key-same : (gs : List G) (x : G) → Within gs → Has all x → insert_key nat_eq (map f gs) (f x) ≡ map f (insert_key eq gs x)
+  key-same : (gs : List G) (x : G) → Within gs → Contains all x → insert_key nat_eq (map f gs) (f x) ≡ map f (insert_key eq gs x)
   key-same gs x q m = ap (λ (b : Bool). if b then map f gs else map f gs ++ f x ∷ []) (any-same gs x q m) ∙ by (list_any (eq x) gs)
     where
       by : (b : Bool) → (if b then map f gs else map f gs ++ f x ∷ []) ≡ map f (if b then gs else gs ++ x ∷ [])
@@ -91,5 +81,9 @@ module _ {G : Type 0} (eq : G → G → Bool) (exact : (x y : G) → eq x y ≡ 
   pub all-same : (gs xs : List G) → Within gs → Within xs → insert_all nat_eq (map f gs) (map f xs) ≡ map f (insert_all eq gs xs)
   all-same gs [] q r = refl
   all-same gs (x ∷ xs) q r =
-      ap (λ l. insert_all nat_eq l (map f xs)) (key-same gs x q (r x (inl refl)))
-      ∙ all-same (insert_key eq gs x) xs (λ y n. elim (all-only eq exact reflexive gs (x ∷ []) y n) [ inl l ↦ q y l | inr s ↦ elim s [ inl e ↦ subst (Has all) (sym e) (r x (inl refl)) | inr t ↦ absurd t ] ]) (λ y n. r y (inr n))
+      ap (λ l. insert_all nat_eq l (map f xs)) (key-same gs x q (r x (Contains-here x xs)))
+      ∙ all-same (insert_key eq gs x) xs (λ y n. elim (all-only eq exact reflexive gs (x ∷ []) y n) [ inl l ↦ q y l | inr s ↦ by y (Contains-cases x [] y s) ]) (λ y n. r y (Contains-later y x xs n))
+    where
+      by : (y : G) → (y ≡ x) ⊎ Contains [] y → Contains all y
+      by y (inl e) = subst (λ z. Contains all z) (sym e) (r x (Contains-here x xs))
+      by y (inr t) = absurd (Contains-nil y t)

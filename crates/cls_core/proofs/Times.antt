@@ -5,7 +5,7 @@ use Rattle.std.proofs.lemmas.Bool.Decides.{nat_tests}
 use Rattle.std.proofs.lemmas.Option.{slice_get_within, slice_get_past}
 use Rattle.cls_core.specs.Rows.{Machine}
 use Rattle.cls_core.specs.Machine.{begun, grown, numbered, Replays, AllFiled, IsFiled}
-use Rattle.cls_core.specs.Times.{claims_of, filings_of, EachOnce}
+use Rattle.cls_core.specs.Times.{claims_of, filings_of, EachAtMostOnce, EachOnce}
 use Rattle.cls_core.specs.declared.state.RowState.{RowState}
 use Rattle.cls_core.specs.declared.state.RowState.TheVariants.{Free, Held, Filed}
 use Rattle.cls_core.specs.declared.entry.Entry.{Entry}
@@ -76,11 +76,11 @@ file-marks ss row worker i a held = by (row == i) refl
         let at = get-set-other ss row i (Filed a) other in
         (ap claim_mark at, omega (arith, ap file_mark at))
 
-module _ {G : Type 0} (eq : G → G → Bool) (answer : G → Answer G) where
+module _ {G : Type 0} (eq : G → G → Bool) (IsAnswer : G → Answer G → Type 0) where
   abbrev Marked : ℕ → List Entry → Machine G → Machine G → Type 0
   Marked i es r t = (claim_mark (slice_get r.states i) + claims_of i es ≡ claim_mark (slice_get t.states i)) × (file_mark (slice_get r.states i) + filings_of i es ≡ file_mark (slice_get t.states i))
 
-  marked : (es : List Entry) (r t : Machine G) (i : ℕ) → Replays eq answer r es t → Marked i es r t
+  marked : (es : List Entry) (r t : Machine G) (i : ℕ) → Replays eq IsAnswer r es t → Marked i es r t
   marked [] r t i h = (omega (arith, ap (λ (m : Machine G). claim_mark (slice_get m.states i)) h), omega (arith, ap (λ (m : Machine G). file_mark (slice_get m.states i)) h))
   marked (Claim worker row ∷ es) r t i h =
       let rest = marked es h.0 t i h.2 in
@@ -88,10 +88,12 @@ module _ {G : Type 0} (eq : G → G → Bool) (answer : G → Answer G) where
       (omega (arith, rest.0, one.0, ap (λ (m : Machine G). claim_mark (slice_get m.states i)) h.1.1), omega (arith, rest.1, one.1, ap (λ (m : Machine G). file_mark (slice_get m.states i)) h.1.1))
   marked (File worker row ∷ es) r t i h =
       let rest = marked es h.0 t i h.2 in
-      let new = numbered eq (grown eq r.goals (answer h.1.1.0)) (answer h.1.1.0) in
-      let one = file-marks r.states row worker i new h.1.0 in
-      let wide = append-marks (set r.states row (Filed new)) (length (grown eq r.goals (answer h.1.1.0)) - length r.goals) i in
-      (omega (arith, rest.0, one.0, wide.0, ap (λ (m : Machine G). claim_mark (slice_get m.states i)) h.1.1.2), omega (arith, rest.1, one.1, wide.1, ap (λ (m : Machine G). file_mark (slice_get m.states i)) h.1.1.2))
+      let filing = h.1 in
+      let gs = grown eq r.goals filing.answer in
+      let new = numbered eq gs filing.answer in
+      let one = file-marks r.states row worker i new filing.held in
+      let wide = append-marks (set r.states row (Filed new)) (length gs - length r.goals) i in
+      (omega (arith, rest.0, one.0, wide.0, ap (λ (m : Machine G). claim_mark (slice_get m.states i)) filing.rows_after), omega (arith, rest.1, one.1, wide.1, ap (λ (m : Machine G). file_mark (slice_get m.states i)) filing.rows_after))
 
   claim-bound : (s : Option RowState) → claim_mark s ≤ 1
   claim-bound None = omega arith
@@ -106,13 +108,13 @@ module _ {G : Type 0} (eq : G → G → Bool) (answer : G → Answer G) where
   file-bound (Some (Filed a)) = omega arith
 
   -- In a legal history each row is claimed at most once and filed at most once.
-  pub at-most-once : (start : G) (es : List Entry) (t : Machine G) → Replays eq answer (begun start) es t → (row : ℕ) → (claims_of row es ≤ 1) × (filings_of row es ≤ 1)
+  pub at-most-once : (start : G) (es : List Entry) (t : Machine G) → Replays eq IsAnswer (begun start) es t → EachAtMostOnce es
   at-most-once start es t h row =
       let m = marked es (begun start) t row h in
       (omega (arith, m.0, claim-bound (slice_get t.states row)), omega (arith, m.1, file-bound (slice_get t.states row)))
 
   -- In a legal complete history each row is claimed once and filed once.
-  pub each-once : (start : G) (es : List Entry) (t : Machine G) → Replays eq answer (begun start) es t → AllFiled t → EachOnce (length t.states) es
+  pub each-once : (start : G) (es : List Entry) (t : Machine G) → Replays eq IsAnswer (begun start) es t → AllFiled t → EachOnce (length t.states) es
   each-once start es t h f row within =
       let m = marked es (begun start) t row h in
       let free = free-marks 1 row in

@@ -1,50 +1,61 @@
--- The laws of histories.
-use Rattle.std.specs.Prelude.{◌≡◌, ◌≤◌, ◌↔◌, ℕ, Bool, List, length}
+-- The laws of histories. IsAnswer g a says that a is an answer of the goal g. `src/laws.rt` promises them of the answers
+-- that a tag of an expander means, of which each goal has at most one.
+use Rattle.std.specs.Prelude.{◌≡◌, ◌↔◌, Bool, List, Contains, length}
+use Rattle.cls_base.specs.Lists.{AreDistinct}
 use Rattle.cls_core.specs.declared.answer.Answer.{Answer}
 use Rattle.cls_core.specs.declared.entry.Entry.{Entry}
 use Rattle.cls_core.specs.Rows.{Machine, Row, filed_rows}
 use Rattle.cls_core.specs.Machine.{begun, Replays, AllFiled}
-use Rattle.cls_core.specs.Closure.{Has, Differ, AllReached, IsClosure}
-use Rattle.cls_core.specs.Times.{claims_of, filings_of, EachOnce}
+use Rattle.cls_core.specs.Closure.{AllReached, IsClosure}
+use Rattle.cls_core.specs.Times.{EachAtMostOnce, EachOnce}
 use Rattle.cls_core.specs.Canonical.{IsCanonical}
 use Rattle.cls_core.specs.Renumbering.{renumbered}
 use Rattle.cls_core.specs.Grammar.{IsGrammar}
 
-module _ {G : Type 0} (eq : G → G → Bool) where
+module _ {G : Type 0} (eq : G → G → Bool) (IsAnswer : G → Answer G → Type 0) where
+  -- the history is legal, and leads from the start goal alone to the rows t
+  abbrev pub LeadsTo : G → List Entry → Machine G → Type 0
+  LeadsTo start es t = Replays eq IsAnswer (begun start) es t
+
+  -- the history is legal and complete: it leads from the start goal alone to the rows t, which are all filed
+  abbrev pub Completes : G → List Entry → Machine G → Type 0
+  Completes start es t = Replays eq IsAnswer (begun start) es t × AllFiled t
+
   abbrev pub HistoriesStayInTheClosure : Type 0
   HistoriesStayInTheClosure =
-      (answer : G → Answer G) (start : G) (es : List Entry) (t : Machine G) → Replays eq answer (begun start) es t
-      → Differ t.goals × AllReached answer start t.goals × ((row : ℕ) → (claims_of row es ≤ 1) × (filings_of row es ≤ 1))
+      (start : G) (es : List Entry) (t : Machine G) → LeadsTo start es t
+      → AreDistinct t.goals × AllReached IsAnswer start t.goals × EachAtMostOnce es
 
   abbrev pub CompleteHistoriesAreTheClosure : Type 0
   CompleteHistoriesAreTheClosure =
-      (answer : G → Answer G) (start : G) (es : List Entry) (t : Machine G) → Replays eq answer (begun start) es t → AllFiled t
-      → IsClosure eq answer start (filed_rows t.goals t.states) × EachOnce (length t.states) es
+      (start : G) (es : List Entry) (t : Machine G) → Completes start es t
+      → IsClosure eq IsAnswer start (filed_rows t.goals t.states) × EachOnce (length t.states) es
 
   abbrev pub CompleteHistoriesAgree : Type 0
   CompleteHistoriesAgree =
-      (answer : G → Answer G) (start : G) (es fs : List Entry) (t u : Machine G) → Replays eq answer (begun start) es t → AllFiled t → Replays eq answer (begun start) fs u → AllFiled u
-      → (g : G) → Has t.goals g ↔ Has u.goals g
+      (start : G) (es fs : List Entry) (t u : Machine G) → Completes start es t → Completes start fs u
+      → (g : G) → Contains t.goals g ↔ Contains u.goals g
 
   abbrev pub TheCanonicalRowsAreOne : Type 0
   TheCanonicalRowsAreOne =
-      (answer : G → Answer G) (start : G) (rows others : List (Row G)) → IsCanonical eq answer start rows → IsCanonical eq answer start others → rows ≡ others
+      (start : G) (rows others : List (Row G))
+      → IsCanonical eq IsAnswer start rows → IsCanonical eq IsAnswer start others → rows ≡ others
 
   abbrev pub RenumberedRowsAreCanonical : Type 0
   RenumberedRowsAreCanonical =
-      (answer : G → Answer G) (start : G) (es : List Entry) (t : Machine G) → Replays eq answer (begun start) es t → AllFiled t
-      → IsCanonical eq answer start (renumbered (filed_rows t.goals t.states))
+      (start : G) (es : List Entry) (t : Machine G) → Completes start es t
+      → IsCanonical eq IsAnswer start (renumbered (filed_rows t.goals t.states))
 
   abbrev pub RenumberedRowsAgree : Type 0
   RenumberedRowsAgree =
-      (answer : G → Answer G) (start : G) (es fs : List Entry) (t u : Machine G) → Replays eq answer (begun start) es t → AllFiled t → Replays eq answer (begun start) fs u → AllFiled u
+      (start : G) (es fs : List Entry) (t u : Machine G) → Completes start es t → Completes start fs u
       → renumbered (filed_rows t.goals t.states) ≡ renumbered (filed_rows u.goals u.states)
 
   abbrev pub CanonicalRowsAreTheClosure : Type 0
   CanonicalRowsAreTheClosure =
-      (answer : G → Answer G) (start : G) (rows : List (Row G)) → IsCanonical eq answer start rows → IsClosure eq answer start rows
+      (start : G) (rows : List (Row G)) → IsCanonical eq IsAnswer start rows → IsClosure eq IsAnswer start rows
 
   abbrev pub CompleteHistoriesMakeGrammars : Type 0
   CompleteHistoriesMakeGrammars =
-      (answer : G → Answer G) (start : G) (es : List Entry) (t : Machine G) → Replays eq answer (begun start) es t → AllFiled t
+      (start : G) (es : List Entry) (t : Machine G) → Completes start es t
       → let rows = filed_rows t.goals t.states in IsGrammar start rows × IsGrammar start (renumbered rows)

@@ -1,10 +1,12 @@
+pub mod Adding
 pub mod Arguments
+pub mod Canonical
 pub mod Closure
-pub mod Kept
+pub mod Consistency
+pub mod Finishing
+pub mod Grammar
 pub mod Laws
 pub mod Machine
-pub mod Canonical
-pub mod Grammar
 pub mod Numbers
 pub mod Renumbering
 pub mod Rows

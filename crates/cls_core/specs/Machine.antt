@@ -1,5 +1,5 @@
 -- The core machine: its rows, its two events, and the histories that they make.
-use Rattle.std.specs.Prelude.{◌≡◌, ℕ, ◌-◌, Bool, List, [], ◌∷◌, ◌++◌, Some, length, replicate, slice_get, slice_set}
+use Rattle.std.specs.Prelude.{◌≡◌, ◌≢◌, ◌<◌, ℕ, ◌+◌, ◌-◌, Bool, List, [], ◌∷◌, ◌++◌, Some, length, replicate, slice_get, slice_set}
 use Rattle.std.specs.List.{position_or_len, sum_by}
 use Rattle.indexmap.specs.IndexSet.{insert_all}
 use Rattle.cls_core.specs.declared.state.RowState.{RowState}
@@ -15,13 +15,13 @@ IsFiled Free = ⊥
 IsFiled (Held worker) = ⊥
 IsFiled (Filed answer) = Unit {0}
 
--- 1 where the row is held
+-- 1 if the row is held, and 0 otherwise
 abbrev pub held_weight : RowState → ℕ
 held_weight Free = 0
 held_weight (Held worker) = 1
 held_weight (Filed answer) = 0
 
--- the number of rules of the row, where it is filed
+-- the number of rules of the row if it is filed, and 0 otherwise
 abbrev pub rules_weight : RowState → ℕ
 rules_weight Free = 0
 rules_weight (Held worker) = 0
@@ -35,12 +35,29 @@ held_in states = sum_by held_weight states
 abbrev pub rules_in : List RowState → ℕ
 rules_in states = sum_by rules_weight states
 
+-- each state is filed
 abbrev pub EachFiled : List RowState → Type 0
 EachFiled states = (row : ℕ) (s : RowState) → slice_get states row ≡ Some s → IsFiled s
+
+-- some state isn't filed
+abbrev pub SomeUnfiled : List RowState → Type 0
+SomeUnfiled states = (row : ℕ) × (s : RowState) × (slice_get states row ≡ Some s) × (IsFiled s → ⊥)
 
 -- every row is filed
 abbrev pub AllFiled : {G : Type 0} → Machine G → Type 0
 AllFiled r = EachFiled r.states
+
+-- no row is free
+abbrev pub NoneFree : {G : Type 0} → Machine G → Type 0
+NoneFree r = (row : ℕ) → slice_get r.states row ≢ Some Free
+
+-- no row below this one is free
+abbrev pub NoneFreeBelow : List RowState → ℕ → Type 0
+NoneFreeBelow states row = (earlier : ℕ) → earlier < row → slice_get states earlier ≢ Some Free
+
+-- some row is held
+abbrev pub SomeHeld : {G : Type 0} → Machine G → Type 0
+SomeHeld r = (row : ℕ) × (worker : ℕ) × (slice_get r.states row ≡ Some (Held worker))
 
 -- the machine at its start: one free row
 abbrev pub begun : {G : Type 0} → G → Machine G
@@ -55,6 +72,10 @@ module _ {G : Type 0} (eq : G → G → Bool) where
   abbrev pub grown : List G → Answer G → List G
   grown gs answer = insert_all eq gs (arguments_of answer)
 
+  -- n of the answer's arguments, each counted once, aren't among the goals
+  abbrev pub AddsRows : List G → Answer G → ℕ → Type 0
+  AddsRows gs answer n = length (grown gs answer) ≡ length gs + n
+
   -- the answer with numbers of rows in place of goals
   abbrev pub numbered : List G → Answer G → Answer ℕ
   numbered gs answer = map_answer (λ g. position_or_len (eq g) gs) answer
@@ -65,12 +86,21 @@ module _ {G : Type 0} (eq : G → G → Bool) where
       let gs = grown r.goals answer in
       machine gs (slice_set r.states row (Filed (numbered gs answer)) ++ replicate (length gs - length r.goals) Free)
 
-  -- answer gives the answer of each goal
-  module _ (answer : G → Answer G) where
+  -- IsAnswer g a: a is an answer of the goal g
+  module _ (IsAnswer : G → Answer G → Type 0) where
+    -- The worker holds the row. It is filed with an answer of its goal, which leads from the rows r to t.
+    pub record IsFiling (r : Machine G) (worker row : ℕ) (t : Machine G) : Type 0 where
+      pub goal : G
+      pub answer : Answer G
+      pub held : slice_get r.states row ≡ Some (Held worker)
+      pub has_goal : slice_get r.goals row ≡ Some goal
+      pub is_answer : IsAnswer goal answer
+      pub rows_after : t ≡ filed r row answer
+
     -- the event is possible, and leads from the rows r to t
     abbrev pub Steps : Machine G → Entry → Machine G → Type 0
     Steps r (Claim worker row) t = (slice_get r.states row ≡ Some Free) × (t ≡ claimed r worker row)
-    Steps r (File worker row) t = (slice_get r.states row ≡ Some (Held worker)) × ((g : G) × (slice_get r.goals row ≡ Some g) × (t ≡ filed r row (answer g)))
+    Steps r (File worker row) t = IsFiling r worker row t
 
     -- each event of the history is possible in turn, from the rows r on, and t are the rows after it
     abbrev pub Replays : Machine G → List Entry → Machine G → Type 0

@@ -1,5 +1,5 @@
--- The numbers of an answer's goals, as they are given one after the other: a goal has the place at which it stands, and one
--- that doesn't stand there yet goes last.
+-- The numbers of an answer's goals, as they are given one after the other. A goal's number is the place at which it stands.
+-- A goal that doesn't stand there yet goes last.
 use Rattle.std.specs.Prelude.{ℕ, Bool, List, [], ◌∷◌}
 use Rattle.std.specs.List.{position_or_len}
 use Rattle.indexmap.specs.IndexSet.{insert_key, insert_all}
@@ -16,7 +16,8 @@ module _ {G : Type 0} (eq : G → G → Bool) where
 
   abbrev pub rule_from : List G → Rule G → Rule ℕ
   rule_from gs (Head component args) = Head component (numbers_from gs args)
-  rule_from gs (Any left right) = Any (position_or_len (eq left) gs) (position_or_len (eq right) (insert_key eq gs left))
+  rule_from gs (Any left right) =
+      Any (position_or_len (eq left) gs) (position_or_len (eq right) (insert_key eq gs left))
 
   abbrev pub rules_from : List G → List (Rule G) → List (Rule ℕ)
   rules_from gs [] = []

@@ -6,15 +6,15 @@ use Rattle.cls_core.specs.declared.answer.Answer.TheVariants.{Wide}
 use Rattle.cls_core.specs.Machine.{grown, numbered}
 use Rattle.cls_core.specs.Rows.{Row}
 
--- answer gives the answer of each goal
+-- Goals that are found breadth first. The function `answer` gives the answer of each goal.
 module _ {G : Type 0} (eq : G → G → Bool) (answer : G → Answer G) where
   -- the goals, and behind them in order those arguments of this one that aren't among them; no goal adds nothing
   abbrev pub worked_off : List G → Option G → List G
   worked_off gs None = gs
   worked_off gs (Some g) = grown eq gs (answer g)
 
-  -- The goals that are found from the start goal, in the order in which they are found, once those at the first places, as many
-  -- as the number says, were worked off one after the other.
+  -- The goals that are found from the start goal, in the order in which they are found. As many of them as the number says
+  -- were worked off, one after the other from the first one on.
   abbrev pub found : G → ℕ → List G
   found start zero = start ∷ []
   found start (suc k) = let gs = found start k in worked_off gs (slice_get gs k)

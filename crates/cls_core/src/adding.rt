@@ -1,21 +1,22 @@
 //! The goals that an answer adds to the rows.
 ghost use Rattle.std.specs.Prelude.{◌≡◌, ◌++◌, IfOk, OnOk};
-ghost use Rattle.indexmap.specs.IndexSet.{insert_key, insert_all};
-ghost use Rattle.cls_core.specs.Arguments.{arguments_of, arguments_of_rule, arguments_in};
+ghost use Rattle.cls_core.specs.Adding.{AddsGoal, AddsGoals};
+ghost use Rattle.cls_core.specs.Arguments.{arguments_of_rule, arguments_in};
+ghost use Rattle.cls_core.specs.Machine.{grown};
 
 use crate::answer::Answer;
 use cls_base::{Key, OutOfMemory, Rule};
 use indexmap::IndexSet;
 use std::alloc::Global;
 
-// Adds one goal, where it is among neither the rows nor those added before.
+// Adds one goal, unless it is among the rows or those that were added before.
 fn add_goal<G: Key + Drop>(
     alloc: Global,
     rows: &IndexSet<G>,
     added: &mut IndexSet<G>,
     goal: &G,
 ) -> Result<(), OutOfMemory>
-    ensures { OnOk result (rows.now.keys ++ added.new.keys ≡ insert_key G.eq (rows.now.keys ++ added.old.keys) goal.now) }
+    ensures { OnOk result (AddsGoal G.eq rows.now.keys added.old.keys goal.now added.new.keys) }
 {
     if !rows.contains(goal) {
         added.insert(goal.copy(alloc)?)?;
@@ -30,7 +31,7 @@ fn add_goals<G: Key + Drop>(
     added: &mut IndexSet<G>,
     goals: &[G],
 ) -> Result<(), OutOfMemory>
-    ensures { OnOk result (rows.now.keys ++ added.new.keys ≡ insert_all G.eq (rows.now.keys ++ added.old.keys) goals.now) }
+    ensures { OnOk result (AddsGoals G.eq rows.now.keys added.old.keys goals.now added.new.keys) }
 {
     for goal in goals {
         add_goal(alloc, rows, added, goal)?;
@@ -45,7 +46,7 @@ fn add_rule<G: Key + Drop>(
     added: &mut IndexSet<G>,
     rule: &Rule<G>,
 ) -> Result<(), OutOfMemory>
-    ensures { OnOk result (rows.now.keys ++ added.new.keys ≡ insert_all G.eq (rows.now.keys ++ added.old.keys) (arguments_of_rule rule.now)) }
+    ensures { OnOk result (AddsGoals G.eq rows.now.keys added.old.keys (arguments_of_rule rule.now) added.new.keys) }
 {
     match rule {
         Rule::Head { component: _, args } => add_goals(alloc, rows, added, args.as_slice())?,
@@ -64,7 +65,7 @@ fn add_rules<G: Key + Drop>(
     added: &mut IndexSet<G>,
     rules: &[Rule<G>],
 ) -> Result<(), OutOfMemory>
-    ensures { OnOk result (rows.now.keys ++ added.new.keys ≡ insert_all G.eq (rows.now.keys ++ added.old.keys) (arguments_in rules.now)) }
+    ensures { OnOk result (AddsGoals G.eq rows.now.keys added.old.keys (arguments_in rules.now) added.new.keys) }
 {
     for rule in rules {
         add_rule(alloc, rows, added, rule)?;
@@ -78,7 +79,7 @@ pub(crate) fn added_by<G: Key + Drop>(
     rows: &IndexSet<G>,
     answer: &Answer<G>,
 ) -> Result<IndexSet<G>, OutOfMemory>
-    ensures { IfOk result (λ added. rows.now.keys ++ added.keys ≡ insert_all G.eq rows.now.keys (arguments_of answer.now)) }
+    ensures { IfOk result (λ added. rows.now.keys ++ added.keys ≡ grown G.eq rows.now.keys answer.now) }
 {
     let mut added: IndexSet<G> = IndexSet::new(alloc);
     if let Answer::Rules(rules) = answer {

@@ -1,16 +1,16 @@
-ghost use Rattle.std.specs.Prelude.{◌≡◌, IfOk, All};
+ghost use Rattle.std.specs.Prelude.{IfOk};
 
 use crate::answer::Answer;
 use cls_base::{Key, OutOfMemory};
 use std::alloc::Global;
 
-/// Works on goals: gives the answer of each.
+/// Works on goals: finds the answer of each.
 ///
-/// What it means is its tag, plain data that exists in contracts alone. `answer` is the answer that a tag means for a goal,
-/// and `ready` says which goals can be worked on by it.
+/// What it means is its tag, plain data that exists in contracts alone. `answers` says which answer a tag means for a
+/// goal, if any, and `ready` says which goals can be worked on by it.
 pub trait Expand {
     ghost use Rattle.cls_core.specs.declared.answer.Answer.{Answer};
-    ghost use Rattle.cls_core.specs.Arguments.{arguments_of};
+    ghost use Rattle.cls_core.specs.Arguments.{HasUniqueAnswers, ArgumentsAreReady};
 
     /// What is worked on.
     type Goal: Key + Drop;
@@ -20,15 +20,18 @@ pub trait Expand {
 
     ghost tag: { Self → Self.Tag };
 
-    ghost answer: { Self.Tag → Self.Goal → Answer Self.Goal };
+    ghost answers: { Self.Tag → Self.Goal → Answer Self.Goal → Type 0 };
 
     ghost ready: { Self.Tag → Self.Goal → Type 0 };
 
     /// The answer that the tag means for the goal. The only error is out of memory.
     fn expand(&self, alloc: Global, goal: &Self::Goal) -> Result<Answer<Self::Goal>, OutOfMemory>
         requires { ready (tag self.now) goal.now }
-        ensures { IfOk result (λ a. a ≡ answer (tag self.now) goal.now) };
+        ensures { IfOk result (λ a. answers (tag self.now) goal.now a) };
+
+    // A goal has at most one answer.
+    ghost one_answer: { (t : Self.Tag) → HasUniqueAnswers (answers t) };
 
     // The goals of an answer can be worked on again.
-    ghost arguments_ready: { (t : Self.Tag) (g : Self.Goal) → ready t g → All (ready t) (arguments_of (answer t g)) };
+    ghost arguments_ready: { (t : Self.Tag) → ArgumentsAreReady (ready t) (answers t) };
 }

@@ -17,21 +17,22 @@ pub struct Rows<G: Key + Drop> {
 }
 
 impl<G: Key + Drop> Model for Rows<G> {
-    ghost use Rattle.std.specs.Prelude.{◌≡◌, ◌<◌, ◌^◌, List, length};
-    ghost use Rattle.cls_core.specs.Rows.{Row, filed_rows};
-    ghost use Rattle.cls_core.specs.Machine.{EachFiled};
+    ghost use Rattle.std.specs.Prelude.{List};
+    ghost use Rattle.cls_core.specs.Consistency.{AreFinished};
+    ghost use Rattle.cls_core.specs.Rows.{Row, machine, filed_rows};
 
     ghost Value = { List (Row G) };
 
     ghost view = { λ r. filed_rows r.goals.keys r.states.items };
 
-    ghost invariant = { λ r. (length r.states.items ≡ length r.goals.keys) × (length r.goals.keys < 2 ^ 32) × EachFiled r.states.items };
+    ghost invariant = { λ r. AreFinished (machine r.goals.keys r.states.items) };
 }
 
 impl<G: Key + Drop> Rows<G> {
     ghost use Rattle.std.specs.Prelude.{◌^◌};
     ghost use Rattle.cls_core.specs.Rows.{Row, filed_rows};
 
+    // Rows that are filed already.
     pub(crate) fn of(goals: IndexSet<G>, states: Vec<RowState>) -> Rows<G>
         requires paired { length states.items ≡ length goals.keys }
         requires small { length goals.keys < 2 ^ 32 }

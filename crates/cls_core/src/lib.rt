@@ -1,13 +1,14 @@
 //! The core machine: which goals were reached, who works on which, and what became of each.
 //!
 //! - [`Rule`] is one way in which a goal can be met, with goals for arguments. [`Goals`] and [`Rules`] are lists.
-//! - [`Answer`] is what is known of a goal once it was worked on, and [`Expand`] what works on it.
+//! - [`Answer`] is what is known of a goal once it was worked on, and [`Expand`] is what works on it. Which answer a
+//!   goal has is a relation, not a function.
 //! - [`Core`] has a row for each goal that was reached. A row is free, held by a worker, or filed with its answer.
 //!   [`Core::claim`] and [`Core::file`] are its two events, and [`Entry`] and [`History`] record them.
-//! - [`Finished`] is a core whose rows are all filed, with [`Rows`] and the history. [`Core::finish`] makes it of a core,
+//! - [`Finished`] is a core whose rows are all filed: [`Rows`] and the history. [`Core::finish`] makes it of a core,
 //!   and [`Core::read`] copies it out of one.
-//! - [`laws`] holds what is true of every history: which goals it reaches, and that the rows of a complete one don't
-//!   depend on it.
+//! - [`laws`] holds what is true of every history: which goals it reaches, and that the rows of a complete history
+//!   depend on the start goal alone, but for their order.
 #![tactic(auto)]
 
 mod adding;

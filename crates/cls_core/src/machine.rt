@@ -1,7 +1,7 @@
 ghost use Rattle.std.specs.Prelude.{◌≡◌, ◌<◌, ◌≤◌, ◌+◌, ◌^◌, [], ◌∷◌, ◌++◌, Some, IfOk, IfErr, IfSome, IfNone, OnOk, OnErr, IsTrue, true, false, ◌↔◌, ℕ, ◌≢◌, length, slice_get, vec_len, replicate};
 ghost use Rattle.std.specs.Vec.{vec_capacity};
 ghost use Rattle.indexmap.specs.IndexSet.{spare, insert_all};
-ghost use Rattle.cls_core.specs.Machine.{rules_in, IsFiled};
+ghost use Rattle.cls_core.specs.Machine.{rules_in, IsFiled, SomeUnfiled};
 ghost use Rattle.cls_core.specs.Arguments.{rule_count};
 ghost use Rattle.cls_core.specs.declared.state.RowState.{RowState};
 ghost use Rattle.cls_core.specs.declared.state.RowState.TheVariants.{Free, Held};
@@ -38,32 +38,32 @@ pub struct Core<G: Key + Drop> {
 }
 
 impl<G: Key + Drop> Model for Core<G> {
-    ghost use Rattle.cls_core.specs.Rows.{Recorded};
-    ghost use Rattle.cls_core.specs.Kept.{IsKept};
+    ghost use Rattle.cls_core.specs.Rows.{Recorded, machine};
+    ghost use Rattle.cls_core.specs.Consistency.{IsConsistent};
     ghost use Rattle.std.specs.Vec.{vec_capacity};
 
     ghost Value = { Recorded G };
 
-    ghost view = { λ c. record { rows = record { goals = c.goals.keys; states = c.states.items }; history = c.history.items } };
+    ghost view = { λ c. record { rows = machine c.goals.keys c.states.items; history = c.history.items } };
 
-    ghost invariant = { λ c. IsKept c.goals.keys c.states.items c.first c.held c.rules c.history.items (vec_capacity c.history) };
+    ghost invariant = { λ c. let rows = machine c.goals.keys c.states.items in
+        IsConsistent rows c.first c.held c.rules c.history.items (vec_capacity c.history) };
 }
 
-// Puts so many free rows behind the others, for which there is room.
+// Puts as many free rows behind the others as the count says. There is room for them.
 fn add_free(states: &mut Vec<RowState>, count: usize)
     requires { vec_len states.old + count ≤ vec_capacity states.old }
     ensures { states.new.items ≡ states.old.items ++ replicate count Free }
 {
-    for row in 0..count {
-        let _ = row;
+    for _row in 0..count {
         states.push_reserved(RowState::Free);
     }
 }
 
 // Whether all rows are filed.
 fn all_filed(states: &[RowState]) -> bool
-    ensures yes { result ≡ true → (row : ℕ) (s : RowState) → slice_get states.now row ≡ Some s → IsFiled s }
-    ensures no { result ≡ false → ((row : ℕ) × (s : RowState) × (slice_get states.now row ≡ Some s) × (IsFiled s → ⊥)) }
+    ensures filed { result ≡ true → (row : ℕ) (s : RowState) → slice_get states.now row ≡ Some s → IsFiled s }
+    ensures unfiled { result ≡ false → SomeUnfiled states.now }
 {
     for state in states {
         match state {
@@ -76,8 +76,9 @@ fn all_filed(states: &[RowState]) -> bool
 
 impl<G: Key + Drop> Core<G> {
     ghost use Rattle.cls_core.specs.declared.entry.Entry.TheVariants.{Claim, File};
-    ghost use Rattle.cls_core.specs.Machine.{begun, claimed, filed, grown, AllFiled};
-    ghost use Rattle.cls_core.specs.Rows.{filed_rows};
+    ghost use Rattle.cls_core.specs.Machine.{begun, claimed, filed, grown, AddsRows};
+    ghost use Rattle.cls_core.specs.Machine.{AllFiled, NoneFree, NoneFreeBelow, SomeHeld};
+    ghost use Rattle.cls_core.specs.Finishing.{IsFinished};
 
     /// One free row, the start goal, and an empty history. The only error is out of memory.
     pub fn enter(alloc: Global, start: G) -> Result<Core<G>, OutOfMemory>
@@ -128,12 +129,12 @@ impl<G: Key + Drop> Core<G> {
         &self.states[row as usize]
     }
 
-    /// The free row with the least number. None comes if and only if no row is free.
+    /// The free row with the least number. It is None if and only if no row is free.
     pub fn any_free(&self) -> Option<u32>
-        ensures some { IfSome result (λ row. slice_get self.now.rows.states row ≡ Some Free) }
-        ensures least { IfSome result (λ row. (earlier : ℕ) → earlier < row → slice_get self.now.rows.states earlier ≢ Some Free) }
+        ensures free { IfSome result (λ row. slice_get self.now.rows.states row ≡ Some Free) }
+        ensures least { IfSome result (λ row. NoneFreeBelow self.now.rows.states row) }
         ensures within { IfSome result (λ row. row < length self.now.rows.goals) }
-        ensures none { IfNone result ((row : ℕ) → slice_get self.now.rows.states row ≢ Some Free) }
+        ensures none_free { IfNone result (NoneFree self.now.rows) }
     {
         for row in self.first..self.states.len() {
             if matches!(self.states[row], RowState::Free) {
@@ -145,7 +146,7 @@ impl<G: Key + Drop> Core<G> {
 
     /// Whether some row is held.
     pub fn any_held(&self) -> bool
-        ensures { IsTrue result ↔ ((row : ℕ) × (worker : ℕ) × (slice_get self.now.rows.states row ≡ Some (Held worker))) }
+        ensures { IsTrue result ↔ SomeHeld self.now.rows }
     {
         self.held > 0
     }
@@ -162,20 +163,20 @@ impl<G: Key + Drop> Core<G> {
 
     /// The number of different argument goals of the answer that have no row yet. The only error is out of memory.
     pub fn added(&self, alloc: Global, answer: &Answer<G>) -> Result<u64, OutOfMemory>
-        ensures { IfOk result (λ n. length (grown G.eq self.now.rows.goals answer.now) ≡ length self.now.rows.goals + n) }
+        ensures { IfOk result (λ n. AddsRows G.eq self.now.rows.goals answer.now n) }
     {
         let added = added_by(alloc, &self.goals, answer)?;
         Ok(added.len() as u64)
     }
 
-    /// The event Claim: the worker takes the row, which is free. Room for the entry of its filing is taken too. The only
-    /// error is out of memory, at which the core is as before.
+    /// The event Claim: the worker takes the row, which is free. Memory for the entry of its filing is taken, too. The
+    /// only error is out of memory, which leaves the core as it was.
     pub fn claim(&mut self, worker: u32, row: u32) -> Result<(), OutOfMemory>
         requires { slice_get self.old.rows.states row ≡ Some Free }
         ensures rows { OnOk result (self.new.rows ≡ claimed self.old.rows worker row) }
         ensures history { OnOk result (self.new.history ≡ self.old.history ++ Claim worker row ∷ []) }
-        ensures small { OnOk result (length self.new.history < 2 ^ 63) }
-        ensures err { OnErr result (self.new ≡ self.old) }
+        ensures history_fits { OnOk result (length self.new.history < 2 ^ 63) }
+        ensures unchanged { OnErr result (self.new ≡ self.old) }
     {
         self.history.reserve(self.held + 2)?;
         self.history.push_reserved(Entry::Claim { worker, row });
@@ -187,9 +188,9 @@ impl<G: Key + Drop> Core<G> {
         Ok(())
     }
 
-    /// The event File: the row, which the worker holds, is filed with the answer, and each argument goal that has no row
-    /// yet gets a free one. All memory is taken before a row changes. The Err means out of memory alone, and hands the answer
-    /// back, and the core is as before.
+    /// The event File: the row, which the worker holds, is filed with the answer. Each argument goal that has no row
+    /// yet gets a free one. All memory is taken before a row changes. The Err means out of memory alone: it hands the
+    /// answer back, and the core is as it was.
     pub fn file(
         &mut self,
         alloc: Global,
@@ -202,7 +203,7 @@ impl<G: Key + Drop> Core<G> {
         requires rules { rules_in self.old.rows.states + rule_count answer < 2 ^ 64 }
         ensures rows { OnOk result (self.new.rows ≡ filed G.eq self.old.rows row answer) }
         ensures history { OnOk result (self.new.history ≡ self.old.history ++ File worker row ∷ []) }
-        ensures err { IfErr result (λ a. (a ≡ answer) × (self.new ≡ self.old)) }
+        ensures unchanged { IfErr result (λ a. (a ≡ answer) × (self.new ≡ self.old)) }
     {
         let Ok((numbers, mut added)) = number_answer(alloc, &self.goals, &answer) else {
             return Err(answer);
@@ -222,10 +223,11 @@ impl<G: Key + Drop> Core<G> {
         Ok(())
     }
 
-    /// The rows and the history, copied. None comes if and only if some row isn't filed. The only error is out of memory.
+    /// The rows and the history, copied. It is None if and only if some row isn't filed. The only error is out of
+    /// memory.
     pub fn read(&self, alloc: Global) -> Result<Option<Finished<G>>, OutOfMemory>
-        ensures finished { IfOk result (λ r. IfSome r (λ f. AllFiled self.now.rows × (f.rows ≡ filed_rows self.now.rows.goals self.now.rows.states) × (f.history ≡ self.now.history))) }
-        ensures unfiled { IfOk result (λ r. IfNone r (AllFiled self.now.rows → ⊥)) }
+        ensures finished { IfOk result (λ r. IfSome r (λ f. IsFinished self.now f)) }
+        ensures unfinished { IfOk result (λ r. IfNone r (AllFiled self.now.rows → ⊥)) }
     {
         if !all_filed(self.states.as_slice()) {
             return Ok(None);
@@ -239,10 +241,10 @@ impl<G: Key + Drop> Core<G> {
         }))
     }
 
-    /// The rows and the history. The Err comes if and only if some row isn't filed, and hands the core back.
+    /// The rows and the history. It is an Err if and only if some row isn't filed, and the Err hands the core back.
     pub fn finish(self) -> Result<Finished<G>, Core<G>>
-        ensures ok { IfOk result (λ f. AllFiled self.rows × (f.rows ≡ filed_rows self.rows.goals self.rows.states) × (f.history ≡ self.history)) }
-        ensures err { IfErr result (λ c. (c ≡ self) × (AllFiled self.rows → ⊥)) }
+        ensures finished { IfOk result (λ f. IsFinished self f) }
+        ensures unfinished { IfErr result (λ c. (c ≡ self) × (AllFiled self.rows → ⊥)) }
     {
         if !all_filed(self.states.as_slice()) {
             return Err(self);

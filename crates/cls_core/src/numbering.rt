@@ -1,8 +1,10 @@
-//! An answer's goals as numbers of rows, where each goal without a row goes behind those that have one.
+//! An answer's goals as numbers of rows. Each goal that has no row yet goes behind those that have one.
 ghost use Rattle.std.specs.Prelude.{◌≡◌, ◌<◌, ◌+◌, ◌^◌, ◌++◌, [], IfOk, length};
 ghost use Rattle.std.specs.List.{position_or_len};
 ghost use Rattle.indexmap.specs.IndexSet.{insert_key, insert_all};
-ghost use Rattle.cls_core.specs.Arguments.{arguments_of, arguments_of_rule, arguments_in};
+ghost use Rattle.cls_core.specs.Adding.{AddsGoal, AddsGoals};
+ghost use Rattle.cls_core.specs.Arguments.{arguments_of_rule, arguments_in};
+ghost use Rattle.cls_core.specs.Machine.{grown};
 ghost use Rattle.cls_core.specs.Numbers.{numbers_from, rule_from, rules_from, answer_from};
 
 use crate::answer::Answer;
@@ -10,7 +12,7 @@ use cls_base::{Goals, Key, OutOfMemory, Rule, Rules};
 use indexmap::IndexSet;
 use std::alloc::Global;
 
-// The number of one goal, which is added where it is among neither the rows nor those added before.
+// The number of one goal. It is added unless it is among the rows or those that were added before.
 fn number_goal<G: Key + Drop>(
     alloc: Global,
     rows: &IndexSet<G>,
@@ -18,7 +20,7 @@ fn number_goal<G: Key + Drop>(
     goal: &G,
 ) -> Result<u32, OutOfMemory>
     requires room { length (insert_key G.eq (rows.now.keys ++ added.old.keys) goal.now) < 2 ^ 32 }
-    ensures added { IfOk result (λ _. rows.now.keys ++ added.new.keys ≡ insert_key G.eq (rows.now.keys ++ added.old.keys) goal.now) }
+    ensures added { IfOk result (λ _. AddsGoal G.eq rows.now.keys added.old.keys goal.now added.new.keys) }
     ensures number { IfOk result (λ n. n ≡ position_or_len (G.eq goal.now) (rows.now.keys ++ added.old.keys)) }
 {
     if let Some(row) = rows.get_index_of(goal) {
@@ -36,7 +38,7 @@ fn number_goals<G: Key + Drop>(
     goals: &[G],
 ) -> Result<Goals<u32>, OutOfMemory>
     requires room { length (insert_all G.eq (rows.now.keys ++ added.old.keys) goals.now) < 2 ^ 32 }
-    ensures added { IfOk result (λ _. rows.now.keys ++ added.new.keys ≡ insert_all G.eq (rows.now.keys ++ added.old.keys) goals.now) }
+    ensures added { IfOk result (λ _. AddsGoals G.eq rows.now.keys added.old.keys goals.now added.new.keys) }
     ensures numbers { IfOk result (λ n. n ≡ numbers_from G.eq (rows.now.keys ++ added.old.keys) goals.now) }
 {
     let mut numbers = Vec::with_capacity(alloc, goals.len())?;
@@ -55,7 +57,7 @@ fn number_rule<G: Key + Drop>(
     rule: &Rule<G>,
 ) -> Result<Rule<u32>, OutOfMemory>
     requires room { length (insert_all G.eq (rows.now.keys ++ added.old.keys) (arguments_of_rule rule.now)) < 2 ^ 32 }
-    ensures added { IfOk result (λ _. rows.now.keys ++ added.new.keys ≡ insert_all G.eq (rows.now.keys ++ added.old.keys) (arguments_of_rule rule.now)) }
+    ensures added { IfOk result (λ _. AddsGoals G.eq rows.now.keys added.old.keys (arguments_of_rule rule.now) added.new.keys) }
     ensures numbers { IfOk result (λ n. n ≡ rule_from G.eq (rows.now.keys ++ added.old.keys) rule.now) }
 {
     match rule {
@@ -82,7 +84,7 @@ fn number_rules<G: Key + Drop>(
     rules: &[Rule<G>],
 ) -> Result<Rules<u32>, OutOfMemory>
     requires room { length (insert_all G.eq (rows.now.keys ++ added.old.keys) (arguments_in rules.now)) < 2 ^ 32 }
-    ensures added { IfOk result (λ _. rows.now.keys ++ added.new.keys ≡ insert_all G.eq (rows.now.keys ++ added.old.keys) (arguments_in rules.now)) }
+    ensures added { IfOk result (λ _. AddsGoals G.eq rows.now.keys added.old.keys (arguments_in rules.now) added.new.keys) }
     ensures numbers { IfOk result (λ n. n ≡ rules_from G.eq (rows.now.keys ++ added.old.keys) rules.now) }
 {
     let mut numbered = Vec::with_capacity(alloc, rules.len())?;
@@ -99,8 +101,8 @@ pub(crate) fn number_answer<G: Key + Drop>(
     rows: &IndexSet<G>,
     answer: &Answer<G>,
 ) -> Result<(Answer<u32>, IndexSet<G>), OutOfMemory>
-    requires room { length (insert_all G.eq rows.now.keys (arguments_of answer.now)) < 2 ^ 32 }
-    ensures added { IfOk result (λ r. rows.now.keys ++ r.1.keys ≡ insert_all G.eq rows.now.keys (arguments_of answer.now)) }
+    requires room { length (grown G.eq rows.now.keys answer.now) < 2 ^ 32 }
+    ensures added { IfOk result (λ r. rows.now.keys ++ r.1.keys ≡ grown G.eq rows.now.keys answer.now) }
     ensures numbers { IfOk result (λ r. r.0 ≡ answer_from G.eq rows.now.keys answer.now) }
 {
     let mut added: IndexSet<G> = IndexSet::new(alloc);

@@ -4,8 +4,10 @@ use Rattle.cls_core.proofs.Renumbering.{renumbered-canonical}
 use Rattle.cls_core.proofs.laws.renumbered_rows_are_canonical.Goals as goal
 
 pub returns : goal.returns
-returns g c = λ answer start es t h all.
-    let eq = g.G.PartialEq.eq in
-    let exact = g.met.G.Key.exact in
-    let reflexive = g.met.G.Eq.laws.refl in
-    renumbered-canonical eq exact reflexive answer start (filed_rows t.goals t.states) (complete-closure eq exact reflexive answer start t (replay-sound eq exact reflexive answer start es t h) all)
+returns g c = λ tag start es t h.
+    let eq = g.E.Goal.PartialEq.eq in
+    let exact = g.met.E.Goal.Key.exact in
+    let reflexive = g.met.E.Goal.Eq.laws.refl in
+    let is_answer = g.E.Expand.answers tag in
+    let unique = g.met.E.Expand.one_answer tag in
+    renumbered-canonical eq exact reflexive is_answer start (filed_rows t.goals t.states) (complete-closure eq exact reflexive is_answer start unique t (replay-sound eq exact reflexive is_answer start es t h.0) h.1)

@@ -6,6 +6,6 @@ use Rattle.cls_core.proofs.machine.add_free.Given as goal
 
 abbrev pub invariant-loop-row : goal.invariant-loop-row
 invariant-loop-row l =
-    (l.states.items ≡ l.initial.states.items ++ replicate l.row Free)
-    × (vec_len l.states ≡ vec_len l.initial.states + l.row)
+    (l.states.items ≡ l.initial.states.items ++ replicate l._row Free)
+    × (vec_len l.states ≡ vec_len l.initial.states + l._row)
     × (vec_capacity l.states ≡ vec_capacity l.initial.states)

@@ -6,4 +6,4 @@ pub returns : goal.returns
 returns g c =
     let i = c.self.inside in
     let k = c.self.invariant in
-    omega (arith, c.len.ensures, i.states.ok.0, k.0, filed-count i.goals.keys i.states.items k.0 k.2, ap length c.self.view_is)
+    omega (arith, c.len.ensures, i.states.ok.0, k.paired, filed-count i.goals.keys i.states.items k.paired k.filed, ap length c.self.view_is)

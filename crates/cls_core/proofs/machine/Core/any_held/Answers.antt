@@ -13,6 +13,6 @@ pub returns : goal.returns
 returns g c =
     let states : c.self.inside.states.items ≡ c.args.self.now.rows.states = ap (λ v. v.rows.states) c.self.view_is in
     let k = c.self.invariant in (
-      λ t. held-some c.args.self.now.rows.states (let h = lt_true c.self.inside.held t in omega (arith, k.holds, ap held_in states)),
-      λ r. true_lt c.self.inside.held (let h = held-counts c.args.self.now.rows.states r.0 r.1 r.2 in omega (arith, k.holds, ap held_in states)),
+      λ t. held-some c.args.self.now.rows.states (let h = lt_true c.self.inside.held t in omega (arith, k.held_counted, ap held_in states)),
+      λ r. true_lt c.self.inside.held (let h = held-counts c.args.self.now.rows.states r.0 r.1 r.2 in omega (arith, k.held_counted, ap held_in states)),
     )

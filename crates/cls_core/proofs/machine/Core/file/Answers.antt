@@ -16,7 +16,7 @@ overflow_sub-self g c =
     let k = c.self.invariant in
     let held = subst (λ v. slice_get v.rows.states c.args.row ≡ Some (Held c.args.worker)) (sym c.self.view_is) c.requires.held in
     let some = held-counts i.states.items c.args.row c.args.worker held in
-    omega (arith, k.holds)
+    omega (arith, k.held_counted)
 
 pub push_reserved-requires : goal.push_reserved-requires
 push_reserved-requires g c =
@@ -24,7 +24,7 @@ push_reserved-requires g c =
     let k = c.self.invariant in
     let held = subst (λ v. slice_get v.rows.states c.args.row ≡ Some (Held c.args.worker)) (sym c.self.view_is) c.requires.held in
     let some = held-counts i.states.items c.args.row c.args.worker held in
-    omega (arith, k.holds, k.reserved, i.history.ok.0)
+    omega (arith, k.held_counted, k.entries_fit, i.history.ok.0)
 
 pub invariant_of-self-2 : goal.invariant_of-self-2
 invariant_of-self-2 g c =
@@ -43,7 +43,7 @@ invariant_of-self-2 g c =
     (c.add_free.ensures ∙ ap (λ l. l ++ replicate c.len-count.result Free) c.in-Ok-reserve.ensures.items)
     c.push_reserved.ensures.items
     (i.held - 1) (i.rules + c.rule_count.result) (vec_capacity c.push_reserved.new.self)
-    (omega (arith, k.holds))
+    (omega (arith, k.held_counted))
     (ap (λ n. i.rules + n) (c.rule_count.ensures ∙ sym (ap rule_count c.in-Ok.ensures.numbers ∙ answer-count eq goals answer)))
     c.push_reserved.ensures.capacity
 
