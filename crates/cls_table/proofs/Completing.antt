@@ -12,14 +12,16 @@ use Rattle.cls_core.specs.declared.entry.Entry.{Entry}
 use Rattle.cls_core.specs.declared.entry.Entry.TheVariants.{Claim, File}
 use Rattle.cls_core.specs.declared.answer.Answer.{Answer}
 use Rattle.cls_core.proofs.Columns.{get-set-same, get-set-other, get-front, some-inside}
-use Rattle.cls_table.specs.Seen.{ProgressSeen}
+use Rattle.cls_table.specs.Seen.{ProgressSeen, core_of}
+use Rattle.cls_core.specs.Finishing.{IsFinished}
+use Rattle.cls_core.specs.Arguments.{HasUniqueAnswers}
 use Rattle.cls_core.specs.Closure.{IsClosure}
 use Rattle.cls_core.specs.Times.{EachOnce}
 use Rattle.cls_core.proofs.Closure.{replay-sound, complete-closure, complete-within}
 use Rattle.cls_core.proofs.FiledRows.{filed-count}
 use Rattle.cls_core.proofs.Times.{each-once}
 use Rattle.cls_table.specs.Lawful.{IsLawful, NamesUpTo}
-use Rattle.cls_table.specs.Completing.{IsFiledAt, ClaimsAreByCaller, Continues, IsFinishOf, IsComplete, IsCompletion}
+use Rattle.cls_table.specs.Completing.{IsFiledAt, ClaimsAreByCaller, Continues, IsComplete, IsCompletion}
 use Rattle.cls_core.specs.declared.finished.Finished.{Finished}
 
 free-filed : (ss : List RowState) (row : ℕ) (a : Answer ℕ) → slice_get ss row ≡ Some Free → slice_get ss row ≡ Some (Filed a) → ⊥
@@ -79,38 +81,38 @@ module _ {B G : Type 0} where
         let new = numbered eq (grown eq p.rows.goals a) a in
         (new, ap (λ m. slice_get m.states row) r ∙ get-front (set p.rows.states row (Filed new)) _ row (Filed new) (get-set-same p.rows.states row (Filed new) (slice_get_within p.rows.states row (Held worker) held)))
 
-module _ {B G : Type 0} (eq : G → G → Bool) (exact : (x y : G) → eq x y ≡ true → x ≡ y) (reflexive : (x : G) → eq x x ≡ true) (answer : B → G → Answer G) (ready : B → G → Type 0) where
+module _ {B G : Type 0} (eq : G → G → Bool) (exact : (x y : G) → eq x y ≡ true → x ≡ y) (reflexive : (x : G) → eq x x ≡ true) (IsAnswer : B → G → Answer G → Type 0) (ready : B → G → Type 0) (unique : (b : B) → HasUniqueAnswers (IsAnswer b)) where
   -- what is finished under the tag, where every row is filed
-  pub complete-finish : (q : ProgressSeen B G) (f : Finished G) → IsLawful eq answer ready q → IsFinishOf q.rows q.history f → IsComplete eq answer q.tag f
+  pub complete-finish : (q : ProgressSeen B G) (f : Finished G) → IsLawful eq IsAnswer ready q → IsFinished (core_of q) f → IsComplete eq IsAnswer q.tag f
   complete-finish q f k end =
-      let all = end.all_filed in
-      let shown = end.same_rows in
-      let is = end.same_history in
-      let sound = replay-sound eq exact reflexive (answer q.tag.by) q.tag.start q.history q.rows k.legal in
+      let all = end.0 in
+      let shown = end.1 in
+      let is = end.2 in
+      let sound = replay-sound eq exact reflexive (IsAnswer q.tag.by) q.tag.start q.history q.rows k.legal in
       record {
         rows = q.rows;
-        legal = subst (λ es. Replays eq (answer q.tag.by) (begun q.tag.start) es q.rows) (sym is) k.legal;
+        legal = subst (λ es. Replays eq (IsAnswer q.tag.by) (begun q.tag.start) es q.rows) (sym is) k.legal;
         all_filed = all;
         shown_rows = shown;
         goals_within = k.goals_within;
         rules_within = k.rules_within;
         workers_named = subst (λ es. NamesUpTo q.tag.workers es) (sym is) k.workers_named;
-        closure = subst (IsClosure eq (answer q.tag.by) q.tag.start) (sym shown) (complete-closure eq exact reflexive (answer q.tag.by) q.tag.start q.rows sound all);
-        each_once = subst (EachOnce (length f.rows)) (sym is) (subst (λ n. EachOnce n q.history) (sound.paired ∙ (sym (filed-count q.rows.goals q.rows.states sound.paired all) ∙ ap length (sym shown))) (each-once eq (answer q.tag.by) q.tag.start q.history q.rows k.legal all));
-        not_large = complete-within eq exact reflexive (answer q.tag.by) q.tag.start q.rows q.tag.goals q.tag.rules sound all k.goals_within k.rules_within;
+        closure = subst (IsClosure eq (IsAnswer q.tag.by) q.tag.start) (sym shown) (complete-closure eq exact reflexive (IsAnswer q.tag.by) q.tag.start (unique q.tag.by) q.rows sound all);
+        each_once = subst (EachOnce (length f.rows)) (sym is) (subst (λ n. EachOnce n q.history) (sound.paired ∙ (sym (filed-count q.rows.goals q.rows.states sound.paired all) ∙ ap length (sym shown))) (each-once eq (IsAnswer q.tag.by) q.tag.start q.history q.rows k.legal all));
+        not_large = complete-within eq exact reflexive (IsAnswer q.tag.by) q.tag.start (unique q.tag.by) q.rows q.tag.goals q.tag.rules sound all k.goals_within k.rules_within;
       }
 
   -- what is read where every row is filed
-  pub complete-read : {E : Type 0} (q : ProgressSeen B G) (x : Result (Option (Finished G)) E) → IsLawful eq answer ready q → IfOk x (λ r. IfSome r (λ f. AllFiled q.rows × (f.rows ≡ filed_rows q.rows.goals q.rows.states) × (f.history ≡ q.history))) → IfOk x (λ r. IfSome r (λ f. IsComplete eq answer q.tag f))
-  complete-read q (Ok (Some f)) k h = complete-finish q f k (record { all_filed = h.0; same_rows = h.1; same_history = h.2 })
+  pub complete-read : {E : Type 0} (q : ProgressSeen B G) (x : Result (Option (Finished G)) E) → IsLawful eq IsAnswer ready q → IfOk x (λ r. IfSome r (IsFinished (core_of q))) → IfOk x (λ r. IfSome r (λ f. IsComplete eq IsAnswer q.tag f))
+  complete-read q (Ok (Some f)) k h = complete-finish q f k h
   complete-read q (Ok None) k h = tt
   complete-read q (Err e) k h = tt
 
   -- what is finished after p was gone on with
-  pub completed : (p q : ProgressSeen B G) (f : Finished G) → Continues p q → IsLawful eq answer ready q → IsFinishOf q.rows q.history f → IsCompletion eq answer p f
+  pub completed : (p q : ProgressSeen B G) (f : Finished G) → Continues p q → IsLawful eq IsAnswer ready q → IsFinished (core_of q) f → IsCompletion eq IsAnswer p f
   completed p q f h k end = record {
-    complete = subst (λ t. IsComplete eq answer t f) h.same_tag (complete-finish q f k end);
-    more = (h.more.0, end.same_history ∙ h.more.1, h.more.2);
+    complete = subst (λ t. IsComplete eq IsAnswer t f) h.same_tag (complete-finish q f k end);
+    more = (h.more.0, end.2 ∙ h.more.1, h.more.2);
   }
 
 -- where each row below the last has an answer, all are filed

@@ -1,6 +1,6 @@
 -- What one holding does to the table.
-use Rattle.std.specs.Prelude.{◌≡◌, ◌≢◌, ℕ, ◌+◌, ◌≤◌, Bool, true, false, [], ◌∷◌, ◌++◌, Some, length, slice_get}
-use Rattle.cls_core.specs.Machine.{claimed, filed, grown, rules_in}
+use Rattle.std.specs.Prelude.{◌≡◌, ℕ, ◌+◌, ◌≤◌, Bool, true, false, [], ◌∷◌, ◌++◌, Some, length, slice_get}
+use Rattle.cls_core.specs.Machine.{claimed, filed, grown, rules_in, NoneFree, SomeHeld}
 use Rattle.cls_core.specs.Arguments.{rule_count}
 use Rattle.cls_core.specs.Rows.{Machine}
 use Rattle.cls_core.specs.declared.state.RowState.TheVariants.{Free, Held}
@@ -10,12 +10,6 @@ use Rattle.cls_table.specs.declared.tag.Tag.{Tag}
 use Rattle.cls_table.specs.Seen.{TableSeen, ClaimSeen, FiledSeen}
 use Rattle.cls_table.specs.declared.claim.ClaimAnswer.{ClaimAnswer}
 use Rattle.cls_table.specs.declared.claim.ClaimAnswer.TheVariants.{Job, Again, Finished, TooLarge}
-
-abbrev pub NoRowIsFree : {G : Type 0} → Machine G → Type 0
-NoRowIsFree r = (row : ℕ) → slice_get r.states row ≢ Some Free
-
-abbrev pub SomeRowIsHeld : {G : Type 0} → Machine G → Type 0
-SomeRowIsHeld r = (row : ℕ) × (worker : ℕ) × (slice_get r.states row ≡ Some (Held worker))
 
 -- with the answer filed, the table would be within its limits
 abbrev pub HasRoom : {B G : Type 0} → (G → G → Bool) → Tag B G → Machine G → Answer G → Type 0
@@ -48,8 +42,8 @@ module _ {B G : Type 0} where
   -- the worker, who asks for a goal, gets this answer, and the table t becomes u
   abbrev pub ClaimOutcome : {E : Type 0} → TableSeen B G → ℕ → ClaimAnswer E G B → TableSeen B G → Type 0
   ClaimOutcome t worker (Job c) u = (t.large ≡ false) × IsClaimed t worker c u
-  ClaimOutcome t worker Again u = (t.large ≡ false) × NoRowIsFree t.rows × SomeRowIsHeld t.rows × (u ≡ t)
-  ClaimOutcome t worker Finished u = (t.large ≡ false) × NoRowIsFree t.rows × (SomeRowIsHeld t.rows → ⊥) × (u ≡ t)
+  ClaimOutcome t worker Again u = (t.large ≡ false) × NoneFree t.rows × SomeHeld t.rows × (u ≡ t)
+  ClaimOutcome t worker Finished u = (t.large ≡ false) × NoneFree t.rows × (SomeHeld t.rows → ⊥) × (u ≡ t)
   ClaimOutcome t worker TooLarge u = (t.large ≡ true) × (u ≡ t)
 
   -- how many claims the answer adds to a share

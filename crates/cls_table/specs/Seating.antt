@@ -17,10 +17,10 @@ module _ {B G : Type 0} where
     pub worker_named : worker ≤ tag.workers
     pub some_part : 0 < parts
 
-  module _ (answer : B → G → Answer G) where
+  module _ (IsAnswer : B → G → Answer G → Type 0) where
     -- what a shared claim may answer to the worker if its seat has this tag
     abbrev pub IsClaimAnswer : {E : Type 0} → Tag B G → ℕ → ClaimAnswer E G B → Type 0
     IsClaimAnswer tag worker (Job c) = (c.tag ≡ tag) × (c.worker ≡ worker)
     IsClaimAnswer tag worker Again = Unit {0}
     IsClaimAnswer tag worker Finished = Unit {0}
-    IsClaimAnswer tag worker TooLarge = IsLarge answer tag
+    IsClaimAnswer tag worker TooLarge = IsLarge IsAnswer tag

@@ -40,7 +40,7 @@ impl<E: Expand> Model for Filed<E> {
 
     ghost view = { λ f. record { claim = f.claim; answer = f.answer } };
 
-    ghost invariant = { λ f. f.answer ≡ E.answer f.claim.tag.by f.claim.goal };
+    ghost invariant = { λ f. E.answers f.claim.tag.by f.claim.goal f.answer };
 }
 
 /// What a worker that asks for a goal is told.
@@ -93,7 +93,7 @@ impl<E: Expand> Claim<E> {
     pub fn expand(self, alloc: Global, by: &E) -> Result<Filed<E>, Claim<E>>
         requires { E.tag by.now ≡ self.tag.by }
         ensures claim { IfOk result (λ f. f.claim ≡ self) }
-        ensures answer { IfOk result (λ f. f.answer ≡ E.answer self.tag.by self.goal) }
+        ensures answer { IfOk result (λ f. E.answers self.tag.by self.goal f.answer) }
         ensures err { IfErr result (λ c. c ≡ self) }
     {
         match by.expand(alloc, &self.goal) {
@@ -109,7 +109,7 @@ impl<E: Expand> Claim<E> {
 impl<E: Expand> Filed<E> {
     /// Does nothing, and says what holds of each filing: its answer is the one that the tag gives for the claim's goal.
     pub fn facts(&self)
-        ensures { self.now.answer ≡ E.answer self.now.claim.tag.by self.now.claim.goal }
+        ensures { E.answers self.now.claim.tag.by self.now.claim.goal self.now.answer }
     {
         // For the prover: opens the filing's model.
         let _ = &self.answer;

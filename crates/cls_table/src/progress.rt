@@ -4,11 +4,13 @@ ghost use Rattle.std.specs.Prelude.{IfOk, IfErr, IfSome, IfNone, OnOk, OnErr, le
 ghost use Rattle.std.specs.Option.{ForSome};
 ghost use Rattle.cls_core.specs.declared.state.RowState.TheVariants.{Free, Held};
 ghost use Rattle.cls_core.specs.declared.entry.Entry.TheVariants.{Claim as ClaimEntry, File};
-ghost use Rattle.cls_core.specs.Machine.{begun, claimed, AllFiled};
+ghost use Rattle.cls_core.specs.Machine.{begun, claimed, AllFiled, NoneFree, SomeHeld};
 ghost use Rattle.cls_table.specs.Tags.{tag_for};
-ghost use Rattle.cls_table.specs.Holdings.{IsHeldClaim, IsClaimOf, SomeRowIsHeld, NoRowIsFree, HasRoom};
+ghost use Rattle.cls_table.specs.Holdings.{IsHeldClaim, IsClaimOf, HasRoom};
 ghost use Rattle.cls_table.specs.Lawful.{IsLawful, IsLarge, claims_in};
-ghost use Rattle.cls_table.specs.Completing.{Continues, IsFiledAt, IsFinishOf, IsComplete, IsCompletion};
+ghost use Rattle.cls_table.specs.Completing.{Continues, IsFiledAt, IsComplete, IsCompletion};
+ghost use Rattle.cls_table.specs.Seen.{core_of};
+ghost use Rattle.cls_core.specs.Finishing.{IsFinished};
 
 use crate::claim::Claim;
 use crate::fault::ExpandFault;
@@ -38,7 +40,7 @@ impl<E: Expand> Model for Progress<E> {
 
     ghost view = { λ p. record { tag = p.origin; rows = p.core.rows; history = p.core.history } };
 
-    ghost invariant = { λ p. IsLawful E.Goal.eq E.answer E.ready
+    ghost invariant = { λ p. IsLawful E.Goal.eq E.answers E.ready
         (record { tag = p.origin; rows = p.core.rows; history = p.core.history }) };
 }
 
@@ -74,7 +76,7 @@ impl<E: Expand> Progress<E> {
 
     /// Does nothing, and says what holds of the rows and the history under the tag.
     pub(crate) fn facts(&self)
-        ensures { IsLawful E.Goal.eq E.answer E.ready self.now }
+        ensures { IsLawful E.Goal.eq E.answers E.ready self.now }
     {
         // For the prover: opens the model.
         let _ = &self.core;
@@ -83,14 +85,14 @@ impl<E: Expand> Progress<E> {
     /// A free row.
     pub(crate) fn any_free(&self) -> Option<u32>
         ensures some { IfSome result (λ row. slice_get self.now.rows.states row ≡ Some Free) }
-        ensures none { IfNone result (NoRowIsFree self.now.rows) }
+        ensures none { IfNone result (NoneFree self.now.rows) }
     {
         self.core.any_free()
     }
 
     /// Whether some row is held.
     pub(crate) fn any_held(&self) -> bool
-        ensures { IsTrue result ↔ SomeRowIsHeld self.now.rows }
+        ensures { IsTrue result ↔ SomeHeld self.now.rows }
     {
         self.core.any_held()
     }
@@ -175,9 +177,9 @@ impl<E: Expand> Progress<E> {
         answer: Answer<E::Goal>,
     ) -> Result<Filing, Answer<E::Goal>>
         requires held { slice_get self.old.rows.states row ≡ Some (Held worker) }
-        requires answer { ForSome (slice_get self.old.rows.goals row) (λ g. answer ≡ E.answer self.old.tag.by g) }
+        requires answer { ForSome (slice_get self.old.rows.goals row) (λ g. E.answers self.old.tag.by g answer) }
         ensures outcome { IfOk result (λ f. FilingOutcome E.Goal.eq worker row answer f self.old self.new) }
-        ensures large { IfOk result (λ f. f ≡ Filing.OverLimits → IsLarge E.answer self.old.tag) }
+        ensures large { IfOk result (λ f. f ≡ Filing.OverLimits → IsLarge E.answers self.old.tag) }
         ensures claims { OnOk result (claims_in self.new.history ≡ claims_in self.old.history) }
         ensures tag { self.new.tag ≡ self.old.tag }
         ensures err { IfErr result (λ a. (a ≡ answer) × (self.new ≡ self.old)) }
@@ -194,8 +196,8 @@ impl<E: Expand> Progress<E> {
 
     /// The rows and the history. The Err comes if and only if some row isn't filed.
     pub(crate) fn finish(self) -> Result<Finished<E::Goal>, Progress<E>>
-        ensures finish { IfOk result (IsFinishOf self.rows self.history) }
-        ensures lawful { OnOk result (IsLawful E.Goal.eq E.answer E.ready self) }
+        ensures finished { IfOk result (IsFinished (core_of self)) }
+        ensures lawful { OnOk result (IsLawful E.Goal.eq E.answers E.ready self) }
         ensures err { IfErr result (λ p. (p ≡ self) × (AllFiled self.rows → ⊥)) }
     {
         let Progress { core, origin } = self;
@@ -208,8 +210,8 @@ impl<E: Expand> Progress<E> {
     /// The rows and the history, copied. None comes if and only if some row isn't filed. The only error is out of
     /// memory.
     pub(crate) fn read(&self, alloc: Global) -> Result<Option<Finished<E::Goal>>, OutOfMemory>
-        ensures finish { IfOk result (λ r. IfSome r (IsFinishOf self.now.rows self.now.history)) }
-        ensures complete { IfOk result (λ r. IfSome r (λ f. IsComplete E.Goal.eq E.answer self.now.tag f)) }
+        ensures finished { IfOk result (λ r. IfSome r (IsFinished (core_of self.now))) }
+        ensures complete { IfOk result (λ r. IfSome r (λ f. IsComplete E.Goal.eq E.answers self.now.tag f)) }
         ensures unfiled { IfOk result (λ r. IfNone r (AllFiled self.now.rows → ⊥)) }
     {
         self.core.read(alloc)
@@ -221,7 +223,7 @@ impl<E: Expand> Progress<E> {
         requires held { slice_get self.old.rows.states row ≡ Some (Held worker) }
         ensures continues { OnOk result (Continues self.old self.new) }
         ensures filed { OnOk result (IsFiledAt self.new.rows row) }
-        ensures large { IfErr result (λ e. e ≡ ExpandFault.TooLarge → IsLarge E.answer self.old.tag) }
+        ensures large { IfErr result (λ e. e ≡ ExpandFault.TooLarge → IsLarge E.answers self.old.tag) }
     {
         let Ok(answer) = by.expand(alloc, self.core.goal(row)) else {
             return Err(ExpandFault::OutOfMemory);
@@ -239,7 +241,7 @@ impl<E: Expand> Progress<E> {
         requires within { row < length self.old.rows.goals }
         ensures continues { OnOk result (Continues self.old self.new) }
         ensures filed { OnOk result (IsFiledAt self.new.rows row) }
-        ensures large { IfErr result (λ e. e ≡ ExpandFault.TooLarge → IsLarge E.answer self.old.tag) }
+        ensures large { IfErr result (λ e. e ≡ ExpandFault.TooLarge → IsLarge E.answers self.old.tag) }
     {
         let worker = match self.core.state(row) {
             RowState::Filed(_) => return Ok(()),
@@ -257,7 +259,7 @@ impl<E: Expand> Progress<E> {
         requires free { slice_get self.old.rows.states row ≡ Some Free }
         ensures continues { OnOk result (Continues self.old self.new) }
         ensures filed { OnOk result (IsFiledAt self.new.rows row) }
-        ensures large { IfErr result (λ e. e ≡ ExpandFault.TooLarge → IsLarge E.answer self.old.tag) }
+        ensures large { IfErr result (λ e. e ≡ ExpandFault.TooLarge → IsLarge E.answers self.old.tag) }
     {
         let Ok(()) = self.claim_row(CALLER, row) else {
             return Err(ExpandFault::OutOfMemory);
@@ -268,9 +270,9 @@ impl<E: Expand> Progress<E> {
     /// Files each row, the held ones by their holders and the free ones as the caller, until all are filed.
     pub(crate) fn complete(self, alloc: Global, by: &E) -> Result<Finished<E::Goal>, ExpandFault>
         requires tag { E.tag by.now ≡ self.tag.by }
-        ensures completion { IfOk result (IsCompletion E.Goal.eq E.answer self) }
-        ensures within { OnOk result (IsLarge E.answer self.tag → ⊥) }
-        ensures large { IfErr result (λ e. e ≡ ExpandFault.TooLarge → IsLarge E.answer self.tag) }
+        ensures completion { IfOk result (IsCompletion E.Goal.eq E.answers self) }
+        ensures within { OnOk result (IsLarge E.answers self.tag → ⊥) }
+        ensures large { IfErr result (λ e. e ≡ ExpandFault.TooLarge → IsLarge E.answers self.tag) }
     {
         let mut progress = self;
         let mut row = 0;

@@ -35,7 +35,7 @@ impl<E: Expand, L: Ledger> SharedTable<E, L> {
     ghost use Rattle.cls_table.specs.Tags.{tag_for};
     ghost use Rattle.cls_table.specs.Holdings.{claims_made_by};
     ghost use Rattle.cls_table.specs.Seating.{IsClaimAnswer};
-    ghost use Rattle.cls_table.specs.Completing.{IsComplete};
+    ghost use Rattle.cls_table.specs.Completing.{IsCompleteFor};
 
     /// A table with one free row, the goal, and the seat of the worker 0 with every part of the ledger. The only error
     /// is out of memory.
@@ -114,7 +114,7 @@ impl<E: Expand, L: Ledger> SharedTable<E, L> {
         seat: &mut TableSeat<E, L>,
     ) -> Result<ClaimAnswer<E>, OutOfMemory>
         requires seat_of_this { seat.old.turn ≡ id_of self.now.turn }
-        ensures answer { IfOk result (λ a. ForSome seat.old.tag (λ t. IsClaimAnswer E.answer t seat.old.worker a)) }
+        ensures answer { IfOk result (λ a. ForSome seat.old.tag (λ t. IsClaimAnswer E.answers t seat.old.worker a)) }
         ensures seat { IfOk result (λ a. seat.new ≡ record seat.old { amount = seat.old.amount + claims_made_by a }) }
         ensures err { OnErr result (seat.new ≡ seat.old) }
     {
@@ -194,7 +194,7 @@ impl<E: Expand, L: Ledger> SharedTable<E, L> {
     ) -> Result<Option<Finished<E::Goal>>, OutOfMemory>
         requires seat_of_this { seat.old.turn ≡ id_of self.now.turn }
         ensures same { seat.new ≡ seat.old }
-        ensures complete { IfOk result (λ r. IfSome r (λ f. ForSome seat.old.tag (λ t. IsComplete E.Goal.eq E.answer t f))) }
+        ensures complete { IfOk result (λ r. IfSome r (IsCompleteFor E.Goal.eq E.answers seat.old)) }
     {
         let TableSeat { seat, .. } = seat;
         let table = self.turn.take(rt, seat);
@@ -214,7 +214,7 @@ impl<E: Expand, L: Ledger> SharedTable<E, L> {
     ) -> Result<Finished<E::Goal>, OutOfMemory>
         requires seat_of_this { seat.old.turn ≡ id_of self.now.turn }
         ensures same { seat.new ≡ seat.old }
-        ensures complete { IfOk result (λ f. ForSome seat.old.tag (λ t. IsComplete E.Goal.eq E.answer t f)) }
+        ensures complete { IfOk result (IsCompleteFor E.Goal.eq E.answers seat.old) }
     {
         for _ in rt.forever() {
             if let Some(finished) = self.read_once(rt, alloc, seat)? {
@@ -233,13 +233,13 @@ impl<E: Expand, L: Ledger> SharedTable<E, L> {
         seat: TableSeat<E, L>,
     ) -> Result<Finished<E::Goal>, Unfinished<E, L>>
         requires seat_of_this { seat.turn ≡ id_of self.turn }
-        ensures complete { IfOk result (λ f. ForSome seat.tag (λ t. IsComplete E.Goal.eq E.answer t f)) }
+        ensures complete { IfOk result (IsCompleteFor E.Goal.eq E.answers seat) }
         ensures claims { IfOk result (λ f. seat.parts ≡ L.parts → claims_in f.history ≡ seat.amount) }
         ensures tag { IfErr result (λ u. seat.tag ≡ Some u.table.tag) }
         ensures unfinished { IfErr result (λ u. AllFiled u.table.rows → ⊥) }
         ensures unfinished_claims { IfErr result (λ u. seat.parts ≡ L.parts → claims_in u.table.history ≡ seat.amount) }
         ensures unfinished_count { IfErr result (λ u. seat.parts ≡ L.parts → u.table.claims ≡ seat.amount) }
-        ensures lawful { IfErr result (λ u. IsLawfulTable E.Goal.eq E.answer u.table) }
+        ensures lawful { IfErr result (λ u. IsLawfulTable E.Goal.eq E.answers u.table) }
     {
         let TableSeat {
             seat,

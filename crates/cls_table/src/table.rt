@@ -38,7 +38,7 @@ impl<E: Expand, L: Ledger> Model for Table<E, L> {
     ghost view = { λ t. table_of t.progress t.claims.total t.large t.stopped };
 
     ghost invariant = { λ t. (claims_in t.progress.history ≡ t.claims.total) × (t.made ≡ t.claims.total)
-        × (t.large ≡ true → IsLarge E.answer t.progress.tag) };
+        × (t.large ≡ true → IsLarge E.answers t.progress.tag) };
 }
 
 impl<E: Expand, L: Ledger> Tagged<Tag<E::Tag, E::Goal>> for Table<E, L> {
@@ -48,13 +48,15 @@ impl<E: Expand, L: Ledger> Tagged<Tag<E::Tag, E::Goal>> for Table<E, L> {
 impl<E: Expand, L: Ledger> Table<E, L> {
     ghost use Rattle.cls_core.specs.Machine.{begun, AllFiled};
     ghost use Rattle.cls_table.specs.Tags.{tag_for};
-    ghost use Rattle.cls_table.specs.Completing.{IsFinishOf, IsComplete, IsCompletion, progress_of};
+    ghost use Rattle.cls_table.specs.Completing.{IsComplete, IsCompletion};
+    ghost use Rattle.cls_table.specs.Seen.{progress_of, core_of};
+    ghost use Rattle.cls_core.specs.Finishing.{IsFinished};
     ghost use Rattle.cls_table.specs.Lawful.{IsLawfulTable, IsLarge, claims_in};
     ghost use Rattle.cls_table.specs.Holdings.{ClaimOutcome, FileOutcome, IsHeldClaim, claims_made_by, stopped_table};
 
     /// Does nothing, and says what holds of each table.
     pub fn facts(&self)
-        ensures { IsLawfulTable E.Goal.eq E.answer self.now }
+        ensures { IsLawfulTable E.Goal.eq E.answers self.now }
     {
         self.progress.facts();
     }
@@ -101,7 +103,7 @@ impl<E: Expand, L: Ledger> Table<E, L> {
         requires part { 0 < share.old.parts }
         ensures stopped { self.old.stopped ≡ true → IsErr result }
         ensures outcome { IfOk result (λ a. ClaimOutcome self.old worker a self.new) }
-        ensures large { self.old.large ≡ true → IsLarge E.answer self.old.tag }
+        ensures large { self.old.large ≡ true → IsLarge E.answers self.old.tag }
         ensures tag { self.new.tag ≡ self.old.tag }
         ensures amount { IfOk result (λ a. share.new.amount ≡ share.old.amount + claims_made_by a) }
         ensures parts { share.new.parts ≡ share.old.parts }
@@ -163,7 +165,7 @@ impl<E: Expand, L: Ledger> Table<E, L> {
     /// Whether the table is marked as too large.
     pub fn large(&self) -> bool
         ensures mark { result ≡ self.now.large }
-        ensures cause { result ≡ true → IsLarge E.answer self.now.tag }
+        ensures cause { result ≡ true → IsLarge E.answers self.now.tag }
     {
         self.large
     }
@@ -186,9 +188,9 @@ impl<E: Expand, L: Ledger> Table<E, L> {
     /// Copies the rows and the history if all rows are filed: the whole work of one holding of `SharedTable::read`.
     /// None comes if and only if some row isn't filed. The only error is out of memory.
     pub fn read(&self, alloc: Global) -> Result<Option<Finished<E::Goal>>, OutOfMemory>
-        ensures finish { IfOk result (λ r. IfSome r (IsFinishOf self.now.rows self.now.history)) }
+        ensures finished { IfOk result (λ r. IfSome r (IsFinished (core_of (progress_of self.now)))) }
         ensures claims { IfOk result (λ r. IfSome r (λ f. claims_in f.history ≡ self.now.claims)) }
-        ensures complete { IfOk result (λ r. IfSome r (λ f. IsComplete E.Goal.eq E.answer self.now.tag f)) }
+        ensures complete { IfOk result (λ r. IfSome r (λ f. IsComplete E.Goal.eq E.answers self.now.tag f)) }
         ensures unfiled { IfOk result (λ r. IfNone r (AllFiled self.now.rows → ⊥)) }
     {
         self.progress.read(alloc)
@@ -199,9 +201,9 @@ impl<E: Expand, L: Ledger> Table<E, L> {
     /// `TooLarge` comes if and only if the closure of the tag's start goal passes the tag's limits.
     pub fn complete(self, alloc: Global, by: &E) -> Result<Finished<E::Goal>, ExpandFault>
         requires tag { E.tag by.now ≡ self.tag.by }
-        ensures completion { IfOk result (IsCompletion E.Goal.eq E.answer (progress_of self)) }
-        ensures within { OnOk result (IsLarge E.answer self.tag → ⊥) }
-        ensures large { IfErr result (λ e. e ≡ ExpandFault.TooLarge → IsLarge E.answer self.tag) }
+        ensures completion { IfOk result (IsCompletion E.Goal.eq E.answers (progress_of self)) }
+        ensures within { OnOk result (IsLarge E.answers self.tag → ⊥) }
+        ensures large { IfErr result (λ e. e ≡ ExpandFault.TooLarge → IsLarge E.answers self.tag) }
         ensures stopped { self.stopped ≡ true → IsErrOf result ExpandFault.OutOfMemory }
     {
         if self.stopped {
@@ -215,7 +217,7 @@ impl<E: Expand, L: Ledger> Table<E, L> {
 
     /// The rows and the history. The Err comes if and only if some row isn't filed, and hands the table back.
     pub(crate) fn finish(self) -> Result<Finished<E::Goal>, Table<E, L>>
-        ensures complete { IfOk result (λ f. IsComplete E.Goal.eq E.answer self.tag f) }
+        ensures complete { IfOk result (λ f. IsComplete E.Goal.eq E.answers self.tag f) }
         ensures claims { IfOk result (λ f. claims_in f.history ≡ self.claims) }
         ensures err { IfErr result (λ t. (t ≡ self) × (AllFiled self.rows → ⊥)) }
     {

@@ -7,7 +7,7 @@ use Rattle.cls_table.proofs.Completing.{completed, continues-trans, all-filed}
 use Rattle.cls_table.proofs.progress.Progress.complete.Goals as goal
 
 pub returns-in-Err-clause-large : goal.returns-in-Err-clause-large
-returns-in-Err-clause-large g c = λ e. subst (IsLarge g.E.Expand.answer) c.loop-row.invariant.0.same_tag (c.in-Err.ensures.large e)
+returns-in-Err-clause-large g c = λ e. subst (IsLarge g.E.Expand.answers) c.loop-row.invariant.0.same_tag (c.in-Err.ensures.large e)
 
 pub loop-row-preserved : goal.loop-row-preserved
 loop-row-preserved g c =
@@ -29,12 +29,12 @@ returns-clause-within g c =
     let eq = g.E.Goal.PartialEq.eq in
     let exact = g.met.E.Goal.Key.exact in
     let reflexive = g.met.E.Goal.Eq.laws.refl in
-    let answer = g.E.Expand.answer p.tag.by in
-    let sound = replay-sound eq exact reflexive answer p.tag.start p.history p.rows e.lawful.legal in
-    λ large. complete-within eq exact reflexive answer p.tag.start p.rows p.tag.goals p.tag.rules sound e.finish.all_filed e.lawful.goals_within e.lawful.rules_within (subst (IsLarge g.E.Expand.answer) (sym c.loop-row.invariant.0.same_tag) large)
+    let IsAnswer = g.E.Expand.answers p.tag.by in
+    let sound = replay-sound eq exact reflexive IsAnswer p.tag.start p.history p.rows e.lawful.legal in
+    λ large. complete-within eq exact reflexive IsAnswer p.tag.start (g.met.E.Expand.one_answer p.tag.by) p.rows p.tag.goals p.tag.rules sound e.finished.0 e.lawful.goals_within e.lawful.rules_within (subst (IsLarge g.E.Expand.answers) (sym c.loop-row.invariant.0.same_tag) large)
 
 pub returns-clause-completion : goal.returns-clause-completion
 returns-clause-completion g c =
     let p = c.loop-row.progress in
     let e = c.in-Ok-finish.ensures in
-    completed g.E.Goal.PartialEq.eq g.met.E.Goal.Key.exact g.met.E.Goal.Eq.laws.refl g.E.Expand.answer g.E.Expand.ready c.args.self p c.in-Ok-finish.finished c.loop-row.invariant.0 e.lawful e.finish
+    completed g.E.Goal.PartialEq.eq g.met.E.Goal.Key.exact g.met.E.Goal.Eq.laws.refl g.E.Expand.answers g.E.Expand.ready g.met.E.Expand.one_answer c.args.self p c.in-Ok-finish.finished c.loop-row.invariant.0 e.lawful e.finished

@@ -9,7 +9,7 @@ pub goal-requires : goal.goal-requires
 goal-requires g c =
     let i = c.self.inside in
     let held = subst (λ v. slice_get v.rows.states c.args.row ≡ Some (Held c.args.worker)) (sym c.self.view_is) c.requires.held in
-    let at = row-goal g.E.Goal.PartialEq.eq g.E.Expand.answer g.E.Expand.ready g.met.E.Goal.Key.exact g.met.E.Goal.Eq.laws.refl (seen i.origin i.core.rows i.core.history) c.args.row (Held c.args.worker) c.self.invariant held in
+    let at = row-goal g.E.Goal.PartialEq.eq g.E.Expand.answers g.E.Expand.ready g.met.E.Goal.Key.exact g.met.E.Goal.Eq.laws.refl (seen i.origin i.core.rows i.core.history) c.args.row (Held c.args.worker) c.self.invariant held in
     slice_get_within i.core.rows.goals c.args.row at.0 at.1
 
 pub returns-in-Ok-Kept-clause-continues : goal.returns-in-Ok-Kept-clause-continues
