@@ -80,9 +80,10 @@ where
     requires ready { E.ready (E.tag by.now) start }
     requires one_goal { 0 < limits.goals }
     requires few_workers { workers < 2 ^ 32 - 1 }
-    ensures complete { IfOk result (IsComplete E.Goal.eq E.answer (tag_for (E.tag by.now) start limits workers)) }
-    ensures within { OnOk result (IsLarge E.answer (tag_for (E.tag by.now) start limits workers) → ⊥) }
-    ensures large { IfErr result (λ e. e ≡ ExpandFault.TooLarge → IsLarge E.answer (tag_for (E.tag by.now) start limits workers)) }
+    ensures complete { IfOk result (IsComplete E.Goal.eq E.answers (tag_for (E.tag by.now) start limits workers)) }
+    ensures within { OnOk result (IsLarge E.answers (tag_for (E.tag by.now) start limits workers) → ⊥) }
+    ensures large { IfErr result (λ e. e ≡ ExpandFault.TooLarge
+        → IsLarge E.answers (tag_for (E.tag by.now) start limits workers)) }
 {
     let Ok((table, seat)) = SharedTable::<E, L>::start(alloc, by, start, limits, workers, blank)
     else {
@@ -115,9 +116,10 @@ where
     requires workers { (0 < workers) × (workers ≤ 64) }
     requires limits { (0 < limits.goals) × (0 < limits.rules) }
     requires ready { E.ready (E.tag by.now) start }
-    ensures complete { IfOk result (IsComplete E.Goal.eq E.answer (tag_for (E.tag by.now) start limits workers)) }
-    ensures within { OnOk result (IsLarge E.answer (tag_for (E.tag by.now) start limits workers) → ⊥) }
-    ensures large { IfErr result (λ e. e ≡ ExpandFault.TooLarge → IsLarge E.answer (tag_for (E.tag by.now) start limits workers)) }
+    ensures complete { IfOk result (IsComplete E.Goal.eq E.answers (tag_for (E.tag by.now) start limits workers)) }
+    ensures within { OnOk result (IsLarge E.answers (tag_for (E.tag by.now) start limits workers) → ⊥) }
+    ensures large { IfErr result (λ e. e ≡ ExpandFault.TooLarge
+        → IsLarge E.answers (tag_for (E.tag by.now) start limits workers)) }
 {
     run::<E, Brand, T, R>(
         rt,
