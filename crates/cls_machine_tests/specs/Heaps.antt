@@ -19,7 +19,8 @@ heap_answer size g = Rules (Head g.id (below size g (nat_lt (2 * g.id + 2) size)
 abbrev pub IsInHeap : ℕ → Node → Type 0
 IsInHeap size g = (g.id < size) × (size < 1000)
 
-in_heap : (size : ℕ) (g : Node) → IsInHeap size g → (b : Bool) → nat_lt (2 * g.id + 2) size ≡ b → All (IsInHeap size) (arguments_of (Rules (Head g.id (below size g b) ∷ [])))
+in_heap : (size : ℕ) (g : Node) → IsInHeap size g → (b : Bool) → nat_lt (2 * g.id + 2) size ≡ b
+    → All (IsInHeap size) (arguments_of (Rules (Head g.id (below size g b) ∷ [])))
 in_heap size g h true e zero d k = (grind (arith, nat_tests), h.1)
 in_heap size g h true e (suc zero) d k = (grind (arith, nat_tests), h.1)
 in_heap size g h true e (suc (suc i)) d k = absurd (omega arith)

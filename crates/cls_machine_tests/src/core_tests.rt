@@ -44,8 +44,8 @@ fn file(alloc: Global, core: &mut Core<Node>, row: u32) -> Result<(), OutOfMemor
     }
 }
 
-// The rows 1 and 2 are held at once, and `first` of them is filed before `second`. What is read, before the last filing and
-// after it, and what is left in the end.
+// The rows 1 and 2 are held at once, and `first` of them is filed before `second`. What is read, before the last filing
+// and after it, and what is left in the end.
 fn filed_in_order(
     alloc: Global,
     first: u32,
@@ -81,8 +81,8 @@ fn read(alloc: Global, core: &Core<Node>) -> Result<Option<Vec<usize>>, OutOfMem
     }
 }
 
-// The two rows are filed in either order. The rows that their goals add then have other numbers, and after the renumbering
-// the same ones.
+// The two rows are filed in either order. The rows that their goals add then have other numbers, and after the
+// renumbering the same ones.
 #[test]
 fn rows_are_one_whatever_the_order(rt: HostRuntime) -> Result<(), Fail> {
     let Ok(expected) = heap_code(rt.alloc(), 7) else {

@@ -1,4 +1,4 @@
-//! A closure whose goals are numbers: each has one rule, over the two numbers below it in a heap of this size, where both
+//! A closure whose goals are numbers: each has one rule, over the two numbers below it in a heap of this size, if both
 //! are there.
 ghost use Rattle.std.specs.Prelude.{◌≡◌, ◌<◌, IfOk};
 

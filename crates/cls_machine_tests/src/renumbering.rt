@@ -7,7 +7,8 @@ use cls_core::{Answer, Rows, Rule};
 use indexmap::IndexSet;
 use std::alloc::Global;
 
-// Adds the component of a rule, if it has one, and the new numbers of its arguments. A row that is new to `seen` goes last.
+// Adds the component of a rule, if it has one, and the new numbers of its arguments. A row that is new to `seen` goes
+// last.
 fn add_rule(
     seen: &mut IndexSet<u32>,
     code: &mut Vec<usize>,
@@ -65,7 +66,8 @@ pub(crate) fn renumbered(alloc: Global, rows: &Rows<Node>) -> Result<Vec<usize>,
     Ok(code)
 }
 
-/// What that is for a heap of an odd size: the goals are numbered as they are met, from left to right and level by level.
+/// What that is for a heap of an odd size: the goals are numbered as they are met, from left to right and level by
+/// level.
 pub(crate) fn heap_code(alloc: Global, size: u32) -> Result<Vec<usize>, OutOfMemory>
     requires { size < 1000 }
 {

@@ -1,6 +1,6 @@
 ghost use Rattle.std.specs.Prelude.{◌≡◌, ◌<◌};
 ghost use Rattle.cls_turn.specs.Seats.{id_of};
-ghost use Rattle.cls_workers.specs.Seats.{Goes, Means};
+ghost use Rattle.cls_workers.specs.Seats.{IsAfterWork, HasMeaning};
 
 use crate::heap::{Heap, Node};
 use cls_base::OutOfMemory;
@@ -12,14 +12,14 @@ use std::sync::Wait;
 use std::sync::ledger::{Blank, Ledger};
 use std::test::Fail;
 
-const WANTING: u32 = 1_000_000;
+const NO_MEMORY: u32 = 1_000_000;
 
-// The number of rows of what is complete, 0 where the closure is too large.
+// The number of rows of what is complete, or 0 if the closure is too large.
 fn rows_of(answer: Result<Finished<Node>, ExpandFault>) -> u32 {
     match answer {
         Ok(done) => done.rows.count(),
         Err(ExpandFault::TooLarge) => 0,
-        Err(ExpandFault::OutOfMemory) => WANTING,
+        Err(ExpandFault::OutOfMemory) => NO_MEMORY,
     }
 }
 
@@ -27,17 +27,17 @@ fn rows_of(answer: Result<Finished<Node>, ExpandFault>) -> u32 {
 fn completed<R: Wait, L: Ledger>(rt: &R, alloc: Global, limits: Limits, blank: Blank) -> u32
     requires name { blank.name ≡ L.name }
     requires parts { blank.parts ≡ L.parts }
-    requires each { blank.parts ≡ 2 }
-    requires some { 0 < limits.goals }
+    requires two_parts { blank.parts ≡ 2 }
+    requires one_goal { 0 < limits.goals }
 {
     let heap = Heap::new(3, 0);
     let start = Node { id: 0 };
     let Ok((table, seat)) = SharedTable::<Heap, L>::start(alloc, &heap, start, limits, 1, blank)
     else {
-        return WANTING;
+        return NO_MEMORY;
     };
     match table.close(rt, seat) {
-        Ok(_) => WANTING,
+        Ok(_) => NO_MEMORY,
         Err(unfinished) => rows_of(unfinished.table.complete(alloc, &heap)),
     }
 }
@@ -51,7 +51,7 @@ fn a_table_without_claims_is_completed(rt: HostRuntime) -> Result<(), Fail> {
     Ok(())
 }
 
-// A claim, which is filed. It stops the table as at out of memory. Nothing where no row is free.
+// One claim, which is filed. At out of memory it stops the table. Nothing if no row is free.
 fn work_once<R: Wait, L: Ledger>(
     rt: &R,
     alloc: Global,
@@ -59,9 +59,9 @@ fn work_once<R: Wait, L: Ledger>(
     heap: &Heap,
     seat: TableSeat<Heap, L>,
 ) -> TableSeat<Heap, L>
-    requires of { seat.turn ≡ id_of table.now.turn }
-    requires means { Means seat heap.now.size }
-    ensures { Goes seat result }
+    requires seat_of_table { seat.turn ≡ id_of table.now.turn }
+    requires meaning { HasMeaning seat heap.now.size }
+    ensures { IsAfterWork seat result }
 {
     let mut seat = seat;
     let Ok(answer) = table.claim(rt, alloc, &mut seat) else {
@@ -91,21 +91,21 @@ fn work_once<R: Wait, L: Ledger>(
 fn read_in_the_end<R: Wait, L: Ledger>(rt: &R, alloc: Global, blank: Blank) -> u32
     requires name { blank.name ≡ L.name }
     requires parts { blank.parts ≡ L.parts }
-    requires each { blank.parts ≡ 2 }
+    requires two_parts { blank.parts ≡ 2 }
 {
     let heap = Heap::new(3, 0);
     let start = Node { id: 0 };
     let limits = Limits { goals: 3, rules: 3 };
     let Ok((table, seat)) = SharedTable::<Heap, L>::start(alloc, &heap, start, limits, 1, blank)
     else {
-        return WANTING;
+        return NO_MEMORY;
     };
     let seat = work_once(rt, alloc, &table, &heap, seat);
     let seat = work_once(rt, alloc, &table, &heap, seat);
     let mut seat = work_once(rt, alloc, &table, &heap, seat);
     match table.read(rt, alloc, &mut seat) {
         Ok(done) => done.rows.count(),
-        Err(_) => WANTING,
+        Err(_) => NO_MEMORY,
     }
 }
 
@@ -113,7 +113,7 @@ fn read_in_the_end<R: Wait, L: Ledger>(rt: &R, alloc: Global, blank: Blank) -> u
 fn is_read_too_early<R: Wait, L: Ledger>(rt: &R, alloc: Global, blank: Blank) -> Option<bool>
     requires name { blank.name ≡ L.name }
     requires parts { blank.parts ≡ L.parts }
-    requires each { blank.parts ≡ 2 }
+    requires two_parts { blank.parts ≡ 2 }
 {
     let heap = Heap::new(3, 0);
     let start = Node { id: 0 };

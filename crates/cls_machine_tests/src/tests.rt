@@ -12,8 +12,8 @@ use std::sync::Wait;
 use std::test::Fail;
 use std::thread::Threads;
 
-// Goal 0 has one rule over the goals 1 and 2, which have a rule without arguments each. The gate holds the maker of claim 1
-// until claim 2 is made, so two workers hold a claim at once, and it is told of each claim by its maker.
+// Goal 0 has one rule over the goals 1 and 2, which have a rule without arguments each. The gate holds the maker of
+// claim 1 until claim 2 is made, so two workers hold a claim at once, and it is told of each claim by its maker.
 #[test]
 fn two_workers_hold_claims_at_once(rt: HostRuntime) -> Result<(), Fail> {
     let gate = Meeting::new(50_000_000);
@@ -36,8 +36,8 @@ fn two_workers_hold_claims_at_once(rt: HostRuntime) -> Result<(), Fail> {
     Ok(())
 }
 
-// What comes of the closure of so many goals, with one rule each: the number of rows, 0 where it is too large, or 1,000,000
-// where memory runs out. The expander runs out of memory at this call, counted from 1.
+// What comes of the closure of so many goals, with one rule each: the number of rows, 0 if it is too large, or
+// 1,000,000 if memory runs out. The expander runs out of memory at this call, counted from 1.
 fn rows_of<R: Threads + Wait + Sync>(
     rt: &R,
     alloc: Global,
@@ -126,7 +126,7 @@ fn any_number_of_workers(rt: HostRuntime) -> Result<(), Fail> {
 }
 
 #[test]
-fn want_of_memory_stops_all(rt: HostRuntime) -> Result<(), Fail> {
+fn out_of_memory_stops_all(rt: HostRuntime) -> Result<(), Fail> {
     let limits = Limits { goals: 7, rules: 7 };
     for ask in 1..8 {
         assert!(rt; rows_of(&rt, rt.alloc(), 7, ask, limits, 1) == 1_000_000);

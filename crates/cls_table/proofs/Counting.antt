@@ -2,7 +2,7 @@
 use Rattle.std.proofs.Common.{◌≡◌, ℕ, suc, ◌+◌, ◌≤◌, List, [], ◌∷◌, ◌++◌, length, refl, ap, arith}
 use Rattle.cls_core.specs.declared.entry.Entry.{Entry}
 use Rattle.cls_core.specs.declared.entry.Entry.TheVariants.{Claim, File}
-use Rattle.cls_table.specs.Going.{claims_in}
+use Rattle.cls_table.specs.Lawful.{claims_in}
 
 pub claims_in_claim : (es : List Entry) (worker row : ℕ) → claims_in (es ++ Claim worker row ∷ []) ≡ claims_in es + 1
 claims_in_claim [] worker row = refl

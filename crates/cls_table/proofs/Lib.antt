@@ -1,5 +1,5 @@
 pub mod Completing
 pub mod Counting
-pub mod Going
+pub mod Lawful
 pub mod Seating
 pub mod Sent

@@ -1,6 +1,7 @@
 pub mod Completing
-pub mod Going
-pub mod Outcomes
-pub mod Seen
-pub mod Steps
+pub mod Filings
+pub mod Holdings
+pub mod Lawful
 pub mod Seating
+pub mod Seen
+pub mod Tags

@@ -2,7 +2,7 @@
 use Rattle.std.specs.Prelude.{ℕ, Bool, List, Option}
 use Rattle.atomic_table.specs.Seated.{TableId}
 use Rattle.cls_table.specs.declared.tag.Tag.{Tag}
-use Rattle.cls_core.specs.Rows.{Machine}
+use Rattle.cls_core.specs.Rows.{Machine, Recorded}
 use Rattle.cls_core.specs.declared.entry.Entry.{Entry}
 use Rattle.cls_core.specs.declared.answer.Answer.{Answer}
 
@@ -20,6 +20,23 @@ pub record TableSeen (B G : Type 0) : Type 0 where
   pub claims : ℕ
   pub large : Bool
   pub stopped : Bool
+
+-- what the core machine shows of it
+abbrev pub core_of : {B G : Type 0} → ProgressSeen B G → Recorded G
+core_of p = record { rows = p.rows; history = p.history }
+
+abbrev pub progress_of : {B G : Type 0} → TableSeen B G → ProgressSeen B G
+progress_of t = record { tag = t.tag; rows = t.rows; history = t.history }
+
+abbrev pub table_of : {B G : Type 0} → ProgressSeen B G → ℕ → Bool → Bool → TableSeen B G
+table_of p claims large stopped = record {
+  tag = p.tag;
+  rows = p.rows;
+  history = p.history;
+  claims = claims;
+  large = large;
+  stopped = stopped;
+}
 
 pub record ClaimSeen (B G : Type 0) : Type 0 where
   pub tag : Tag B G

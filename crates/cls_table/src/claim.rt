@@ -6,7 +6,8 @@ use std::alloc::Global;
 use std::marker::Model;
 use std::snapshot::Snapshot;
 
-/// A goal that a worker has claimed. It has to be spent: it is filed, or the table is stopped.
+/// A goal that a worker has claimed. It has to be spent: it is filed, or the table is stopped. The goal is one that an
+/// expander with the meaning of its tag can work on (`facts`).
 pub struct Claim<E: Expand> {
     pub(crate) origin: Snapshot<Origin<E>>,
     pub(crate) worker: u32,
@@ -25,7 +26,7 @@ impl<E: Expand> Model for Claim<E> {
     ghost invariant = { λ c. E.ready c.origin.value.by c.goal };
 }
 
-/// A claim with the answer that its tag gives for its goal. It has to be spent too.
+/// A claim with the answer that its tag gives for its goal (`facts`). It has to be spent too.
 pub struct Filed<E: Expand> {
     pub(crate) claim: Claim<E>,
     pub(crate) answer: Answer<E::Goal>,
@@ -39,7 +40,7 @@ impl<E: Expand> Model for Filed<E> {
 
     ghost view = { λ f. record { claim = f.claim; answer = f.answer } };
 
-    ghost invariant = { λ f. f.answer ≡ E.answer f.claim.tag.by f.claim.goal };
+    ghost invariant = { λ f. E.answers f.claim.tag.by f.claim.goal f.answer };
 }
 
 /// What a worker that asks for a goal is told.
@@ -79,11 +80,20 @@ impl<E: Expand> Claim<E> {
         } = self;
     }
 
-    /// Works on the claim's goal, by an expander that means what the claim's tag says. The Err means out of memory alone, and
-    /// hands the claim back.
+    /// Does nothing, and says what holds of each claim: its goal can be worked on.
+    pub fn facts(&self)
+        ensures { E.ready self.now.tag.by self.now.goal }
+    {
+        // For the prover: opens the claim's model.
+        let _ = &self.goal;
+    }
+
+    /// Works on the claim's goal, by an expander that means what the claim's tag says. The Err means out of memory
+    /// alone, and hands the claim back.
     pub fn expand(self, alloc: Global, by: &E) -> Result<Filed<E>, Claim<E>>
         requires { E.tag by.now ≡ self.tag.by }
-        ensures ok { IfOk result (λ f. f.claim ≡ self) }
+        ensures claim { IfOk result (λ f. f.claim ≡ self) }
+        ensures answer { IfOk result (λ f. E.answers self.tag.by self.goal f.answer) }
         ensures err { IfErr result (λ c. c ≡ self) }
     {
         match by.expand(alloc, &self.goal) {
@@ -97,6 +107,14 @@ impl<E: Expand> Claim<E> {
 }
 
 impl<E: Expand> Filed<E> {
+    /// Does nothing, and says what holds of each filing: its answer is the one that the tag gives for the claim's goal.
+    pub fn facts(&self)
+        ensures { E.answers self.now.claim.tag.by self.now.claim.goal self.now.answer }
+    {
+        // For the prover: opens the filing's model.
+        let _ = &self.answer;
+    }
+
     /// The claim, without the answer.
     pub fn claim(self) -> Claim<E>
         ensures { result ≡ self.claim }

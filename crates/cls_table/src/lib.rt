@@ -1,9 +1,10 @@
 //! The table of goals that workers share.
 //!
-//! - [`SharedTable`] is the table under a turn, and [`TableSeat`] a worker's right to it. Each of its calls takes the
-//!   turn, makes one call of [`Table`] and puts the table back.
+//! - [`SharedTable`] is the table under a spin lock, and [`TableSeat`] a worker's handle on it. Each of its calls takes
+//!   the lock, makes one call of [`Table`] and puts the table back.
 //! - [`Table`] is the locked value: the rows, the history, the count of claims made, and two marks. [`Table::claim`],
 //!   [`Table::file`] and [`Table::stop`] are all that can happen to it, and say in full what it becomes.
+//!   [`Table::facts`] says what holds of it at any time.
 //! - [`Claim`] is a goal that a worker has, and [`Filed`] a claim with the goal's answer. Neither can be dropped.
 //! - [`Tag`] is what a table means: the meaning of the expander, the start goal, the limits, the greatest worker number.
 //!

@@ -16,15 +16,18 @@ pub struct Origin<E: Expand> {
 
 impl<E: Expand> Model for Origin<E> {
     ghost use Rattle.cls_table.specs.declared.tag.Tag.{Tag};
+    ghost use Rattle.cls_table.specs.Tags.{tag_for};
 
     ghost Value = { Tag E.Tag E.Goal };
 
-    ghost view = { λ o. record { by = E.tag o.by.value; start = o.start.value; goals = o.limits.goals; rules = o.limits.rules; workers = o.workers } };
+    ghost view = { λ o. tag_for (E.tag o.by.value) o.start.value o.limits o.workers };
 }
 
 impl<E: Expand> Origin<E> {
+    ghost use Rattle.cls_table.specs.Tags.{tag_for};
+
     pub(crate) fn new(by: &E, start: &E::Goal, limits: Limits, workers: u32) -> Origin<E>
-        ensures { result ≡ record { by = E.tag by.now; start = start.now; goals = limits.goals; rules = limits.rules; workers = workers } }
+        ensures { result ≡ tag_for (E.tag by.now) start.now limits workers }
     {
         Origin {
             by: Snapshot::of(by),

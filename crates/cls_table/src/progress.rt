@@ -1,12 +1,16 @@
 //! A machine with its history, under a tag: what a table has beside its count and its marks.
-ghost use Rattle.std.specs.Prelude.{◌≡◌, ◌<◌, ◌≤◌, ◌+◌, ◌^◌, [], ◌∷◌, ◌++◌, Some, true, false, ℕ, ◌≢◌, ◌↔◌, IsTrue, IfOk, IfErr, IfSome, IfNone, OnOk, OnErr, length, slice_get};
+ghost use Rattle.std.specs.Prelude.{◌≡◌, ◌<◌, ◌≤◌, ◌+◌, ◌^◌, [], ◌∷◌, ◌++◌, Some, true, false, ℕ, ◌≢◌, ◌↔◌, IsTrue};
+ghost use Rattle.std.specs.Prelude.{IfOk, IfErr, IfSome, IfNone, OnOk, OnErr, length, slice_get};
+ghost use Rattle.std.specs.Option.{ForSome};
 ghost use Rattle.cls_core.specs.declared.state.RowState.TheVariants.{Free, Held};
 ghost use Rattle.cls_core.specs.declared.entry.Entry.TheVariants.{Claim as ClaimEntry, File};
-ghost use Rattle.cls_core.specs.Machine.{begun, claimed, filed, Replays, AllFiled, rules_in};
-ghost use Rattle.cls_core.specs.Rows.{filed_rows};
-ghost use Rattle.cls_table.specs.Steps.{Fits, HasRoom};
-ghost use Rattle.cls_table.specs.Going.{IsGoing, IsLarge, claims_in};
-ghost use Rattle.cls_table.specs.Completing.{GoesOn, IsFiledAt, IsComplete, IsCompletion};
+ghost use Rattle.cls_core.specs.Machine.{begun, claimed, AllFiled, NoneFree, SomeHeld};
+ghost use Rattle.cls_table.specs.Tags.{tag_for};
+ghost use Rattle.cls_table.specs.Holdings.{IsHeldClaim, IsClaimOf, HasRoom};
+ghost use Rattle.cls_table.specs.Lawful.{IsLawful, IsLarge, claims_in};
+ghost use Rattle.cls_table.specs.Completing.{Continues, IsFiledAt, IsComplete, IsCompletion};
+ghost use Rattle.cls_table.specs.Seen.{core_of};
+ghost use Rattle.cls_core.specs.Finishing.{IsFinished};
 
 use crate::claim::Claim;
 use crate::fault::ExpandFault;
@@ -18,6 +22,9 @@ use std::alloc::Global;
 use std::marker::Model;
 use std::snapshot::Snapshot;
 
+/// The number of the worker by which `Progress::complete` claims.
+const CALLER: u32 = 0;
+
 /// The rows and the history, of which the tag is the meaning.
 #[derive(Drop)]
 pub struct Progress<E: Expand> {
@@ -27,25 +34,26 @@ pub struct Progress<E: Expand> {
 
 impl<E: Expand> Model for Progress<E> {
     ghost use Rattle.cls_table.specs.Seen.{ProgressSeen};
-    ghost use Rattle.cls_table.specs.Going.{IsGoing};
+    ghost use Rattle.cls_table.specs.Lawful.{IsLawful};
 
     ghost Value = { ProgressSeen E.Tag E.Goal };
 
     ghost view = { λ p. record { tag = p.origin; rows = p.core.rows; history = p.core.history } };
 
-    ghost invariant = { λ p. IsGoing E.Goal.eq E.answer E.ready (record { tag = p.origin; rows = p.core.rows; history = p.core.history }) };
+    ghost invariant = { λ p. IsLawful E.Goal.eq E.answers E.ready
+        (record { tag = p.origin; rows = p.core.rows; history = p.core.history }) };
 }
 
 /// What became of a filing.
-pub(crate) enum Outcome {
+pub(crate) enum Filing {
     /// The row is filed.
     Kept,
-    /// It would have passed the limits, and nothing changed.
-    Beyond,
+    /// That would have passed the limits, and nothing changed.
+    OverLimits,
 }
 
 impl<E: Expand> Progress<E> {
-    ghost use Rattle.cls_table.specs.Outcomes.{KeptOrBeyond};
+    ghost use Rattle.cls_table.specs.Filings.{FilingOutcome};
 
     /// One free row, the start goal.
     pub(crate) fn start(
@@ -56,8 +64,8 @@ impl<E: Expand> Progress<E> {
         workers: u32,
     ) -> Result<Progress<E>, OutOfMemory>
         requires ready { E.ready (E.tag by.now) goal }
-        requires some { 0 < limits.goals }
-        ensures tag { IfOk result (λ p. p.tag ≡ record { by = E.tag by.now; start = goal; goals = limits.goals; rules = limits.rules; workers = workers }) }
+        requires one_goal { 0 < limits.goals }
+        ensures tag { IfOk result (λ p. p.tag ≡ tag_for (E.tag by.now) goal limits workers) }
         ensures rows { IfOk result (λ p. p.rows ≡ begun goal) }
         ensures history { IfOk result (λ p. p.history ≡ []) }
     {
@@ -66,17 +74,25 @@ impl<E: Expand> Progress<E> {
         Ok(Progress { core, origin })
     }
 
+    /// Does nothing, and says what holds of the rows and the history under the tag.
+    pub(crate) fn facts(&self)
+        ensures { IsLawful E.Goal.eq E.answers E.ready self.now }
+    {
+        // For the prover: opens the model.
+        let _ = &self.core;
+    }
+
     /// A free row.
     pub(crate) fn any_free(&self) -> Option<u32>
         ensures some { IfSome result (λ row. slice_get self.now.rows.states row ≡ Some Free) }
-        ensures none { IfNone result ((row : ℕ) → slice_get self.now.rows.states row ≢ Some Free) }
+        ensures none { IfNone result (NoneFree self.now.rows) }
     {
         self.core.any_free()
     }
 
     /// Whether some row is held.
     pub(crate) fn any_held(&self) -> bool
-        ensures { IsTrue result ↔ ((row : ℕ) × (worker : ℕ) × (slice_get self.now.rows.states row ≡ Some (Held worker))) }
+        ensures { IsTrue result ↔ SomeHeld self.now.rows }
     {
         self.core.any_held()
     }
@@ -114,8 +130,7 @@ impl<E: Expand> Progress<E> {
     ) -> Result<Claim<E>, OutOfMemory>
         requires worker { worker ≤ self.old.tag.workers }
         requires free { slice_get self.old.rows.states row ≡ Some Free }
-        ensures claim { IfOk result (λ c. (c.tag ≡ self.old.tag) × (c.worker ≡ worker) × (c.row ≡ row) × (c.number ≡ number)) }
-        ensures goal { IfOk result (λ c. slice_get self.old.rows.goals row ≡ Some c.goal) }
+        ensures claim { IfOk result (λ c. IsClaimOf self.old.tag self.old.rows worker row number c) }
         ensures tag { self.new.tag ≡ self.old.tag }
         ensures rows { OnOk result (self.new.rows ≡ claimed self.old.rows worker row) }
         ensures history { OnOk result (self.new.history ≡ self.old.history ++ ClaimEntry worker row ∷ []) }
@@ -134,9 +149,9 @@ impl<E: Expand> Progress<E> {
     }
 
     /// Whether the claim's row is held by its worker and has its goal.
-    pub(crate) fn fits(&self, claim: &Claim<E>) -> bool
-        ensures yes { result ≡ true → Fits self.now.rows claim.now }
-        ensures no { result ≡ false → Fits self.now.rows claim.now → ⊥ }
+    pub(crate) fn has_held(&self, claim: &Claim<E>) -> bool
+        ensures yes { result ≡ true → IsHeldClaim self.now.rows claim.now }
+        ensures no { result ≡ false → IsHeldClaim self.now.rows claim.now → ⊥ }
     {
         self.core.is_held(claim.worker, claim.row) && *self.core.goal(claim.row) == claim.goal
     }
@@ -151,7 +166,7 @@ impl<E: Expand> Progress<E> {
         Ok(added <= goals && answer.rule_count() as u64 <= rules)
     }
 
-    /// Files the row, which the worker holds, with the answer that the tag gives for its goal, where that stays within the
+    /// Files the row, which the worker holds, with the answer that the tag gives for its goal, if that stays within the
     /// limits. The Err means out of memory alone, and hands the answer back.
     #[tactic(auto, using(crate::proofs::Counting::claims_in_file))]
     pub(crate) fn file(
@@ -160,11 +175,11 @@ impl<E: Expand> Progress<E> {
         worker: u32,
         row: u32,
         answer: Answer<E::Goal>,
-    ) -> Result<Outcome, Answer<E::Goal>>
+    ) -> Result<Filing, Answer<E::Goal>>
         requires held { slice_get self.old.rows.states row ≡ Some (Held worker) }
-        requires answer { (g : E.Goal) → slice_get self.old.rows.goals row ≡ Some g → answer ≡ E.answer self.old.tag.by g }
-        ensures outcome { IfOk result (λ o. KeptOrBeyond E.Goal.eq worker row answer o self.old self.new) }
-        ensures large { IfOk result (λ o. o ≡ Outcome.Beyond → IsLarge E.answer self.old.tag) }
+        requires answer { ForSome (slice_get self.old.rows.goals row) (λ g. E.answers self.old.tag.by g answer) }
+        ensures outcome { IfOk result (λ f. FilingOutcome E.Goal.eq worker row answer f self.old self.new) }
+        ensures large { IfOk result (λ f. f ≡ Filing.OverLimits → IsLarge E.answers self.old.tag) }
         ensures claims { OnOk result (claims_in self.new.history ≡ claims_in self.old.history) }
         ensures tag { self.new.tag ≡ self.old.tag }
         ensures err { IfErr result (λ a. (a ≡ answer) × (self.new ≡ self.old)) }
@@ -173,16 +188,16 @@ impl<E: Expand> Progress<E> {
             return Err(answer);
         };
         if !room {
-            return Ok(Outcome::Beyond);
+            return Ok(Filing::OverLimits);
         }
         self.core.file(alloc, worker, row, answer)?;
-        Ok(Outcome::Kept)
+        Ok(Filing::Kept)
     }
 
     /// The rows and the history. The Err comes if and only if some row isn't filed.
     pub(crate) fn finish(self) -> Result<Finished<E::Goal>, Progress<E>>
-        ensures rows { IfOk result (λ f. AllFiled self.rows × (f.rows ≡ filed_rows self.rows.goals self.rows.states) × (f.history ≡ self.history)) }
-        ensures going { OnOk result (IsGoing E.Goal.eq E.answer E.ready self) }
+        ensures finished { IfOk result (IsFinished (core_of self)) }
+        ensures lawful { OnOk result (IsLawful E.Goal.eq E.answers E.ready self) }
         ensures err { IfErr result (λ p. (p ≡ self) × (AllFiled self.rows → ⊥)) }
     {
         let Progress { core, origin } = self;
@@ -192,10 +207,11 @@ impl<E: Expand> Progress<E> {
         }
     }
 
-    /// The rows and the history, copied. None comes if and only if some row isn't filed. The only error is out of memory.
+    /// The rows and the history, copied. None comes if and only if some row isn't filed. The only error is out of
+    /// memory.
     pub(crate) fn read(&self, alloc: Global) -> Result<Option<Finished<E::Goal>>, OutOfMemory>
-        ensures rows { IfOk result (λ r. IfSome r (λ f. AllFiled self.now.rows × (f.rows ≡ filed_rows self.now.rows.goals self.now.rows.states) × (f.history ≡ self.now.history))) }
-        ensures complete { IfOk result (λ r. IfSome r (λ f. IsComplete E.Goal.eq E.answer self.now.tag f)) }
+        ensures finished { IfOk result (λ r. IfSome r (IsFinished (core_of self.now))) }
+        ensures complete { IfOk result (λ r. IfSome r (λ f. IsComplete E.Goal.eq E.answers self.now.tag f)) }
         ensures unfiled { IfOk result (λ r. IfNone r (AllFiled self.now.rows → ⊥)) }
     {
         self.core.read(alloc)
@@ -205,27 +221,27 @@ impl<E: Expand> Progress<E> {
     fn file_held(&mut self, alloc: Global, by: &E, worker: u32, row: u32) -> Result<(), ExpandFault>
         requires tag { E.tag by.now ≡ self.old.tag.by }
         requires held { slice_get self.old.rows.states row ≡ Some (Held worker) }
-        ensures goes { OnOk result (GoesOn self.old self.new) }
+        ensures continues { OnOk result (Continues self.old self.new) }
         ensures filed { OnOk result (IsFiledAt self.new.rows row) }
-        ensures large { IfErr result (λ e. e ≡ ExpandFault.TooLarge → IsLarge E.answer self.old.tag) }
+        ensures large { IfErr result (λ e. e ≡ ExpandFault.TooLarge → IsLarge E.answers self.old.tag) }
     {
         let Ok(answer) = by.expand(alloc, self.core.goal(row)) else {
             return Err(ExpandFault::OutOfMemory);
         };
         match self.file(alloc, worker, row, answer) {
-            Ok(Outcome::Kept) => Ok(()),
-            Ok(Outcome::Beyond) => Err(ExpandFault::TooLarge),
+            Ok(Filing::Kept) => Ok(()),
+            Ok(Filing::OverLimits) => Err(ExpandFault::TooLarge),
             Err(_) => Err(ExpandFault::OutOfMemory),
         }
     }
 
-    // Files the row, by its holder, or by the worker 0 where it is free.
+    // Files the row if it isn't filed: by its holder, or by the caller if it is free.
     fn complete_row(&mut self, alloc: Global, by: &E, row: u32) -> Result<(), ExpandFault>
         requires tag { E.tag by.now ≡ self.old.tag.by }
         requires within { row < length self.old.rows.goals }
-        ensures goes { OnOk result (GoesOn self.old self.new) }
+        ensures continues { OnOk result (Continues self.old self.new) }
         ensures filed { OnOk result (IsFiledAt self.new.rows row) }
-        ensures large { IfErr result (λ e. e ≡ ExpandFault.TooLarge → IsLarge E.answer self.old.tag) }
+        ensures large { IfErr result (λ e. e ≡ ExpandFault.TooLarge → IsLarge E.answers self.old.tag) }
     {
         let worker = match self.core.state(row) {
             RowState::Filed(_) => return Ok(()),
@@ -237,29 +253,26 @@ impl<E: Expand> Progress<E> {
         self.file_held(alloc, by, worker, row)
     }
 
-    // Claims the row, which is free, as the worker 0, and files it.
+    // Claims the row, which is free, as the caller, and files it.
     fn complete_free(&mut self, alloc: Global, by: &E, row: u32) -> Result<(), ExpandFault>
         requires tag { E.tag by.now ≡ self.old.tag.by }
         requires free { slice_get self.old.rows.states row ≡ Some Free }
-        ensures goes { OnOk result (GoesOn self.old self.new) }
+        ensures continues { OnOk result (Continues self.old self.new) }
         ensures filed { OnOk result (IsFiledAt self.new.rows row) }
-        ensures large { IfErr result (λ e. e ≡ ExpandFault.TooLarge → IsLarge E.answer self.old.tag) }
+        ensures large { IfErr result (λ e. e ≡ ExpandFault.TooLarge → IsLarge E.answers self.old.tag) }
     {
-        let Ok(()) = self.claim_row(0, row) else {
+        let Ok(()) = self.claim_row(CALLER, row) else {
             return Err(ExpandFault::OutOfMemory);
         };
-        match self.file_held(alloc, by, 0, row) {
-            Ok(()) => Ok(()),
-            Err(fault) => Err(fault),
-        }
+        self.file_held(alloc, by, CALLER, row)
     }
 
-    /// Files each row, the held ones by their holders and the free ones as the worker 0, until all are filed.
+    /// Files each row, the held ones by their holders and the free ones as the caller, until all are filed.
     pub(crate) fn complete(self, alloc: Global, by: &E) -> Result<Finished<E::Goal>, ExpandFault>
         requires tag { E.tag by.now ≡ self.tag.by }
-        ensures complete { IfOk result (λ f. IsCompletion E.Goal.eq E.answer self f) }
-        ensures within { OnOk result (IsLarge E.answer self.tag → ⊥) }
-        ensures large { IfErr result (λ e. e ≡ ExpandFault.TooLarge → IsLarge E.answer self.tag) }
+        ensures completion { IfOk result (IsCompletion E.Goal.eq E.answers self) }
+        ensures within { OnOk result (IsLarge E.answers self.tag → ⊥) }
+        ensures large { IfErr result (λ e. e ≡ ExpandFault.TooLarge → IsLarge E.answers self.tag) }
     {
         let mut progress = self;
         let mut row = 0;

@@ -5,7 +5,7 @@ use cls_turn::TurnSeat;
 use std::marker::Model;
 use std::sync::ledger::{Ledger, Share};
 
-/// A worker's right to a shared table, with its share of the claims made.
+/// A worker's handle on a shared table, with its share of the claims made.
 #[derive(Drop)]
 pub struct TableSeat<E: Expand, L: Ledger> {
     pub(crate) seat: TurnSeat<Table<E, L>, Tag<E::Tag, E::Goal>>,
@@ -20,7 +20,13 @@ impl<E: Expand, L: Ledger> Model for TableSeat<E, L> {
 
     ghost Value = { SeatSeen E.Tag E.Goal };
 
-    ghost view = { λ s. record { turn = turn_of s.seat; tag = tag_of s.seat; worker = s.worker; parts = s.share.parts; amount = s.share.amount } };
+    ghost view = { λ s. record {
+      turn = turn_of s.seat;
+      tag = tag_of s.seat;
+      worker = s.worker;
+      parts = s.share.parts;
+      amount = s.share.amount;
+    } };
 
     ghost invariant = { λ s. IsSeated s.seat s.worker s.share.parts };
 }

@@ -1,4 +1,5 @@
-ghost use Rattle.std.specs.Prelude.{◌≡◌, ◌<◌, ◌≤◌, ◌+◌, Some, IfOk, IfErr, IfSome, OnOk};
+ghost use Rattle.std.specs.Prelude.{◌≡◌, ◌<◌, ◌≤◌, ◌+◌, ◌-◌, Some, IfOk, IfErr, IfSome, OnErr};
+ghost use Rattle.std.specs.Option.{ForSome};
 
 use crate::claim::{Claim, ClaimAnswer, Filed};
 use crate::limits::Limits;
@@ -12,7 +13,7 @@ use std::alloc::Global;
 use std::sync::Wait;
 use std::sync::ledger::{Blank, Ledger, Share};
 
-/// A table under a turn.
+/// A table under a spin lock.
 ///
 /// Each call that takes a seat wants one of this table: the first, or one that was split from such a seat.
 #[derive(Drop)]
@@ -30,14 +31,14 @@ pub struct Unfinished<E: Expand, L: Ledger> {
 impl<E: Expand, L: Ledger> SharedTable<E, L> {
     ghost use Rattle.cls_turn.specs.Seats.{id_of};
     ghost use Rattle.cls_core.specs.Machine.{AllFiled};
-    ghost use Rattle.cls_table.specs.Going.{claims_in};
-    ghost use Rattle.cls_table.specs.Steps.{made_by};
-    ghost use Rattle.cls_table.specs.Seating.{Tells};
-    ghost use Rattle.cls_table.specs.Completing.{IsComplete};
-    ghost use Rattle.cls_table.specs.declared.tag.Tag.{Tag};
+    ghost use Rattle.cls_table.specs.Lawful.{IsLawfulTable, claims_in};
+    ghost use Rattle.cls_table.specs.Tags.{tag_for};
+    ghost use Rattle.cls_table.specs.Holdings.{claims_made_by};
+    ghost use Rattle.cls_table.specs.Seating.{IsClaimAnswer};
+    ghost use Rattle.cls_table.specs.Completing.{IsCompleteFor};
 
-    /// A table with one free row, the goal, and the seat of the worker 0 with every part of the ledger. The only error is
-    /// out of memory.
+    /// A table with one free row, the goal, and the seat of the worker 0 with every part of the ledger. The only error
+    /// is out of memory.
     pub fn start(
         alloc: Global,
         by: &E,
@@ -47,12 +48,12 @@ impl<E: Expand, L: Ledger> SharedTable<E, L> {
         blank: Blank,
     ) -> Result<(SharedTable<E, L>, TableSeat<E, L>), OutOfMemory>
         requires ready { E.ready (E.tag by.now) goal }
-        requires some { 0 < limits.goals }
+        requires one_goal { 0 < limits.goals }
         requires name { blank.name ≡ L.name }
         requires parts { blank.parts ≡ L.parts }
-        requires each { L.parts ≡ workers + 1 }
-        ensures turn { IfOk result (λ r. r.1.turn ≡ id_of r.0.turn) }
-        ensures tag { IfOk result (λ r. r.1.tag ≡ Some (record { by = E.tag by.now; start = goal; goals = limits.goals; rules = limits.rules; workers = workers })) }
+        requires part_each { L.parts ≡ workers + 1 }
+        ensures seat_of_this { IfOk result (λ r. r.1.turn ≡ id_of r.0.turn) }
+        ensures tag { IfOk result (λ r. r.1.tag ≡ Some (tag_for (E.tag by.now) goal limits workers)) }
         ensures seat { IfOk result (λ r. (r.1.worker ≡ 0) × (r.1.parts ≡ L.parts) × (r.1.amount ≡ 0)) }
     {
         let (book, share) = blank.open::<L>();
@@ -70,11 +71,11 @@ impl<E: Expand, L: Ledger> SharedTable<E, L> {
 
     /// A seat for the worker, with one part of the ledger taken from the given seat.
     pub fn split(&self, seat: &mut TableSeat<E, L>, worker: u32) -> TableSeat<E, L>
-        requires of { seat.old.turn ≡ id_of self.now.turn }
+        requires seat_of_this { seat.old.turn ≡ id_of self.now.turn }
         requires parts { 1 < seat.old.parts }
-        requires worker { (t : Tag E.Tag E.Goal) → seat.old.tag ≡ Some t → worker ≤ t.workers }
-        ensures new { (result.turn ≡ seat.old.turn) × (result.tag ≡ seat.old.tag) × (result.worker ≡ worker) × (result.parts ≡ 1) × (result.amount ≡ 0) }
-        ensures left { (seat.new.turn ≡ seat.old.turn) × (seat.new.tag ≡ seat.old.tag) × (seat.new.worker ≡ seat.old.worker) × (seat.new.parts + 1 ≡ seat.old.parts) × (seat.new.amount ≡ seat.old.amount) }
+        requires worker { ForSome seat.old.tag (λ t. worker ≤ t.workers) }
+        ensures new { result ≡ record seat.old { worker = worker; parts = 1; amount = 0 } }
+        ensures left { seat.new ≡ record seat.old { parts = seat.old.parts - 1 } }
     {
         let share = seat.share.split_off(1, 0);
         TableSeat {
@@ -86,10 +87,12 @@ impl<E: Expand, L: Ledger> SharedTable<E, L> {
 
     /// Ends the other seat, and adds its parts and its amount to the given one.
     pub fn join(&self, seat: &mut TableSeat<E, L>, other: TableSeat<E, L>)
-        requires of { seat.old.turn ≡ id_of self.now.turn }
-        requires of_other { other.turn ≡ id_of self.now.turn }
-        ensures same { (seat.new.turn ≡ seat.old.turn) × (seat.new.tag ≡ seat.old.tag) × (seat.new.worker ≡ seat.old.worker) }
-        ensures shares { (seat.new.parts ≡ seat.old.parts + other.parts) × (seat.new.amount ≡ seat.old.amount + other.amount) }
+        requires seat_of_this { seat.old.turn ≡ id_of self.now.turn }
+        requires other_of_this { other.turn ≡ id_of self.now.turn }
+        ensures { seat.new ≡ record seat.old {
+          parts = seat.old.parts + other.parts;
+          amount = seat.old.amount + other.amount;
+        } }
     {
         let TableSeat {
             seat: ended,
@@ -100,21 +103,20 @@ impl<E: Expand, L: Ledger> SharedTable<E, L> {
         seat.share.merge(share);
     }
 
-    /// Waits for the turn, and asks for a goal: what `Table::claim` answers at that holding.
+    /// Takes the turn, and asks for a goal: what `Table::claim` answers at that holding.
     ///
-    /// It can tell that the closure is too large only where it is. `OutOfMemory` comes when there is no memory, and where the table
-    /// is stopped.
+    /// It tells that the closure is too large only if it is. `OutOfMemory` comes at out of memory, and if the table is
+    /// stopped.
     pub fn claim<R: Wait>(
         &self,
         rt: &R,
         alloc: Global,
         seat: &mut TableSeat<E, L>,
     ) -> Result<ClaimAnswer<E>, OutOfMemory>
-        requires of { seat.old.turn ≡ id_of self.now.turn }
-        ensures same { (seat.new.turn ≡ seat.old.turn) × (seat.new.tag ≡ seat.old.tag) × (seat.new.worker ≡ seat.old.worker) × (seat.new.parts ≡ seat.old.parts) }
-        ensures tells { IfOk result (λ a. (t : Tag E.Tag E.Goal) → seat.old.tag ≡ Some t → Tells E.answer t seat.old.worker a) }
-        ensures amount { IfOk result (λ a. seat.new.amount ≡ seat.old.amount + made_by a) }
-        ensures err { IfErr result (λ _. seat.new.amount ≡ seat.old.amount) }
+        requires seat_of_this { seat.old.turn ≡ id_of self.now.turn }
+        ensures answer { IfOk result (λ a. ForSome seat.old.tag (λ t. IsClaimAnswer E.answers t seat.old.worker a)) }
+        ensures seat { IfOk result (λ a. seat.new ≡ record seat.old { amount = seat.old.amount + claims_made_by a }) }
+        ensures err { OnErr result (seat.new ≡ seat.old) }
     {
         let TableSeat {
             seat,
@@ -135,7 +137,7 @@ impl<E: Expand, L: Ledger> SharedTable<E, L> {
         seat: &mut TableSeat<E, L>,
         filed: Filed<E>,
     ) -> Result<Option<Filed<E>>, Filed<E>>
-        requires of { seat.old.turn ≡ id_of self.now.turn }
+        requires seat_of_this { seat.old.turn ≡ id_of self.now.turn }
         requires tag { seat.old.tag ≡ Some filed.claim.tag }
         ensures same { seat.new ≡ seat.old }
         ensures back { IfOk result (λ r. IfSome r (λ f. f ≡ filed)) }
@@ -148,8 +150,8 @@ impl<E: Expand, L: Ledger> SharedTable<E, L> {
         answer
     }
 
-    /// Waits for a holding at which the claim's row is held by its worker and has the claim's goal, and files there what
-    /// `Table::file` files. The Err means out of memory alone, and hands the filing back.
+    /// Waits for a holding at which the claim's row is held by its worker and has the claim's goal, and files there
+    /// what `Table::file` files. The Err means out of memory alone, and hands the filing back.
     pub fn file<R: Wait>(
         &self,
         rt: &R,
@@ -157,7 +159,7 @@ impl<E: Expand, L: Ledger> SharedTable<E, L> {
         seat: &mut TableSeat<E, L>,
         filed: Filed<E>,
     ) -> Result<(), Filed<E>>
-        requires of { seat.old.turn ≡ id_of self.now.turn }
+        requires seat_of_this { seat.old.turn ≡ id_of self.now.turn }
         requires tag { seat.old.tag ≡ Some filed.claim.tag }
         ensures same { seat.new ≡ seat.old }
         ensures err { IfErr result (λ f. f ≡ filed) }
@@ -172,9 +174,9 @@ impl<E: Expand, L: Ledger> SharedTable<E, L> {
         unreachable!()
     }
 
-    /// Waits for the turn, and stops the table, which spends the claim.
+    /// Takes the turn, and stops the table, which spends the claim.
     pub fn stop<R: Wait>(&self, rt: &R, seat: &mut TableSeat<E, L>, claim: Claim<E>)
-        requires of { seat.old.turn ≡ id_of self.now.turn }
+        requires seat_of_this { seat.old.turn ≡ id_of self.now.turn }
         ensures same { seat.new ≡ seat.old }
     {
         let TableSeat { seat, .. } = seat;
@@ -190,9 +192,9 @@ impl<E: Expand, L: Ledger> SharedTable<E, L> {
         alloc: Global,
         seat: &mut TableSeat<E, L>,
     ) -> Result<Option<Finished<E::Goal>>, OutOfMemory>
-        requires of { seat.old.turn ≡ id_of self.now.turn }
+        requires seat_of_this { seat.old.turn ≡ id_of self.now.turn }
         ensures same { seat.new ≡ seat.old }
-        ensures complete { IfOk result (λ r. IfSome r (λ f. (t : Tag E.Tag E.Goal) → seat.old.tag ≡ Some t → IsComplete E.Goal.eq E.answer t f)) }
+        ensures complete { IfOk result (λ r. IfSome r (IsCompleteFor E.Goal.eq E.answers seat.old)) }
     {
         let TableSeat { seat, .. } = seat;
         let table = self.turn.take(rt, seat);
@@ -201,18 +203,18 @@ impl<E: Expand, L: Ledger> SharedTable<E, L> {
         answer
     }
 
-    /// Waits for a holding at which all rows are filed, and copies the rows and the history: what `Table::read` gives there.
-    /// At any other holding it puts the table back and takes the turn again. The table stays as it is. The only error is want
-    /// of memory.
+    /// Waits for a holding at which all rows are filed, and copies the rows and the history: what `Table::read` gives
+    /// there. At any other holding it puts the table back and takes the turn again. The table stays as it is. The only
+    /// error is out of memory.
     pub fn read<R: Wait>(
         &self,
         rt: &R,
         alloc: Global,
         seat: &mut TableSeat<E, L>,
     ) -> Result<Finished<E::Goal>, OutOfMemory>
-        requires of { seat.old.turn ≡ id_of self.now.turn }
+        requires seat_of_this { seat.old.turn ≡ id_of self.now.turn }
         ensures same { seat.new ≡ seat.old }
-        ensures complete { IfOk result (λ f. (t : Tag E.Tag E.Goal) → seat.old.tag ≡ Some t → IsComplete E.Goal.eq E.answer t f) }
+        ensures complete { IfOk result (IsCompleteFor E.Goal.eq E.answers seat.old) }
     {
         for _ in rt.forever() {
             if let Some(finished) = self.read_once(rt, alloc, seat)? {
@@ -222,19 +224,22 @@ impl<E: Expand, L: Ledger> SharedTable<E, L> {
         unreachable!()
     }
 
-    /// Waits for the turn, and takes the table out: the rows and the history where all rows are filed. Otherwise, and exactly then,
-    /// the table. With a seat that has every part of the ledger, the history has as many claims as the seat's share counts.
+    /// Takes the table out for good: the rows and the history if all rows are filed, and the table if and only if some
+    /// row isn't. If the seat has every part of the ledger, the history of either has as many claims as the seat's
+    /// share counts.
     pub fn close<R: Wait>(
         self,
         rt: &R,
         seat: TableSeat<E, L>,
     ) -> Result<Finished<E::Goal>, Unfinished<E, L>>
-        requires of { seat.turn ≡ id_of self.turn }
-        ensures complete { IfOk result (λ f. (t : Tag E.Tag E.Goal) → seat.tag ≡ Some t → IsComplete E.Goal.eq E.answer t f) }
-        ensures count { IfOk result (λ f. seat.parts ≡ L.parts → claims_in f.history ≡ seat.amount) }
+        requires seat_of_this { seat.turn ≡ id_of self.turn }
+        ensures complete { IfOk result (IsCompleteFor E.Goal.eq E.answers seat) }
+        ensures claims { IfOk result (λ f. seat.parts ≡ L.parts → claims_in f.history ≡ seat.amount) }
         ensures tag { IfErr result (λ u. seat.tag ≡ Some u.table.tag) }
         ensures unfinished { IfErr result (λ u. AllFiled u.table.rows → ⊥) }
-        ensures claims { IfErr result (λ u. seat.parts ≡ L.parts → u.table.claims ≡ seat.amount) }
+        ensures unfinished_claims { IfErr result (λ u. seat.parts ≡ L.parts → claims_in u.table.history ≡ seat.amount) }
+        ensures unfinished_count { IfErr result (λ u. seat.parts ≡ L.parts → u.table.claims ≡ seat.amount) }
+        ensures lawful { IfErr result (λ u. IsLawfulTable E.Goal.eq E.answers u.table) }
     {
         let TableSeat {
             seat,
@@ -247,7 +252,11 @@ impl<E: Expand, L: Ledger> SharedTable<E, L> {
         table.audit(&mut share);
         match table.finish() {
             Ok(finished) => Ok(finished),
-            Err(table) => Err(Unfinished { table }),
+            Err(table) => {
+                // For the prover: what holds of the table.
+                table.facts();
+                Err(Unfinished { table })
+            }
         }
     }
 }

@@ -1,9 +1,10 @@
-ghost use Rattle.std.specs.Prelude.{◌≡◌, ◌<◌, ◌≤◌, ◌+◌, [], ◌∷◌, ◌++◌, Some, true, false, ℕ, IfOk, IfErr, IfSome, IfNone, OnOk, OnErr};
+ghost use Rattle.std.specs.Prelude.{◌≡◌, ◌<◌, ◌≤◌, ◌+◌, [], true, false};
+ghost use Rattle.std.specs.Prelude.{IfOk, IfErr, IfSome, IfNone, OnOk, OnErr, IsErr, IsErrOf};
 
 use crate::claim::{Claim, ClaimAnswer, Filed};
 use crate::fault::ExpandFault;
 use crate::limits::Limits;
-use crate::progress::{Outcome, Progress};
+use crate::progress::{Filing, Progress};
 use crate::tag::Tag;
 use cls_base::OutOfMemory;
 use cls_core::{Expand, Finished};
@@ -14,9 +15,10 @@ use std::sync::ledger::{Book, Ledger, Share};
 
 /// The rows, the history, the count of claims made and the marks, under a tag.
 ///
-/// Whenever it is there its history is legal and has the rows as its replay, the first row is the tag's start goal, each filed
-/// row holds the answer that the tag gives for its goal, all is within the tag's limits, no entry names a worker above the
-/// greatest, the claims of the history are as many as the count, and it is marked as too large only where the closure is.
+/// Of each table holds what `facts` says: its history is legal and has the rows as its replay, the first row is the
+/// tag's start goal, each filed row holds the answer that the tag gives for its goal, all is within the tag's limits,
+/// no entry names a worker above the greatest, the claims of the history are as many as the count, and it is marked as
+/// too large only if the closure is.
 #[derive(Drop)]
 pub struct Table<E: Expand, L: Ledger> {
     progress: Progress<E>,
@@ -28,14 +30,15 @@ pub struct Table<E: Expand, L: Ledger> {
 
 impl<E: Expand, L: Ledger> Model for Table<E, L> {
     ghost use Rattle.std.specs.Prelude.{◌≡◌, true};
-    ghost use Rattle.cls_table.specs.Seen.{TableSeen};
-    ghost use Rattle.cls_table.specs.Going.{IsLarge, claims_in};
+    ghost use Rattle.cls_table.specs.Seen.{TableSeen, table_of};
+    ghost use Rattle.cls_table.specs.Lawful.{IsLarge, claims_in};
 
     ghost Value = { TableSeen E.Tag E.Goal };
 
-    ghost view = { λ t. record { tag = t.progress.tag; rows = t.progress.rows; history = t.progress.history; claims = t.claims.total; large = t.large; stopped = t.stopped } };
+    ghost view = { λ t. table_of t.progress t.claims.total t.large t.stopped };
 
-    ghost invariant = { λ t. (claims_in t.progress.history ≡ t.claims.total) × (t.made ≡ t.claims.total) × (t.large ≡ true → IsLarge E.answer t.progress.tag) };
+    ghost invariant = { λ t. (claims_in t.progress.history ≡ t.claims.total) × (t.made ≡ t.claims.total)
+        × (t.large ≡ true → IsLarge E.answers t.progress.tag) };
 }
 
 impl<E: Expand, L: Ledger> Tagged<Tag<E::Tag, E::Goal>> for Table<E, L> {
@@ -44,10 +47,19 @@ impl<E: Expand, L: Ledger> Tagged<Tag<E::Tag, E::Goal>> for Table<E, L> {
 
 impl<E: Expand, L: Ledger> Table<E, L> {
     ghost use Rattle.cls_core.specs.Machine.{begun, AllFiled};
-    ghost use Rattle.cls_core.specs.Rows.{filed_rows};
-    ghost use Rattle.cls_table.specs.Completing.{IsComplete, IsCompletion, progress_of};
-    ghost use Rattle.cls_table.specs.Going.{IsLarge, claims_in};
-    ghost use Rattle.cls_table.specs.Steps.{Claims, Files, Fits, made_by, stopped_table};
+    ghost use Rattle.cls_table.specs.Tags.{tag_for};
+    ghost use Rattle.cls_table.specs.Completing.{IsComplete, IsCompletion};
+    ghost use Rattle.cls_table.specs.Seen.{progress_of, core_of};
+    ghost use Rattle.cls_core.specs.Finishing.{IsFinished};
+    ghost use Rattle.cls_table.specs.Lawful.{IsLawfulTable, IsLarge, claims_in};
+    ghost use Rattle.cls_table.specs.Holdings.{ClaimOutcome, FileOutcome, IsHeldClaim, claims_made_by, stopped_table};
+
+    /// Does nothing, and says what holds of each table.
+    pub fn facts(&self)
+        ensures { IsLawfulTable E.Goal.eq E.answers self.now }
+    {
+        self.progress.facts();
+    }
 
     pub(crate) fn start(
         alloc: Global,
@@ -58,9 +70,9 @@ impl<E: Expand, L: Ledger> Table<E, L> {
         claims: Book<L>,
     ) -> Result<Table<E, L>, OutOfMemory>
         requires ready { E.ready (E.tag by.now) goal }
-        requires some { 0 < limits.goals }
-        requires none { claims.total ≡ 0 }
-        ensures tag { IfOk result (λ t. t.tag ≡ record { by = E.tag by.now; start = goal; goals = limits.goals; rules = limits.rules; workers = workers }) }
+        requires one_goal { 0 < limits.goals }
+        requires no_claims { claims.total ≡ 0 }
+        ensures tag { IfOk result (λ t. t.tag ≡ tag_for (E.tag by.now) goal limits workers) }
         ensures rows { IfOk result (λ t. t.rows ≡ begun goal) }
         ensures marks { IfOk result (λ t. (t.large ≡ false) × (t.stopped ≡ false) × (t.history ≡ [])) }
     {
@@ -76,10 +88,11 @@ impl<E: Expand, L: Ledger> Table<E, L> {
 
     /// Gives a goal to the worker, or says why it doesn't: the whole work of one holding of `SharedTable::claim`.
     ///
-    /// Where the table is stopped the answer is `OutOfMemory`, which also comes when there is no memory. Otherwise it is `TooLarge`
-    /// if and only if the table is marked so, `Job` where some row is free, `Again` if and only if no row is free and some
-    /// is held, and `Finished` if and only if all rows are filed. `Job` makes the row held by the worker, adds the entry of the
-    /// claim and raises the share by one. With any other answer the table and the share are as before.
+    /// If the table is stopped the answer is `OutOfMemory`, which also comes at out of memory. Otherwise it is
+    /// `TooLarge` if and only if the table is marked so, `Job` if some row is free, `Again` if and only if no row is
+    /// free and some row is held, and `Finished` if and only if all rows are filed. `Job` makes the row held by the
+    /// worker, adds the entry of the claim and raises the share by one. With any other answer the table and the share
+    /// are as before.
     pub fn claim(
         &mut self,
         alloc: Global,
@@ -88,11 +101,11 @@ impl<E: Expand, L: Ledger> Table<E, L> {
     ) -> Result<ClaimAnswer<E>, OutOfMemory>
         requires worker { worker ≤ self.old.tag.workers }
         requires part { 0 < share.old.parts }
-        ensures stopped { self.old.stopped ≡ true → OnOk result ⊥ }
-        ensures claims { IfOk result (λ a. Claims self.old worker a self.new) }
-        ensures large { self.old.large ≡ true → IsLarge E.answer self.old.tag }
+        ensures stopped { self.old.stopped ≡ true → IsErr result }
+        ensures outcome { IfOk result (λ a. ClaimOutcome self.old worker a self.new) }
+        ensures large { self.old.large ≡ true → IsLarge E.answers self.old.tag }
         ensures tag { self.new.tag ≡ self.old.tag }
-        ensures amount { IfOk result (λ a. share.new.amount ≡ share.old.amount + made_by a) }
+        ensures amount { IfOk result (λ a. share.new.amount ≡ share.old.amount + claims_made_by a) }
         ensures parts { share.new.parts ≡ share.old.parts }
         ensures err { OnErr result ((self.new ≡ self.old) × (share.new.amount ≡ share.old.amount)) }
     {
@@ -116,23 +129,25 @@ impl<E: Expand, L: Ledger> Table<E, L> {
 
     /// Files a claim's goal: the whole work of one holding of `SharedTable::file`.
     ///
-    /// It hands the filing back if and only if the claim's row isn't held by its worker or has another goal, and the table is
-    /// then as before. Otherwise it files the row where that stays within the limits, and marks the table as too large where it
-    /// doesn't. The Err means out of memory alone, and hands the filing back too, and the table is as before.
+    /// It hands the filing back if and only if the claim's row isn't held by its worker or has another goal, and the
+    /// table is then as before. Otherwise it files the row if that stays within the limits, and marks the table as too
+    /// large if it doesn't. The Err means out of memory alone. It hands the filing back too, and the table is as
+    /// before.
     pub fn file(&mut self, alloc: Global, filed: Filed<E>) -> Result<Option<Filed<E>>, Filed<E>>
         requires { filed.claim.tag ≡ self.old.tag }
-        ensures files { IfOk result (λ r. IfNone r (Files E.Goal.eq self.old filed self.new)) }
-        ensures back { IfOk result (λ r. IfSome r (λ f. (f ≡ filed) × (self.new ≡ self.old) × (Fits self.old.rows filed.claim → ⊥))) }
+        ensures outcome { IfOk result (λ r. IfNone r (FileOutcome E.Goal.eq self.old filed self.new)) }
+        ensures back { IfOk result (λ r. IfSome r (λ f. (f ≡ filed) × (self.new ≡ self.old))) }
+        ensures not_held { IfOk result (λ r. IfSome r (λ _. IsHeldClaim self.old.rows filed.claim → ⊥)) }
         ensures err { IfErr result (λ f. (f ≡ filed) × (self.new ≡ self.old)) }
         ensures tag { self.new.tag ≡ self.old.tag }
     {
-        if !self.progress.fits(&filed.claim) {
+        if !self.progress.has_held(&filed.claim) {
             return Ok(Some(filed));
         }
         let Filed { claim, answer } = filed;
         match self.progress.file(alloc, claim.worker, claim.row, answer) {
-            Ok(Outcome::Kept) => {}
-            Ok(Outcome::Beyond) => self.large = true,
+            Ok(Filing::Kept) => {}
+            Ok(Filing::OverLimits) => self.large = true,
             Err(answer) => return Err(Filed { claim, answer }),
         }
         claim.spend();
@@ -150,7 +165,7 @@ impl<E: Expand, L: Ledger> Table<E, L> {
     /// Whether the table is marked as too large.
     pub fn large(&self) -> bool
         ensures mark { result ≡ self.now.large }
-        ensures cause { result ≡ true → IsLarge E.answer self.now.tag }
+        ensures cause { result ≡ true → IsLarge E.answers self.now.tag }
     {
         self.large
     }
@@ -170,26 +185,26 @@ impl<E: Expand, L: Ledger> Table<E, L> {
         claim.spend();
     }
 
-    /// Copies the rows and the history where all rows are filed: the whole work of one holding of `SharedTable::read`. None
-    /// comes if and only if some row isn't filed. The only error is out of memory.
+    /// Copies the rows and the history if all rows are filed: the whole work of one holding of `SharedTable::read`.
+    /// None comes if and only if some row isn't filed. The only error is out of memory.
     pub fn read(&self, alloc: Global) -> Result<Option<Finished<E::Goal>>, OutOfMemory>
-        ensures rows { IfOk result (λ r. IfSome r (λ f. AllFiled self.now.rows × (f.rows ≡ filed_rows self.now.rows.goals self.now.rows.states))) }
-        ensures history { IfOk result (λ r. IfSome r (λ f. (f.history ≡ self.now.history) × (claims_in f.history ≡ self.now.claims))) }
-        ensures complete { IfOk result (λ r. IfSome r (λ f. IsComplete E.Goal.eq E.answer self.now.tag f)) }
+        ensures finished { IfOk result (λ r. IfSome r (IsFinished (core_of (progress_of self.now)))) }
+        ensures claims { IfOk result (λ r. IfSome r (λ f. claims_in f.history ≡ self.now.claims)) }
+        ensures complete { IfOk result (λ r. IfSome r (λ f. IsComplete E.Goal.eq E.answers self.now.tag f)) }
         ensures unfiled { IfOk result (λ r. IfNone r (AllFiled self.now.rows → ⊥)) }
     {
         self.progress.read(alloc)
     }
 
     /// Files each row that isn't filed: a held one under its holder's number, a free one after a claim as the worker 0.
-    /// Nothing waits. Where the table is stopped the answer is `OutOfMemory`, which also comes when there is no memory. Else
+    /// Nothing waits. If the table is stopped the answer is `OutOfMemory`, which also comes at out of memory. Otherwise
     /// `TooLarge` comes if and only if the closure of the tag's start goal passes the tag's limits.
     pub fn complete(self, alloc: Global, by: &E) -> Result<Finished<E::Goal>, ExpandFault>
         requires tag { E.tag by.now ≡ self.tag.by }
-        ensures complete { IfOk result (λ f. IsCompletion E.Goal.eq E.answer (progress_of self) f) }
-        ensures within { OnOk result (IsLarge E.answer self.tag → ⊥) }
-        ensures large { IfErr result (λ e. e ≡ ExpandFault.TooLarge → (self.stopped ≡ false) × IsLarge E.answer self.tag) }
-        ensures stopped { self.stopped ≡ true → IfErr result (λ e. e ≡ ExpandFault.OutOfMemory) × OnOk result ⊥ }
+        ensures completion { IfOk result (IsCompletion E.Goal.eq E.answers (progress_of self)) }
+        ensures within { OnOk result (IsLarge E.answers self.tag → ⊥) }
+        ensures large { IfErr result (λ e. e ≡ ExpandFault.TooLarge → IsLarge E.answers self.tag) }
+        ensures stopped { self.stopped ≡ true → IsErrOf result ExpandFault.OutOfMemory }
     {
         if self.stopped {
             return Err(ExpandFault::OutOfMemory);
@@ -202,8 +217,8 @@ impl<E: Expand, L: Ledger> Table<E, L> {
 
     /// The rows and the history. The Err comes if and only if some row isn't filed, and hands the table back.
     pub(crate) fn finish(self) -> Result<Finished<E::Goal>, Table<E, L>>
-        ensures complete { IfOk result (λ f. IsCompletion E.Goal.eq E.answer (progress_of self) f) }
-        ensures history { IfOk result (λ f. (f.history ≡ self.history) × (claims_in f.history ≡ self.claims)) }
+        ensures complete { IfOk result (λ f. IsComplete E.Goal.eq E.answers self.tag f) }
+        ensures claims { IfOk result (λ f. claims_in f.history ≡ self.claims) }
         ensures err { IfErr result (λ t. (t ≡ self) × (AllFiled self.rows → ⊥)) }
     {
         let Table {

@@ -1,4 +1,4 @@
--- A seat and a turn may go to another thread, and a turn may be shared, where the value may go.
+-- A seat may go to another thread, and the lock may be shared, if the value may go to another thread.
 use denote.RattleType.{RattleType}
 use denote.Param.Send.{IsSend, IsSync, sendable}
 use Rattle.std.proofs.Crossing.{crosses}

@@ -1,4 +1,4 @@
--- The rule of a turn, which has one word and one slot, and what its steps tell a seat.
+-- The rule of the spin lock, which is one word and one slot, and what a seat knows after each step.
 -- A seat's view is the tag, or None once the seat has ended.
 use Rattle.std.specs.Prelude.{◌≡◌, ◌≢◌, ℕ, List, ◌∷◌, Option, None, Some, slice_index, length}
 use mathlib.Core.Option.{some}
@@ -30,17 +30,17 @@ module _ {T G : Type 0} (tag : T → G) where
   abbrev pub IsAtHome : State (Option T) (Option G) → G → Type 0
   IsAtHome s g = (value : T) × (get_elem? s.homes 0 ≡ some (some (Some value))) × (tag value ≡ g)
 
-  -- The rule: there is one tag that all views have, and where the word is 0 a value with that tag lies in the slot.
-  abbrev pub Ruled : State (Option T) (Option G) → Type 0
-  Ruled s = (g : G) × (length s.words ≡ 1) × AllTagged s.views g × (slice_index s.words 0 ≡ 0 → IsAtHome s g)
+  -- The rule: all views have one tag, and if the word is 0 a value with that tag lies in the slot.
+  abbrev pub KeepsOneTag : State (Option T) (Option G) → Type 0
+  KeepsOneTag s = (g : G) × (length s.words ≡ 1) × AllTagged s.views g × (slice_index s.words 0 ≡ 0 → IsAtHome s g)
 
-  -- What a take tells: where it found 0, the seat has the slot, with a value of the seat's tag in it.
-  abbrev pub Took : Me (Option T) (Option G) → ℕ → Me (Option T) (Option G) → Type 0
-  Took m found n =
+  -- What a seat knows after it tried to take: if it found 0, it has the slot, with a value of the seat's tag in it.
+  abbrev pub TakeOutcome : Me (Option T) (Option G) → ℕ → Me (Option T) (Option G) → Type 0
+  TakeOutcome m found n =
       (n.0 ≡ m.0)
       × (found ≡ 0 → (value : T) × (n.1 ≡ (0, Some value) ∷ m.1) × ((g : G) → m.0 ≡ Some g → tag value ≡ g))
       × (found ≢ 0 → n.1 ≡ m.1)
 
--- What a put tells: the seat has given the slot back.
-abbrev pub Gave : {T G : Type 0} → Me (Option T) (Option G) → Me (Option T) (Option G) → Type 0
-Gave m n = (n.0 ≡ m.0) × (n.1 ≡ rest m.1)
+-- what a seat knows after it put: it has given the slot back
+abbrev pub PutOutcome : {T G : Type 0} → Me (Option T) (Option G) → Me (Option T) (Option G) → Type 0
+PutOutcome m n = (n.0 ≡ m.0) × (n.1 ≡ rest m.1)

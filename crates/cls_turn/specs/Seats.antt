@@ -1,4 +1,4 @@
--- What clauses say of a turn and its seats.
+-- What clauses say of the lock and its seats.
 use Rattle.std.specs.Prelude.{◌≡◌, ◌∷◌, [], Option, None, Some}
 use Rattle.atomic_table.specs.Seated.{TableId}
 use Rattle.cls_turn.specs.declared.seat.TurnSeat.{TurnSeat}
@@ -13,30 +13,30 @@ module _ {T G : Type 0} where
   abbrev pub HasTag : TurnSeat T G → G → Type 0
   HasTag seat g = tag_of seat ≡ Some g
 
-  -- the seat hasn't taken the turn
+  -- the seat is in no holding
   abbrev pub IsFree : TurnSeat T G → Type 0
   IsFree seat = seat.seat.me.1 ≡ []
 
-  -- the seat has taken the turn, with the value out of its slot
+  -- the seat is in a holding: it has taken the value out of the slot
   abbrev pub HasTurn : TurnSeat T G → Type 0
   HasTurn seat = seat.seat.me.1 ≡ (0, None) ∷ []
 
-  -- the turn that the seat is of
+  -- the lock that the seat is of
   abbrev pub turn_of : TurnSeat T G → TableId
   turn_of seat = seat.seat.table_id
 
-  -- the turn's own identity
+  -- the lock's own identity
   abbrev pub id_of : Turn T G → TableId
   id_of turn = turn.table.shared.table_id
 
-  -- the seat is one of this turn
+  -- the seat is one of this lock
   abbrev pub IsSeatOf : TurnSeat T G → Turn T G → Type 0
   IsSeatOf seat turn = turn_of seat ≡ id_of turn
 
-  -- two seats of one turn that know the same of the tag
+  -- two seats of one lock that know the same of the tag
   abbrev pub HasSameView : TurnSeat T G → TurnSeat T G → Type 0
   HasSameView seat was = (turn_of seat ≡ turn_of was) × (tag_of seat ≡ tag_of was)
 
-  -- the one seat has taken what the other has
+  -- the one seat holds what the other does
   abbrev pub HoldsTheSame : TurnSeat T G → TurnSeat T G → Type 0
   HoldsTheSame seat was = seat.seat.me.1 ≡ was.seat.me.1

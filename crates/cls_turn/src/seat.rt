@@ -1,6 +1,6 @@
 use atomic_table::Seat;
 
-/// The right to take the turn that it is a seat of, with the tag of what it takes.
+/// A thread's handle on the lock, which knows the tag of the value.
 #[derive(Drop)]
 pub struct TurnSeat<T, G> {
     pub(crate) seat: Seat<Option<T>, Option<G>>,

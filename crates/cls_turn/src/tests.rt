@@ -2,7 +2,7 @@ use crate::tagged::Tagged;
 use crate::turn::Turn;
 use std::test::Fail;
 
-// A number, which has itself as its tag.
+// A number. All numbers have one tag.
 #[derive(Drop)]
 struct Counter {
     count: u32,

@@ -10,9 +10,9 @@ use std::snapshot::Snapshot;
 use std::sync::Wait;
 use std::thread::yield_now;
 
-/// A value that seats take in turn.
+/// A spin lock with the value that it guards.
 ///
-/// Each call that takes a seat wants one of this turn: the first, or one that was split from such a seat.
+/// Each call that takes a seat wants one of this lock: the first, or one that was split from such a seat.
 #[derive(Drop)]
 pub struct Turn<T: Tagged<G> + Drop, G> {
     table: Table<Option<T>, Option<G>, Snapshot<T>, OneTag<T, G>, Global>,
@@ -23,10 +23,10 @@ impl<G, T: Tagged<G> + Drop> Turn<T, G> {
     ghost use Rattle.std.specs.Prelude.{IfOk};
     ghost use Rattle.cls_turn.specs.Seats.{HasTag, IsFree, HasTurn, IsSeatOf, HasSameView, HoldsTheSame};
 
-    /// A turn with the value, and a seat with the value's tag. The only error is out of memory, at which the value is
-    /// dropped.
+    /// A free lock with the value, and a seat with the value's tag. The only error is out of memory, which drops the
+    /// value.
     pub fn new(alloc: Global, value: T) -> Result<(Turn<T, G>, TurnSeat<T, G>), OutOfMemory>
-        ensures of { IfOk result (λ r. IsSeatOf r.1 r.0) }
+        ensures seat_of_this { IfOk result (λ r. IsSeatOf r.1 r.0) }
         ensures tag { IfOk result (λ r. HasTag r.1 (T.tag value)) }
         ensures free { IfOk result (λ r. IsFree r.1) }
     {
@@ -39,11 +39,11 @@ impl<G, T: Tagged<G> + Drop> Turn<T, G> {
         }
     }
 
-    /// Waits until the turn is free, and takes the value.
+    /// Acquires the lock: spins until it is free, and takes the value out.
     pub fn take<R: Wait>(&self, rt: &R, seat: &mut TurnSeat<T, G>) -> T
-        requires of { IsSeatOf seat.old self.now }
+        requires seat_of_this { IsSeatOf seat.old self.now }
         requires free { IsFree seat.old }
-        ensures same { HasSameView seat.new seat.old }
+        ensures same_view { HasSameView seat.new seat.old }
         ensures taken { HasTurn seat.new }
         ensures tag { (g : G) → HasTag seat.old g → T.tag result ≡ g }
     {
@@ -58,12 +58,12 @@ impl<G, T: Tagged<G> + Drop> Turn<T, G> {
         unreachable!()
     }
 
-    /// Puts a value with the seat's tag back, and so frees the turn that the seat has taken.
+    /// Releases the lock that the seat has taken: puts a value with the seat's tag back.
     pub fn put(&self, seat: &mut TurnSeat<T, G>, value: T)
-        requires of { IsSeatOf seat.old self.now }
+        requires seat_of_this { IsSeatOf seat.old self.now }
         requires taken { HasTurn seat.old }
         requires tag { HasTag seat.old (T.tag value) }
-        ensures same { HasSameView seat.new seat.old }
+        ensures same_view { HasSameView seat.new seat.old }
         ensures free { IsFree seat.new }
     {
         let shared = &self.table.shared;
@@ -73,24 +73,23 @@ impl<G, T: Tagged<G> + Drop> Turn<T, G> {
 
     /// A new seat with the same tag.
     pub fn split(&self, seat: &mut TurnSeat<T, G>) -> TurnSeat<T, G>
-        requires of { IsSeatOf seat.old self.now }
-        ensures same { HasSameView seat.new seat.old }
-        ensures holds { HoldsTheSame seat.new seat.old }
-        ensures new { HasSameView result seat.old }
+        requires seat_of_this { IsSeatOf seat.old self.now }
+        ensures same_view { HasSameView seat.new seat.old }
+        ensures same_holding { HoldsTheSame seat.new seat.old }
+        ensures new_view { HasSameView result seat.old }
         ensures free { IsFree result }
     {
-        TurnSeat {
-            seat: self.table.shared.split_seat::<SameTag>(&mut seat.seat),
-        }
+        let new = self.table.shared.split_seat::<SameTag>(&mut seat.seat);
+        TurnSeat { seat: new }
     }
 
-    /// Ends the other seat, which hasn't taken the turn.
+    /// Ends the other seat, which is in no holding.
     pub fn join(&self, seat: &mut TurnSeat<T, G>, other: TurnSeat<T, G>)
-        requires of { IsSeatOf seat.old self.now }
-        requires of_other { IsSeatOf other self.now }
+        requires seat_of_this { IsSeatOf seat.old self.now }
+        requires other_of_this { IsSeatOf other self.now }
         requires free { IsFree other }
-        ensures same { HasSameView seat.new seat.old }
-        ensures holds { HoldsTheSame seat.new seat.old }
+        ensures same_view { HasSameView seat.new seat.old }
+        ensures same_holding { HoldsTheSame seat.new seat.old }
     {
         let TurnSeat { seat: other } = other;
         self.table
@@ -98,9 +97,9 @@ impl<G, T: Tagged<G> + Drop> Turn<T, G> {
             .join_seat::<SameTag>(&mut seat.seat, other);
     }
 
-    /// Waits until the turn is free, and takes the value for good.
+    /// Spins until the lock is free, and takes the value out for good.
     pub fn close<R: Wait>(self, rt: &R, seat: TurnSeat<T, G>) -> T
-        requires of { IsSeatOf seat self }
+        requires seat_of_this { IsSeatOf seat self }
         requires free { IsFree seat }
         ensures tag { (g : G) → HasTag seat g → T.tag result ≡ g }
     {

@@ -1,10 +1,10 @@
-ghost use Rattle.std.specs.Prelude.{◌≡◌, ◌<◌, ◌≤◌, ◌+◌, ◌-◌, ◌^◌, Some, IfOk, IfErr, OnOk};
+ghost use Rattle.std.specs.Prelude.{◌≡◌, ◌<◌, ◌≤◌, ◌+◌, ◌-◌, ◌^◌, IfOk, IfErr, OnOk};
 ghost use Rattle.std.specs.Thread.{IsSync, IsSend};
 ghost use Rattle.cls_turn.specs.Seats.{id_of};
-ghost use Rattle.cls_table.specs.declared.tag.Tag.{Tag};
-ghost use Rattle.cls_table.specs.Going.{IsLarge};
+ghost use Rattle.cls_table.specs.Tags.{tag_for};
+ghost use Rattle.cls_table.specs.Lawful.{IsLarge};
 ghost use Rattle.cls_table.specs.Completing.{IsComplete};
-ghost use Rattle.cls_workers.specs.Seats.{Goes, Means};
+ghost use Rattle.cls_workers.specs.Seats.{IsAfterWork, HasMeaning, HasPartsFor};
 
 use crate::work::work;
 use cls_base::Gate;
@@ -16,8 +16,8 @@ use std::sync::Wait;
 use std::sync::ledger::{Blank, Ledger};
 use std::thread::{Threads, join};
 
-// Runs the workers from `next` to `last`, each in a thread of its own where one can be made, and gives the seat with their
-// shares.
+// Runs the workers from `next` to `last`, each in a thread of its own if one can be made, and gives the seat back with
+// their shares.
 fn run_from<E: Expand + Sync, L: Ledger + Send + Sync, T: Gate + Sync, R: Threads + Wait + Sync>(
     rt: &R,
     alloc: Global,
@@ -30,12 +30,11 @@ fn run_from<E: Expand + Sync, L: Ledger + Send + Sync, T: Gate + Sync, R: Thread
 ) -> TableSeat<E, L>
 where
     E::Goal: Send,
-    requires of { seat.turn ≡ id_of table.now.turn }
-    requires means { Means seat (E.tag by.now) }
-    requires workers { (next ≤ last + 1) × (last < 2 ^ 32 - 1) × ((t : Tag E.Tag E.Goal) → seat.tag ≡ Some t → last ≤ t.workers) }
-    requires parts { seat.parts + next ≡ last + 2 }
-    requires cross { IsSend E.Goal.row × IsSync E.row × IsSync T.row × IsSync R.row }
-    ensures { Goes seat result }
+    requires seat_of_table { seat.turn ≡ id_of table.now.turn }
+    requires meaning { HasMeaning seat (E.tag by.now) }
+    requires parts { HasPartsFor seat next last }
+    requires may_cross { IsSend E.Goal.row × IsSync E.row × IsSync T.row × IsSync R.row }
+    ensures { IsAfterWork seat result }
 {
     if next > last {
         return seat;
@@ -45,12 +44,17 @@ where
     let (theirs, rest) = join(
         rt,
         move || -> TableSeat<E, L>
-            requires { (theirs.turn ≡ id_of table.now.turn) × Means theirs (E.tag by.now) }
-            ensures { Goes theirs result }
+            requires seat_of_table { theirs.turn ≡ id_of table.now.turn }
+            requires meaning { HasMeaning theirs (E.tag by.now) }
+            ensures { IsAfterWork theirs result }
         { work(rt, alloc, table, by, gate, theirs) },
         move || -> TableSeat<E, L>
-            requires { IsSend E.Goal.row × IsSync E.row × IsSync T.row × IsSync R.row × (seat.turn ≡ id_of table.now.turn) × Means seat (E.tag by.now) × (next ≤ last) × (last < 2 ^ 32 - 1) × ((t : Tag E.Tag E.Goal) → seat.tag ≡ Some t → last ≤ t.workers) × (seat.parts + next ≡ last + 1) }
-            ensures { Goes seat result }
+            requires seat_of_table { seat.turn ≡ id_of table.now.turn }
+            requires meaning { HasMeaning seat (E.tag by.now) }
+            requires some_left { next ≤ last }
+            requires parts { HasPartsFor seat (next + 1) last }
+            requires may_cross { IsSend E.Goal.row × IsSync E.row × IsSync T.row × IsSync R.row }
+            ensures { IsAfterWork seat result }
         { run_from(rt, alloc, table, by, gate, seat, next + 1, last) },
     );
     let mut rest = rest;
@@ -74,10 +78,12 @@ where
     requires name { blank.name ≡ L.name }
     requires parts { (blank.parts ≡ L.parts) × (blank.parts ≡ workers + 1) }
     requires ready { E.ready (E.tag by.now) start }
-    requires some { (0 < limits.goals) × (workers < 2 ^ 32 - 1) }
-    ensures complete { IfOk result (IsComplete E.Goal.eq E.answer (record { by = E.tag by.now; start = start; goals = limits.goals; rules = limits.rules; workers = workers })) }
-    ensures within { OnOk result (IsLarge E.answer (record { by = E.tag by.now; start = start; goals = limits.goals; rules = limits.rules; workers = workers }) → ⊥) }
-    ensures large { IfErr result (λ e. e ≡ ExpandFault.TooLarge → IsLarge E.answer (record { by = E.tag by.now; start = start; goals = limits.goals; rules = limits.rules; workers = workers })) }
+    requires one_goal { 0 < limits.goals }
+    requires few_workers { workers < 2 ^ 32 - 1 }
+    ensures complete { IfOk result (IsComplete E.Goal.eq E.answers (tag_for (E.tag by.now) start limits workers)) }
+    ensures within { OnOk result (IsLarge E.answers (tag_for (E.tag by.now) start limits workers) → ⊥) }
+    ensures large { IfErr result (λ e. e ≡ ExpandFault.TooLarge
+        → IsLarge E.answers (tag_for (E.tag by.now) start limits workers)) }
 {
     let Ok((table, seat)) = SharedTable::<E, L>::start(alloc, by, start, limits, workers, blank)
     else {
@@ -86,19 +92,16 @@ where
     let seat = run_from(rt, alloc, &table, by, gate, seat, 1, workers);
     match table.close(rt, seat) {
         Ok(finished) => Ok(finished),
-        Err(unfinished) => match unfinished.table.complete(alloc, by) {
-            Ok(completed) => Ok(completed),
-            Err(fault) => Err(fault),
-        },
+        Err(unfinished) => unfinished.table.complete(alloc, by),
     }
 }
 
 /// The closure of the goal `start`, worked out by 1 to 64 workers.
 ///
-/// The rows are those of a legal complete history from `start`, which names workers from 0 to their number, and each holds
-/// the answer of its goal. Each worker tells the gate of each claim that it makes. Once all have ended the caller, which is the
-/// worker 0, takes the table, and files what is left. `TooLarge` comes if and only if the closure has more goals or more
-/// rules than the limits, `OutOfMemory` when there is no memory.
+/// The rows are those of a legal complete history from `start`, which names workers from 0 to their number, and each
+/// holds the answer of its goal. Each worker tells the gate of each claim that it makes. Once all have ended the
+/// caller, which is the worker 0, takes the table out and files what is left. `TooLarge` comes if and only if the
+/// closure has more goals or more rules than the limits. The only other error is out of memory.
 pub fn expand_all<E: Expand + Sync, T: Gate + Sync, R: Threads + Wait + Sync>(
     rt: &R,
     alloc: Global,
@@ -111,11 +114,12 @@ pub fn expand_all<E: Expand + Sync, T: Gate + Sync, R: Threads + Wait + Sync>(
 where
     E::Goal: Send,
     requires workers { (0 < workers) × (workers ≤ 64) }
-    requires some { (0 < limits.goals) × (0 < limits.rules) }
+    requires limits { (0 < limits.goals) × (0 < limits.rules) }
     requires ready { E.ready (E.tag by.now) start }
-    ensures complete { IfOk result (IsComplete E.Goal.eq E.answer (record { by = E.tag by.now; start = start; goals = limits.goals; rules = limits.rules; workers = workers })) }
-    ensures within { OnOk result (IsLarge E.answer (record { by = E.tag by.now; start = start; goals = limits.goals; rules = limits.rules; workers = workers }) → ⊥) }
-    ensures large { IfErr result (λ e. e ≡ ExpandFault.TooLarge → IsLarge E.answer (record { by = E.tag by.now; start = start; goals = limits.goals; rules = limits.rules; workers = workers })) }
+    ensures complete { IfOk result (IsComplete E.Goal.eq E.answers (tag_for (E.tag by.now) start limits workers)) }
+    ensures within { OnOk result (IsLarge E.answers (tag_for (E.tag by.now) start limits workers) → ⊥) }
+    ensures large { IfErr result (λ e. e ≡ ExpandFault.TooLarge
+        → IsLarge E.answers (tag_for (E.tag by.now) start limits workers)) }
 {
     run::<E, Brand, T, R>(
         rt,

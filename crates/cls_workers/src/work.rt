@@ -1,6 +1,6 @@
 ghost use Rattle.std.specs.Prelude.{◌≡◌};
 ghost use Rattle.cls_turn.specs.Seats.{id_of};
-ghost use Rattle.cls_workers.specs.Seats.{Goes, Means};
+ghost use Rattle.cls_workers.specs.Seats.{IsAfterWork, HasMeaning};
 
 use cls_base::Gate;
 use cls_core::Expand;
@@ -20,9 +20,9 @@ pub(crate) fn work<E: Expand, L: Ledger, T: Gate, R: Wait>(
     gate: &T,
     seat: TableSeat<E, L>,
 ) -> TableSeat<E, L>
-    requires of { seat.turn ≡ id_of table.now.turn }
-    requires means { Means seat (E.tag by.now) }
-    ensures { Goes seat result }
+    requires seat_of_table { seat.turn ≡ id_of table.now.turn }
+    requires meaning { HasMeaning seat (E.tag by.now) }
+    ensures { IsAfterWork seat result }
 {
     let mut seat = seat;
     for _ in rt.forever() {

@@ -10,12 +10,12 @@ use Rattle.cls_workers.proofs.run.+fn-run_from-join+arg3+run_from.Goals as goal
 
 pub join-theirs-requires-send-A : goal.join-theirs-requires-send-A
 join-theirs-requires-send-A g t c κs within =
-    let bounds = c.requires.cross in
+    let bounds = c.requires.may_cross in
     param_send 3 _ (arg_send _ yes _ (table_seat_send (param 0 g.row.E) (param 1 g.row.L) (param 4 g.row.E-Goal) (param 5 g.row.E-Tag) g.E.Expand g.E.Goal.PartialEq g.E.Goal.Hash g.L.Ledger bounds.0))
 
 pub join-theirs-requires-send-F : goal.join-theirs-requires-send-F
 join-theirs-requires-send-F g t c κs within =
-    let bounds = c.requires.cross in
+    let bounds = c.requires.may_cross in
     let goals : IsSend (param 4 g.row.E-Goal) = bounds.0 in
     let by : IsSync (param 0 g.row.E) = bounds.1 in
     let gate : IsSync (param 2 g.row.T) = bounds.2 in

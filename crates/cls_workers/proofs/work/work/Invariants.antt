@@ -1,7 +1,7 @@
-use Rattle.cls_workers.specs.Seats.{Goes}
+use Rattle.cls_workers.specs.Seats.{IsAfterWork}
 use Rattle.cls_workers.proofs.work.work.Given as goal
 
 abbrev pub invariant-loop : goal.invariant-loop
 invariant-loop g l =
     (goal.iterator-loop g).can_next l.iterator' × (goal.iterator-loop g).is_finite l.iterator'
-    × Goes l.initial.seat l.seat
+    × IsAfterWork l.initial.seat l.seat

@@ -1,20 +1,20 @@
 use Rattle.std.proofs.Common.{inl, inr, arith, sym, subst}
 use Rattle.cls_core.proofs.Closure.{replay-sound, complete-within}
 use Rattle.cls_core.proofs.Columns.{lt-split}
-use Rattle.cls_table.specs.Going.{IsLarge}
+use Rattle.cls_table.specs.Lawful.{IsLarge}
 use Rattle.cls_table.specs.Completing.{IsFiledAt}
-use Rattle.cls_table.proofs.Completing.{completed, goes-further, all-filed}
+use Rattle.cls_table.proofs.Completing.{completed, continues-trans, all-filed}
 use Rattle.cls_table.proofs.progress.Progress.complete.Goals as goal
 
 pub returns-in-Err-clause-large : goal.returns-in-Err-clause-large
-returns-in-Err-clause-large g c = λ e. subst (IsLarge g.E.Expand.answer) c.loop-row.invariant.0.tag (c.in-Err.ensures.large e)
+returns-in-Err-clause-large g c = λ e. subst (IsLarge g.E.Expand.answers) c.loop-row.invariant.0.same_tag (c.in-Err.ensures.large e)
 
 pub loop-row-preserved : goal.loop-row-preserved
 loop-row-preserved g c =
     let i = c.loop-row.invariant in
     let e = c.in-Ok.ensures in (
-      goes-further c.args.self c.loop-row.progress c.complete_row.new.self i.0 e.goes,
-      λ k h. elim (lt-split c.loop-row.row k h) [ inl l ↦ e.goes.stays k (i.1 k l) | inr same ↦ subst (IsFiledAt c.complete_row.new.self.rows) (sym same) e.filed ],
+      continues-trans c.args.self c.loop-row.progress c.complete_row.new.self i.0 e.continues,
+      λ k h. elim (lt-split c.loop-row.row k h) [ inl l ↦ e.continues.stays_filed k (i.1 k l) | inr same ↦ subst (IsFiledAt c.complete_row.new.self.rows) (sym same) e.filed ],
     )
 
 pub unreachable-requires : goal.unreachable-requires
@@ -29,12 +29,12 @@ returns-clause-within g c =
     let eq = g.E.Goal.PartialEq.eq in
     let exact = g.met.E.Goal.Key.exact in
     let reflexive = g.met.E.Goal.Eq.laws.refl in
-    let answer = g.E.Expand.answer p.tag.by in
-    let sound = replay-sound eq exact reflexive answer p.tag.start p.history p.rows e.going.legal in
-    λ large. complete-within eq exact reflexive answer p.tag.start p.rows p.tag.goals p.tag.rules sound e.rows.0 e.going.within e.going.few (subst (IsLarge g.E.Expand.answer) (sym c.loop-row.invariant.0.tag) large)
+    let IsAnswer = g.E.Expand.answers p.tag.by in
+    let sound = replay-sound eq exact reflexive IsAnswer p.tag.start p.history p.rows e.lawful.legal in
+    λ large. complete-within eq exact reflexive IsAnswer p.tag.start (g.met.E.Expand.one_answer p.tag.by) p.rows p.tag.goals p.tag.rules sound e.finished.0 e.lawful.goals_within e.lawful.rules_within (subst (IsLarge g.E.Expand.answers) (sym c.loop-row.invariant.0.same_tag) large)
 
-pub returns-clause-complete : goal.returns-clause-complete
-returns-clause-complete g c =
+pub returns-clause-completion : goal.returns-clause-completion
+returns-clause-completion g c =
     let p = c.loop-row.progress in
     let e = c.in-Ok-finish.ensures in
-    completed g.E.Goal.PartialEq.eq g.met.E.Goal.Key.exact g.met.E.Goal.Eq.laws.refl g.E.Expand.answer g.E.Expand.ready c.args.self p c.in-Ok-finish.finished c.loop-row.invariant.0 e.going e.rows.0 e.rows.1 e.rows.2
+    completed g.E.Goal.PartialEq.eq g.met.E.Goal.Key.exact g.met.E.Goal.Eq.laws.refl g.E.Expand.answers g.E.Expand.ready g.met.E.Expand.one_answer c.args.self p c.in-Ok-finish.finished c.loop-row.invariant.0 e.lawful e.finished

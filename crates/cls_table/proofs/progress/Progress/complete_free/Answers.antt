@@ -1,7 +1,14 @@
-use Rattle.cls_table.proofs.Completing.{goes-further, goes-by-claim}
+use Rattle.std.proofs.Common.{refl}
+use Rattle.std.proofs.lemmas.Result.{IfOk-weaker}
+use Rattle.cls_table.specs.Completing.{Continues}
+use Rattle.cls_table.proofs.Completing.{continues-trans, continues-claim}
 use Rattle.cls_table.proofs.progress.Progress.complete_free.Goals as goal
 
-pub returns-in-Ok-file_held-clause-goes : goal.returns-in-Ok-file_held-clause-goes
-returns-in-Ok-file_held-clause-goes g c =
+pub returns-clause-continues : goal.returns-clause-continues
+returns-clause-continues g c =
+    let p = c.args.self.now in
+    let q = c.claim_row.new.self in
+    let r = c.file_held.new.self in
     let e = c.in-Ok.ensures in
-    goes-further c.args.self.now c.claim_row.new.self c.file_held.new.self (goes-by-claim c.args.self.now c.claim_row.new.self 0 c.args.row c.requires.free e.tag e.rows e.history) c.in-Ok-file_held.ensures.goes
+    let claimed = continues-claim p q _ c.args.row refl c.requires.free e.tag e.rows e.history in
+    IfOk-weaker c.file_held.result (λ _. Continues q r) (λ _. Continues p r) (λ _ more. continues-trans p q r claimed more) c.file_held.ensures.continues
