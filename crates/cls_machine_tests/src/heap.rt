@@ -44,7 +44,7 @@ impl Heap {
 }
 
 impl Expand for Heap {
-    ghost use Rattle.cls_machine_tests.specs.Heaps.{heap_answer, IsInHeap, arguments_in_heap};
+    ghost use Rattle.cls_machine_tests.specs.Heaps.{IsHeapAnswer, IsInHeap, one_heap_answer, arguments_in_heap};
 
     type Goal = Node;
 
@@ -52,7 +52,7 @@ impl Expand for Heap {
 
     ghost tag = { λ h. h.size };
 
-    ghost answer = { heap_answer };
+    ghost answers = { IsHeapAnswer };
 
     ghost ready = { IsInHeap };
 
@@ -76,6 +76,8 @@ impl Expand for Heap {
         })?;
         Ok(Answer::Rules(Rules::new(rules)))
     }
+
+    ghost one_answer = { one_heap_answer };
 
     ghost arguments_ready = { arguments_in_heap };
 }
