@@ -5,7 +5,7 @@ use Rattle.std.specs.List.{flat_map, AllByRecursion}
 use Rattle.std.specs.Fmt.{decimal}
 use Rattle.std.proofs.lemmas.Fmt.{length-decimal-le_wide}
 use Rattle.std.proofs.lemmas.List.Elements.{All-contains_itself}
-use Rattle.cls_base.specs.Limits.{max_input_bytes}
+use Rattle.cls_base.specs.Limits.{max_input_bytes, max_term_length}
 use Rattle.cls_base.specs.Terms.{Applicative, component, apply, length_of}
 use Rattle.cls_syntax.specs.declared.token.TokenKind.{TokenKind}
 use Rattle.cls_syntax.specs.declared.token.TokenKind.TheVariants.{Name, Number, To, And, Times, Open, Close, Comma, Dollar, Colon, Equals, Bar, AtMost, Bad}
@@ -79,9 +79,9 @@ front_short : (xs ys : List (List ℕ)) → AllByRecursion IsShort (xs ++ ys) �
 front_short [] ys h = tt
 front_short (x ∷ xs) ys h = (h.0, front_short xs ys h.1)
 
--- the term has at most 64 component occurrences
+-- the term has at most `max_term_length` component occurrences
 abbrev IsShortTerm : Applicative → Type 0
-IsShortTerm e = length_of e ≤ 64
+IsShortTerm e = length_of e ≤ max_term_length
 
 -- what such terms take, and a page of them
 module _ (names : ℕ → List ℕ) (short : (x : ℕ) → IsShort (names x)) where

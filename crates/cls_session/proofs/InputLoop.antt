@@ -82,17 +82,15 @@ none_more {source = source} {source' = source'} source'' count buffer u none con
 pub record IsPiece (source source' : SourceSeen) (piece over : List ℕ) (count : ℕ) : Type 0 where
   pub consumes : Consumes source.left source'.left (piece ++ over)
   pub lengths : length piece + length over ≡ count
-  pub short : count ≤ max_read_bytes
 
 -- what was read is cut into the two
 pub cut_piece : (source source' : SourceSeen) (buffer piece over : List ℕ) (count place : ℕ) → piece ≡ take place (take count buffer) → over ≡ drop place (take count buffer)
-    → Consumes source.left source'.left (take count buffer) → count ≤ length buffer → count ≤ max_read_bytes → IsPiece source source' piece over count
-cut_piece source source' buffer piece over count place front back consumes within short =
+    → Consumes source.left source'.left (take count buffer) → count ≤ length buffer → IsPiece source source' piece over count
+cut_piece source source' buffer piece over count place front back consumes within =
     let joined : piece ++ over ≡ take count buffer = (λ i. front i ++ back i) ∙ take-append-drop place (take count buffer) in
     record {
       consumes = subst (λ (x : List ℕ). Consumes source.left source'.left x) (sym joined) consumes;
       lengths = sym (length-append piece over) ∙ (ap length joined ∙ length-take-le count buffer within);
-      short = short;
     }
 
 -- a length that isn't 0
@@ -296,11 +294,11 @@ module _ {source source' : SourceSeen} {sink sink' : SinkSeen} {session : Standi
         (λ bytes e. let (on, end, output) = output_goes_on (u.bytes ++ piece) rest (u.written ++ reply) (u.lines ++ more) (cuts_on more rest cs) few_bytes bytes (begins bytes e) w in
         (on, end, subst (λ (x : List ℕ). Output [] bytes (x ++ on) end) (ap (λ (x : List ℕ). u.written ++ x) f.split ∙ sym (append_assoc u.written f.front f.rest)) output))
 
-    lines_keep_pace : {sink'' : SinkSeen} → BreaksLines sink' sink'' session (reader ++ piece) → KeepsPace source source'' sink sink''
-    lines_keep_pace {sink'' = sink''} h =
+    lines_keep_pace : {sink'' : SinkSeen} → count ≤ max_read_bytes → BreaksLines sink' sink'' session (reader ++ piece) → KeepsPace source source'' sink sink''
+    lines_keep_pace {sink'' = sink''} most h =
         let (more, rest, reply, cs, w, f) = h.reply u.lines u.written u.stands in
         keeps_pace sink sink'' source source'' u.bytes (piece ++ over) u.written f.front (subst (λ (x : List ℕ). Consumes source.left source''.left x) (append_assoc u.bytes piece over) read)
-        (let a = length-append piece over in let b = p.lengths in let c = p.short in omega arith) transcript (Appends-trans sink.held sink'.held sink''.held u.written f.front u.writes.held f.held)
+        (let a = length-append piece over in let b = p.lengths in omega arith) transcript (Appends-trans sink.held sink'.held sink''.held u.written f.front u.writes.held f.held)
 
     -- A line of the piece stopped the run.
     module _ (A : Type 0) (sink'' : SinkSeen) (session' : Standing) (reader' : List ℕ) (stop : Stop) (end : Status)
@@ -317,9 +315,9 @@ module _ {source source' : SourceSeen} {sink sink' : SinkSeen} {session : Standi
           (BeginsAnswers [] source sink sink'') h is begins_lines
 
       -- and all lines that had come whole before the piece were answered
-      pub stopped_keeps_pace : IsBrokenOff end → KeepsPace source source'' sink sink''
-      stopped_keeps_pace = broken_off A stop end (λ _. AnswersLines sink' sink'' session session' (reader ++ piece) reader') (RefusesLines sink' sink'' session (reader ++ piece)) (BreaksLines sink' sink'' session (reader ++ piece))
-          (KeepsPace source source'' sink sink'') h is lines_keep_pace
+      pub stopped_keeps_pace : count ≤ max_read_bytes → IsBrokenOff end → KeepsPace source source'' sink sink''
+      stopped_keeps_pace most = broken_off A stop end (λ _. AnswersLines sink' sink'' session session' (reader ++ piece) reader') (RefusesLines sink' sink'' session (reader ++ piece)) (BreaksLines sink' sink'' session (reader ++ piece))
+          (KeepsPace source source'' sink sink'') h is (lines_keep_pace most)
 
     -- The lines of the piece were answered.
     module _ {sink'' : SinkSeen} {session' : Standing} {reader' : List ℕ} (answers : AnswersLines sink' sink'' session session' (reader ++ piece) reader') (free : HasNoFeed reader') where

@@ -33,7 +33,7 @@ IsWhole ReadFault = ⊥
 IsWhole WriteFault = ⊥
 IsWhole NoMemory = ⊥
 
--- the statuses of a run that broke off: a read failed, a write failed, or no memory was found
+-- the statuses of a run that broke off: a read failed, a write failed, or it was out of memory
 abbrev pub IsBrokenOff : Status → Type 0
 IsBrokenOff Done = ⊥
 IsBrokenOff Usage = ⊥
@@ -43,7 +43,7 @@ IsBrokenOff ReadFault = Unit {0}
 IsBrokenOff WriteFault = Unit {0}
 IsBrokenOff NoMemory = Unit {0}
 
--- those of a run that may have broken off within a reply: a write failed, or no memory was found
+-- those of a run that may have broken off within a reply: a write failed, or it was out of memory
 abbrev pub IsCutOff : Status → Type 0
 IsCutOff Done = ⊥
 IsCutOff Usage = ⊥

@@ -20,7 +20,7 @@ pub enum Stop {
     Refused,
     /// A write failed.
     WriteFault,
-    /// No memory was found.
+    /// The run is out of memory.
     NoMemory,
 }
 

@@ -52,7 +52,7 @@ pub fn run<R: Threads + Wait + Sync, S: Source, K: Sink, G: Gate + Sync>(
     ensures unread { result ≡ Usage → Keeps (S.seen source.old).left (S.seen source.new).left }
     ensures unasked { (AsksSession (texts_of words.now) → ⊥) → S.seen source.new ≡ S.seen source.old }
 
-    // What stands written if a read or a write failed or no memory was found.
+    // What stands written if a read or a write failed or the run was out of memory.
     ensures none_waits { result ≡ ReadFault → AnswersTaken (texts_of words.now)
         (S.seen source.old) (S.seen source.new) (K.seen sink.old) (K.seen sink.new) }
     ensures begins_taken { result ≡ ReadFault → BeginsTaken (texts_of words.now)
