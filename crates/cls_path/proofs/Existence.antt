@@ -1,5 +1,5 @@
 -- Each type has a normal form: its paths, with normal lists inside, are put one by one into a normal list.
-use Rattle.std.proofs.Common.{◌≡◌, refl, ℕ, Bool, true, false, List, [], ◌⊎◌, inl, inr}
+use Rattle.std.proofs.Common.{◌≡◌, refl, ℕ, Bool, true, false, List, [], inl, inr}
 use Rattle.cls_base.specs.Types as types
 use Rattle.cls_base.specs.Types.{ClosedType, constructor, product, arrow, meet}
 use Rattle.cls_base.specs.Taxonomies.{Variance, covariant, contravariant, invariant}

@@ -1,5 +1,5 @@
 -- What holds of all paths and normal forms.
-use Rattle.std.specs.Prelude.{ℕ, Bool, ◌≡◌, ◌↔◌, ◌⊎◌}
+use Rattle.std.specs.Prelude.{ℕ, Bool, ◌≡◌, ◌↔◌}
 use Rattle.cls_base.specs.Orders.{IsStrictTotalOrder}
 use Rattle.cls_base.specs.Types.{ClosedType}
 use Rattle.cls_base.specs.Taxonomies.{Variance}

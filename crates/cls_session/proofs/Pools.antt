@@ -16,8 +16,7 @@ use Rattle.cls_enum.specs.declared.listed.Page.{Page}
 use Rattle.cls_enum.specs.declared.fault.PageFault.{PageFault}
 use Rattle.cls_enum.specs.declared.fault.PageFault.TheVariants.{OutOfMemory, TooManyTerms}
 use Rattle.cls_enum.specs.Faults.{IfTooMany}
-use Rattle.cls_enum.specs.States.{FitsPool}
-use Rattle.cls_enum.specs.States as states
+use Rattle.cls_enum.specs.States.{ExceedsPool, FitsPool}
 use Rattle.cls_enum.proofs.Existence.{each_page-decided}
 use Rattle.cls_grammar.specs.Books.{omega_book}
 use Rattle.cls_grammar.proofs.Books.{omega_book-language}
@@ -132,12 +131,12 @@ module _ (n max take : ℕ) where
   page_listed (Err e) h = tt
 
   -- and few count
-  pub few_listed : (bound : ℕ) (r : Result Page PageFault) → IfOk r (λ _. IsWithin (omega_book n) (omega_request max take) bound) → IfOk r (λ _. AreFew (IsTermOver n) max take bound)
+  pub few_listed : (bound : ℕ) (r : Result Page PageFault) → IfOk r (λ _. FitsPool (omega_book n) (omega_request max take) bound) → IfOk r (λ _. AreFew (IsTermOver n) max take bound)
   few_listed bound (Ok p) h = let d = book_decided in (d.2.0, book_pool d.0 d.2.0 d.1 d.2.1, h d.0 d.2.0 d.1 d.2.1)
   few_listed bound (Err e) h = tt
 
   -- where the rule book has too many terms, many count
-  pub many_found : (bound : ℕ) (r : Result Page PageFault) → IfErr r (λ fault. IfTooMany fault (states.IsOver (omega_book n) (omega_request max take) bound)) → IfErr r (λ fault. IfTooMany fault (AreMany (IsTermOver n) max take bound))
+  pub many_found : (bound : ℕ) (r : Result Page PageFault) → IfErr r (λ fault. IfTooMany fault (ExceedsPool (omega_book n) (omega_request max take) bound)) → IfErr r (λ fault. IfTooMany fault (AreMany (IsTermOver n) max take bound))
   many_found bound (Ok p) h = tt
   many_found bound (Err OutOfMemory) h = tt
   many_found bound (Err TooManyTerms) h = let d = book_decided in (d.2.0, book_pool d.0 d.2.0 d.1 d.2.1, h d.0 d.2.0 d.1 d.2.1)

@@ -58,7 +58,7 @@ found texts text n h =
       stays = rw any refl;
     }
 
--- where no number was found, the text isn't held
+-- if no number was found, the text isn't held
 pub absent : (texts : List (List ℕ)) (text : List ℕ) → position (bytes_eq text) texts ≡ None → Contains texts text → ⊥
 absent texts text h at =
     let late = position-none (bytes_eq text) texts h in
@@ -75,7 +75,9 @@ with_text-held texts text n h =
 
 -- the table that a set of strings becomes with one more
 module _ {A : Type 0} where
-  pub map-insert_key : (keys : List (String A)) (key : String A) → map string_bytes (insert_key string_eq keys key) ≡ with_text (map string_bytes keys) (string_bytes key)
+  pub map-insert_key :
+      (keys : List (String A)) (key : String A)
+      → map string_bytes (insert_key string_eq keys key) ≡ with_text (map string_bytes keys) (string_bytes key)
   map-insert_key keys key =
       let same = list_any-map string_bytes (bytes_eq (string_bytes key)) keys in
       (elim (list_any (string_eq key) keys) as (λ b. map string_bytes (if b then keys else keys ++ key ∷ []) ≡ (if b then map string_bytes keys else map string_bytes keys ++ string_bytes key ∷ [])) [
@@ -83,7 +85,9 @@ module _ {A : Type 0} where
         | false ↦ map-append string_bytes keys (key ∷ [])
       ]) ∙ ap (λ (b : Bool). if b then map string_bytes keys else map string_bytes keys ++ string_bytes key ∷ []) (sym same)
 
-  pub stored_text : (keys : List (String A)) (place : ℕ) (text : List ℕ) (key k : String A) → string_bytes key ≡ text → slice_get keys place ≡ Some k → string_eq key k ≡ true → slice_get (map string_bytes keys) place ≡ Some text
+  pub stored_text :
+      (keys : List (String A)) (place : ℕ) (text : List ℕ) (key k : String A) → string_bytes key ≡ text
+      → slice_get keys place ≡ Some k → string_eq key k ≡ true → slice_get (map string_bytes keys) place ≡ Some text
   stored_text keys place text key k is at same =
       slice_get-map string_bytes keys place ∙ (ap (λ (o : Option (String A)). option_map string_bytes o) at ∙ ap (λ (t : List ℕ). Some t) (sym ((bytes_eq-Decides (string_bytes key) (string_bytes k)).0 same) ∙ is))
 

@@ -123,6 +123,6 @@ after_sign-exact (sign k ∷ ws) rest kind = (
   λ h. let same : k ≡ kind = cc in let left : ws ≡ rest = cc in ap (λ (b : Bool). if b then Some ws else None) (eq-eqb _ _ (ap kind_place (sym same))) ∙ ap (λ (r : List Word). Some r) left,
 )
 
--- each front says exactly what stands there
+-- each front says what stands there, and nothing else
 pub fronts_exact : FrontsAreExact
 fronts_exact = record { names = first_name-exact; numbers = first_number-exact; this_name = after_word-exact; signs = after_sign-exact }

@@ -58,6 +58,7 @@ after_sign kind (sign kind' ∷ ws) = if kind_place kind == kind_place kind' the
 -- Each front gives a word, and what follows it, if and only if the words begin with that word.
 pub record FrontsAreExact : Type 0 where
   pub names : (ws rest : List Word) (text : List ℕ) → (first_name ws ≡ Some (text, rest)) ↔ (ws ≡ name text ∷ rest)
-  pub numbers : (ws rest : List Word) (digits : List ℕ) → (first_number ws ≡ Some (digits, rest)) ↔ (ws ≡ number digits ∷ rest)
+  pub numbers :
+      (ws rest : List Word) (digits : List ℕ) → (first_number ws ≡ Some (digits, rest)) ↔ (ws ≡ number digits ∷ rest)
   pub this_name : (ws rest : List Word) (text : List ℕ) → (after_word text ws ≡ Some rest) ↔ (ws ≡ name text ∷ rest)
   pub signs : (ws rest : List Word) (kind : TokenKind) → (after_sign kind ws ≡ Some rest) ↔ (ws ≡ sign kind ∷ rest)

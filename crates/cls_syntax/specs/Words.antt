@@ -6,7 +6,7 @@ use Rattle.cls_syntax.specs.declared.token.Token.{Token}
 use Rattle.cls_syntax.specs.declared.lexeme.Lexeme.{Lexeme}
 use Rattle.cls_syntax.specs.Tokens.{tokens_of, text_of}
 
--- A name's text, a number's digits, or else the kind alone.
+-- A name's text, a number's digits, otherwise the kind alone.
 pub data Word : Type 0 where
   name : List ℕ → Word
   number : List ℕ → Word

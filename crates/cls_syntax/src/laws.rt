@@ -11,7 +11,7 @@ pub fn cut_line_is_first()
     ensures stays { CutStays }
 {}
 
-/// Law: bytes without a line feed are no ended line, and one line where there are any.
+/// Law: bytes without a line feed are no ended line, and one line if there are any.
 pub fn held_bytes_are_the_last_line()
     ensures none { lines_of [] ≡ [] }
     ensures ended { NoneEnded }
@@ -31,15 +31,16 @@ pub fn tokens_are_longest()
     ensures once { SpelledOnce }
 {}
 
-/// Law: the tokens of a line follow one another, and hold exactly its bytes that aren't blank. Those of a text split no
-/// character.
+/// Law: the tokens of a line follow one another, and hold its bytes that aren't blank and no others. Those of a text
+/// split no character.
 pub fn tokens_cover_the_line()
     ensures ascending { TokensAscend }
     ensures covered { TokensCover }
     ensures cut { TokensAreCut }
 {}
 
-/// Law: the words begin with a name, a number or a sign if and only if the front of that kind gives it, and what follows.
+/// Law: the words begin with a name, a number or a sign if and only if the front of that kind gives it, and what
+/// follows.
 pub fn fronts_are_exact()
     ensures { FrontsAreExact }
 {}

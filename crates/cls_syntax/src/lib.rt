@@ -2,7 +2,7 @@
 //!
 //! - [`LineReader`] cuts a text that comes in pieces into its [`Line`]s, the same however it was cut.
 //! - [`tokens`] gives the [`Tokens`] of a line.
-//! - [`lexemes`] cuts their texts from it. From a slice of [`Lexeme`]s a line form is read from the left by [`word_at`],
+//! - [`lexemes`] cuts their texts from it. A line form is read from the left of a slice of [`Lexeme`]s by [`word_at`],
 //!   [`name_at`], [`number_at`], [`sign_at`] and [`end_at`].
 //! - [`Names`] numbers texts in the order in which they first came.
 //! - [`laws`] holds what is true of every text, line and token.
@@ -22,8 +22,8 @@ mod token;
 pub use cursor::{end_at, name_at, number_at, sign_at, word_at};
 pub use cut::lexemes;
 pub use lexeme::Lexeme;
-pub use line::{Line, MAX_LINE_BYTES, TextFault};
+pub use line::{Line, TextFault};
 pub use line_reader::LineReader;
 pub use names::Names;
 pub use scan::tokens;
-pub use token::{MAX_NAME_BYTES, Token, TokenKind, Tokens};
+pub use token::{Token, TokenKind, Tokens};

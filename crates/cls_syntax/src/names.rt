@@ -10,7 +10,7 @@ use std::marker::Model;
 
 /// A table of texts, each of which has a number: 0 for the first, and so on in the order in which they first came.
 ///
-/// It is seen as the list of the texts. They all differ, and there are fewer than 2^32.
+/// It is seen as the list of the texts. None stands twice, and there are fewer than 2^32.
 #[derive(Drop)]
 pub struct Names {
     texts: IndexSet<String>,
@@ -70,7 +70,7 @@ impl Names {
         Ok(Name(place as u32))
     }
 
-    /// The number of the text, or None where it isn't held.
+    /// The number of the text, or None if it isn't held.
     pub fn find(&self, text: &str) -> Option<Name>
         ensures absent { IsNone result ↔ ¬ Contains self.now text.now }
         ensures number { IfSome result (λ name. name.0 ≡ number_of self.now text.now) }

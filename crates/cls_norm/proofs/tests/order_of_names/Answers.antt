@@ -1,4 +1,4 @@
-use Rattle.std.proofs.Common.{◌≡◌, [], inl, inr, arith}
+use Rattle.std.proofs.Common.{[], inl, inr, arith}
 use Rattle.cls_base.proofs.Lists.{Contains-nil, Contains-cases}
 use Rattle.cls_norm.proofs.tests.order_of_names.Goals as goal
 
