@@ -48,7 +48,8 @@ module _ {A : Type 0} where
   turned seen us x y (inr m) = elim (Contains-cases x us y m) [ inl e ↦ inl (Contains-head y x seen e) | inr n ↦ inr n ]
 
   -- The first ones of a list of two parts are those of the one, and then more, which are apart from these and from what was seen.
-  first-ones-split : (xs ys : List A) {seen zs : List A} → FirstOnes seen (xs ++ ys) zs → (us : List A) × (vs : List A) × FirstOnes seen xs us × (zs ≡ us ++ vs) × ((x : A) → Contains vs x → Contains seen x ⊎ Contains us x → ⊥)
+  first-ones-split : (xs ys : List A) {seen zs : List A} → FirstOnes seen (xs ++ ys) zs
+      → (us : List A) × (vs : List A) × FirstOnes seen xs us × (zs ≡ us ++ vs) × ((x : A) → Contains vs x → Contains seen x ⊎ Contains us x → ⊥)
   first-ones-split [] ys {zs = zs} h = ([], zs, no_more, refl, (λ x m n. elim n [ inl u ↦ not-seen x h m u | inr u ↦ Contains-nil x u ]))
   first-ones-split (x ∷ xs) ys {seen = seen} (fresh f h) =
       let r = first-ones-split xs ys h in
@@ -56,7 +57,8 @@ module _ {A : Type 0} where
   first-ones-split (x ∷ xs) ys (again s h) = let r = first-ones-split xs ys h in (r.0, r.1, again s r.2, r.3, r.4)
 
   -- which of two fronts of one list is longer
-  longer-front : (p s us vs : List A) → p ++ s ≡ us ++ vs → ((x : A) × (w : List A) × (us ≡ p ++ x ∷ w)) ⊎ ((w : List A) × (p ≡ us ++ w))
+  longer-front : (p s us vs : List A) → p ++ s ≡ us ++ vs
+      → ((x : A) × (w : List A) × (us ≡ p ++ x ∷ w)) ⊎ ((w : List A) × (p ≡ us ++ w))
   longer-front [] s [] vs e = inr ([], refl)
   longer-front [] s (u ∷ us) vs e = inl (u, us, refl)
   longer-front (x ∷ p) s [] vs e = inr (x ∷ p, refl)
@@ -75,11 +77,13 @@ module _ {A : Type 0} where
 module _ {G : Type 0} where
   pub arguments-append : (us vs : List (Answer G)) → all_arguments (us ++ vs) ≡ all_arguments us ++ all_arguments vs
   arguments-append [] vs = refl
-  arguments-append (a ∷ us) vs = ap (λ l. arguments_of a ++ l) (arguments-append us vs) ∙ sym (append_assoc (arguments_of a) (all_arguments us) (all_arguments vs))
+  arguments-append (a ∷ us) vs =
+      ap (λ l. arguments_of a ++ l) (arguments-append us vs) ∙ sym (append_assoc (arguments_of a) (all_arguments us) (all_arguments vs))
 
 module _ {G : Type 0} (IsAnswer : G → Answer G → Type 0) where
   -- each goal of the list has an answer beside it, whose arguments are among all arguments
-  beside : (gs : List G) (answers : List (Answer G)) (g : G) → AllZip IsAnswer gs answers → Contains gs g → (a : Answer G) × IsAnswer g a × ((h : G) → Contains (arguments_of a) h → Contains (all_arguments answers) h)
+  beside : (gs : List G) (answers : List (Answer G)) (g : G) → AllZip IsAnswer gs answers → Contains gs g
+      → (a : Answer G) × IsAnswer g a × ((h : G) → Contains (arguments_of a) h → Contains (all_arguments answers) h)
   beside [] answers g z m = absurd (Contains-nil g m)
   beside (x ∷ gs) [] g z m = absurd z
   beside (x ∷ gs) (a ∷ answers) g z m = elim (Contains-cases x gs g m) [
@@ -88,12 +92,14 @@ module _ {G : Type 0} (IsAnswer : G → Answer G → Type 0) where
   ]
 
   -- a list of answers beside a list of two parts is one of two parts
-  pub zip-split : (us vs : List G) (answers : List (Answer G)) → AllZip IsAnswer (us ++ vs) answers → (xs : List (Answer G)) × (ys : List (Answer G)) × AllZip IsAnswer us xs × AllZip IsAnswer vs ys × (answers ≡ xs ++ ys)
+  pub zip-split : (us vs : List G) (answers : List (Answer G)) → AllZip IsAnswer (us ++ vs) answers
+      → (xs : List (Answer G)) × (ys : List (Answer G)) × AllZip IsAnswer us xs × AllZip IsAnswer vs ys × (answers ≡ xs ++ ys)
   zip-split [] vs answers z = ([], answers, tt, z, refl)
   zip-split (u ∷ us) vs [] z = absurd z
   zip-split (u ∷ us) vs (a ∷ answers) z = let r = zip-split us vs answers z.1 in (a ∷ r.0, r.1, (z.0, r.2), r.3, ap (λ l. a ∷ l) r.4)
 
-  pub zip-append : (us vs : List G) (xs ys : List (Answer G)) → AllZip IsAnswer us xs → AllZip IsAnswer vs ys → AllZip IsAnswer (us ++ vs) (xs ++ ys)
+  pub zip-append : (us vs : List G) (xs ys : List (Answer G)) → AllZip IsAnswer us xs → AllZip IsAnswer vs ys
+      → AllZip IsAnswer (us ++ vs) (xs ++ ys)
   zip-append [] vs [] ys z w = w
   zip-append [] vs (x ∷ xs) ys z w = absurd z
   zip-append (u ∷ us) vs [] ys z w = absurd z
@@ -116,13 +122,18 @@ module _ {G : Type 0} (IsAnswer : G → Answer G → Type 0) (start : G) (unique
   unseen us g (inr m) = m
 
   -- Goals that the arguments of their answers don't leave hold each reached goal. They may be a part of those that were looked at.
-  pub closed-front : (gs us : List G) (answers : List (Answer G)) → AllZip IsAnswer gs answers → ((g : G) → Contains us g → Contains gs g) → Stream answers us → (g : G) → IsReached IsAnswer start g → Contains us g
-  closed-front gs us answers z within f g at_start = unseen us start (first-ones-all start f (Contains-here start (all_arguments answers)))
+  pub closed-front : (gs us : List G) (answers : List (Answer G)) → AllZip IsAnswer gs answers
+      → ((g : G) → Contains us g → Contains gs g) → Stream answers us → (g : G) → IsReached IsAnswer start g
+      → Contains us g
+  closed-front gs us answers z within f g at_start =
+      unseen us start (first-ones-all start f (Contains-here start (all_arguments answers)))
   closed-front gs us answers z within f h (at_argument g m a r is k) =
       let b = beside IsAnswer gs answers g z (within g (closed-front gs us answers z within f g r)) in
       unseen us m (first-ones-all m f (Contains-later m start (all_arguments answers) (b.2 m (subst (λ c. Contains (arguments_of c) m) (unique g a b.0 is b.1) k))))
 
-  rest-empty : (us w p s vs : List G) (answers : List (Answer G)) → p ≡ us ++ w → AllZip IsAnswer p answers → Stream answers us → p ++ s ≡ us ++ vs → ((g : G) → Contains vs g → Contains [] g ⊎ Contains us g → ⊥) → AllReached IsAnswer start (p ++ s) → p ++ s ≡ us
+  rest-empty : (us w p s vs : List G) (answers : List (Answer G)) → p ≡ us ++ w → AllZip IsAnswer p answers
+      → Stream answers us → p ++ s ≡ us ++ vs → ((g : G) → Contains vs g → Contains [] g ⊎ Contains us g → ⊥)
+      → AllReached IsAnswer start (p ++ s) → p ++ s ≡ us
   rest-empty us w p s vs answers e z f g apart q =
       let known = λ (x : G) (m : Contains us x). subst (λ l. Contains l x) (sym e) (Contains-append_left us w x m) in
       let none : vs ≡ [] = empty-list vs (λ x m. apart x m (inr (closed-front p us answers z known f x (q x (subst (λ l. Contains l x) (sym g) (Contains-append_right us vs x m)))))) in
@@ -138,18 +149,21 @@ module _ {G : Type 0} (IsAnswer : G → Answer G → Type 0) (start : G) (unique
     stream : Stream (front ++ rest) (p ++ s)
     reached : AllReached IsAnswer start (p ++ s)
 
-  -- behind a common front two numberings go on alike, where no more than k goals are left
+  -- behind a common front two numberings go on alike, if at most k goals are left
   abbrev Settles : ℕ → Type 0
-  Settles k = (p s t : List G) (front : List (Answer G)) → length s ≤ k → AllZip IsAnswer p front → GoesOn p s front → GoesOn p t front → s ≡ t
+  Settles k =
+      (p s t : List G) (front : List (Answer G)) → length s ≤ k → AllZip IsAnswer p front → GoesOn p s front → GoesOn p t front → s ≡ t
 
   -- what goes on behind a front goes on behind that front and one goal more
-  one-more : (p s w : List G) (x : G) (front : List (Answer G)) (a : Answer G) → IsAnswer x a → s ≡ x ∷ w → (n : GoesOn p s front) → GoesOn (p ++ x ∷ []) w (front ++ a ∷ [])
+  one-more : (p s w : List G) (x : G) (front : List (Answer G)) (a : Answer G) → IsAnswer x a → s ≡ x ∷ w
+      → (n : GoesOn p s front) → GoesOn (p ++ x ∷ []) w (front ++ a ∷ [])
   one-more p s w x front a is e n = by n.rest (subst (λ l. AllZip IsAnswer l n.rest) e n.answered) n.stream
     where
       moved : p ++ s ≡ (p ++ x ∷ []) ++ w
       moved = ap (λ l. p ++ l) e ∙ sym (append_assoc p (x ∷ []) w)
 
-      by : (rest : List (Answer G)) → AllZip IsAnswer (x ∷ w) rest → Stream (front ++ rest) (p ++ s) → GoesOn (p ++ x ∷ []) w (front ++ a ∷ [])
+      by : (rest : List (Answer G)) → AllZip IsAnswer (x ∷ w) rest → Stream (front ++ rest) (p ++ s)
+          → GoesOn (p ++ x ∷ []) w (front ++ a ∷ [])
       by [] z f = absurd z
       by (b ∷ rest) z f = record {
         rest = rest;
@@ -158,7 +172,8 @@ module _ {G : Type 0} (IsAnswer : G → Answer G → Type 0) (start : G) (unique
         reached = subst (AllReached IsAnswer start) moved n.reached;
       }
 
-  first-answer : (s w : List G) (x : G) (rest : List (Answer G)) → s ≡ x ∷ w → AllZip IsAnswer s rest → (a : Answer G) × IsAnswer x a
+  first-answer : (s w : List G) (x : G) (rest : List (Answer G)) → s ≡ x ∷ w → AllZip IsAnswer s rest
+      → (a : Answer G) × IsAnswer x a
   first-answer s w x rest e z = by rest (subst (λ l. AllZip IsAnswer l rest) e z)
     where
       by : (rest : List (Answer G)) → AllZip IsAnswer (x ∷ w) rest → (a : Answer G) × IsAnswer x a
@@ -171,7 +186,10 @@ module _ {G : Type 0} (IsAnswer : G → Answer G → Type 0) (start : G) (unique
       let b = first-ones-split (start ∷ all_arguments front) (all_arguments m.rest) (subst (λ l. FirstOnes [] (start ∷ l) (p ++ t)) (arguments-append front m.rest) m.stream) in
       go a.0 a.1 b.1 a.2 a.3 (b.3 ∙ ap (λ us. us ++ b.1) (first-ones-unique b.2 a.2)) a.4 (λ g h u. b.4 g h (subst (λ us. Contains [] g ⊎ Contains us g) (first-ones-unique a.2 b.2) u)) (longer-front p s a.0 a.1 a.3)
     where
-      go : (us va vb : List G) → FirstOnes [] (start ∷ all_arguments front) us → p ++ s ≡ us ++ va → p ++ t ≡ us ++ vb → ((g : G) → Contains va g → Contains [] g ⊎ Contains us g → ⊥) → ((g : G) → Contains vb g → Contains [] g ⊎ Contains us g → ⊥) → ((x : G) × (w : List G) × (us ≡ p ++ x ∷ w)) ⊎ ((w : List G) × (p ≡ us ++ w)) → s ≡ t
+      go : (us va vb : List G) → FirstOnes [] (start ∷ all_arguments front) us → p ++ s ≡ us ++ va → p ++ t ≡ us ++ vb
+          → ((g : G) → Contains va g → Contains [] g ⊎ Contains us g → ⊥)
+          → ((g : G) → Contains vb g → Contains [] g ⊎ Contains us g → ⊥)
+          → ((x : G) × (w : List G) × (us ≡ p ++ x ∷ w)) ⊎ ((w : List G) × (p ≡ us ++ w)) → s ≡ t
       go us va vb f ea eb na nb (inr r) =
           append_cancel_left p s t (rest-empty us r.0 p s va front r.1 z f ea na n.reached ∙ sym (rest-empty us r.0 p t vb front r.1 z f eb nb m.reached))
       go us va vb f ea eb na nb (inl r) =
@@ -187,15 +205,19 @@ module _ {G : Type 0} (IsAnswer : G → Answer G → Type 0) (start : G) (unique
   below (suc k) j h = settle j (λ i l. below k i (omega arith))
 
   -- two canonical numberings of one closure are the same
-  pub numbering-unique : (goals others : List G) → IsNumbering IsAnswer start goals → IsNumbering IsAnswer start others → goals ≡ others
-  numbering-unique goals others n m = settle (length goals) (λ j h. below (length goals) j h) [] goals others [] (omega arith) tt (whole goals n) (whole others m)
+  pub numbering-unique : (goals others : List G) → IsNumbering IsAnswer start goals
+      → IsNumbering IsAnswer start others → goals ≡ others
+  numbering-unique goals others n m =
+      settle (length goals) (λ j h. below (length goals) j h) [] goals others [] (omega arith) tt (whole goals n) (whole others m)
     where
       whole : (gs : List G) → IsNumbering IsAnswer start gs → GoesOn [] gs []
       whole gs n = record { rest = n.answers; answered = n.answered; stream = n.breadth_first; reached = n.reached }
 
   module _ (eq : G → G → Bool) where
     -- rows with the same goals, each with an answer of its goal, are the same
-    same-rows : (gs : List G) (rows others : List (Row G)) → goals_of rows ≡ goals_of others → ((k : ℕ) (r : Row G) → slice_get rows k ≡ Some r → HoldsAnswer eq IsAnswer gs r) → ((k : ℕ) (r : Row G) → slice_get others k ≡ Some r → HoldsAnswer eq IsAnswer gs r) → rows ≡ others
+    same-rows : (gs : List G) (rows others : List (Row G)) → goals_of rows ≡ goals_of others
+        → ((k : ℕ) (r : Row G) → slice_get rows k ≡ Some r → HoldsAnswer eq IsAnswer gs r)
+        → ((k : ℕ) (r : Row G) → slice_get others k ≡ Some r → HoldsAnswer eq IsAnswer gs r) → rows ≡ others
     same-rows gs [] [] e f h = refl
     same-rows gs [] (o ∷ others) e f h = cc
     same-rows gs (r ∷ rows) [] e f h = cc
@@ -210,7 +232,8 @@ module _ {G : Type 0} (IsAnswer : G → Answer G → Type 0) (start : G) (unique
         λ i. record { goal = goal i; answer = answers i } ∷ tail i
 
     -- The closure of a goal has one list of rows in the canonical numbering, whatever history it came from.
-    pub canonical-unique : (rows others : List (Row G)) → IsCanonical eq IsAnswer start rows → IsCanonical eq IsAnswer start others → rows ≡ others
+    pub canonical-unique : (rows others : List (Row G)) → IsCanonical eq IsAnswer start rows
+        → IsCanonical eq IsAnswer start others → rows ≡ others
     canonical-unique rows others c d =
         let goals = numbering-unique (goals_of rows) (goals_of others) c.numbering d.numbering in
         same-rows (goals_of rows) rows others goals c.answered (λ k r e. subst (λ gs. HoldsAnswer eq IsAnswer gs r) (sym goals) (d.answered k r e))

@@ -39,11 +39,14 @@ module _ {G : Type 0} (f h : G → ℕ) where
 
   rule-alike : (r : Rule G) → ((g : G) → Contains (arguments_of_rule r) g → f g ≡ h g) → map_rule f r ≡ map_rule h r
   rule-alike (Head component args) e = ap (Head component) (goals-alike args e)
-  rule-alike (Any left right) e = λ k. Any (e left (Contains-here left (right ∷ [])) k) (e right (Contains-later right left (right ∷ []) (Contains-here right [])) k)
+  rule-alike (Any left right) e =
+      λ k. Any (e left (Contains-here left (right ∷ [])) k) (e right (Contains-later right left (right ∷ []) (Contains-here right [])) k)
 
-  rules-alike : (rs : List (Rule G)) → ((g : G) → Contains (arguments_in rs) g → f g ≡ h g) → map (map_rule f) rs ≡ map (map_rule h) rs
+  rules-alike : (rs : List (Rule G)) → ((g : G) → Contains (arguments_in rs) g → f g ≡ h g)
+      → map (map_rule f) rs ≡ map (map_rule h) rs
   rules-alike [] e = refl
-  rules-alike (r ∷ rs) e = λ k. rule-alike r (λ x m. e x (Contains-append_left (arguments_of_rule r) (arguments_in rs) x m)) k ∷ rules-alike rs (λ x m. e x (Contains-append_right (arguments_of_rule r) (arguments_in rs) x m)) k
+  rules-alike (r ∷ rs) e =
+      λ k. rule-alike r (λ x m. e x (Contains-append_left (arguments_of_rule r) (arguments_in rs) x m)) k ∷ rules-alike rs (λ x m. e x (Contains-append_right (arguments_of_rule r) (arguments_in rs) x m)) k
 
   pub answer-alike : (a : Answer G) → ((g : G) → Contains (arguments_of a) g → f g ≡ h g) → map_answer f a ≡ map_answer h a
   answer-alike (Rules rs) e = ap Rules (rules-alike rs e)
@@ -72,7 +75,8 @@ module _ {G : Type 0} (eq : G → G → Bool) (exact : (x y : G) → eq x y ≡ 
     pub reached : AllReached IsAnswer start r.goals
     pub paired : length r.states ≡ length r.goals
     pub begins : slice_get r.goals 0 ≡ Some start
-    pub answered : (k : ℕ) (g : G) (a : Answer ℕ) → slice_get r.goals k ≡ Some g → slice_get r.states k ≡ Some (Filed a) → IsFiledWith r.goals g a
+    pub answered : (k : ℕ) (g : G) (a : Answer ℕ) → slice_get r.goals k ≡ Some g
+        → slice_get r.states k ≡ Some (Filed a) → IsFiledWith r.goals g a
 
   reached-begun : (g : G) → (g ≡ start) ⊎ Contains [] g → IsReached IsAnswer start g
   reached-begun g (inl e) = subst (IsReached IsAnswer start) (sym e) at_start
@@ -90,8 +94,9 @@ module _ {G : Type 0} (eq : G → G → Bool) (exact : (x y : G) → eq x y ≡ 
   not-held : (worker : ℕ) (a : Answer ℕ) → Some (Held worker) ≡ Some (Filed a) → ⊥
   not-held worker a e = cc
 
-  -- a filed row stays filed where another row is written
-  unclaimed : (r : Machine G) (worker row : ℕ) → slice_get r.states row ≡ Some Free → (k : ℕ) (a : Answer ℕ) → slice_get (set r.states row (Held worker)) k ≡ Some (Filed a) → slice_get r.states k ≡ Some (Filed a)
+  -- a filed row stays filed when another row is written
+  unclaimed : (r : Machine G) (worker row : ℕ) → slice_get r.states row ≡ Some Free → (k : ℕ) (a : Answer ℕ)
+      → slice_get (set r.states row (Held worker)) k ≡ Some (Filed a) → slice_get r.states k ≡ Some (Filed a)
   unclaimed r worker row free k a f = by (k == row) refl
     where
       by : (b : Bool) → (k == row) ≡ b → slice_get r.states k ≡ Some (Filed a)
@@ -112,10 +117,13 @@ module _ {G : Type 0} (eq : G → G → Bool) (exact : (x y : G) → eq x y ≡ 
   }
 
   -- the states after a filing: this row, another row that was filed before, or a new row
-  after-file : (ss : List RowState) (row n : ℕ) (worker : ℕ) (new : Answer ℕ) → slice_get ss row ≡ Some (Held worker) → (k : ℕ) (a : Answer ℕ) → slice_get (set ss row (Filed new) ++ replicate n Free) k ≡ Some (Filed a) → ((k ≡ row) × (a ≡ new)) ⊎ (slice_get ss k ≡ Some (Filed a))
+  after-file : (ss : List RowState) (row n : ℕ) (worker : ℕ) (new : Answer ℕ) → slice_get ss row ≡ Some (Held worker)
+      → (k : ℕ) (a : Answer ℕ) → slice_get (set ss row (Filed new) ++ replicate n Free) k ≡ Some (Filed a)
+      → ((k ≡ row) × (a ≡ new)) ⊎ (slice_get ss k ≡ Some (Filed a))
   after-file ss row n worker new held k a f = within (nat_lt k (length ss)) refl
     where
-      here : (b : Bool) → (k == row) ≡ b → slice_get (set ss row (Filed new)) k ≡ Some (Filed a) → ((k ≡ row) × (a ≡ new)) ⊎ (slice_get ss k ≡ Some (Filed a))
+      here : (b : Bool) → (k == row) ≡ b → slice_get (set ss row (Filed new)) k ≡ Some (Filed a)
+          → ((k ≡ row) × (a ≡ new)) ⊎ (slice_get ss k ≡ Some (Filed a))
       here true e h =
           let same : k ≡ row = grind (arith, nat_tests) in
           inl (same, filed-inside a new (sym (subst (λ j. slice_get (set ss row (Filed new)) j ≡ Some (Filed a)) same h) ∙ get-set-same ss row (Filed new) (slice_get_within ss row (Held worker) held)))
@@ -131,7 +139,9 @@ module _ {G : Type 0} (eq : G → G → Bool) (exact : (x y : G) → eq x y ≡ 
           let more : length ss ≤ k = grind (arith, nat_tests) in
           absurd (free-only n (k - length (set ss row (Filed new))) a (sym (get-behind (set ss row (Filed new)) (replicate n Free) k (omega (arith, length-set ss row (Filed new)))) ∙ f))
 
-  sound-file : (r : Machine G) (worker row : ℕ) (g : G) (answer : Answer G) → IsSound r → slice_get r.states row ≡ Some (Held worker) → slice_get r.goals row ≡ Some g → IsAnswer g answer → IsSound (filed eq r row answer)
+  sound-file : (r : Machine G) (worker row : ℕ) (g : G) (answer : Answer G) → IsSound r
+      → slice_get r.states row ≡ Some (Held worker) → slice_get r.goals row ≡ Some g → IsAnswer g answer
+      → IsSound (filed eq r row answer)
   sound-file r worker row g answer s held at is = record {
     distinct = all-distinct eq exact reflexive r.goals (arguments_of answer) s.distinct;
     reached = λ h m. elim (all-only eq exact reflexive r.goals (arguments_of answer) h m) [ inl l ↦ s.reached h l | inr l ↦ at_argument g h answer (s.reached g (Contains-at r.goals row g at)) is l ];
@@ -163,8 +173,10 @@ module _ {G : Type 0} (eq : G → G → Bool) (exact : (x y : G) → eq x y ≡ 
       goal-is : (k : ℕ) (h : G) → slice_get gs k ≡ Some h → k ≡ row → h ≡ g
       goal-is k h e same = let q : slice_get gs row ≡ Some h = subst (λ j. slice_get gs j ≡ Some h) same e in let p = old row g at in cc
 
-      back : (k : ℕ) (h : G) (a : Answer ℕ) → slice_get gs k ≡ Some h → slice_get r.states k ≡ Some (Filed a) → slice_get r.goals k ≡ Some h
-      back k h a e t = sym (ap (λ l. slice_get l k) front.1 ∙ get-within r.goals front.0 k (omega (arith, slice_get_within r.states k (Filed a) t, s.paired))) ∙ e
+      back : (k : ℕ) (h : G) (a : Answer ℕ) → slice_get gs k ≡ Some h → slice_get r.states k ≡ Some (Filed a)
+          → slice_get r.goals k ≡ Some h
+      back k h a e t =
+          sym (ap (λ l. slice_get l k) front.1 ∙ get-within r.goals front.0 k (omega (arith, slice_get_within r.states k (Filed a) t, s.paired))) ∙ e
 
       known : (x : G) → Contains r.goals x → list_any (eq x) r.goals ≡ true
       known x h = contains-any eq exact reflexive r.goals x h
@@ -180,7 +192,8 @@ module _ {G : Type 0} (eq : G → G → Bool) (exact : (x y : G) → eq x y ≡ 
 
   sound-step : (r t : Machine G) (e : Entry) → Steps eq IsAnswer r e t → IsSound r → IsSound t
   sound-step r t (Claim worker row) h s = subst IsSound (sym h.1) (sound-claim r worker row s h.0)
-  sound-step r t (File worker row) h s = subst IsSound (sym h.rows_after) (sound-file r worker row h.goal h.answer s h.held h.has_goal h.is_answer)
+  sound-step r t (File worker row) h s =
+      subst IsSound (sym h.rows_after) (sound-file r worker row h.goal h.answer s h.held h.has_goal h.is_answer)
 
   sound-from : (r t : Machine G) (es : List Entry) → Replays eq IsAnswer r es t → IsSound r → IsSound t
   sound-from r t [] h s = subst IsSound (sym h) s
@@ -205,9 +218,11 @@ module _ {G : Type 0} (eq : G → G → Bool) (exact : (x y : G) → eq x y ≡ 
 
   -- each filed row has an answer of its goal with as many rules
   abbrev Backed : List G → List RowState → Type 0
-  Backed gs ss = (k : ℕ) (g : G) (a : Answer ℕ) → slice_get gs k ≡ Some g → slice_get ss k ≡ Some (Filed a) → (b : Answer G) × IsAnswer g b × (rule_count a ≡ rule_count b)
+  Backed gs ss =
+      (k : ℕ) (g : G) (a : Answer ℕ) → slice_get gs k ≡ Some g → slice_get ss k ≡ Some (Filed a) → (b : Answer G) × IsAnswer g b × (rule_count a ≡ rule_count b)
 
-  pass-over : (x : G) (s : RowState) (gs : List G) (ss : List RowState) → rules_weight s ≡ 0 → FiledPart gs ss → FiledPart (x ∷ gs) (s ∷ ss)
+  pass-over : (x : G) (s : RowState) (gs : List G) (ss : List RowState) → rules_weight s ≡ 0 → FiledPart gs ss
+      → FiledPart (x ∷ gs) (s ∷ ss)
   pass-over x s gs ss none p = record {
     goals = p.goals;
     answers = p.answers;
@@ -222,7 +237,8 @@ module _ {G : Type 0} (eq : G → G → Bool) (exact : (x y : G) → eq x y ≡ 
   filed-part [] (s ∷ ss) e c = absurd (omega arith)
   filed-part (x ∷ gs) [] e c = absurd (omega arith)
   filed-part (x ∷ gs) (Free ∷ ss) e c = pass-over x Free gs ss refl (filed-part gs ss (omega arith) (λ k. c (suc k)))
-  filed-part (x ∷ gs) (Held worker ∷ ss) e c = pass-over x (Held worker) gs ss refl (filed-part gs ss (omega arith) (λ k. c (suc k)))
+  filed-part (x ∷ gs) (Held worker ∷ ss) e c =
+      pass-over x (Held worker) gs ss refl (filed-part gs ss (omega arith) (λ k. c (suc k)))
   filed-part (x ∷ gs) (Filed a ∷ ss) e c =
       let p = filed-part gs ss (omega arith) (λ k. c (suc k)) in
       let b = c zero x a refl refl in record {
@@ -257,15 +273,16 @@ module _ {G : Type 0} (eq : G → G → Bool) (exact : (x y : G) → eq x y ≡ 
     filed-answer (Held worker) q = absurd q
     filed-answer (Filed a) q = (a, refl)
 
-    -- the row of a goal, where all rows are filed
-    row-of : (r : Machine G) → IsSound r → AllFiled r → (g : G) → Contains r.goals g → (k : ℕ) × (a : Answer ℕ) × (slice_get r.goals k ≡ Some g) × (slice_get r.states k ≡ Some (Filed a))
+    -- the row of a goal, if all rows are filed
+    row-of : (r : Machine G) → IsSound r → AllFiled r → (g : G) → Contains r.goals g
+        → (k : ℕ) × (a : Answer ℕ) × (slice_get r.goals k ≡ Some g) × (slice_get r.states k ≡ Some (Filed a))
     row-of r s f g m =
         let p = Contains-place r.goals g m in
         let x = get-some r.states p.0 (omega (arith, s.paired, slice_get_within r.goals p.0 g p.1)) in
         let a = filed-answer x.0 (f p.0 x.0 x.1) in
         (p.0, a.0, p.1, x.1 ∙ ap Some a.1)
 
-    -- what is reached has a row, where all rows are filed
+    -- what is reached has a row, if all rows are filed
     pub complete-reaches : (r : Machine G) → IsSound r → AllFiled r → (g : G) → IsReached IsAnswer start g → Contains r.goals g
     complete-reaches r s f start' at_start = Contains-at r.goals 0 start s.begins
     complete-reaches r s f h (at_argument g h' a reached is m) =
@@ -279,7 +296,8 @@ module _ {G : Type 0} (eq : G → G → Bool) (exact : (x y : G) → eq x y ≡ 
     answer_rows goals (g ∷ gs) [] = []
     answer_rows goals (g ∷ gs) (a ∷ answers) = record { goal = g; answer = numbered eq goals a } ∷ answer_rows goals gs answers
 
-    rows-goals : (goals gs : List G) (answers : List (Answer G)) → AllZip IsAnswer gs answers → goals_of (answer_rows goals gs answers) ≡ gs
+    rows-goals : (goals gs : List G) (answers : List (Answer G)) → AllZip IsAnswer gs answers
+        → goals_of (answer_rows goals gs answers) ≡ gs
     unfolding answer_rows
     rows-goals goals [] answers z = refl
     rows-goals goals (g ∷ gs) [] z = absurd z
@@ -288,7 +306,8 @@ module _ {G : Type 0} (eq : G → G → Bool) (exact : (x y : G) → eq x y ≡ 
     abbrev row_rules : Row G → ℕ
     row_rules row = rule_count row.answer
 
-    rows-rules : (goals gs : List G) (answers : List (Answer G)) → AllZip IsAnswer gs answers → sum_by row_rules (answer_rows goals gs answers) ≡ sum_by rule_count answers
+    rows-rules : (goals gs : List G) (answers : List (Answer G)) → AllZip IsAnswer gs answers
+        → sum_by row_rules (answer_rows goals gs answers) ≡ sum_by rule_count answers
     unfolding answer_rows
     rows-rules goals [] [] z = refl
     rows-rules goals [] (a ∷ answers) z = absurd z
@@ -298,7 +317,8 @@ module _ {G : Type 0} (eq : G → G → Bool) (exact : (x y : G) → eq x y ≡ 
         let rest = rows-rules goals gs answers z.1 in
         omega (arith, sum_by-cons row_rules row (answer_rows goals gs answers), sum_by-cons rule_count a answers, mapped-count (λ x. position_or_len (eq x) goals) a)
 
-    filed-rules : (gs : List G) (ss : List RowState) → length ss ≡ length gs → EachFiled ss → sum_by row_rules (filed_rows gs ss) ≡ rules_in ss
+    filed-rules : (gs : List G) (ss : List RowState) → length ss ≡ length gs → EachFiled ss
+        → sum_by row_rules (filed_rows gs ss) ≡ rules_in ss
     filed-rules [] [] e f = refl
     filed-rules [] (s ∷ ss) e f = absurd (omega arith)
     filed-rules (x ∷ gs) [] e f = absurd (omega arith)
@@ -309,8 +329,9 @@ module _ {G : Type 0} (eq : G → G → Bool) (exact : (x y : G) → eq x y ≡ 
         let rest = filed-rules gs ss (omega arith) (λ k s h. f (suc k) s h) in
         omega (arith, sum_by-cons row_rules row (filed_rows gs ss), sum_by-cons rules_weight (Filed a) ss)
 
-    -- where all rows are filed, each goal of the closure has the row that its answer gives
-    row-there : (r : Machine G) → IsSound r → AllFiled r → (g : G) (a : Answer G) → IsReached IsAnswer start g → IsAnswer g a → Contains (filed_rows r.goals r.states) (record { goal = g; answer = numbered eq r.goals a })
+    -- if all rows are filed, each goal of the closure has the row that its answer gives
+    row-there : (r : Machine G) → IsSound r → AllFiled r → (g : G) (a : Answer G) → IsReached IsAnswer start g
+        → IsAnswer g a → Contains (filed_rows r.goals r.states) (record { goal = g; answer = numbered eq r.goals a })
     row-there r s f g a reached is =
         let p = row-of r s f g (complete-reaches r s f g reached) in
         let w = s.answered p.0 g p.1 p.2 p.3 in
@@ -318,7 +339,9 @@ module _ {G : Type 0} (eq : G → G → Bool) (exact : (x y : G) → eq x y ≡ 
         let at = filed-at r.goals r.states p.0 g p.1 f p.2 p.3 in
         Contains-at (filed_rows r.goals r.states) p.0 (record { goal = g; answer = numbered eq r.goals a }) (at ∙ (λ i. Some (record { goal = g; answer = same i })))
 
-    rows-within : (r : Machine G) → IsSound r → AllFiled r → (gs : List G) (answers : List (Answer G)) → AllZip IsAnswer gs answers → AllReached IsAnswer start gs → (row : Row G) → Contains (answer_rows r.goals gs answers) row → Contains (filed_rows r.goals r.states) row
+    rows-within : (r : Machine G) → IsSound r → AllFiled r → (gs : List G) (answers : List (Answer G))
+        → AllZip IsAnswer gs answers → AllReached IsAnswer start gs → (row : Row G)
+        → Contains (answer_rows r.goals gs answers) row → Contains (filed_rows r.goals r.states) row
     unfolding answer_rows
     rows-within r s f [] answers z q row m = absurd (Contains-nil row m)
     rows-within r s f (g ∷ gs) [] z q row m = absurd z
@@ -329,7 +352,7 @@ module _ {G : Type 0} (eq : G → G → Bool) (exact : (x y : G) → eq x y ≡ 
           | inr n ↦ rows-within r s f gs answers z.1 (λ x k. q x (Contains-later x g gs k)) row n
         ]
 
-    -- where all rows are filed, goals of the closure have no more rules than the rows
+    -- if all rows are filed, goals of the closure have no more rules than the rows
     rules-within : (r : Machine G) → IsSound r → AllFiled r → (n : ℕ) → HasMoreRules IsAnswer start n → n < rules_in r.states
     rules-within r s f n m =
         let rows = answer_rows r.goals m.goals m.answers in
@@ -338,7 +361,8 @@ module _ {G : Type 0} (eq : G → G → Bool) (exact : (x y : G) → eq x y ≡ 
         omega (arith, m.more, less, rows-rules r.goals m.goals m.answers m.answered, filed-rules r.goals r.states s.paired f)
 
     -- The rows of a complete history show that the closure isn't larger than they are.
-    pub complete-within : (r : Machine G) (goals rules : ℕ) → IsSound r → AllFiled r → length r.goals ≤ goals → rules_in r.states ≤ rules → IsTooLarge IsAnswer start goals rules → ⊥
+    pub complete-within : (r : Machine G) (goals rules : ℕ) → IsSound r → AllFiled r → length r.goals ≤ goals
+        → rules_in r.states ≤ rules → IsTooLarge IsAnswer start goals rules → ⊥
     complete-within r goals rules s f few less large = elim large [
       | inl m ↦ (let h = length-within m.0 r.goals m.1 (λ x k. complete-reaches r s f x (m.2 x k)) in let w = m.3 in omega arith)
       | inr m ↦ (let h = rules-within r s f rules m in omega arith)

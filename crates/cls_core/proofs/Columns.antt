@@ -18,7 +18,8 @@ use Rattle.cls_core.specs.Consistency.{IsConsistent}
 
 module _ {A : Type 0} where
   pub get-set-same : (xs : List A) (i : ℕ) (v : A) → i < length xs → slice_get (set xs i v) i ≡ Some v
-  get-set-same xs i v h = slice_get_read (set xs i v) (length xs) i v (sym (length-set xs i v)) h (sym (get_or-set_same xs i v v h))
+  get-set-same xs i v h =
+      slice_get_read (set xs i v) (length xs) i v (sym (length-set xs i v)) h (sym (get_or-set_same xs i v v h))
 
   pub get-set-other : (xs : List A) (i j : ℕ) (v : A) → j ≢ i → slice_get (set xs i v) j ≡ slice_get xs j
   get-set-other [] i j v h = refl
@@ -69,9 +70,11 @@ held-counts [] row worker e = cc
 held-counts (s ∷ ss) zero worker e = let is : s ≡ Held worker = cc in omega (arith, sum_by-cons held_weight s ss, ap held_weight is)
 held-counts (s ∷ ss) (suc row) worker e = let h = held-counts ss row worker e in omega (arith, sum_by-cons held_weight s ss)
 
--- what a count becomes where one state is written
-count-set : (f : RowState → ℕ) (ss : List RowState) (row : ℕ) (was now : RowState) → slice_get ss row ≡ Some was → sum_by f (set ss row now) + f was ≡ sum_by f ss + f now
-count-set f ss row was now e = subst (λ s. sum_by f (set ss row now) + f s ≡ sum_by f ss + f now) (get_or_from_slice_get ss row was was e) (sum_by-set f ss row now was (slice_get_within ss row was e))
+-- what a count becomes when one state is written
+count-set : (f : RowState → ℕ) (ss : List RowState) (row : ℕ) (was now : RowState) → slice_get ss row ≡ Some was
+    → sum_by f (set ss row now) + f was ≡ sum_by f ss + f now
+count-set f ss row was now e =
+    subst (λ s. sum_by f (set ss row now) + f s ≡ sum_by f ss + f now) (get_or_from_slice_get ss row was was e) (sum_by-set f ss row now was (slice_get_within ss row was e))
 
 module _ {G : Type 0} (goals : List G) (states : List RowState) (first held rules room : ℕ) (history : List Entry) where
   pub kept-claim : (row worker next more : ℕ) (entry : Entry) (after : List Entry)
@@ -93,9 +96,11 @@ module _ {G : Type 0} (goals : List G) (states : List RowState) (first held rule
       claimed_row e = let h = get-set-same states row (Held worker) (slice_get_within states row Free free) in cc
 
       other_row : (k : ℕ) → k < first → slice_get (set states row (Held worker)) k ≢ Some Free
-      other_row i h e = k.none_free_below i h (sym (get-set-other states row i (Held worker) (λ same. k.none_free_below i h (subst (λ r. slice_get states r ≡ Some Free) (sym same) free))) ∙ e)
+      other_row i h e =
+          k.none_free_below i h (sym (get-set-other states row i (Held worker) (λ same. k.none_free_below i h (subst (λ r. slice_get states r ≡ Some Free) (sym same) free))) ∙ e)
 
-      taken_after : (next ≡ first) ⊎ ((next ≡ first + 1) × (row ≡ first)) → (i : ℕ) → i < next → slice_get (set states row (Held worker)) i ≢ Some Free
+      taken_after : (next ≡ first) ⊎ ((next ≡ first + 1) × (row ≡ first)) → (i : ℕ) → i < next
+          → slice_get (set states row (Held worker)) i ≢ Some Free
       taken_after (inl same) i h = other_row i (omega arith)
       taken_after (inr on) i h = cases (lt-split first i (omega arith))
         where
@@ -132,7 +137,8 @@ module _ {G : Type 0} (goals : List G) (states : List RowState) (first held rule
       long = omega (arith, ap length are, length-append states (replicate n Free), length-replicate n Free)
 
       there : slice_get behind row ≡ Some (Held worker)
-      there = subst (λ l. slice_get l row ≡ Some (Held worker)) (sym are) (get-front states (replicate n Free) row (Held worker) is_held)
+      there =
+          subst (λ l. slice_get l row ≡ Some (Held worker)) (sym are) (get-front states (replicate n Free) row (Held worker) is_held)
 
       untaken : (i : ℕ) → i < first → slice_get (set behind row (Filed a)) i ≢ Some Free
       untaken i h = by (i == row) refl
@@ -149,11 +155,13 @@ module _ {G : Type 0} (goals : List G) (states : List RowState) (first held rule
               k.none_free_below i h (sym at ∙ (sym (get-set-other behind row i (Filed a) other) ∙ f))
 
 -- a claim leaves the count of rules
-pub claimed-counts : (ss : List RowState) (row worker : ℕ) → slice_get ss row ≡ Some Free → rules_in (set ss row (Held worker)) ≡ rules_in ss
+pub claimed-counts : (ss : List RowState) (row worker : ℕ) → slice_get ss row ≡ Some Free
+    → rules_in (set ss row (Held worker)) ≡ rules_in ss
 claimed-counts ss row worker free = let n = count-set rules_weight ss row Free (Held worker) free in omega arith
 
 -- a filing adds the rules of its answer
-pub filed-counts : (ss : List RowState) (row worker n : ℕ) (a : Answer ℕ) → slice_get ss row ≡ Some (Held worker) → rules_in (set ss row (Filed a) ++ replicate n Free) ≡ rules_in ss + rule_count a
+pub filed-counts : (ss : List RowState) (row worker n : ℕ) (a : Answer ℕ) → slice_get ss row ≡ Some (Held worker)
+    → rules_in (set ss row (Filed a) ++ replicate n Free) ≡ rules_in ss + rule_count a
 filed-counts ss row worker n a held =
     let c = count-set rules_weight ss row (Held worker) (Filed a) held in
     omega (arith, sum_by-append rules_weight (set ss row (Filed a)) (replicate n Free), sum_by-replicate rules_weight n Free)

@@ -13,14 +13,17 @@ pub filed-inside : (a b : Answer ℕ) → Some (Filed a) ≡ Some (Filed b) → 
 filed-inside a b e = cc
 
 module _ {G : Type 0} where
-  pub filed-count : (gs : List G) (ss : List RowState) → length ss ≡ length gs → EachFiled ss → length (filed_rows gs ss) ≡ length gs
+  pub filed-count : (gs : List G) (ss : List RowState) → length ss ≡ length gs → EachFiled ss
+      → length (filed_rows gs ss) ≡ length gs
   filed-count [] ss e f = refl
   filed-count (g ∷ gs) [] e f = absurd (omega arith)
   filed-count (g ∷ gs) (Free ∷ ss) e f = absurd (f zero Free refl)
   filed-count (g ∷ gs) (Held worker ∷ ss) e f = absurd (f zero (Held worker) refl)
   filed-count (g ∷ gs) (Filed a ∷ ss) e f = ap suc (filed-count gs ss (omega arith) (λ k s h. f (suc k) s h))
 
-  pub filed-at : (gs : List G) (ss : List RowState) (k : ℕ) (g : G) (a : Answer ℕ) → EachFiled ss → slice_get gs k ≡ Some g → slice_get ss k ≡ Some (Filed a) → slice_get (filed_rows gs ss) k ≡ Some (record { goal = g; answer = a })
+  pub filed-at : (gs : List G) (ss : List RowState) (k : ℕ) (g : G) (a : Answer ℕ) → EachFiled ss
+      → slice_get gs k ≡ Some g → slice_get ss k ≡ Some (Filed a)
+      → slice_get (filed_rows gs ss) k ≡ Some (record { goal = g; answer = a })
   filed-at [] ss k g a f e h = cc
   filed-at (x ∷ gs) [] k g a f e h = cc
   filed-at (x ∷ gs) (Free ∷ ss) k g a f e h = absurd (f zero Free refl)
@@ -31,7 +34,8 @@ module _ {G : Type 0} where
       λ i. Some (record { goal = same i; answer = is i })
   filed-at (x ∷ gs) (Filed b ∷ ss) (suc k) g a f e h = filed-at gs ss k g a (λ j s q. f (suc j) s q) e h
 
-  pub filed-goal : (gs : List G) (ss : List RowState) (k : ℕ) (g : G) → length ss ≡ length gs → EachFiled ss → slice_get gs k ≡ Some g → option_map (λ (r : Row G). r.goal) (slice_get (filed_rows gs ss) k) ≡ Some g
+  pub filed-goal : (gs : List G) (ss : List RowState) (k : ℕ) (g : G) → length ss ≡ length gs → EachFiled ss
+      → slice_get gs k ≡ Some g → option_map (λ (r : Row G). r.goal) (slice_get (filed_rows gs ss) k) ≡ Some g
   filed-goal [] ss k g e f h = cc
   filed-goal (x ∷ gs) [] k g e f h = absurd (omega arith)
   filed-goal (x ∷ gs) (Free ∷ ss) k g e f h = absurd (f zero Free refl)
@@ -39,7 +43,9 @@ module _ {G : Type 0} where
   filed-goal (x ∷ gs) (Filed b ∷ ss) zero g e f h = h
   filed-goal (x ∷ gs) (Filed b ∷ ss) (suc k) g e f h = filed-goal gs ss k g (omega arith) (λ j s q. f (suc j) s q) h
 
-  pub filed-answer : (gs : List G) (ss : List RowState) (k : ℕ) (a : Answer ℕ) → length ss ≡ length gs → EachFiled ss → slice_get ss k ≡ Some (Filed a) → option_map (λ (r : Row G). r.answer) (slice_get (filed_rows gs ss) k) ≡ Some a
+  pub filed-answer : (gs : List G) (ss : List RowState) (k : ℕ) (a : Answer ℕ) → length ss ≡ length gs → EachFiled ss
+      → slice_get ss k ≡ Some (Filed a)
+      → option_map (λ (r : Row G). r.answer) (slice_get (filed_rows gs ss) k) ≡ Some a
   filed-answer [] [] k a e f h = cc
   filed-answer [] (s ∷ ss) k a e f h = absurd (omega arith)
   filed-answer (x ∷ gs) [] k a e f h = cc
@@ -59,7 +65,8 @@ module _ {G : Type 0} where
   filed-goals (x ∷ gs) (Filed a ∷ ss) e f = ap (λ l. x ∷ l) (filed-goals gs ss (omega arith) (λ k s h. f (suc k) s h))
 
   -- the goal and the state of a row of the list
-  pub filed-parts : (gs : List G) (ss : List RowState) (k : ℕ) (r : Row G) → slice_get (filed_rows gs ss) k ≡ Some r → (slice_get gs k ≡ Some r.goal) × (slice_get ss k ≡ Some (Filed r.answer))
+  pub filed-parts : (gs : List G) (ss : List RowState) (k : ℕ) (r : Row G) → slice_get (filed_rows gs ss) k ≡ Some r
+      → (slice_get gs k ≡ Some r.goal) × (slice_get ss k ≡ Some (Filed r.answer))
   filed-parts [] ss k r e = cc
   filed-parts (x ∷ gs) [] k r e = cc
   filed-parts (x ∷ gs) (Free ∷ ss) k r e = cc

@@ -13,7 +13,8 @@ use Rattle.cls_core.proofs.Insertion.{answer-kept}
 
 module _ {G : Type 0} (eq : G → G → Bool) (reflexive : (x : G) → eq x x ≡ true) (goals : List G) (states : List RowState) where
   -- added goals are as many as the rows that they get
-  pub added-count : (answer : Answer G) (added : List G) (n : ℕ) → goals ++ added ≡ grown eq goals answer → n ≡ length added → length (grown eq goals answer) ≡ length goals + n
+  pub added-count : (answer : Answer G) (added : List G) (n : ℕ) → goals ++ added ≡ grown eq goals answer
+      → n ≡ length added → length (grown eq goals answer) ≡ length goals + n
   added-count answer added n e is = omega (arith, ap length e, length-append goals added)
 
   pub filed-rows : (answer : Answer G) (more : List G) (behind : List RowState) (numbers : Answer ℕ) (n row : ℕ) (s : RowState)

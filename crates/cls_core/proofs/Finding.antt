@@ -18,14 +18,16 @@ use Rattle.cls_core.proofs.Canonical.{turned, arguments-append}
 
 module _ {A : Type 0} where
   -- one more of a list, which was seen or is one of its first ones
-  more-again : {seen xs us : List A} (y : A) → FirstOnes seen xs us → Contains seen y ⊎ Contains us y → FirstOnes seen (xs ++ y ∷ []) us
+  more-again : {seen xs us : List A} (y : A) → FirstOnes seen xs us → Contains seen y ⊎ Contains us y
+      → FirstOnes seen (xs ++ y ∷ []) us
   more-again y no_more (inl m) = again m no_more
   more-again y no_more (inr m) = absurd (Contains-nil y m)
   more-again {seen = seen} y (fresh {ys = us} {x = x} n h) m = fresh n (more-again y h (turned seen us x y m))
   more-again y (again s h) m = again s (more-again y h m)
 
   -- one more of a list, which is new
-  more-fresh : {seen xs us : List A} (y : A) → FirstOnes seen xs us → (Contains seen y → ⊥) → (Contains us y → ⊥) → FirstOnes seen (xs ++ y ∷ []) (us ++ y ∷ [])
+  more-fresh : {seen xs us : List A} (y : A) → FirstOnes seen xs us → (Contains seen y → ⊥) → (Contains us y → ⊥)
+      → FirstOnes seen (xs ++ y ∷ []) (us ++ y ∷ [])
   more-fresh y no_more n m = fresh n no_more
   more-fresh y (fresh {seen = seen} {ys = us} {x = x} f h) n m = fresh f (more-fresh y h (λ k. elim (Contains-cases x seen y k) [ inl e ↦ m (Contains-head y x us e) | inr s ↦ n s ]) (λ k. m (Contains-later y x us k)))
   more-fresh y (again s h) n m = again s (more-fresh y h n m)
@@ -49,10 +51,11 @@ module _ {G : Type 0} (eq : G → G → Bool) (exact : (x y : G) → eq x y ≡ 
       by true e = more-again y h (inr (any-contains eq exact reflexive us y e))
       by false e = more-fresh y h (λ m. Contains-nil y m) (λ m. let t = contains-any eq exact reflexive us y m in cc)
 
-  -- what is put behind the first ones of a list, where it isn't among them, goes on with its first ones
+  -- the first ones of a list, with what is put behind them unless it is among them, are the first ones of a longer list
   more-all : (xs us ys : List G) → FirstOnes [] xs us → FirstOnes [] (xs ++ ys) (insert_all eq us ys)
   more-all xs us [] h = subst (λ l. FirstOnes [] l us) (sym (append-nil xs)) h
-  more-all xs us (y ∷ ys) h = subst (λ l. FirstOnes [] l (insert_all eq us (y ∷ ys))) (append_assoc xs (y ∷ []) ys) (more-all (xs ++ y ∷ []) (insert_key eq us y) ys (more-key xs us y h))
+  more-all xs us (y ∷ ys) h =
+      subst (λ l. FirstOnes [] l (insert_all eq us (y ∷ ys))) (append_assoc xs (y ∷ []) ys) (more-all (xs ++ y ∷ []) (insert_key eq us y) ys (more-key xs us y h))
 
   -- `answer` gives an answer of each goal of the closure
   module _ (IsAnswer : G → Answer G → Type 0) (start : G) (answer : G → Answer G) (answers : (g : G) → IsReached IsAnswer start g → IsAnswer g (answer g)) where
@@ -67,13 +70,15 @@ module _ {G : Type 0} (eq : G → G → Bool) (exact : (x y : G) → eq x y ≡ 
     distinct-step gs None d = d
     distinct-step gs (Some g) d = all-distinct eq exact reflexive gs (arguments_of (answer g)) d
 
-    reached-step : (gs : List G) (k : ℕ) (o : Option G) → slice_get gs k ≡ o → AllReached IsAnswer start gs → AllReached IsAnswer start (worked_off eq answer gs o)
+    reached-step : (gs : List G) (k : ℕ) (o : Option G) → slice_get gs k ≡ o → AllReached IsAnswer start gs
+        → AllReached IsAnswer start (worked_off eq answer gs o)
     reached-step gs k None e q = q
     reached-step gs k (Some g) e q =
         let this = q g (Contains-at gs k g e) in
         λ h m. elim (all-only eq exact reflexive gs (arguments_of (answer g)) h m) [ inl l ↦ q h l | inr r ↦ at_argument g h (answer g) this (answers g this) r ]
 
-    stream-step : (gs : List G) (k : ℕ) (o : Option G) → slice_get gs k ≡ o → Stream k gs → Stream (suc k) (worked_off eq answer gs o)
+    stream-step : (gs : List G) (k : ℕ) (o : Option G) → slice_get gs k ≡ o → Stream k gs
+        → Stream (suc k) (worked_off eq answer gs o)
     stream-step gs k None e f =
         let h = past gs k e in
         subst (λ l. FirstOnes [] (start ∷ arguments_after l) gs) (take_all k gs h ∙ sym (take_all (suc k) gs (omega arith))) f
@@ -94,7 +99,8 @@ module _ {G : Type 0} (eq : G → G → Bool) (exact : (x y : G) → eq x y ≡ 
 
     pub found-reached : (k : ℕ) → AllReached IsAnswer start (found eq answer start k)
     found-reached zero = λ h m. reached-first h (Contains-cases start [] h m)
-    found-reached (suc k) = reached-step (found eq answer start k) k (slice_get (found eq answer start k) k) refl (found-reached k)
+    found-reached (suc k) =
+        reached-step (found eq answer start k) k (slice_get (found eq answer start k) k) refl (found-reached k)
 
     found-first : (k : ℕ) → Stream k (found eq answer start k)
     found-first zero = fresh (Contains-nil start) no_more
@@ -105,7 +111,8 @@ module _ {G : Type 0} (eq : G → G → Bool) (exact : (x y : G) → eq x y ≡ 
     answers-beside (g ∷ gs) q = (answers g (q g (Contains-here g gs)), answers-beside gs (λ x m. q x (Contains-later x g gs m)))
 
     -- After as many steps as there are goals all of them are found, in the canonical order.
-    pub found-numbering : (n : ℕ) → ((gs : List G) → AreDistinct gs → AllReached IsAnswer start gs → length gs ≤ n) → IsNumbering IsAnswer start (found eq answer start n)
+    pub found-numbering : (n : ℕ) → ((gs : List G) → AreDistinct gs → AllReached IsAnswer start gs → length gs ≤ n)
+        → IsNumbering IsAnswer start (found eq answer start n)
     found-numbering n few = record {
       answers = map answer (found eq answer start n);
       answered = answers-beside (found eq answer start n) (found-reached n);

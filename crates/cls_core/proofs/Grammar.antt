@@ -63,7 +63,8 @@ module _ {G : Type 0} (eq : G → G → Bool) (IsAnswer : G → Answer G → Typ
         omega (arith, less, a.2, count)
 
     reaches : (g : G) → IsReached IsAnswer start g → IsReached (IsRowAnswer rows) 0 (place g)
-    reaches g at_start = subst (IsReached (IsRowAnswer rows) 0) (sym (place-of eq exact reflexive IsAnswer start rows c 0 start c.first)) at_start
+    reaches g at_start =
+        subst (IsReached (IsRowAnswer rows) 0) (sym (place-of eq exact reflexive IsAnswer start rows c 0 start c.first)) at_start
     reaches h (at_argument g m a r is k) =
         let known = c.whole g r in
         let b = the_answer eq exact reflexive IsAnswer start rows c g in

@@ -1,4 +1,4 @@
--- Goals that are put behind others where they aren't among them, and the places at which they then stand.
+-- Goals that are put behind others, unless they are among them, and the places at which they then stand.
 use Rattle.std.proofs.Common.{◌≡◌, ℕ, suc, ◌+◌, ◌<◌, ◌≤◌, Bool, true, false, cond, not, List, [], ◌∷◌, ◌++◌, length, map, take, drop, get_or, refl, sym, ap, subst, ◌∙◌, arith, append_assoc, append-nil, length-append, if◌then◌else◌, ◌||◌, Some}
 use Rattle.std.specs.List.{position, position_or_len, list_any}
 use Rattle.std.proofs.lemmas.List.{append_cancel_left, take_more, take-append-drop}
@@ -16,12 +16,14 @@ module _ {A : Type 0} (p : A → Bool) where
   -- what stands in the front is found there
   pub place-front : (xs ys : List A) → list_any p xs ≡ true → position_or_len p (xs ++ ys) ≡ position_or_len p xs
   place-front [] ys e = cc
-  place-front (x ∷ xs) ys e = elim (p x) as (λ b. (b || list_any p xs) ≡ true → cond (not b) (1 + position_or_len p (xs ++ ys)) 0 ≡ cond (not b) (1 + position_or_len p xs) 0) [ true ↦ λ f. refl | false ↦ λ f. ap (λ n. 1 + n) (place-front xs ys f) ] e
+  place-front (x ∷ xs) ys e =
+      elim (p x) as (λ b. (b || list_any p xs) ≡ true → cond (not b) (1 + position_or_len p (xs ++ ys)) 0 ≡ cond (not b) (1 + position_or_len p xs) 0) [ true ↦ λ f. refl | false ↦ λ f. ap (λ n. 1 + n) (place-front xs ys f) ] e
 
   -- what doesn't stand in the front is found behind it
   pub place-behind : (xs ys : List A) → list_any p xs ≡ false → position_or_len p (xs ++ ys) ≡ length xs + position_or_len p ys
   place-behind [] ys e = omega arith
-  place-behind (x ∷ xs) ys e = elim (p x) as (λ b. (b || list_any p xs) ≡ false → cond (not b) (1 + position_or_len p (xs ++ ys)) 0 ≡ suc (length xs) + position_or_len p ys) [ true ↦ λ f. cc | false ↦ λ f. (let h = place-behind xs ys f in omega arith) ] e
+  place-behind (x ∷ xs) ys e =
+      elim (p x) as (λ b. (b || list_any p xs) ≡ false → cond (not b) (1 + position_or_len p (xs ++ ys)) 0 ≡ suc (length xs) + position_or_len p ys) [ true ↦ λ f. cc | false ↦ λ f. (let h = place-behind xs ys f in omega arith) ] e
 
   pub place-found : (xs : List A) (i : ℕ) → position p xs ≡ Some i → i ≡ position_or_len p xs
   place-found [] i e = cc
@@ -29,15 +31,18 @@ module _ {A : Type 0} (p : A → Bool) where
 
   pub any-append : (xs ys : List A) → list_any p xs ≡ true → list_any p (xs ++ ys) ≡ true
   any-append [] ys e = cc
-  any-append (x ∷ xs) ys e = elim (p x) as (λ b. (b || list_any p xs) ≡ true → (b || list_any p (xs ++ ys)) ≡ true) [ true ↦ λ f. refl | false ↦ λ f. any-append xs ys f ] e
+  any-append (x ∷ xs) ys e =
+      elim (p x) as (λ b. (b || list_any p xs) ≡ true → (b || list_any p (xs ++ ys)) ≡ true) [ true ↦ λ f. refl | false ↦ λ f. any-append xs ys f ] e
 
   any-last : (xs : List A) (y : A) → p y ≡ true → list_any p (xs ++ y ∷ []) ≡ true
   any-last [] y e = ap (λ b. b || false) e
   any-last (x ∷ xs) y e = elim (p x) as (λ b. (b || list_any p (xs ++ y ∷ [])) ≡ true) [ true ↦ refl | false ↦ any-last xs y e ]
 
-  place-last : (xs : List A) (y : A) → list_any p xs ≡ false → p y ≡ true → position_or_len p (xs ++ y ∷ []) ≡ position_or_len p xs
+  place-last : (xs : List A) (y : A) → list_any p xs ≡ false → p y ≡ true
+      → position_or_len p (xs ++ y ∷ []) ≡ position_or_len p xs
   place-last [] y e h = ap (λ b. cond (not b) (1 + 0) 0) h
-  place-last (x ∷ xs) y e h = elim (p x) as (λ b. (b || list_any p xs) ≡ false → cond (not b) (1 + position_or_len p (xs ++ y ∷ [])) 0 ≡ cond (not b) (1 + position_or_len p xs) 0) [ true ↦ λ f. cc | false ↦ λ f. ap (λ n. 1 + n) (place-last xs y f h) ] e
+  place-last (x ∷ xs) y e h =
+      elim (p x) as (λ b. (b || list_any p xs) ≡ false → cond (not b) (1 + position_or_len p (xs ++ y ∷ [])) 0 ≡ cond (not b) (1 + position_or_len p xs) 0) [ true ↦ λ f. cc | false ↦ λ f. ap (λ n. 1 + n) (place-last xs y f h) ] e
 
 module _ {G : Type 0} (eq : G → G → Bool) where
   pub all-append : (gs xs ys : List G) → insert_all eq gs (xs ++ ys) ≡ insert_all eq (insert_all eq gs xs) ys
@@ -61,7 +66,9 @@ module _ {G : Type 0} (eq : G → G → Bool) where
   again gs [] = ([], sym (append-nil gs), sym (append-nil gs))
   again gs (x ∷ xs) = by (list_any (eq x) gs) refl (again (insert_key eq gs x) xs)
     where
-      by : (b : Bool) → list_any (eq x) gs ≡ b → ((more : List G) × (insert_all eq (insert_key eq gs x) xs ≡ insert_key eq gs x ++ more) × (insert_all eq (insert_key eq gs x) more ≡ insert_key eq gs x ++ more)) → (more : List G) × (insert_all eq (insert_key eq gs x) xs ≡ gs ++ more) × (insert_all eq gs more ≡ gs ++ more)
+      by : (b : Bool) → list_any (eq x) gs ≡ b
+          → ((more : List G) × (insert_all eq (insert_key eq gs x) xs ≡ insert_key eq gs x ++ more) × (insert_all eq (insert_key eq gs x) more ≡ insert_key eq gs x ++ more))
+          → (more : List G) × (insert_all eq (insert_key eq gs x) xs ≡ gs ++ more) × (insert_all eq gs more ≡ gs ++ more)
       by true e h =
           let same : insert_key eq gs x ≡ gs = ap (λ (b : Bool). if b then gs else gs ++ x ∷ []) e in
           (h.0, h.1 ∙ ap (λ l. l ++ h.0) same, subst (λ l. insert_all eq l h.0 ≡ l ++ h.0) same h.2)
@@ -81,65 +88,85 @@ module _ {G : Type 0} (eq : G → G → Bool) where
   all-length gs xs = let h = all-front gs xs in omega (arith, ap length h.1, length-append gs h.0)
 
   all-split : (gs xs ys all : List G) → xs ++ ys ≡ all → length (insert_all eq gs xs) ≤ length (insert_all eq gs all)
-  all-split gs xs ys all e = subst (λ l. length (insert_all eq gs xs) ≤ length (insert_all eq gs l)) e (subst (λ l. length (insert_all eq gs xs) ≤ length l) (sym (all-append gs xs ys)) (all-length (insert_all eq gs xs) ys))
+  all-split gs xs ys all e =
+      subst (λ l. length (insert_all eq gs xs) ≤ length (insert_all eq gs l)) e (subst (λ l. length (insert_all eq gs xs) ≤ length l) (sym (all-append gs xs ys)) (all-length (insert_all eq gs xs) ys))
 
   -- the first goals of a list make no more than all of them
   pub all-take : (gs xs : List G) (i : ℕ) → length (insert_all eq gs (take i xs)) ≤ length (insert_all eq gs xs)
   all-take gs xs i = all-split gs (take i xs) (drop i xs) xs (take-append-drop i xs)
 
   -- one goal more of a list
-  pub all-more : (gs xs : List G) (i : ℕ) (d : G) → i < length xs → insert_all eq gs (take (i + 1) xs) ≡ insert_key eq (insert_all eq gs (take i xs)) (get_or xs i d)
+  pub all-more : (gs xs : List G) (i : ℕ) (d : G) → i < length xs
+      → insert_all eq gs (take (i + 1) xs) ≡ insert_key eq (insert_all eq gs (take i xs)) (get_or xs i d)
   all-more gs xs i d h = ap (insert_all eq gs) (take_more xs i d h) ∙ all-append gs (take i xs) (get_or xs i d ∷ [])
 
-  numbers-append : (gs xs ys : List G) → numbers_from eq gs (xs ++ ys) ≡ numbers_from eq gs xs ++ numbers_from eq (insert_all eq gs xs) ys
+  numbers-append : (gs xs ys : List G)
+      → numbers_from eq gs (xs ++ ys) ≡ numbers_from eq gs xs ++ numbers_from eq (insert_all eq gs xs) ys
   numbers-append gs [] ys = refl
   numbers-append gs (x ∷ xs) ys = ap (λ l. position_or_len (eq x) gs ∷ l) (numbers-append (insert_key eq gs x) xs ys)
 
   -- one number more
-  pub numbers-more : (gs xs : List G) (i : ℕ) (d : G) → i < length xs → numbers_from eq gs (take (i + 1) xs) ≡ numbers_from eq gs (take i xs) ++ position_or_len (eq (get_or xs i d)) (insert_all eq gs (take i xs)) ∷ []
+  pub numbers-more : (gs xs : List G) (i : ℕ) (d : G) → i < length xs
+      → numbers_from eq gs (take (i + 1) xs) ≡ numbers_from eq gs (take i xs) ++ position_or_len (eq (get_or xs i d)) (insert_all eq gs (take i xs)) ∷ []
   numbers-more gs xs i d h = ap (numbers_from eq gs) (take_more xs i d h) ∙ numbers-append gs (take i xs) (get_or xs i d ∷ [])
 
   arguments-append : (rs ss : List (Rule G)) → arguments_in (rs ++ ss) ≡ arguments_in rs ++ arguments_in ss
   arguments-append [] ss = refl
-  arguments-append (r ∷ rs) ss = ap (λ l. arguments_of_rule r ++ l) (arguments-append rs ss) ∙ sym (append_assoc (arguments_of_rule r) (arguments_in rs) (arguments_in ss))
+  arguments-append (r ∷ rs) ss =
+      ap (λ l. arguments_of_rule r ++ l) (arguments-append rs ss) ∙ sym (append_assoc (arguments_of_rule r) (arguments_in rs) (arguments_in ss))
 
   arguments-one : (r : Rule G) → arguments_in (r ∷ []) ≡ arguments_of_rule r
   arguments-one r = append-nil (arguments_of_rule r)
 
   -- the first rules of a list make no more than all of them
-  pub rules-take : (gs : List G) (rs : List (Rule G)) (i : ℕ) → length (insert_all eq gs (arguments_in (take i rs))) ≤ length (insert_all eq gs (arguments_in rs))
-  rules-take gs rs i = all-split gs (arguments_in (take i rs)) (arguments_in (drop i rs)) (arguments_in rs) (sym (arguments-append (take i rs) (drop i rs)) ∙ ap arguments_in (take-append-drop i rs))
+  pub rules-take : (gs : List G) (rs : List (Rule G)) (i : ℕ)
+      → length (insert_all eq gs (arguments_in (take i rs))) ≤ length (insert_all eq gs (arguments_in rs))
+  rules-take gs rs i =
+      all-split gs (arguments_in (take i rs)) (arguments_in (drop i rs)) (arguments_in rs) (sym (arguments-append (take i rs) (drop i rs)) ∙ ap arguments_in (take-append-drop i rs))
 
   -- the goals of one rule more
-  pub rules-more : (gs : List G) (rs : List (Rule G)) (i : ℕ) (d : Rule G) → i < length rs → insert_all eq gs (arguments_in (take (i + 1) rs)) ≡ insert_all eq (insert_all eq gs (arguments_in (take i rs))) (arguments_of_rule (get_or rs i d))
+  pub rules-more : (gs : List G) (rs : List (Rule G)) (i : ℕ) (d : Rule G) → i < length rs
+      → insert_all eq gs (arguments_in (take (i + 1) rs)) ≡ insert_all eq (insert_all eq gs (arguments_in (take i rs))) (arguments_of_rule (get_or rs i d))
   rules-more gs rs i d h =
       ap (λ l. insert_all eq gs (arguments_in l)) (take_more rs i d h)
       ∙ (ap (insert_all eq gs) (arguments-append (take i rs) (get_or rs i d ∷ []) ∙ ap (λ l. arguments_in (take i rs) ++ l) (arguments-one (get_or rs i d)))
       ∙ all-append gs (arguments_in (take i rs)) (arguments_of_rule (get_or rs i d)))
 
-  rules-append : (gs : List G) (rs ss : List (Rule G)) → rules_from eq gs (rs ++ ss) ≡ rules_from eq gs rs ++ rules_from eq (insert_all eq gs (arguments_in rs)) ss
+  rules-append : (gs : List G) (rs ss : List (Rule G))
+      → rules_from eq gs (rs ++ ss) ≡ rules_from eq gs rs ++ rules_from eq (insert_all eq gs (arguments_in rs)) ss
   rules-append gs [] ss = refl
   rules-append gs (r ∷ rs) ss =
       let step = rules-append (insert_all eq gs (arguments_of_rule r)) rs ss in
       ap (λ l. rule_from eq gs r ∷ l) (step ∙ ap (λ k. rules_from eq (insert_all eq gs (arguments_of_rule r)) rs ++ rules_from eq k ss) (sym (all-append gs (arguments_of_rule r) (arguments_in rs))))
 
   -- one rule more, in numbers
-  pub numbered-more : (gs : List G) (rs : List (Rule G)) (i : ℕ) (d : Rule G) → i < length rs → rules_from eq gs (take (i + 1) rs) ≡ rules_from eq gs (take i rs) ++ rule_from eq (insert_all eq gs (arguments_in (take i rs))) (get_or rs i d) ∷ []
+  pub numbered-more : (gs : List G) (rs : List (Rule G)) (i : ℕ) (d : Rule G) → i < length rs
+      → rules_from eq gs (take (i + 1) rs) ≡ rules_from eq gs (take i rs) ++ rule_from eq (insert_all eq gs (arguments_in (take i rs))) (get_or rs i d) ∷ []
   numbered-more gs rs i d h = ap (rules_from eq gs) (take_more rs i d h) ∙ rules-append gs (take i rs) (get_or rs i d ∷ [])
 
   -- one step over goals: the goals so far, and the next one
-  pub goal-step : (gs xs ks : List G) (i : ℕ) (x : G) → i < length xs → ks ≡ insert_all eq gs (take i xs) → x ≡ get_or xs i x → insert_key eq ks x ≡ insert_all eq gs (take (i + 1) xs)
-  goal-step gs xs ks i x h e is = ap (λ l. insert_key eq l x) e ∙ (ap (insert_key eq (insert_all eq gs (take i xs))) is ∙ sym (all-more gs xs i x h))
+  pub goal-step : (gs xs ks : List G) (i : ℕ) (x : G) → i < length xs → ks ≡ insert_all eq gs (take i xs)
+      → x ≡ get_or xs i x → insert_key eq ks x ≡ insert_all eq gs (take (i + 1) xs)
+  goal-step gs xs ks i x h e is =
+      ap (λ l. insert_key eq l x) e ∙ (ap (insert_key eq (insert_all eq gs (take i xs))) is ∙ sym (all-more gs xs i x h))
 
-  pub number-step : (gs xs ks : List G) (ns ms : List ℕ) (n i : ℕ) (x : G) → i < length xs → ks ≡ insert_all eq gs (take i xs) → x ≡ get_or xs i x → ns ≡ numbers_from eq gs (take i xs) → n ≡ position_or_len (eq x) ks → ms ≡ ns ++ n ∷ [] → ms ≡ numbers_from eq gs (take (i + 1) xs)
+  pub number-step : (gs xs ks : List G) (ns ms : List ℕ) (n i : ℕ) (x : G) → i < length xs
+      → ks ≡ insert_all eq gs (take i xs) → x ≡ get_or xs i x → ns ≡ numbers_from eq gs (take i xs)
+      → n ≡ position_or_len (eq x) ks → ms ≡ ns ++ n ∷ [] → ms ≡ numbers_from eq gs (take (i + 1) xs)
   number-step gs xs ks ns ms n i x h e is f m g =
       g ∙ ((λ k. f k ++ (m ∙ (λ j. position_or_len (eq (is j)) (e j))) k ∷ []) ∙ sym (numbers-more gs xs i x h))
 
   -- one step over rules
-  pub rule-step : (gs : List G) (rs : List (Rule G)) (ks : List G) (i : ℕ) (r : Rule G) → i < length rs → ks ≡ insert_all eq gs (arguments_in (take i rs)) → r ≡ get_or rs i r → insert_all eq ks (arguments_of_rule r) ≡ insert_all eq gs (arguments_in (take (i + 1) rs))
-  rule-step gs rs ks i r h e is = ap (λ l. insert_all eq l (arguments_of_rule r)) e ∙ (ap (λ q. insert_all eq (insert_all eq gs (arguments_in (take i rs))) (arguments_of_rule q)) is ∙ sym (rules-more gs rs i r h))
+  pub rule-step : (gs : List G) (rs : List (Rule G)) (ks : List G) (i : ℕ) (r : Rule G) → i < length rs
+      → ks ≡ insert_all eq gs (arguments_in (take i rs)) → r ≡ get_or rs i r
+      → insert_all eq ks (arguments_of_rule r) ≡ insert_all eq gs (arguments_in (take (i + 1) rs))
+  rule-step gs rs ks i r h e is =
+      ap (λ l. insert_all eq l (arguments_of_rule r)) e ∙ (ap (λ q. insert_all eq (insert_all eq gs (arguments_in (take i rs))) (arguments_of_rule q)) is ∙ sym (rules-more gs rs i r h))
 
-  pub numbered-step : (gs : List G) (rs : List (Rule G)) (ks : List G) (ns ms : List (Rule ℕ)) (n : Rule ℕ) (i : ℕ) (r : Rule G) → i < length rs → ks ≡ insert_all eq gs (arguments_in (take i rs)) → r ≡ get_or rs i r → ns ≡ rules_from eq gs (take i rs) → n ≡ rule_from eq ks r → ms ≡ ns ++ n ∷ [] → ms ≡ rules_from eq gs (take (i + 1) rs)
+  pub numbered-step : (gs : List G) (rs : List (Rule G)) (ks : List G) (ns ms : List (Rule ℕ)) (n : Rule ℕ) (i : ℕ) (r : Rule G)
+      → i < length rs → ks ≡ insert_all eq gs (arguments_in (take i rs)) → r ≡ get_or rs i r
+      → ns ≡ rules_from eq gs (take i rs) → n ≡ rule_from eq ks r → ms ≡ ns ++ n ∷ []
+      → ms ≡ rules_from eq gs (take (i + 1) rs)
   numbered-step gs rs ks ns ms n i r h e is f m g =
       g ∙ ((λ k. f k ++ (m ∙ (λ j. rule_from eq (e j) (is j))) k ∷ []) ∙ sym (numbered-more gs rs i r h))
 
@@ -153,33 +180,41 @@ module _ {G : Type 0} (eq : G → G → Bool) where
   answer-count gs Wide = refl
 
   -- a goal that stands among the goals stays at its place
-  pub stays : (y : G) (gs xs : List G) → list_any (eq y) gs ≡ true → position_or_len (eq y) (insert_all eq gs xs) ≡ position_or_len (eq y) gs
+  pub stays : (y : G) (gs xs : List G) → list_any (eq y) gs ≡ true
+      → position_or_len (eq y) (insert_all eq gs xs) ≡ position_or_len (eq y) gs
   stays y gs xs e = let h = all-front gs xs in ap (position_or_len (eq y)) h.1 ∙ place-front (eq y) gs h.0 e
 
-  comes : (gs : List G) (x : G) → eq x x ≡ true → (b : Bool) → list_any (eq x) gs ≡ b → (position_or_len (eq x) (if b then gs else gs ++ x ∷ []) ≡ position_or_len (eq x) gs) × (list_any (eq x) (if b then gs else gs ++ x ∷ []) ≡ true)
+  comes : (gs : List G) (x : G) → eq x x ≡ true → (b : Bool) → list_any (eq x) gs ≡ b
+      → (position_or_len (eq x) (if b then gs else gs ++ x ∷ []) ≡ position_or_len (eq x) gs) × (list_any (eq x) (if b then gs else gs ++ x ∷ []) ≡ true)
   comes gs x r true e = (refl, e)
   comes gs x r false e = (place-last (eq x) gs x e r, any-last (eq x) gs x r)
 
   module _ (reflexive : (x : G) → eq x x ≡ true) where
     -- a goal that was put there has in the end the place that it was given
-    pub place-kept : (gs : List G) (x : G) (more : List G) → position_or_len (eq x) gs ≡ position_or_len (eq x) (insert_all eq (insert_key eq gs x) more)
+    pub place-kept : (gs : List G) (x : G) (more : List G)
+        → position_or_len (eq x) gs ≡ position_or_len (eq x) (insert_all eq (insert_key eq gs x) more)
     place-kept gs x more = let h = comes gs x (reflexive x) (list_any (eq x) gs) refl in sym (stays x (insert_key eq gs x) more h.1 ∙ h.0)
 
-    numbers-kept : (gs xs more : List G) → numbers_from eq gs xs ≡ map (λ a. position_or_len (eq a) (insert_all eq gs (xs ++ more))) xs
+    numbers-kept : (gs xs more : List G)
+        → numbers_from eq gs xs ≡ map (λ a. position_or_len (eq a) (insert_all eq gs (xs ++ more))) xs
     numbers-kept gs [] more = refl
     numbers-kept gs (x ∷ xs) more = λ k. place-kept gs x (xs ++ more) k ∷ numbers-kept (insert_key eq gs x) xs more k
 
-    rule-kept : (gs : List G) (r : Rule G) (more : List G) → rule_from eq gs r ≡ map_rule (λ a. position_or_len (eq a) (insert_all eq gs (arguments_of_rule r ++ more))) r
+    rule-kept : (gs : List G) (r : Rule G) (more : List G)
+        → rule_from eq gs r ≡ map_rule (λ a. position_or_len (eq a) (insert_all eq gs (arguments_of_rule r ++ more))) r
     rule-kept gs (Head component args) more = ap (Head component) (numbers-kept gs args more)
-    rule-kept gs (Any left right) more = λ k. Any (place-kept gs left (right ∷ more) k) (place-kept (insert_key eq gs left) right more k)
+    rule-kept gs (Any left right) more =
+        λ k. Any (place-kept gs left (right ∷ more) k) (place-kept (insert_key eq gs left) right more k)
 
-    rules-kept : (gs : List G) (rs : List (Rule G)) → rules_from eq gs rs ≡ map (map_rule (λ a. position_or_len (eq a) (insert_all eq gs (arguments_in rs)))) rs
+    rules-kept : (gs : List G) (rs : List (Rule G))
+        → rules_from eq gs rs ≡ map (map_rule (λ a. position_or_len (eq a) (insert_all eq gs (arguments_in rs)))) rs
     rules-kept gs [] = refl
     rules-kept gs (r ∷ rs) =
         let step = rules-kept (insert_all eq gs (arguments_of_rule r)) rs ∙ ap (λ l. map (map_rule (λ a. position_or_len (eq a) l)) rs) (sym (all-append gs (arguments_of_rule r) (arguments_in rs))) in
         λ k. rule-kept gs r (arguments_in rs) k ∷ step k
 
     -- The numbers that were given one after the other are the places at which the goals stand in the end.
-    pub answer-kept : (gs : List G) (a : Answer G) → answer_from eq gs a ≡ map_answer (λ g. position_or_len (eq g) (insert_all eq gs (arguments_of a))) a
+    pub answer-kept : (gs : List G) (a : Answer G)
+        → answer_from eq gs a ≡ map_answer (λ g. position_or_len (eq g) (insert_all eq gs (arguments_of a))) a
     answer-kept gs (Rules rs) = ap Rules (rules-kept gs rs)
     answer-kept gs Wide = refl

@@ -7,13 +7,14 @@ use Rattle.indexmap.specs.IndexSet.{insert_key, insert_all}
 use Rattle.cls_base.specs.Lists.{AreDistinct}
 use Rattle.cls_base.proofs.Lists.{Contains-nil, Contains-head, Contains-later, Contains-cases, AreDistinct-push}
 
--- goals that are put behind others where they aren't among them
+-- goals that are put behind others, unless they are among them
 module _ {G : Type 0} (eq : G → G → Bool) (exact : (x y : G) → eq x y ≡ true → x ≡ y) (reflexive : (x : G) → eq x x ≡ true) where
   pub any-contains : (gs : List G) (x : G) → list_any (eq x) gs ≡ true → Contains gs x
   any-contains [] x e = cc
   any-contains (g ∷ gs) x e = by (any-contains gs x) (eq x g) refl e
     where
-      by : (list_any (eq x) gs ≡ true → Contains gs x) → (b : Bool) → eq x g ≡ b → (eq x g || list_any (eq x) gs) ≡ true → Contains (g ∷ gs) x
+      by : (list_any (eq x) gs ≡ true → Contains gs x) → (b : Bool) → eq x g ≡ b
+          → (eq x g || list_any (eq x) gs) ≡ true → Contains (g ∷ gs) x
       by rest true is h = Contains-head x g gs (exact x g is)
       by rest false is h = Contains-later x g gs (rest (subst (λ b. (b || list_any (eq x) gs) ≡ true) is h))
 
@@ -39,10 +40,12 @@ module _ {G : Type 0} (eq : G → G → Bool) (exact : (x y : G) → eq x y ≡ 
       by false e = Contains-push gs x
 
   key-keeps : (gs : List G) (x y : G) → Contains gs y → Contains (insert_key eq gs x) y
-  key-keeps gs x y h = elim (list_any (eq x) gs) as (λ b. Contains (if b then gs else gs ++ x ∷ []) y) [ true ↦ h | false ↦ Contains-append_left gs (x ∷ []) y h ]
+  key-keeps gs x y h =
+      elim (list_any (eq x) gs) as (λ b. Contains (if b then gs else gs ++ x ∷ []) y) [ true ↦ h | false ↦ Contains-append_left gs (x ∷ []) y h ]
 
   key-only : (gs : List G) (x y : G) → Contains (insert_key eq gs x) y → Contains gs y ⊎ (y ≡ x)
-  key-only gs x y = elim (list_any (eq x) gs) as (λ b. Contains (if b then gs else gs ++ x ∷ []) y → Contains gs y ⊎ (y ≡ x)) [ true ↦ λ h. inl h | false ↦ λ h. elim (Contains-push_cases gs x y h) [ inl l ↦ inl l | inr e ↦ inr (sym e) ] ]
+  key-only gs x y =
+      elim (list_any (eq x) gs) as (λ b. Contains (if b then gs else gs ++ x ∷ []) y → Contains gs y ⊎ (y ≡ x)) [ true ↦ λ h. inl h | false ↦ λ h. elim (Contains-push_cases gs x y h) [ inl l ↦ inl l | inr e ↦ inr (sym e) ] ]
 
   pub all-distinct : (gs xs : List G) → AreDistinct gs → AreDistinct (insert_all eq gs xs)
   all-distinct gs [] d = d

@@ -1,4 +1,4 @@
--- Numbers in place of goals, where different goals have different numbers.
+-- Numbers in place of goals. Different goals have different numbers.
 use Rattle.std.proofs.Common.{ℕ, ◌≡◌, ◌++◌, ◌+◌, ◌⊎◌, refl, sym, ◌∙◌, subst, ap, inl, inr, List, [], ◌∷◌, map, Bool, true, false, cond, not, ◌||◌, if◌then◌else◌, arith}
 use Rattle.std.specs.Prelude.{nat_eq, Contains}
 use Rattle.std.specs.List.{list_any, position_or_len}
@@ -21,7 +21,8 @@ module _ {G : Type 0} (f : G → ℕ) where
 
   rules-arguments : (rs : List (Rule G)) → arguments_in (map (map_rule f) rs) ≡ map f (arguments_in rs)
   rules-arguments [] = refl
-  rules-arguments (r ∷ rs) = (λ k. rule-arguments r k ++ rules-arguments rs k) ∙ sym (map-append f (arguments_of_rule r) (arguments_in rs))
+  rules-arguments (r ∷ rs) =
+      (λ k. rule-arguments r k ++ rules-arguments rs k) ∙ sym (map-append f (arguments_of_rule r) (arguments_in rs))
 
   -- the arguments of an answer in numbers
   pub answer-arguments : (a : Answer G) → arguments_of (map_answer f a) ≡ map f (arguments_of a)
@@ -31,7 +32,8 @@ module _ {G : Type 0} (f : G → ℕ) where
   pub argument-there : (a : Answer G) (g : G) → Contains (arguments_of a) g → Contains (arguments_of (map_answer f a)) (f g)
   argument-there a g h = subst (λ l. Contains l (f g)) (sym (answer-arguments a)) (Contains-map f (arguments_of a) g h)
 
-  pub argument-back : (a : Answer G) (n : ℕ) → Contains (arguments_of (map_answer f a)) n → (g : G) × Contains (arguments_of a) g × (n ≡ f g)
+  pub argument-back : (a : Answer G) (n : ℕ) → Contains (arguments_of (map_answer f a)) n
+      → (g : G) × Contains (arguments_of a) g × (n ≡ f g)
   argument-back a n h = Contains-from_map f (arguments_of a) n (subst (λ l. Contains l n) (answer-arguments a) h)
 
   module _ (h : ℕ → ℕ) where
@@ -58,20 +60,25 @@ module _ {G : Type 0} (eq : G → G → Bool) (exact : (x y : G) → eq x y ≡ 
       by : (b : Bool) → eq x y ≡ b → (c : Bool) → nat_eq (f x) (f y) ≡ c → c ≡ b
       by true e true d = refl
       by true e false d = (let s : f x ≡ f y = ap f (exact x y e) in grind (arith, nat_tests))
-      by false e true d = (let s : f x ≡ f y = grind (arith, nat_tests) in let t = subst (λ z. eq x z ≡ true) (apart x y m n s) (reflexive x) in cc)
+      by false e true d =
+          (let s : f x ≡ f y = grind (arith, nat_tests) in let t = subst (λ z. eq x z ≡ true) (apart x y m n s) (reflexive x) in cc)
       by false e false d = refl
 
   any-same : (gs : List G) (x : G) → Within gs → Contains all x → list_any (nat_eq (f x)) (map f gs) ≡ list_any (eq x) gs
   any-same [] x q m = refl
-  any-same (g ∷ gs) x q m = λ k. test-same x g m (q g (Contains-here g gs)) k || any-same gs x (λ y n. q y (Contains-later y g gs n)) m k
+  any-same (g ∷ gs) x q m =
+      λ k. test-same x g m (q g (Contains-here g gs)) k || any-same gs x (λ y n. q y (Contains-later y g gs n)) m k
 
   -- a goal's number stands where the goal stands
-  pub place-same : (gs : List G) (x : G) → Within gs → Contains all x → position_or_len (nat_eq (f x)) (map f gs) ≡ position_or_len (eq x) gs
+  pub place-same : (gs : List G) (x : G) → Within gs → Contains all x
+      → position_or_len (nat_eq (f x)) (map f gs) ≡ position_or_len (eq x) gs
   place-same [] x q m = refl
-  place-same (g ∷ gs) x q m = λ k. cond (not (test-same x g m (q g (Contains-here g gs)) k)) (1 + place-same gs x (λ y n. q y (Contains-later y g gs n)) m k) 0
+  place-same (g ∷ gs) x q m =
+      λ k. cond (not (test-same x g m (q g (Contains-here g gs)) k)) (1 + place-same gs x (λ y n. q y (Contains-later y g gs n)) m k) 0
 
   key-same : (gs : List G) (x : G) → Within gs → Contains all x → insert_key nat_eq (map f gs) (f x) ≡ map f (insert_key eq gs x)
-  key-same gs x q m = ap (λ (b : Bool). if b then map f gs else map f gs ++ f x ∷ []) (any-same gs x q m) ∙ by (list_any (eq x) gs)
+  key-same gs x q m =
+      ap (λ (b : Bool). if b then map f gs else map f gs ++ f x ∷ []) (any-same gs x q m) ∙ by (list_any (eq x) gs)
     where
       by : (b : Bool) → (if b then map f gs else map f gs ++ f x ∷ []) ≡ map f (if b then gs else gs ++ x ∷ [])
       by true = refl

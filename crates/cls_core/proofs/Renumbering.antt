@@ -26,10 +26,12 @@ module _ {G : Type 0} (eq : G → G → Bool) (exact : (x y : G) → eq x y ≡ 
   place-is [] g m = absurd (Contains-nil g m)
   place-is (x ∷ gs) g m = by (place-is gs g) (eq g x) refl (Contains-cases x gs g m)
     where
-      by : (Contains gs g → slice_get gs (position_or_len (eq g) gs) ≡ Some g) → (b : Bool) → eq g x ≡ b → (g ≡ x) ⊎ Contains gs g → slice_get (x ∷ gs) (cond (not b) (1 + position_or_len (eq g) gs) 0) ≡ Some g
+      by : (Contains gs g → slice_get gs (position_or_len (eq g) gs) ≡ Some g) → (b : Bool) → eq g x ≡ b
+          → (g ≡ x) ⊎ Contains gs g → slice_get (x ∷ gs) (cond (not b) (1 + position_or_len (eq g) gs) 0) ≡ Some g
       by rest true e n = ap Some (sym (exact g x e))
       by rest false e (inl s) = (let t = subst (λ y. eq g y ≡ true) s (reflexive g) in cc)
-      by rest false e (inr n) = ap (slice_get (x ∷ gs)) (let h : 1 + position_or_len (eq g) gs ≡ suc (position_or_len (eq g) gs) = omega arith in h) ∙ rest n
+      by rest false e (inr n) =
+          ap (slice_get (x ∷ gs)) (let h : 1 + position_or_len (eq g) gs ≡ suc (position_or_len (eq g) gs) = omega arith in h) ∙ rest n
 
   module _ (IsAnswer : G → Answer G → Type 0) (start : G) where
     -- the row of a goal, numbered by the goals
@@ -40,16 +42,19 @@ module _ {G : Type 0} (eq : G → G → Bool) (exact : (x y : G) → eq x y ≡ 
     goals-are answer gs [] = refl
     goals-are answer gs (h ∷ hs) = ap (λ l. h ∷ l) (goals-are answer gs hs)
 
-    answers-are : (answer : G → Answer G) (gs hs : List G) → ((g : G) → Contains hs g → IsAnswer g (answer g)) → (k : ℕ) (r : Row G) → slice_get (map (row_of answer gs) hs) k ≡ Some r → HoldsAnswer eq IsAnswer gs r
+    answers-are : (answer : G → Answer G) (gs hs : List G) → ((g : G) → Contains hs g → IsAnswer g (answer g))
+        → (k : ℕ) (r : Row G) → slice_get (map (row_of answer gs) hs) k ≡ Some r → HoldsAnswer eq IsAnswer gs r
     answers-are answer gs [] q k r e = cc
-    answers-are answer gs (h ∷ hs) q zero r e = subst (HoldsAnswer eq IsAnswer gs) (inside (row_of answer gs h) r e) (answer h, q h (Contains-here h hs), refl)
+    answers-are answer gs (h ∷ hs) q zero r e =
+        subst (HoldsAnswer eq IsAnswer gs) (inside (row_of answer gs h) r e) (answer h, q h (Contains-here h hs), refl)
       where
         inside : (p q : Row G) → Some p ≡ Some q → p ≡ q
         inside p q e = cc
     answers-are answer gs (h ∷ hs) q (suc k) r e = answers-are answer gs hs (λ x m. q x (Contains-later x h hs m)) k r e
 
     -- goals in their canonical order, each with its answer, are canonical rows
-    canonical-of : (answer : G → Answer G) (gs : List G) → ((g : G) → Contains gs g → IsAnswer g (answer g)) → IsNumbering IsAnswer start gs → IsCanonical eq IsAnswer start (map (row_of answer gs) gs)
+    canonical-of : (answer : G → Answer G) (gs : List G) → ((g : G) → Contains gs g → IsAnswer g (answer g))
+        → IsNumbering IsAnswer start gs → IsCanonical eq IsAnswer start (map (row_of answer gs) gs)
     canonical-of answer gs q n = record {
       numbering = subst (IsNumbering IsAnswer start) (sym (goals-are answer gs gs)) n;
       answered = λ k r e. subst (λ l. HoldsAnswer eq IsAnswer l r) (sym (goals-are answer gs gs)) (answers-are answer gs gs q k r e);
@@ -71,7 +76,8 @@ module _ {G : Type 0} (eq : G → G → Bool) (exact : (x y : G) → eq x y ≡ 
           cc
 
       pub place-of : (k : ℕ) (g : G) → slice_get (goals_of rows) k ≡ Some g → place g ≡ k
-      place-of k g e = AreDistinct-one_place (goals_of rows) (place g) k g c.distinct (place-is (goals_of rows) g (Contains-at (goals_of rows) k g e)) e
+      place-of k g e =
+          AreDistinct-one_place (goals_of rows) (place g) k g c.distinct (place-is (goals_of rows) g (Contains-at (goals_of rows) k g e)) e
 
       -- the answer of a goal that the row at its place holds
       chosen : (g : G) (o : Option (Row G)) → slice_get rows (place g) ≡ o → Answer G
@@ -85,7 +91,8 @@ module _ {G : Type 0} (eq : G → G → Bool) (exact : (x y : G) → eq x y ≡ 
       abbrev HasRow : G → Answer G → Type 0
       HasRow g a = IsAnswer g a × (slice_get rows (place g) ≡ Some (record { goal = g; answer = numbered eq (goals_of rows) a }))
 
-      chosen-row : (g : G) → Contains (goals_of rows) g → (o : Option (Row G)) (e : slice_get rows (place g) ≡ o) → HasRow g (chosen g o e)
+      chosen-row : (g : G) → Contains (goals_of rows) g → (o : Option (Row G)) (e : slice_get rows (place g) ≡ o)
+          → HasRow g (chosen g o e)
       unfolding chosen
       chosen-row g m None e =
           let p = place-is (goals_of rows) g m in
@@ -112,7 +119,8 @@ module _ {G : Type 0} (eq : G → G → Bool) (exact : (x y : G) → eq x y ≡ 
       pub argument-known : (g : G) → Contains (goals_of rows) g → Known (arguments_of (the_answer g))
       argument-known g m h n = c.whole h (at_argument g h (the_answer g) (c.reached g m) (answer-is g m) n)
 
-      pub answer-at : (g : G) → Contains (goals_of rows) g → slice_get rows (place g) ≡ Some (record { goal = g; answer = numbered eq (goals_of rows) (the_answer g) })
+      pub answer-at : (g : G) → Contains (goals_of rows) g
+          → slice_get rows (place g) ≡ Some (record { goal = g; answer = numbered eq (goals_of rows) (the_answer g) })
       answer-at g m = (row-at g m).1
 
       begins : place start ≡ 0
@@ -121,7 +129,8 @@ module _ {G : Type 0} (eq : G → G → Bool) (exact : (x y : G) → eq x y ≡ 
       found-known : (k : ℕ) → Known (found eq the_answer start k)
       found-known k g m = c.whole g (found-reached eq exact reflexive IsAnswer start the_answer reached-answer k g m)
 
-      work-same : (gs : List G) (k : ℕ) (o : Option G) → slice_get gs k ≡ o → Known gs → worked_off nat_eq (row_answer rows) (map place gs) (option_map place o) ≡ map place (worked_off eq the_answer gs o)
+      work-same : (gs : List G) (k : ℕ) (o : Option G) → slice_get gs k ≡ o → Known gs
+          → worked_off nat_eq (row_answer rows) (map place gs) (option_map place o) ≡ map place (worked_off eq the_answer gs o)
       work-same gs k None e q = refl
       work-same gs k (Some g) e q =
           let m : Contains (goals_of rows) g = q g (Contains-at gs k g e) in
@@ -138,21 +147,24 @@ module _ {G : Type 0} (eq : G → G → Bool) (exact : (x y : G) → eq x y ≡ 
           ∙ (ap (worked_off nat_eq (row_answer rows) (map place gs)) (slice_get-map place gs k)
           ∙ work-same gs k (slice_get gs k) refl (found-known k))
 
-      placed-same : (gs : List G) (g : G) → Known gs → Contains (goals_of rows) g → placed (map place gs) (row_of the_answer (goals_of rows) g) ≡ row_of the_answer gs g
+      placed-same : (gs : List G) (g : G) → Known gs → Contains (goals_of rows) g
+          → placed (map place gs) (row_of the_answer (goals_of rows) g) ≡ row_of the_answer gs g
       placed-same gs g q m =
           let answers : numbered nat_eq (map place gs) (numbered eq (goals_of rows) (the_answer g)) ≡ numbered eq gs (the_answer g) =
           answer-twice place (λ n. position_or_len (nat_eq n) (map place gs)) (the_answer g)
           ∙ answer-alike (λ x. position_or_len (nat_eq (place x)) (map place gs)) (λ x. position_or_len (eq x) gs) (the_answer g) (λ x n. place-same eq exact reflexive place (goals_of rows) apart gs x q (argument-known g m x n)) in
           λ i. record { goal = g; answer = answers i }
 
-      rows-same : (gs hs : List G) → Known gs → Known hs → map (placed (map place gs)) (filter_map (slice_get rows) (map place hs)) ≡ map (row_of the_answer gs) hs
+      rows-same : (gs hs : List G) → Known gs → Known hs
+          → map (placed (map place gs)) (filter_map (slice_get rows) (map place hs)) ≡ map (row_of the_answer gs) hs
       rows-same gs [] q r = refl
       rows-same gs (h ∷ hs) q r =
           ap (λ o. map (placed (map place gs)) (cons_option o (filter_map (slice_get rows) (map place hs)))) (answer-at h (r h (Contains-here h hs)))
           ∙ (λ i. placed-same gs h q (r h (Contains-here h hs)) i ∷ rows-same gs hs q (λ x m. r x (Contains-later x h hs m)) i)
 
       few : (gs : List G) → AreDistinct gs → AllReached IsAnswer start gs → length gs ≤ length rows
-      few gs d q = omega (arith, length-within gs (goals_of rows) d (λ x m. c.whole x (q x m)), length-map rows (λ (r : Row G). r.goal))
+      few gs d q =
+          omega (arith, length-within gs (goals_of rows) d (λ x m. c.whole x (q x m)), length-map rows (λ (r : Row G). r.goal))
 
       -- Renumbered, the rows of the closure are the canonical ones.
       pub renumbered-canonical : IsCanonical eq IsAnswer start (renumbered rows)
@@ -165,5 +177,7 @@ module _ {G : Type 0} (eq : G → G → Bool) (exact : (x y : G) → eq x y ≡ 
           subst (IsCanonical eq IsAnswer start) (sym same) (canonical-of the_answer gs known (found-numbering eq exact reflexive IsAnswer start the_answer reached-answer (length rows) few))
 
     -- Renumbered, the rows of the closure are the same whatever history they came from.
-    pub renumbered-agree : HasUniqueAnswers IsAnswer → (rows others : List (Row G)) → IsClosure eq IsAnswer start rows → IsClosure eq IsAnswer start others → renumbered rows ≡ renumbered others
-    renumbered-agree unique rows others c d = canonical-unique IsAnswer start unique eq (renumbered rows) (renumbered others) (renumbered-canonical rows c) (renumbered-canonical others d)
+    pub renumbered-agree : HasUniqueAnswers IsAnswer → (rows others : List (Row G)) → IsClosure eq IsAnswer start rows
+        → IsClosure eq IsAnswer start others → renumbered rows ≡ renumbered others
+    renumbered-agree unique rows others c d =
+        canonical-unique IsAnswer start unique eq (renumbered rows) (renumbered others) (renumbered-canonical rows c) (renumbered-canonical others d)

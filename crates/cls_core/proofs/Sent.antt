@@ -1,4 +1,4 @@
--- A core may go to another thread where its goals may.
+-- A core may be sent to another thread if its goals may.
 use denote.RattleType.{RattleType}
 use denote.Param.Send.{IsSend, sendable}
 use Rattle.std.proofs.Crossing.{crosses}

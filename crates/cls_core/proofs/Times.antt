@@ -1,4 +1,4 @@
--- Each row is claimed at most once and filed at most once, and once where it is filed.
+-- Each row is claimed at most once and filed at most once, and once if it is filed.
 use Rattle.std.proofs.Common.{◌≡◌, ◌≢◌, ℕ, zero, suc, ◌+◌, ◌-◌, ◌<◌, ◌≤◌, ◌==◌, Bool, true, false, List, [], ◌∷◌, ◌++◌, Option, Some, None, length, set, slice_get, refl, sym, ap, subst, ◌∙◌, arith, if◌then◌else◌}
 use Rattle.std.specs.Prelude.{replicate, nat_lt}
 use Rattle.std.proofs.lemmas.Bool.Decides.{nat_tests}
@@ -32,10 +32,12 @@ free-marks (suc n) zero = (refl, refl)
 free-marks (suc n) (suc i) = free-marks n i
 
 -- new rows have no marks
-append-marks : (ss : List RowState) (n i : ℕ) → (claim_mark (slice_get (ss ++ replicate n Free) i) ≡ claim_mark (slice_get ss i)) × (file_mark (slice_get (ss ++ replicate n Free) i) ≡ file_mark (slice_get ss i))
+append-marks : (ss : List RowState) (n i : ℕ)
+    → (claim_mark (slice_get (ss ++ replicate n Free) i) ≡ claim_mark (slice_get ss i)) × (file_mark (slice_get (ss ++ replicate n Free) i) ≡ file_mark (slice_get ss i))
 append-marks ss n i = by (nat_lt i (length ss)) refl
   where
-    by : (b : Bool) → nat_lt i (length ss) ≡ b → (claim_mark (slice_get (ss ++ replicate n Free) i) ≡ claim_mark (slice_get ss i)) × (file_mark (slice_get (ss ++ replicate n Free) i) ≡ file_mark (slice_get ss i))
+    by : (b : Bool) → nat_lt i (length ss) ≡ b
+        → (claim_mark (slice_get (ss ++ replicate n Free) i) ≡ claim_mark (slice_get ss i)) × (file_mark (slice_get (ss ++ replicate n Free) i) ≡ file_mark (slice_get ss i))
     by true e =
         let less : i < length ss = grind (arith, nat_tests) in
         let at = get-within ss (replicate n Free) i less in
@@ -48,10 +50,12 @@ append-marks ss n i = by (nat_lt i (length ss)) refl
         (ap claim_mark at ∙ (free.0 ∙ sym (ap claim_mark none)), ap file_mark at ∙ (free.1 ∙ sym (ap file_mark none)))
 
 -- what is claimed has one claim more, and no other row has
-claim-marks : (ss : List RowState) (row worker i : ℕ) → slice_get ss row ≡ Some Free → (claim_mark (slice_get (set ss row (Held worker)) i) ≡ (if row == i then 1 else 0) + claim_mark (slice_get ss i)) × (file_mark (slice_get (set ss row (Held worker)) i) ≡ file_mark (slice_get ss i))
+claim-marks : (ss : List RowState) (row worker i : ℕ) → slice_get ss row ≡ Some Free
+    → (claim_mark (slice_get (set ss row (Held worker)) i) ≡ (if row == i then 1 else 0) + claim_mark (slice_get ss i)) × (file_mark (slice_get (set ss row (Held worker)) i) ≡ file_mark (slice_get ss i))
 claim-marks ss row worker i free = by (row == i) refl
   where
-    by : (b : Bool) → (row == i) ≡ b → (claim_mark (slice_get (set ss row (Held worker)) i) ≡ (if b then 1 else 0) + claim_mark (slice_get ss i)) × (file_mark (slice_get (set ss row (Held worker)) i) ≡ file_mark (slice_get ss i))
+    by : (b : Bool) → (row == i) ≡ b
+        → (claim_mark (slice_get (set ss row (Held worker)) i) ≡ (if b then 1 else 0) + claim_mark (slice_get ss i)) × (file_mark (slice_get (set ss row (Held worker)) i) ≡ file_mark (slice_get ss i))
     by true e =
         let same : row ≡ i = grind (arith, nat_tests) in
         subst (λ j. (claim_mark (slice_get (set ss row (Held worker)) j) ≡ 1 + claim_mark (slice_get ss j)) × (file_mark (slice_get (set ss row (Held worker)) j) ≡ file_mark (slice_get ss j))) same
@@ -62,10 +66,12 @@ claim-marks ss row worker i free = by (row == i) refl
         let at = get-set-other ss row i (Held worker) other in
         (omega (arith, ap claim_mark at), ap file_mark at)
 
-file-marks : (ss : List RowState) (row worker i : ℕ) (a : Answer ℕ) → slice_get ss row ≡ Some (Held worker) → (claim_mark (slice_get (set ss row (Filed a)) i) ≡ claim_mark (slice_get ss i)) × (file_mark (slice_get (set ss row (Filed a)) i) ≡ (if row == i then 1 else 0) + file_mark (slice_get ss i))
+file-marks : (ss : List RowState) (row worker i : ℕ) (a : Answer ℕ) → slice_get ss row ≡ Some (Held worker)
+    → (claim_mark (slice_get (set ss row (Filed a)) i) ≡ claim_mark (slice_get ss i)) × (file_mark (slice_get (set ss row (Filed a)) i) ≡ (if row == i then 1 else 0) + file_mark (slice_get ss i))
 file-marks ss row worker i a held = by (row == i) refl
   where
-    by : (b : Bool) → (row == i) ≡ b → (claim_mark (slice_get (set ss row (Filed a)) i) ≡ claim_mark (slice_get ss i)) × (file_mark (slice_get (set ss row (Filed a)) i) ≡ (if b then 1 else 0) + file_mark (slice_get ss i))
+    by : (b : Bool) → (row == i) ≡ b
+        → (claim_mark (slice_get (set ss row (Filed a)) i) ≡ claim_mark (slice_get ss i)) × (file_mark (slice_get (set ss row (Filed a)) i) ≡ (if b then 1 else 0) + file_mark (slice_get ss i))
     by true e =
         let same : row ≡ i = grind (arith, nat_tests) in
         subst (λ j. (claim_mark (slice_get (set ss row (Filed a)) j) ≡ claim_mark (slice_get ss j)) × (file_mark (slice_get (set ss row (Filed a)) j) ≡ 1 + file_mark (slice_get ss j))) same
@@ -78,10 +84,12 @@ file-marks ss row worker i a held = by (row == i) refl
 
 module _ {G : Type 0} (eq : G → G → Bool) (IsAnswer : G → Answer G → Type 0) where
   abbrev Marked : ℕ → List Entry → Machine G → Machine G → Type 0
-  Marked i es r t = (claim_mark (slice_get r.states i) + claims_of i es ≡ claim_mark (slice_get t.states i)) × (file_mark (slice_get r.states i) + filings_of i es ≡ file_mark (slice_get t.states i))
+  Marked i es r t =
+      (claim_mark (slice_get r.states i) + claims_of i es ≡ claim_mark (slice_get t.states i)) × (file_mark (slice_get r.states i) + filings_of i es ≡ file_mark (slice_get t.states i))
 
   marked : (es : List Entry) (r t : Machine G) (i : ℕ) → Replays eq IsAnswer r es t → Marked i es r t
-  marked [] r t i h = (omega (arith, ap (λ (m : Machine G). claim_mark (slice_get m.states i)) h), omega (arith, ap (λ (m : Machine G). file_mark (slice_get m.states i)) h))
+  marked [] r t i h =
+      (omega (arith, ap (λ (m : Machine G). claim_mark (slice_get m.states i)) h), omega (arith, ap (λ (m : Machine G). file_mark (slice_get m.states i)) h))
   marked (Claim worker row ∷ es) r t i h =
       let rest = marked es h.0 t i h.2 in
       let one = claim-marks r.states row worker i h.1.0 in
@@ -114,7 +122,8 @@ module _ {G : Type 0} (eq : G → G → Bool) (IsAnswer : G → Answer G → Typ
       (omega (arith, m.0, claim-bound (slice_get t.states row)), omega (arith, m.1, file-bound (slice_get t.states row)))
 
   -- In a legal complete history each row is claimed once and filed once.
-  pub each-once : (start : G) (es : List Entry) (t : Machine G) → Replays eq IsAnswer (begun start) es t → AllFiled t → EachOnce (length t.states) es
+  pub each-once : (start : G) (es : List Entry) (t : Machine G) → Replays eq IsAnswer (begun start) es t → AllFiled t
+      → EachOnce (length t.states) es
   each-once start es t h f row within =
       let m = marked es (begun start) t row h in
       let free = free-marks 1 row in

@@ -1,5 +1,5 @@
--- The canonical numbering of a closure: breadth first from the start goal, in the order of rules and of arguments within a
--- rule.
+-- The canonical numbering of a closure: breadth first from the start goal, in the order of rules and of arguments within
+-- a rule.
 use Rattle.std.specs.Prelude.{Bool, List, [], ◌∷◌, ◌++◌, Contains}
 use Rattle.std.specs.List.{AllZip}
 use Rattle.cls_core.specs.declared.answer.Answer.{Answer}
@@ -20,8 +20,8 @@ abbrev pub all_arguments : {G : Type 0} → List (Answer G) → List G
 all_arguments [] = []
 all_arguments (a ∷ rest) = arguments_of a ++ all_arguments rest
 
--- The goals of the closure in their canonical order: the start goal, and then the arguments of each goal in turn, each at
--- its first place. Each answer stands at the place of its goal.
+-- The goals of the closure in their canonical order: the start goal, and then the arguments of each goal in turn, each
+-- at its first place. Each answer stands at the place of its goal.
 pub record IsNumbering {G : Type 0} (IsAnswer : G → Answer G → Type 0) (start : G) (goals : List G) : Type 0 where
   pub answers : List (Answer G)
   pub answered : AllZip IsAnswer goals answers
@@ -29,8 +29,8 @@ pub record IsNumbering {G : Type 0} (IsAnswer : G → Answer G → Type 0) (star
   pub breadth_first : FirstOnes [] (start ∷ all_arguments answers) goals
 
 module _ {G : Type 0} (eq : G → G → Bool) (IsAnswer : G → Answer G → Type 0) where
-  -- The rows are the closure in its canonical numbering. Each holds an answer of its goal, with numbers of rows in place of
-  -- goals.
+  -- The rows are the closure in its canonical numbering. Each holds an answer of its goal, with numbers of rows in place
+  -- of goals.
   pub record IsCanonical (start : G) (rows : List (Row G)) : Type 0 where
     pub numbering : IsNumbering IsAnswer start (goals_of rows)
     pub answered : AllHoldAnswers eq IsAnswer rows

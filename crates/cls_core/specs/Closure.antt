@@ -22,8 +22,7 @@ module _ {G : Type 0} (IsAnswer : G → Answer G → Type 0) (start : G) where
   abbrev pub HasMoreGoals : ℕ → Type 0
   HasMoreGoals n = (gs : List G) × AreDistinct gs × AllReached gs × (n < length gs)
 
-  -- Goals of the closure, each with an answer of its own, that have more rules together than n. Each answer stands at the
-  -- place of its goal.
+  -- Some goals of the closure have answers with more rules together than n. Each answer stands at the place of its goal.
   pub record HasMoreRules (n : ℕ) : Type 0 where
     pub goals : List G
     pub answers : List (Answer G)
@@ -48,8 +47,8 @@ module _ {G : Type 0} (eq : G → G → Bool) (IsAnswer : G → Answer G → Typ
   abbrev pub AllHoldAnswers : List (Row G) → Type 0
   AllHoldAnswers rows = (k : ℕ) (r : Row G) → slice_get rows k ≡ Some r → HoldsAnswer (goals_of rows) r
 
-  -- The rows are the closure. The first one is the start goal, the goals are distinct, they are those that are reached and
-  -- no others, and each row holds an answer of its goal, with numbers of rows in place of goals.
+  -- The rows are the closure. The first one is the start goal, the goals are distinct, they are those that are reached
+  -- and no others, and each row holds an answer of its goal, with numbers of rows in place of goals.
   pub record IsClosure (start : G) (rows : List (Row G)) : Type 0 where
     pub first : slice_get (goals_of rows) 0 ≡ Some start
     pub distinct : AreDistinct (goals_of rows)

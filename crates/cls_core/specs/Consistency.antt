@@ -5,8 +5,8 @@ use Rattle.cls_core.specs.Rows.{Machine}
 use Rattle.cls_core.specs.Machine.{NoneFreeBelow, EachFiled, held_in, rules_in}
 
 module _ {G : Type 0} (r : Machine G) where
-  -- The core looks for free rows from the row `first` on. It counts the rows that are held, and the rules of the filed ones.
-  -- `room` is the number of entries for which memory was taken.
+  -- The core looks for free rows from the row `first` on. It counts the rows that are held, and the rules of the filed
+  -- ones. `room` is the number of entries for which memory was taken.
   pub record IsConsistent (first held rules : ℕ) (history : List Entry) (room : ℕ) : Type 0 where
     -- each row has a goal and a state
     pub paired : length r.states ≡ length r.goals

@@ -1,4 +1,4 @@
--- What is left of a core where every row is filed.
+-- What is left of a core whose rows are all filed.
 use Rattle.std.specs.Prelude.{◌≡◌}
 use Rattle.cls_core.specs.Machine.{AllFiled}
 use Rattle.cls_core.specs.Rows.{Recorded, filed_rows}

@@ -10,8 +10,8 @@ use Rattle.cls_core.specs.Closure.{IsReached, goals_of}
 abbrev pub IsRowAnswer : {G : Type 0} → List (Row G) → ℕ → Answer ℕ → Type 0
 IsRowAnswer {G} rows n a = (r : Row G) × (slice_get rows n ≡ Some r) × (r.answer ≡ a)
 
--- The first row is the start goal's, the goals are distinct, each argument is the number of a row, and each row is reached
--- from the first one by arguments.
+-- The first row is the start goal's, the goals are distinct, each argument is the number of a row, and each row is
+-- reached from the first one by arguments.
 pub record IsGrammar {G : Type 0} (start : G) (rows : List (Row G)) : Type 0 where
   pub first : slice_get (goals_of rows) 0 ≡ Some start
   pub distinct : AreDistinct (goals_of rows)

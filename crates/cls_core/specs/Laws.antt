@@ -1,5 +1,5 @@
--- The laws of histories. IsAnswer g a says that a is an answer of the goal g. `src/laws.rt` promises them of the answers
--- that a tag of an expander means, of which each goal has at most one.
+-- The laws of histories. IsAnswer g a says that a is an answer of the goal g. `src/laws.rt` promises them of the
+-- answers that a tag of an expander means, of which each goal has at most one.
 use Rattle.std.specs.Prelude.{◌≡◌, ◌↔◌, Bool, List, Contains, length}
 use Rattle.cls_base.specs.Lists.{AreDistinct}
 use Rattle.cls_core.specs.declared.answer.Answer.{Answer}

@@ -1,5 +1,5 @@
--- The numbers of an answer's goals, as they are given one after the other. A goal's number is the place at which it stands.
--- A goal that doesn't stand there yet goes last.
+-- The numbers of an answer's goals, as they are given one after the other. A goal's number is the place at which it
+-- stands. A goal that doesn't stand there yet is put last.
 use Rattle.std.specs.Prelude.{ℕ, Bool, List, [], ◌∷◌}
 use Rattle.std.specs.List.{position_or_len}
 use Rattle.indexmap.specs.IndexSet.{insert_key, insert_all}

@@ -6,15 +6,15 @@ use Rattle.cls_core.specs.declared.answer.Answer.TheVariants.{Wide}
 use Rattle.cls_core.specs.Machine.{grown, numbered}
 use Rattle.cls_core.specs.Rows.{Row}
 
--- Goals that are found breadth first. The function `answer` gives the answer of each goal.
+-- Goals that are found breadth first. The function `answer` gives an answer of each goal.
 module _ {G : Type 0} (eq : G → G → Bool) (answer : G → Answer G) where
-  -- the goals, and behind them in order those arguments of this one that aren't among them; no goal adds nothing
+  -- the goals, and behind them in order the arguments of this goal that aren't among them, if there is a goal
   abbrev pub worked_off : List G → Option G → List G
   worked_off gs None = gs
   worked_off gs (Some g) = grown eq gs (answer g)
 
-  -- The goals that are found from the start goal, in the order in which they are found. As many of them as the number says
-  -- were worked off, one after the other from the first one on.
+  -- The goals that are found from the start goal, in the order in which they are found. As many of them as the number
+  -- says were worked off, one after the other from the first one on.
   abbrev pub found : G → ℕ → List G
   found start zero = start ∷ []
   found start (suc k) = let gs = found start k in worked_off gs (slice_get gs k)
@@ -24,7 +24,7 @@ module _ {G : Type 0} where
   answer_in None = Wide
   answer_in (Some r) = r.answer
 
-  -- the answer of the row with this number, and one without arguments where there is no such row
+  -- the answer of the row with this number, or one without arguments if there is no such row
   abbrev pub row_answer : List (Row G) → ℕ → Answer ℕ
   row_answer rows n = answer_in (slice_get rows n)
 
@@ -32,10 +32,10 @@ module _ {G : Type 0} where
   abbrev pub order : List (Row G) → List ℕ
   order rows = found nat_eq (row_answer rows) 0 (length rows)
 
-  -- the row, where each argument is replaced by its place among the numbers
+  -- the row, with each argument replaced by its place among the numbers
   abbrev pub placed : List ℕ → Row G → Row G
   placed numbers r = record { goal = r.goal; answer = numbered nat_eq numbers r.answer }
 
-  -- the rows in that order, where each argument is the new number of its row
+  -- the rows in that order, with the new number of its row for each argument
   abbrev pub renumbered : List (Row G) → List (Row G)
   renumbered rows = map (placed (order rows)) (filter_map (slice_get rows) (order rows))

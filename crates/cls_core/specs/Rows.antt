@@ -5,7 +5,7 @@ use Rattle.cls_core.specs.declared.state.RowState.TheVariants.{Free, Held, Filed
 use Rattle.cls_core.specs.declared.entry.Entry.{Entry}
 use Rattle.cls_core.specs.declared.answer.Answer.{Answer}
 
--- the goal of each row, and the state of each row
+-- the rows of the machine: the goal of each, and the state of each
 pub record Machine (G : Type 0) : Type 0 where
   pub goals : List G
   pub states : List RowState
@@ -13,7 +13,7 @@ pub record Machine (G : Type 0) : Type 0 where
 abbrev pub machine : {G : Type 0} → List G → List RowState → Machine G
 machine gs ss = record { goals = gs; states = ss }
 
--- the rows of the machine, and its events so far
+-- the rows, and the events so far
 pub record Recorded (G : Type 0) : Type 0 where
   pub rows : Machine G
   pub history : List Entry
@@ -23,7 +23,7 @@ pub record Row (G : Type 0) : Type 0 where
   pub goal : G
   pub answer : Answer ℕ
 
--- the rows as a list, where all are filed
+-- the rows as a list, if all are filed
 abbrev pub filed_rows : {G : Type 0} → List G → List RowState → List (Row G)
 filed_rows [] states = []
 filed_rows (g ∷ gs) [] = []

@@ -8,7 +8,7 @@ use cls_base::Rules;
 pub enum Answer<G> {
     /// The rules of the goal.
     Rules(Rules<G>),
-    /// The goal has no rules since looking for them would take too much.
+    /// Looking for rules was given up, since it would take too much. So the goal has none.
     Wide,
 }
 

@@ -69,7 +69,7 @@ impl<G: Key + Drop> Rows<G> {
     }
 }
 
-/// What is left of a core where every row is filed.
+/// What is left of a core whose rows are all filed.
 #[derive(Drop)]
 pub struct Finished<G: Key + Drop> {
     /// The rows, each with its goal and its answer.

@@ -161,7 +161,8 @@ impl<G: Key + Drop> Core<G> {
         }
     }
 
-    /// The number of different argument goals of the answer that have no row yet. The only error is out of memory.
+    /// The number of argument goals of the answer that have no row yet, each counted once. The only error is out of
+    /// memory.
     pub fn added(&self, alloc: Global, answer: &Answer<G>) -> Result<u64, OutOfMemory>
         ensures { IfOk result (λ n. AddsRows G.eq self.now.rows.goals answer.now n) }
     {

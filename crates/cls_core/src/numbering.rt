@@ -1,4 +1,4 @@
-//! An answer's goals as numbers of rows. Each goal that has no row yet goes behind those that have one.
+//! An answer's goals as numbers of rows. Each goal that has no row yet is put behind those that have one.
 ghost use Rattle.std.specs.Prelude.{◌≡◌, ◌<◌, ◌+◌, ◌^◌, ◌++◌, [], IfOk, length};
 ghost use Rattle.std.specs.List.{position_or_len};
 ghost use Rattle.indexmap.specs.IndexSet.{insert_key, insert_all};
@@ -57,7 +57,8 @@ fn number_rule<G: Key + Drop>(
     rule: &Rule<G>,
 ) -> Result<Rule<u32>, OutOfMemory>
     requires room { length (insert_all G.eq (rows.now.keys ++ added.old.keys) (arguments_of_rule rule.now)) < 2 ^ 32 }
-    ensures added { IfOk result (λ _. AddsGoals G.eq rows.now.keys added.old.keys (arguments_of_rule rule.now) added.new.keys) }
+    ensures added { IfOk result (λ _.
+        AddsGoals G.eq rows.now.keys added.old.keys (arguments_of_rule rule.now) added.new.keys) }
     ensures numbers { IfOk result (λ n. n ≡ rule_from G.eq (rows.now.keys ++ added.old.keys) rule.now) }
 {
     match rule {
@@ -84,7 +85,8 @@ fn number_rules<G: Key + Drop>(
     rules: &[Rule<G>],
 ) -> Result<Rules<u32>, OutOfMemory>
     requires room { length (insert_all G.eq (rows.now.keys ++ added.old.keys) (arguments_in rules.now)) < 2 ^ 32 }
-    ensures added { IfOk result (λ _. AddsGoals G.eq rows.now.keys added.old.keys (arguments_in rules.now) added.new.keys) }
+    ensures added { IfOk result (λ _.
+        AddsGoals G.eq rows.now.keys added.old.keys (arguments_in rules.now) added.new.keys) }
     ensures numbers { IfOk result (λ n. n ≡ rules_from G.eq (rows.now.keys ++ added.old.keys) rules.now) }
 {
     let mut numbered = Vec::with_capacity(alloc, rules.len())?;
