@@ -11,4 +11,5 @@ returns-clause-continues g c =
     let r = c.file_held.new.self in
     let e = c.in_ok-claim_row.ensures in
     let claimed = continues-claim p q _ c.args.row refl c.requires.free e.tag e.rows e.history in
-    IfOk-weaker c.file_held.result (λ _. Continues q r) (λ _. Continues p r) (λ _ more. continues-trans p q r claimed more) c.file_held.ensures.continues
+    IfOk-weaker c.file_held.result (λ _. Continues q r) (λ _. Continues p r)
+    (λ _ more. continues-trans p q r claimed more) c.file_held.ensures.continues
