@@ -1,11 +1,10 @@
 -- Rows that are filed one after the other.
 use Rattle.std.proofs.Common.{◌≡◌, ℕ, ◌<◌, ◌≤◌, Bool, true, List, [], ◌∷◌, ◌++◌, Option, None, Some, Result, Ok, Err, length, set, slice_get, refl, sym, ap, subst, ◌∙◌, ⊎_elim, arith, append_assoc, append-nil}
-use Rattle.std.specs.Prelude.{IfOk, IfErr, IfSome, Contains}
+use Rattle.std.specs.Prelude.{IfOk, IfSome}
 use Rattle.std.proofs.lemmas.List.Elements.{Contains-append_cases}
 use Rattle.cls_base.proofs.Lists.{Contains-nil, Contains-cases}
 use Rattle.std.proofs.lemmas.Option.{slice_get_within}
-use Rattle.cls_core.specs.Rows.{filed_rows}
-use Rattle.cls_core.specs.Machine.{begun, claimed, filed, grown, numbered, Replays, AllFiled, IsFiled}
+use Rattle.cls_core.specs.Machine.{begun, claimed, filed, grown, numbered, Replays, IsFiled}
 use Rattle.cls_core.specs.declared.state.RowState.{RowState}
 use Rattle.cls_core.specs.declared.state.RowState.TheVariants.{Free, Held, Filed}
 use Rattle.cls_core.specs.declared.entry.Entry.{Entry}
