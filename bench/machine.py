@@ -57,7 +57,7 @@ fn next(size: u32, id: u32, step: u32) -> Node
 }
 
 impl Expand for Ring {
-    ghost use Rattle.bench_machine.specs.Rings.{ring_answer, IsInRing, arguments_in_ring};
+    ghost use Rattle.bench_machine.specs.Rings.{IsRingAnswer, IsInRing, one_ring_answer, arguments_in_ring};
 
     type Goal = Node;
 
@@ -65,7 +65,7 @@ impl Expand for Ring {
 
     ghost tag = { λ r. r.size };
 
-    ghost answer = { ring_answer };
+    ghost answers = { IsRingAnswer };
 
     ghost ready = { IsInRing };
 
@@ -92,6 +92,8 @@ impl Expand for Ring {
         })?;
         Ok(Answer::Rules(Rules::new(rules)))
     }
+
+    ghost one_answer = { one_ring_answer };
 
     ghost arguments_ready = { arguments_in_ring };
 }
@@ -138,10 +140,10 @@ node_is x y e = λ i. record { id = eqb-true x.id y.id e i }
 
 RINGS = '''-- What the expander of the bench means: a ring of a size.
 use Rattle.std.specs.Prelude.{◌≡◌, ◌<◌, ◌+◌, ◌*◌, ◌%◌, ℕ, List, [], ◌∷◌, All, map}
-use Rattle.std.proofs.Common.{arith}
+use Rattle.std.proofs.Common.{arith, sym, subst, ◌∙◌}
 use Rattle.std.proofs.lemmas.List.Elements.{All-nil, All-cons}
-use Rattle.cls_core.specs.Arguments.{arguments_of}
-use Rattle.cls_core.specs.declared.rule.Rule.TheVariants.{Head}
+use Rattle.cls_core.specs.Arguments.{arguments_of, HasUniqueAnswers, ArgumentsAreReady}
+use Rattle.cls_base.specs.declared.rule.Rule.TheVariants.{Head}
 use Rattle.cls_core.specs.declared.answer.Answer.{Answer}
 use Rattle.cls_core.specs.declared.answer.Answer.TheVariants.{Rules}
 use Rattle.bench_machine.specs.Nodes.{node}
@@ -153,6 +155,12 @@ next_of size id step = node ((10 * id + step) % size)
 abbrev pub ring_answer : ℕ → Node → Answer Node
 ring_answer size g = Rules (Head g.id (map (next_of size g.id) (1 ∷ 2 ∷ 3 ∷ 4 ∷ 5 ∷ 6 ∷ 7 ∷ 8 ∷ 9 ∷ 10 ∷ [])) ∷ [])
 
+abbrev pub IsRingAnswer : ℕ → Node → Answer Node → Type 0
+IsRingAnswer size g a = a ≡ ring_answer size g
+
+pub one_ring_answer : (size : ℕ) → HasUniqueAnswers (IsRingAnswer size)
+one_ring_answer size g a b first second = first ∙ sym second
+
 abbrev pub IsInRing : ℕ → Node → Type 0
 IsInRing size g = (g.id < size) × (size < 100000000)
 
@@ -160,8 +168,12 @@ in_ring : (size : ℕ) (g : Node) → IsInRing size g → (steps : List ℕ) →
 in_ring size g h [] = All-nil (IsInRing size)
 in_ring size g h (step ∷ steps) = All-cons (IsInRing size) (next_of size g.id step) (map (next_of size g.id) steps) (omega arith, h.1) (in_ring size g h steps)
 
-pub arguments_in_ring : (size : ℕ) (g : Node) → IsInRing size g → All (IsInRing size) (arguments_of (ring_answer size g))
-arguments_in_ring size g h = in_ring size g h (1 ∷ 2 ∷ 3 ∷ 4 ∷ 5 ∷ 6 ∷ 7 ∷ 8 ∷ 9 ∷ 10 ∷ [])
+ready : (size : ℕ) (g : Node) → IsInRing size g → All (IsInRing size) (arguments_of (ring_answer size g))
+ready size g h = in_ring size g h (1 ∷ 2 ∷ 3 ∷ 4 ∷ 5 ∷ 6 ∷ 7 ∷ 8 ∷ 9 ∷ 10 ∷ [])
+
+pub arguments_in_ring : (size : ℕ) → ArgumentsAreReady (IsInRing size) (IsRingAnswer size)
+arguments_in_ring size g a h is =
+    subst (λ (x : Answer Node). All (IsInRing size) (arguments_of x)) (sym is) (ready size g h)
 '''
 
 

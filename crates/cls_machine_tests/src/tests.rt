@@ -1,4 +1,5 @@
 ghost use Rattle.std.specs.Prelude.{◌<◌, ◌≤◌};
+ghost use Rattle.cls_base.specs.Limits.{max_workers};
 
 use crate::heap::{Heap, Node};
 use crate::meeting::Meeting;
@@ -47,7 +48,7 @@ fn rows_of<R: Threads + Wait + Sync>(
     workers: u32,
 ) -> u32
     requires size { (0 < size) × (size < 1000) }
-    requires workers { (0 < workers) × (workers ≤ 64) }
+    requires workers { (0 < workers) × (workers ≤ max_workers) }
     requires limits { (0 < limits.goals) × (0 < limits.rules) }
 {
     let heap = Heap::new(size, fails);
@@ -99,7 +100,7 @@ fn code_by<R: Threads + Wait + Sync>(
     alloc: Global,
     workers: u32,
 ) -> Result<Vec<usize>, ExpandFault>
-    requires workers { (0 < workers) × (workers ≤ 64) }
+    requires workers { (0 < workers) × (workers ≤ max_workers) }
 {
     let heap = Heap::new(501, 0);
     let limits = Limits {

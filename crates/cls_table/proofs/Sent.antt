@@ -24,7 +24,8 @@ use Rattle.cls_table.specs.contracts.table.Table.{the_row as table_row}
 use Rattle.cls_table.specs.contracts.origin.Origin.{the_row as origin_row}
 use Rattle.cls_table.specs.contracts.progress.Progress.{the_row as progress_row}
 
-module _ (E L G T : RattleType) (x : expand.Ghosts E.Denot G.Denot T.Denot) (e : eq.Ghosts G.Denot) (h : hash.Ghosts G.Denot) (l : ledger.Ghosts L.Denot) (s : IsSend G) where
+module _ (E L G T : RattleType) (x : expand.Ghosts E.Denot G.Denot T.Denot) (e : eq.Ghosts G.Denot)
+    (h : hash.Ghosts G.Denot) (l : ledger.Ghosts L.Denot) (s : IsSend G) where
   origin_send : IsSend (origin_row E G T x e h)
   origin_send = search (sendable, crosses) depth 40 fits 40000
 
@@ -34,12 +35,20 @@ module _ (E L G T : RattleType) (x : expand.Ghosts E.Denot G.Denot T.Denot) (e :
   pub table_send : IsSend (table_row E L G T x e h l)
   table_send = search (sendable, crosses, book_send, progress_send) depth 40 fits 40000
 
-module _ (E L G T : RattleType) (x : expand.Ghosts E.Denot G.Denot T.Denot) (e : eq.Ghosts G.Denot) (h : hash.Ghosts G.Denot) (l : ledger.Ghosts L.Denot) (s : IsSend G) where
+module _ (E L G T : RattleType) (x : expand.Ghosts E.Denot G.Denot T.Denot) (e : eq.Ghosts G.Denot)
+    (h : hash.Ghosts G.Denot) (l : ledger.Ghosts L.Denot) (s : IsSend G) where
   table_seat_inside : IsSend (Declared.row (inside_type E L G T x e h l))
-  table_seat_inside = declared_send (inside_type E L G T x e h l) (seat_send (table_row E L G T x e h l) (tag_row T G) (table_send E L G T x e h l s), (share_send L l, (search sendable, tt)))
+  table_seat_inside =
+      declared_send (inside_type E L G T x e h l) (
+        seat_send (table_row E L G T x e h l) (tag_row T G) (table_send E L G T x e h l s),
+        (share_send L l, (search sendable, tt)),
+      )
 
   pub table_seat_send : IsSend (seat_row E L G T x e h l)
   table_seat_send = view_send _ _ _ _ _ table_seat_inside
 
-  pub shared_table_sync : (k : key.Ghosts G.Denot) (q : equivalence.Ghosts G.Denot) → IsSync (shared_row E L G T x k q e h l)
-  shared_table_sync k q = declared_sync (shared_type E L G T x k q e h l) (turn_sync (table_row E L G T x e h l) (tag_row T G) _ (table_send E L G T x e h l s), tt)
+  pub shared_table_sync : (k : key.Ghosts G.Denot) (q : equivalence.Ghosts G.Denot)
+      → IsSync (shared_row E L G T x k q e h l)
+  shared_table_sync k q =
+      declared_sync (shared_type E L G T x k q e h l)
+      (turn_sync (table_row E L G T x e h l) (tag_row T G) _ (table_send E L G T x e h l s), tt)

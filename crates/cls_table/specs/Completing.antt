@@ -45,7 +45,8 @@ pub record IsComplete {B G : Type 0} (eq : G → G → Bool) (IsAnswer : B → G
   pub not_large : IsLarge IsAnswer tag → ⊥
 
 -- what was finished is so under the seat's tag
-abbrev pub IsCompleteFor : {B G : Type 0} → (G → G → Bool) → (B → G → Answer G → Type 0) → SeatSeen B G → Finished G → Type 0
+abbrev pub IsCompleteFor : {B G : Type 0} → (G → G → Bool) → (B → G → Answer G → Type 0) → SeatSeen B G → Finished G
+    → Type 0
 IsCompleteFor eq IsAnswer seat f = ForSome seat.tag (λ t. IsComplete eq IsAnswer t f)
 
 -- What was finished goes on from p: its history begins with that of p, and each claim behind it is by the caller.

@@ -21,7 +21,13 @@ impl<E: Expand> Model for Claim<E> {
 
     ghost Value = { ClaimSeen E.Tag E.Goal };
 
-    ghost view = { λ c. record { tag = c.origin.value; worker = c.worker; row = c.row; number = c.number; goal = c.goal } };
+    ghost view = { λ c. record {
+      tag = c.origin.value;
+      worker = c.worker;
+      row = c.row;
+      number = c.number;
+      goal = c.goal;
+    } };
 
     ghost invariant = { λ c. E.ready c.origin.value.by c.goal };
 }

@@ -225,9 +225,7 @@ impl<E: Expand> Progress<E> {
         ensures filed { OnOk result (IsFiledAt self.new.rows row) }
         ensures large { IfErr result (λ e. e ≡ ExpandFault.TooLarge → IsLarge E.answers self.old.tag) }
     {
-        let Ok(answer) = by.expand(alloc, self.core.goal(row)) else {
-            return Err(ExpandFault::OutOfMemory);
-        };
+        let answer = by.expand(alloc, self.core.goal(row))?;
         match self.file(alloc, worker, row, answer) {
             Ok(Filing::Kept) => Ok(()),
             Ok(Filing::OverLimits) => Err(ExpandFault::TooLarge),
@@ -261,9 +259,7 @@ impl<E: Expand> Progress<E> {
         ensures filed { OnOk result (IsFiledAt self.new.rows row) }
         ensures large { IfErr result (λ e. e ≡ ExpandFault.TooLarge → IsLarge E.answers self.old.tag) }
     {
-        let Ok(()) = self.claim_row(CALLER, row) else {
-            return Err(ExpandFault::OutOfMemory);
-        };
+        self.claim_row(CALLER, row)?;
         self.file_held(alloc, by, CALLER, row)
     }
 
@@ -277,10 +273,8 @@ impl<E: Expand> Progress<E> {
         let mut progress = self;
         let mut row = 0;
         while row < progress.count() {
-            match progress.complete_row(alloc, by, row) {
-                Ok(()) => row += 1,
-                Err(fault) => return Err(fault),
-            }
+            progress.complete_row(alloc, by, row)?;
+            row += 1;
         }
         match progress.finish() {
             Ok(finished) => Ok(finished),

@@ -1,7 +1,6 @@
 -- What becomes of a worker's seat.
 use Rattle.std.specs.Prelude.{◌≡◌, ◌≤◌, ◌<◌, ◌+◌, ◌^◌, ℕ}
 use Rattle.std.specs.Option.{ForSome}
-use Rattle.cls_table.specs.declared.tag.Tag.{Tag}
 use Rattle.cls_table.specs.Seen.{SeatSeen}
 
 module _ {B G : Type 0} where

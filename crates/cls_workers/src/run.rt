@@ -1,5 +1,6 @@
 ghost use Rattle.std.specs.Prelude.{◌≡◌, ◌<◌, ◌≤◌, ◌+◌, ◌-◌, ◌^◌, IfOk, IfErr, OnOk};
 ghost use Rattle.std.specs.Thread.{IsSync, IsSend};
+ghost use Rattle.cls_base.specs.Limits.{max_workers};
 ghost use Rattle.cls_turn.specs.Seats.{id_of};
 ghost use Rattle.cls_table.specs.Tags.{tag_for};
 ghost use Rattle.cls_table.specs.Lawful.{IsLarge};
@@ -96,7 +97,7 @@ where
     }
 }
 
-/// The closure of the goal `start`, worked out by 1 to 64 workers.
+/// The closure of the goal `start`, worked out by at least one worker and at most 64 (`max_workers`).
 ///
 /// The rows are those of a legal complete history from `start`, which names workers from 0 to their number, and each
 /// holds the answer of its goal. Each worker tells the gate of each claim that it makes. Once all have ended the
@@ -113,7 +114,7 @@ pub fn expand_all<E: Expand + Sync, T: Gate + Sync, R: Threads + Wait + Sync>(
 ) -> Result<Finished<E::Goal>, ExpandFault>
 where
     E::Goal: Send,
-    requires workers { (0 < workers) × (workers ≤ 64) }
+    requires workers { (0 < workers) × (workers ≤ max_workers) }
     requires limits { (0 < limits.goals) × (0 < limits.rules) }
     requires ready { E.ready (E.tag by.now) start }
     ensures complete { IfOk result (IsComplete E.Goal.eq E.answers (tag_for (E.tag by.now) start limits workers)) }

@@ -25,7 +25,9 @@ returns-in-Err-clause-complete g c =
     let t = c.in-Err.unfinished.table in
     let tag : Tag B G = tag_for (g.E.Expand.tag c.args.by.now) c.args.start c.args.limits c.args.workers in
     let same : Some t.tag ≡ Some tag = sym c.in-Err.ensures.tag ∙ (c.run_from-seat.ensures.tag ∙ c.in-Ok.ensures.tag) in
-    subst (λ (u : Tag B G). IfOk c.complete.result (IsComplete eq IsAnswer u)) (same-tag t.tag tag same) (IfOk-weaker c.complete.result (IsCompletion eq IsAnswer (progress_of t)) (IsComplete eq IsAnswer t.tag) (λ f h. h.complete) c.complete.ensures.completion)
+    subst (λ (u : Tag B G). IfOk c.complete.result (IsComplete eq IsAnswer u)) (same-tag t.tag tag same)
+    (IfOk-weaker c.complete.result (IsCompletion eq IsAnswer (progress_of t)) (IsComplete eq IsAnswer t.tag)
+    (λ f h. h.complete) c.complete.ensures.completion)
 
 pub returns-in-Err-clause-within : goal.returns-in-Err-clause-within
 returns-in-Err-clause-within g c =
@@ -34,7 +36,8 @@ returns-in-Err-clause-within g c =
     let t = c.in-Err.unfinished.table in
     let tag : Tag B G = tag_for (g.E.Expand.tag c.args.by.now) c.args.start c.args.limits c.args.workers in
     let same : Some t.tag ≡ Some tag = sym c.in-Err.ensures.tag ∙ (c.run_from-seat.ensures.tag ∙ c.in-Ok.ensures.tag) in
-    subst (λ (u : Tag B G). OnOk c.complete.result (IsLarge g.E.Expand.answers u → ⊥)) (same-tag t.tag tag same) c.complete.ensures.within
+    subst (λ (u : Tag B G). OnOk c.complete.result (IsLarge g.E.Expand.answers u → ⊥)) (same-tag t.tag tag same)
+    c.complete.ensures.within
 
 pub returns-in-Err-clause-large : goal.returns-in-Err-clause-large
 returns-in-Err-clause-large g c =
@@ -43,4 +46,5 @@ returns-in-Err-clause-large g c =
     let t = c.in-Err.unfinished.table in
     let tag : Tag B G = tag_for (g.E.Expand.tag c.args.by.now) c.args.start c.args.limits c.args.workers in
     let same : Some t.tag ≡ Some tag = sym c.in-Err.ensures.tag ∙ (c.run_from-seat.ensures.tag ∙ c.in-Ok.ensures.tag) in
-    subst (λ (u : Tag B G). IfErr c.complete.result (λ e. e ≡ TooLarge → IsLarge g.E.Expand.answers u)) (same-tag t.tag tag same) c.complete.ensures.large
+    subst (λ (u : Tag B G). IfErr c.complete.result (λ e. e ≡ TooLarge → IsLarge g.E.Expand.answers u))
+    (same-tag t.tag tag same) c.complete.ensures.large

@@ -9,6 +9,7 @@ returns-clause-continues g c =
     let p = c.args.self.now in
     let q = c.claim_row.new.self in
     let r = c.file_held.new.self in
-    let e = c.in-Ok.ensures in
+    let e = c.in_ok-claim_row.ensures in
     let claimed = continues-claim p q _ c.args.row refl c.requires.free e.tag e.rows e.history in
-    IfOk-weaker c.file_held.result (λ _. Continues q r) (λ _. Continues p r) (λ _ more. continues-trans p q r claimed more) c.file_held.ensures.continues
+    IfOk-weaker c.file_held.result (λ _. Continues q r) (λ _. Continues p r)
+    (λ _ more. continues-trans p q r claimed more) c.file_held.ensures.continues

@@ -10,5 +10,8 @@ returns-in-Err-clause-err g c =
     let B : Type 0 = g.row.E-Tag.Denot in
     let G : Type 0 = g.row.E-Goal.Denot in
     let put : Recorded G → ProgressSeen B G = λ x. record { tag = i.origin; rows = x.rows; history = x.history } in
-    let same : c.in-Err.core ≡ i.core = c.in-Err.ensures.unfinished.0 in
-    (ap put same ∙ c.self.view_is, λ f. c.in-Err.ensures.unfinished.1 (subst AllFiled (ap (λ v. v.rows) (sym c.self.view_is)) f))
+    let same : c.in-Err.core ≡ i.core = c.in-Err.ensures.unfinished.0 in (
+      ap put same ∙ c.self.view_is,
+      λ f. c.in-Err.ensures.unfinished.1
+          (subst AllFiled (ap (λ v. v.rows) (sym c.self.view_is)) f),
+    )

@@ -14,10 +14,14 @@ returns-clause-complete g c =
     let G : Type 0 = g.row.E-Goal.Denot in
     let eq = g.E.Goal.PartialEq.eq in
     let IsAnswer = g.E.Expand.answers in
-    subst (λ (p : ProgressSeen B G). IfOk c.read.result (λ r. IfSome r (λ f. IsComplete eq IsAnswer p.tag f))) c.self.view_is (complete-read eq g.met.E.Goal.Key.exact g.met.E.Goal.Eq.laws.refl IsAnswer g.E.Expand.ready g.met.E.Expand.one_answer (seen i.origin i.core.rows i.core.history) c.read.result c.self.invariant c.read.ensures.finished)
+    subst (λ (p : ProgressSeen B G). IfOk c.read.result (λ r. IfSome r (λ f. IsComplete eq IsAnswer p.tag f)))
+    c.self.view_is (complete-read eq g.met.E.Goal.Key.exact g.met.E.Goal.Eq.laws.refl IsAnswer g.E.Expand.ready
+    g.met.E.Expand.one_answer (seen i.origin i.core.rows i.core.history) c.read.result c.self.invariant
+    c.read.ensures.finished)
 
 pub returns-clause-unfiled : goal.returns-clause-unfiled
 returns-clause-unfiled g c =
     let B : Type 0 = g.row.E-Tag.Denot in
     let G : Type 0 = g.row.E-Goal.Denot in
-    subst (λ (p : ProgressSeen B G). IfOk c.read.result (λ r. IfNone r (AllFiled p.rows → ⊥))) c.self.view_is c.read.ensures.unfinished
+    subst (λ (p : ProgressSeen B G). IfOk c.read.result (λ r. IfNone r (AllFiled p.rows → ⊥))) c.self.view_is
+    c.read.ensures.unfinished

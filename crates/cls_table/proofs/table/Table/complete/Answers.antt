@@ -8,10 +8,12 @@ pub returns-clause-within : goal.returns-clause-within
 returns-clause-within g c =
     let B : Type 0 = g.row.E-Tag.Denot in
     let G : Type 0 = g.row.E-Goal.Denot in
-    subst (λ (t : TableSeen B G). OnOk c.complete.result (IsLarge g.E.Expand.answers t.tag → ⊥)) c.self.view_is c.complete.ensures.within
+    subst (λ (t : TableSeen B G). OnOk c.complete.result (IsLarge g.E.Expand.answers t.tag → ⊥)) c.self.view_is
+    c.complete.ensures.within
 
 pub returns-clause-large : goal.returns-clause-large
 returns-clause-large g c =
     let B : Type 0 = g.row.E-Tag.Denot in
     let G : Type 0 = g.row.E-Goal.Denot in
-    subst (λ (t : TableSeen B G). IfErr c.complete.result (λ e. e ≡ TooLarge → IsLarge g.E.Expand.answers t.tag)) c.self.view_is c.complete.ensures.large
+    subst (λ (t : TableSeen B G). IfErr c.complete.result (λ e. e ≡ TooLarge → IsLarge g.E.Expand.answers t.tag))
+    c.self.view_is c.complete.ensures.large

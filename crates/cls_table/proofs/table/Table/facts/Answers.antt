@@ -12,5 +12,6 @@ returns g c =
     let G : Type 0 = g.row.E-Goal.Denot in
     let eq = g.E.Goal.PartialEq.eq in
     let IsAnswer = g.E.Expand.answers in
-    let whole = lawful-table eq IsAnswer g.E.Expand.ready g.met.E.Goal.Key.exact g.met.E.Goal.Eq.laws.refl (table_of i.progress i.claims.total i.large i.stopped) c.facts.ensures k.0 k.2 in
+    let whole = lawful-table eq IsAnswer g.E.Expand.ready g.met.E.Goal.Key.exact g.met.E.Goal.Eq.laws.refl
+    (table_of i.progress i.claims.total i.large i.stopped) c.facts.ensures k.0 k.2 in
     subst (λ (t : TableSeen B G). IsLawfulTable eq IsAnswer t) c.self.view_is whole

@@ -12,7 +12,8 @@ invariant_of-result g c =
     let B : Type 0 = g.row.E-Tag.Denot in
     let G : Type 0 = g.row.E-Goal.Denot in
     let e : c.in-Err.progress ≡ i.progress = c.in-Err.ensures.err.0 in
-    subst (λ (p : ProgressSeen B G). (claims_in p.history ≡ i.claims.total) × (i.made ≡ i.claims.total) × (i.large ≡ true → IsLarge g.E.Expand.answers p.tag)) (sym e) c.self.invariant
+    subst (λ (p : ProgressSeen B G). (claims_in p.history ≡ i.claims.total) × (i.made ≡ i.claims.total)
+    × (i.large ≡ true → IsLarge g.E.Expand.answers p.tag)) (sym e) c.self.invariant
 
 pub returns-in-Err-clause-err : goal.returns-in-Err-clause-err
 returns-in-Err-clause-err g c =
@@ -29,4 +30,6 @@ returns-in-Ok-clause-complete g c =
     let e = c.in-Ok.ensures in
     let B : Type 0 = g.row.E-Tag.Denot in
     let G : Type 0 = g.row.E-Goal.Denot in
-    subst (λ (t : TableSeen B G). IsComplete g.E.Goal.PartialEq.eq g.E.Expand.answers t.tag c.in-Ok.finished) c.self.view_is (complete-finish g.E.Goal.PartialEq.eq g.met.E.Goal.Key.exact g.met.E.Goal.Eq.laws.refl g.E.Expand.answers g.E.Expand.ready g.met.E.Expand.one_answer i.progress c.in-Ok.finished e.lawful e.finished)
+    subst (λ (t : TableSeen B G). IsComplete g.E.Goal.PartialEq.eq g.E.Expand.answers t.tag c.in-Ok.finished)
+    c.self.view_is (complete-finish g.E.Goal.PartialEq.eq g.met.E.Goal.Key.exact g.met.E.Goal.Eq.laws.refl
+    g.E.Expand.answers g.E.Expand.ready g.met.E.Expand.one_answer i.progress c.in-Ok.finished e.lawful e.finished)

@@ -8,4 +8,5 @@ pub returns-clause-unfiled : goal.returns-clause-unfiled
 returns-clause-unfiled g c =
     let B : Type 0 = g.row.E-Tag.Denot in
     let G : Type 0 = g.row.E-Goal.Denot in
-    subst (λ (t : TableSeen B G). IfOk c.read.result (λ r. IfNone r (AllFiled t.rows → ⊥))) c.self.view_is c.read.ensures.unfiled
+    subst (λ (t : TableSeen B G). IfOk c.read.result (λ r. IfNone r (AllFiled t.rows → ⊥))) c.self.view_is
+    c.read.ensures.unfiled
