@@ -6,7 +6,7 @@ use Rattle.std.proofs.lemmas.Bool.{cases_lt, le-ltb, lt-ltb}
 use Rattle.std.specs.Io.KnownBytes.{Appends, Consumes}
 use Rattle.std.proofs.KnownBytes.{Consumes-nil}
 use Rattle.cls_base.specs.Limits.{max_input_bytes, max_read_bytes}
-use Rattle.cls_base.specs.Outside.{SourceSeen, SinkSeen, Holds, Fills}
+use Rattle.cls_base.specs.Outside.{SourceSeen, SinkSeen, Holds}
 use Rattle.cls_syntax.specs.Lines.{lines_of, ended_lines, HasNoFeed}
 use Rattle.cls_syntax.proofs.LinePieces.{lines_of-ended_lines, lines_of-CutsLine, ended_lines-CutsLine, CutsLine-append, ended_lines-HasNoFeed}
 use Rattle.cls_session.specs.declared.status.Status.{Status}
@@ -16,7 +16,6 @@ use Rattle.cls_session.specs.Driving.{CutsLines, Writes, WritesFront, IsWritten}
 use Rattle.cls_session.specs.Outputs.{lines_read, Output, GivesOutput, Answers, BeginsOutput, BeginsAnswers, IsEnoughRoom, HasRoom, IfTold, AnswersEnded, AnswersTaken, BeginsForTaken, BeginsTaken, AnswersBeforeLast, KeepsPace, TranscriptsGoOn}
 use Rattle.cls_session.specs.Outputs as outputs
 use Rattle.cls_session.specs.Transcripts.{Transcript, IsRefused, Ending}
-use Rattle.cls_session.specs.Standings.{Stands}
 use Rattle.cls_session.proofs.Standings.{reading, Stands-nothing, Stands-transcript}
 use Rattle.cls_session.proofs.Totality.{refused, stands, goes_on, ends_by, IsRefused-append}
 use Rattle.cls_session.proofs.Writing.{Holds-rest}
@@ -98,14 +97,14 @@ pub told_front : (sink sink' : SinkSeen) (source : SourceSeen) (front rest : Lis
     → ((bytes : List ℕ) → source.left ≡ Some bytes → (more : List ℕ) × (end : Status) × Output [] bytes ((front ++ rest) ++ more) end) → BeginsAnswers [] source sink sink'
 told_front sink sink' source front rest w output =
     if_some source.left (λ bytes. BeginsOutput [] bytes sink sink') (λ bytes e.
-        let (more, end, whole) = output bytes e in
-        record { front = front; rest = rest ++ more; status = end; output = subst (λ (x : List ℕ). Output [] bytes x end) (append_assoc front rest more) whole; written = w })
+    let (more, end, whole) = output bytes e in
+    record { front = front; rest = rest ++ more; status = end; output = subst (λ (x : List ℕ). Output [] bytes x end) (append_assoc front rest more) whole; written = w })
 
 -- a front of the usage line begins an output if the words ask for no session
 pub usage_begins : {sink sink' : SinkSeen} (words : List (List ℕ)) (source : SourceSeen) → (AsksSession words → ⊥) → WritesFront sink sink' usage → BeginsAnswers words source sink sink'
 usage_begins {sink = sink} {sink' = sink'} words source n f =
     if_some source.left (λ bytes. BeginsOutput words bytes sink sink') (λ bytes e.
-        record { front = f.front; rest = f.rest; status = Usage; output = outputs.no_session n (sym f.split) refl; written = f.held })
+    record { front = f.front; rest = f.rest; status = Usage; output = outputs.no_session n (sym f.split) refl; written = f.held })
 
 -- What was taken, and what the lines that end in it ask for.
 module _ {sink sink' : SinkSeen} (source source' : SourceSeen) (bytes text : List ℕ) (consumes : Consumes source.left source'.left bytes) (t : Transcript (ended_lines bytes) text) where
@@ -122,11 +121,11 @@ pub keeps_pace : (sink sink' : SinkSeen) (source source' : SourceSeen) (before l
     → Transcript (ended_lines before) text → Appends sink.held sink'.held (text ++ more) → KeepsPace source source' sink sink'
 keeps_pace sink sink' source source' before last text more consumes short t w =
     if_told source.left source'.left (before ++ last) (λ all rest. AnswersBeforeLast all rest sink sink') consumes (λ all rest e.
-        record { before = before; last = last; text = text; more = more; taken = e; short = short; transcript = t; written = w })
+    record { before = before; last = last; text = text; more = more; taken = e; short = short; transcript = t; written = w })
 
 -- nothing was taken for the usage line
 pub usage_keeps_pace : {sink sink' : SinkSeen} (source : SourceSeen) → WritesFront sink sink' usage → KeepsPace source source sink sink'
-usage_keeps_pace {sink = sink} {sink' = sink'} source f = keeps_pace sink sink' source source [] [] [] f.front (Consumes-nil source.left) (omega arith) 
+usage_keeps_pace {sink = sink} {sink' = sink'} source f = keeps_pace sink sink' source source [] [] [] f.front (Consumes-nil source.left) (omega arith)
     (subst (λ (xs : List (List ℕ)). Transcript xs []) (sym (ended_lines-HasNoFeed [] tt)) (Stands-transcript [] [] (reading [] 0) Stands-nothing)) f.held
 
 -- what was written for the lines that were taken whole keeps pace

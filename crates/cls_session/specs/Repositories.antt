@@ -1,5 +1,5 @@
 -- Repositories, and the first fault of lines that are none.
-use Rattle.std.specs.Prelude.{ℕ, ◌≡◌, ◌≤◌, ◌+◌, List, [], ◌∷◌, ◌++◌, length, Contains}
+use Rattle.std.specs.Prelude.{ℕ, ◌≡◌, ◌≤◌, ◌+◌, List, [], ◌∷◌, ◌++◌, length}
 use Rattle.cls_base.specs.Limits.{max_components}
 use Rattle.cls_base.specs.Lists.{AreDistinct}
 use Rattle.cls_syntax.specs.Skipped.{IsSkipped}
