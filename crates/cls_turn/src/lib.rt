@@ -1,11 +1,9 @@
 //! A spin lock: one value that any number of threads take in turn.
 //!
-//! - [`Turn`] is the lock with its value. [`Turn::take`] acquires the lock and hands the value out. [`Turn::put`] puts
-//!   a
-//!   value back and releases the lock. What a thread does in between is a holding, the critical section.
-//! - [`TurnSeat`] is a thread's handle on the lock. It knows the tag of the value, plain data that never changes. So
-//!   the
-//!   value that one seat puts back has the same tag when another seat takes it.
+//! - [`Turn`] is the lock with its value. [`Turn::take`] acquires the lock and hands the value out. [`Turn::put`]
+//!   puts a value back and releases the lock. What a thread does in between is a holding, the critical section.
+//! - [`TurnSeat`] is a thread's handle on the lock. It knows the tag of the value, plain data that never changes.
+//!   So the value that one seat puts back has the same tag when another seat takes it.
 //! - [`Tagged`] says what the tag of a value is.
 //!
 //! The lock is one word and one slot of an `atomic_table`. The word is 0 if the lock is free, and 1 if a seat has it.
