@@ -31,8 +31,8 @@ pub record Continues {B G : Type 0} (p q : ProgressSeen B G) : Type 0 where
 -- What was finished under the tag: its history is legal and complete, and has the rows as its replay, within the limits
 -- of the tag and by workers that are named up to the greatest. So the rows are the closure of the tag's start goal,
 -- each is claimed once and filed once, and the closure is within the limits.
-pub record IsComplete {B G : Type 0} (eq : G → G → Bool) (IsAnswer : B → G → Answer G → Type 0) (tag : Tag B G) (f : Finished G)
-    : Type 0 where
+pub record IsComplete {B G : Type 0} (eq : G → G → Bool) (IsAnswer : B → G → Answer G → Type 0) (tag : Tag B G)
+    (f : Finished G) : Type 0 where
   pub rows : Machine G
   pub legal : Replays eq (IsAnswer tag.by) (begun tag.start) f.history rows
   pub all_filed : AllFiled rows
