@@ -1,131 +1,141 @@
-//! Paths of a component, split at their leading arrows.
-ghost use Rattle.std.specs.Prelude.{◌≡◌, map, IfOk};
+//! Paths of a component, split at their leading arrows. An arrow shares its path with the component, so that each path is
+//! stored once.
+ghost use Rattle.std.specs.Prelude.{◌≡◌, ◌<◌, length, slice_get, Some};
 ghost use Rattle.std.specs.Option.{option_map};
+ghost use Rattle.cls_base.specs.Lists.{AreBelow};
 ghost use Rattle.cls_path.specs.Paths.{listed};
-ghost use Rattle.cls_library.specs.Arrows.{split, arrows_of};
-ghost use Rattle.cls_library.specs.Seen.{arrow_of};
+ghost use Rattle.cls_library.specs.Splits.{arrows_at_places, paths_of_form, source_at, split_at, target_at};
 
-use cls_base::OutOfMemory;
 use cls_path::{Form, Nf, Path};
-use std::alloc::Global;
 use std::marker::Model;
 
-/// A list of intersections of paths, seen as that list. It is made from a `Vec` and gives it back, neither of which takes
-/// memory.
+/// A path that is split at its first arrows. It is seen as what these take and what is left of the path behind them.
 #[derive(Drop)]
-pub struct Nfs {
-    items: Vec<Nf>,
-}
-
-impl Model for Nfs {
-    ghost use Rattle.std.specs.Prelude.{List};
-    ghost use Rattle.std.specs.Coded.{coded_list};
-    ghost use Rattle.cls_path.specs.Paths.{TypePath};
-    ghost use Rattle.cls_path.specs.Stored.{coded_path};
-
-    ghost Value = { List (List TypePath) };
-
-    ghost coded = { coded_list (coded_list coded_path) };
-
-    ghost view = { λ n. n.items.items };
-}
-
-impl Nfs {
-    /// The list of these intersections.
-    pub fn new(items: Vec<Nf>) -> Nfs
-        ensures { result ≡ items.items }
-    {
-        Nfs { items }
-    }
-
-    /// The intersections as a slice.
-    pub fn as_slice(&self) -> &[Nf]
-        ensures { result.now ≡ self.now }
-    {
-        self.items.as_slice()
-    }
-
-    /// A list equal to this one. The only error is out of memory.
-    pub fn copy(&self, alloc: Global) -> Result<Nfs, OutOfMemory>
-        ensures { IfOk result (λ copy. copy ≡ self.now) }
-    {
-        Ok(Nfs {
-            items: copy_forms(alloc, &self.items)?,
-        })
-    }
-
-    /// The vector of the intersections.
-    pub fn into_vec(self) -> Vec<Nf>
-        ensures { result.items ≡ self }
-    {
-        self.items
-    }
-}
-
-/// A path that is split at its first arrows.
-#[derive(Drop)]
-pub struct MultiArrow {
-    /// What these arrows take, in order.
-    pub sources: Nfs,
-    /// What is left of the path behind them.
-    pub target: Path,
-}
-
-impl MultiArrow {
-    /// An arrow equal to this one. The only error is out of memory.
-    pub fn copy(&self, alloc: Global) -> Result<MultiArrow, OutOfMemory>
-        ensures { IfOk result (λ copy. copy ≡ self.now) }
-    {
-        let sources = self.sources.copy(alloc)?;
-        let target = self.target.copy(alloc)?;
-        Ok(MultiArrow { sources, target })
-    }
-}
-
-/// The intersections once more.
-fn copy_forms(alloc: Global, forms: &[Nf]) -> Result<Vec<Nf>, OutOfMemory>
-    ensures { IfOk result (λ copy. copy.items ≡ forms.now) }
-{
-    let mut copy = Vec::with_capacity(alloc, forms.len())?;
-    for form in forms {
-        copy.push(form.copy(alloc)?)?;
-    }
-    Ok(copy)
-}
-
-/// The path split into so many sources and what is left, where it has so many leading arrows.
-pub(crate) fn split(
-    alloc: Global,
-    path: &Path,
+pub struct MultiArrow<'a> {
+    path: &'a Path,
     count: usize,
-) -> Result<Option<MultiArrow>, OutOfMemory>
-    ensures { IfOk result (λ arrow. option_map arrow_of arrow ≡ split count path.now) }
-{
-    let mut sources = Vec::new(alloc);
-    let mut rest = path;
-    for _taken in 0..count {
-        let Form::Arrow(source, target) = rest.form() else {
-            return Ok(None);
-        };
-        sources.push(source.copy(alloc)?)?;
-        rest = target;
-    }
-    let target = rest.copy(alloc)?;
-    Ok(Some(MultiArrow {
-        sources: Nfs::new(sources),
-        target,
-    }))
 }
 
-/// The paths with at least so many leading arrows, each split there, in order.
-pub(crate) fn arrows(alloc: Global, nf: &Nf, count: usize) -> Result<Vec<MultiArrow>, OutOfMemory>
-    ensures { IfOk result (λ arrows. map arrow_of arrows.items ≡ arrows_of count (listed nf.now)) }
-{
-    let mut arrows = Vec::new(alloc);
-    for path in nf.paths() {
-        if let Some(arrow) = split(alloc, path, count)? {
-            arrows.push(arrow)?;
+impl<'a> Model for MultiArrow<'a> {
+    ghost use Rattle.cls_library.specs.Arrows as definitions;
+    ghost use Rattle.cls_library.specs.Splits.{split_at};
+    ghost use Rattle.cls_library.specs.Stored.{coded_arrow};
+
+    ghost Value = { definitions.MultiArrow };
+
+    ghost coded = { coded_arrow };
+
+    ghost view = { λ a. split_at a.count a.path.now };
+}
+
+impl<'a> MultiArrow<'a> {
+    /// The path, split at its first `count` arrows.
+    pub(crate) fn new(path: &'a Path, count: usize) -> MultiArrow<'a>
+        ensures { result ≡ split_at count path.now }
+    {
+        MultiArrow { path, count }
+    }
+
+    /// What the arrow with this number takes, counted from 0. There is none if the number isn't below that of the sources.
+    pub fn source(&self, i: usize) -> Option<&'a Nf>
+        ensures { option_map paths_of_form result ≡ slice_get self.now.sources i }
+    {
+        if i < self.count {
+            source_of(self.path, i)
+        } else {
+            None
         }
     }
-    Ok(arrows)
+
+    /// What is left of the path behind these arrows.
+    pub fn target(&self) -> &'a Path
+        ensures { result.now ≡ self.now.target }
+    {
+        target_of(self.path, self.count)
+    }
+}
+
+/// Arrows that take one number of arguments, seen as the list of them.
+#[derive(Drop)]
+pub struct Arrows<'a> {
+    paths: &'a [Path],
+    places: &'a [usize],
+    count: usize,
+}
+
+impl<'a> Model for Arrows<'a> {
+    ghost use Rattle.std.specs.Prelude.{List, length};
+    ghost use Rattle.std.specs.Coded.{coded_list};
+    ghost use Rattle.cls_base.specs.Lists.{AreBelow};
+    ghost use Rattle.cls_library.specs.Arrows as definitions;
+    ghost use Rattle.cls_library.specs.Splits.{arrows_at_places};
+    ghost use Rattle.cls_library.specs.Stored.{coded_arrow};
+
+    ghost Value = { List definitions.MultiArrow };
+
+    ghost coded = { coded_list coded_arrow };
+
+    ghost view = { λ a. arrows_at_places a.count a.paths.now a.places.now };
+
+    ghost invariant = { λ a. AreBelow (length a.paths.now) a.places.now };
+}
+
+impl<'a> Arrows<'a> {
+    /// The paths at these places, each split at its first `count` arrows.
+    pub(crate) fn new(paths: &'a [Path], places: &'a [usize], count: usize) -> Arrows<'a>
+        requires { AreBelow (length paths.now) places.now }
+        ensures { result ≡ arrows_at_places count paths.now places.now }
+    {
+        Arrows {
+            paths,
+            places,
+            count,
+        }
+    }
+
+    /// The number of arrows.
+    pub fn len(&self) -> usize
+        ensures { result ≡ length self.now }
+    {
+        self.places.len()
+    }
+
+    /// The arrow at this position.
+    pub fn get(&self, i: usize) -> MultiArrow<'a>
+        requires { i < length self.now }
+        ensures { slice_get self.now i ≡ Some result }
+    {
+        let places = self.places;
+        let place = places[i];
+        MultiArrow::new(&self.paths[place], self.count)
+    }
+}
+
+/// What is left of the path behind its first `count` arrows.
+pub(crate) fn target_of(path: &Path, count: usize) -> &Path
+    ensures { result.now ≡ target_at count path.now }
+{
+    if count == 0 {
+        return path;
+    }
+    match path.form() {
+        Form::Arrow(_, rest) => target_of(rest, count - 1),
+        _ => path,
+    }
+}
+
+/// What the leading arrow of the path with this number takes, if there is one.
+fn source_of(path: &Path, i: usize) -> Option<&Nf>
+    ensures { option_map paths_of_form result ≡ source_at i path.now }
+{
+    match path.form() {
+        Form::Arrow(source, rest) => {
+            if i == 0 {
+                Some(source)
+            } else {
+                source_of(rest, i - 1)
+            }
+        }
+        _ => None,
+    }
 }

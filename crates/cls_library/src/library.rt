@@ -4,12 +4,11 @@ ghost use Rattle.cls_base.specs.Limits.{max_library_weight};
 ghost use Rattle.cls_base.specs.Schemas.{schema_of};
 ghost use Rattle.cls_path.specs.Paths.{Suits};
 ghost use Rattle.cls_library.specs.Arrows.{arity_of};
-ghost use Rattle.cls_library.specs.Families.{IsFamily};
-ghost use Rattle.cls_library.specs.Libraries.{below_in, variances_in, paths_at, arrows_at, total_of, IsLibrary, IsComponentOf, IsWithinLimits};
+ghost use Rattle.cls_library.specs.Families.{IsFamilyIn};
+ghost use Rattle.cls_library.specs.Libraries.{variances_in, paths_at, arrows_at, total_of, IsLibrary, IsComponentOf, IsWithinLimits};
 ghost use Rattle.cls_library.specs.Refusals.{Adds, Accepts, Refuses, IsLibraryOf, RefusesAt};
-ghost use Rattle.cls_library.specs.Seen.{arrow_of};
 
-use crate::arrow::MultiArrow;
+use crate::arrow::Arrows;
 use crate::component::Component;
 use crate::fault::{LibraryFault, LibraryKind};
 use crate::gather::gather;
@@ -112,10 +111,10 @@ impl Library {
     }
 
     /// The arrows of the component that take so many arguments, in order.
-    pub fn arrows(&self, x: u32, n: u32) -> &[MultiArrow]
+    pub fn arrows(&self, x: u32, n: u32) -> Arrows<'_>
         requires declared { x < length self.now.components }
         requires within { n ≤ arity_of (paths_at self.now x) }
-        ensures arrows { map arrow_of result.now ≡ arrows_at self.now x n }
+        ensures arrows { result ≡ arrows_at self.now x n }
         ensures library { IsLibrary self.now }
     {
         self.components[x as usize].arrows(n as usize)
@@ -146,7 +145,7 @@ impl Library {
         requires declared { x < length self.now.components }
         requires within { n ≤ arity_of (paths_at self.now x) }
         requires suits { Suits (variances_in self.now.taxonomy) path.now }
-        ensures { IfOk result (IsFamily (below_in self.now.taxonomy) (variances_in self.now.taxonomy) (arrows_at self.now x n) path.now) }
+        ensures { IfOk result (IsFamilyIn self.now.taxonomy (arrows_at self.now x n) path.now) }
     {
         self.components[x as usize].family(alloc, &self.taxonomy, n as usize, path)
     }
@@ -170,7 +169,7 @@ impl Library {
         let held = self.weight();
         let gathered = gather(alloc, &self.taxonomy, schema, kinds, held)?;
         let nf = Nf::from_paths(alloc, &self.taxonomy, gathered.paths)?;
-        Ok(Component::new(alloc, &nf, gathered.weight - held)?)
+        Ok(Component::new(alloc, nf, gathered.weight - held)?)
     }
 
     /// The weight of all components.

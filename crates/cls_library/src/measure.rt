@@ -21,7 +21,7 @@ pub(crate) fn arity(nf: &Nf) -> usize
 }
 
 /// The number of arrows that the path begins with, or 33 if there are more.
-fn leading_arrows(path: &Path) -> usize
+pub(crate) fn leading_arrows(path: &Path) -> usize
     ensures { result ≡ min TOO_MANY (leading_arrows path.now) }
 {
     match path.form() {
