@@ -113,7 +113,9 @@ impl Component {
         requires suits { Suits (variances_in taxonomy.now) path.now }
         ensures { IfOk result (IsFamilyIn taxonomy.now (arrows_of count self.now.paths) path.now) }
     {
-        let marks = self.endings.marks(alloc, taxonomy, count, Ending::of(path))?;
+        let marks = self
+            .endings
+            .marks(alloc, taxonomy, count, Ending::of(path))?;
         let family = marked_family(
             alloc,
             taxonomy,
