@@ -1,11 +1,11 @@
 -- The laws of the words on lists.
 use Rattle.std.proofs.Common.{◌≡◌, ℕ, zero, suc, ◌+◌, ◌<◌, ◌≤◌, List, [], ◌∷◌, ◌++◌, Some, length, map, take, drop, get_or, slice_get, refl, sym, ap, ◌∙◌, subst, inl, inr, arith, append_assoc, take-append-drop}
 use Rattle.std.specs.Prelude.{Contains, ◌⊎◌, ◌==◌, true, false}
-use Rattle.std.specs.List.{sum_by, IsDistinct, AllByRecursion}
+use Rattle.std.specs.List.{sum_by, flat_map, IsDistinct, AllByRecursion}
 use Rattle.std.specs.Coded.{×_prop, Unit-prop, le_prop}
 use Rattle.std.proofs.lemmas.Bool.Decides.{nat_tests}
 use Rattle.std.proofs.lemmas.List.{drop-append-le}
-use Rattle.std.proofs.lemmas.List.Elements.{Contains-push, Contains-push_cases}
+use Rattle.std.proofs.lemmas.List.Elements.{Contains-push, Contains-push_cases, Contains-append_left, Contains-append_right, Contains-append_cases}
 use Rattle.std.proofs.lemmas.List.Sums.{sum_by-cons}
 use Rattle.std.proofs.lemmas.Option.{slice_get_within, get_or_from_slice_get, slice_get-get_or}
 use Rattle.cls_base.specs.Lists.{AreDistinct, AreBelow}
@@ -139,3 +139,18 @@ AreDistinct-from_IsDistinct (a ∷ numbers) d = (apart numbers d.0, AreDistinct-
       | inl e ↦ absurd (let same : (a == b) ≡ true = grind (arith, nat_tests) in let one : false ≡ true = sym all.0 ∙ same in cc)
       | inr there ↦ apart numbers all.1 there
     ]
+
+module _ {A B : Type 0} (f : A → List B) where
+  pub Contains-flat_map : (xs : List A) (x : A) (y : B) → Contains xs x → Contains (f x) y → Contains (flat_map f xs) y
+  Contains-flat_map [] x y h k = absurd (Contains-nil x h)
+  Contains-flat_map (z ∷ xs) x y h k = elim (Contains-cases z xs x h) [
+    | inl e ↦ Contains-append_left (f z) (flat_map f xs) y (subst (λ w. Contains (f w) y) e k)
+    | inr l ↦ Contains-append_right (f z) (flat_map f xs) y (Contains-flat_map xs x y l k)
+  ]
+
+  pub Contains-from_flat_map : (xs : List A) (y : B) → Contains (flat_map f xs) y → (x : A) × Contains xs x × Contains (f x) y
+  Contains-from_flat_map [] y h = absurd (Contains-nil y h)
+  Contains-from_flat_map (x ∷ xs) y h = elim (Contains-append_cases (f x) (flat_map f xs) y h) [
+    | inl k ↦ (x, Contains-here x xs, k)
+    | inr k ↦ (let r = Contains-from_flat_map xs y k in (r.0, Contains-later r.0 x xs r.1, r.2))
+  ]

@@ -50,3 +50,19 @@ max_type_spread = 16384
 -- workers of a run
 abbrev pub max_workers : ℕ
 max_workers = 64
+
+-- choices of a schema, which are as many as its instances
+abbrev pub max_instances : ℕ
+max_instances = 4096
+
+-- nodes of an instance
+abbrev pub max_instance_nodes : ℕ
+max_instance_nodes = 4096
+
+-- leading arrows of a path of a component
+abbrev pub max_arity : ℕ
+max_arity = 32
+
+-- the sum, over a library's instances, of spread + 1
+abbrev pub max_library_weight : ℕ
+max_library_weight = 1000000

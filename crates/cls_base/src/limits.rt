@@ -35,3 +35,15 @@ pub const MAX_TYPE_DEPTH: u64 = 64;
 
 /// The greatest spread of a type.
 pub const MAX_TYPE_SPREAD: u64 = 16_384;
+
+/// The most choices of a schema, which are as many as its instances.
+pub const MAX_INSTANCES: usize = 4_096;
+
+/// The most nodes of an instance.
+pub const MAX_INSTANCE_NODES: u64 = 4_096;
+
+/// The most leading arrows of a path of a component.
+pub const MAX_ARITY: usize = 32;
+
+/// The most that the sum of spread + 1 over a library's instances may be.
+pub const MAX_LIBRARY_WEIGHT: u64 = 1_000_000;

@@ -1,5 +1,5 @@
 //! Names and their places.
-ghost use Rattle.std.specs.Prelude.{◌≡◌, [], length, OnOk};
+ghost use Rattle.std.specs.Prelude.{◌≡◌, [], length, IfOk, OnOk};
 ghost use Rattle.cls_base.specs.Lists.{AreDistinct};
 ghost use Rattle.cls_taxon.specs.Places.{place_of, with_name};
 
@@ -60,6 +60,15 @@ impl Places {
             Some(place) => place,
             None => self.names.len(),
         }
+    }
+
+    /// Names equal to these.
+    pub fn copy(&self) -> Result<Places, OutOfMemory>
+        ensures { IfOk result (λ copy. copy ≡ self.now) }
+    {
+        Ok(Places {
+            names: self.names.clone()?,
+        })
     }
 
     /// The names in order.

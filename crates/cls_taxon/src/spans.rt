@@ -53,6 +53,15 @@ impl Spans {
         Ok(Spans { items })
     }
 
+    /// A set equal to this one.
+    pub fn copy(&self, alloc: Global) -> Result<Spans, OutOfMemory>
+        ensures { IfOk result (λ copy. copy ≡ self.now) }
+    {
+        let mut items = Vec::new(alloc);
+        items.extend_from_slice(&self.items)?;
+        Ok(Spans { items })
+    }
+
     /// Whether the number is one of the set.
     pub fn contains(&self, number: usize) -> bool
         ensures { IsTrue result ↔ InSpans self.now number }

@@ -83,6 +83,22 @@ impl Taxonomy {
         })
     }
 
+    /// An order equal to this one. The only error is out of memory.
+    pub fn copy(&self, alloc: Global) -> Result<Taxonomy, OutOfMemory>
+        ensures { IfOk result (λ copy. copy ≡ self.now) }
+    {
+        let pairs = copy_of(alloc, &self.pairs)?;
+        let variances = self.variances.copy()?;
+        let places = self.places.copy()?;
+        let below = copy_sets(alloc, &self.below)?;
+        Ok(Taxonomy {
+            pairs,
+            variances,
+            places,
+            below,
+        })
+    }
+
     /// Whether a chain of declared pairs leads from the one name to the other.
     pub fn below(&self, lower: Name, upper: Name) -> bool
         ensures chain { IsTrue result ↔ Chain self.now.pairs lower.0 upper.0 }
@@ -139,6 +155,17 @@ fn copy_of(alloc: Global, pairs: &[(Name, Name)]) -> Result<Vec<(Name, Name)>, O
 {
     let mut copy = Vec::new(alloc);
     copy.extend_from_slice(pairs)?;
+    Ok(copy)
+}
+
+/// The sets once more.
+fn copy_sets(alloc: Global, sets: &[Spans]) -> Result<Vec<Spans>, OutOfMemory>
+    ensures { IfOk result (λ copy. copy.items ≡ sets.now) }
+{
+    let mut copy = Vec::with_capacity(alloc, sets.len())?;
+    for set in sets {
+        copy.push(set.copy(alloc)?)?;
+    }
     Ok(copy)
 }
 

@@ -39,6 +39,15 @@ impl Variances {
         Ok(Variances { by_name })
     }
 
+    /// Names with variances equal to these.
+    pub fn copy(&self) -> Result<Variances, OutOfMemory>
+        ensures { IfOk result (λ copy. copy ≡ self.now) }
+    {
+        Ok(Variances {
+            by_name: self.by_name.clone()?,
+        })
+    }
+
     /// The variance of the name. One that has none is covariant.
     pub fn of(&self, name: Name) -> Variance
         ensures { variance_of result ≡ variance_in self.now name.0 }

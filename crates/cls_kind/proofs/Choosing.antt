@@ -1,0 +1,49 @@
+-- One more type is chosen.
+use Rattle.std.proofs.Common.{◌≡◌, ℕ, ◌+◌, ◌*◌, ◌/◌, ◌%◌, ◌<◌, ◌≤◌, List, [], ◌∷◌, ◌++◌, length, map, get_or, sym, subst, ap, ◌∙◌, arith}
+use Rattle.std.proofs.lemmas.List.{get_or-map, length-map}
+use Rattle.cls_base.specs.Limits.{max_instances}
+use Rattle.cls_base.specs.declared.ty.Ty.{Ty}
+use Rattle.cls_base.specs.Ty.{type_of}
+use Rattle.cls_base.specs.Types.{ClosedType}
+use Rattle.cls_kind.specs.declared.ranges.Range.{Range}
+use Rattle.cls_kind.specs.Instances.{count_of, AreFull}
+use Rattle.cls_kind.specs.Ranges.{range_of}
+use Rattle.cls_kind.proofs.ChoiceLaws as laws
+use Rattle.cls_kind.proofs.ChoiceLaws.{Chooses}
+use Rattle.cls_kind.proofs.Counting.{Counts, counts-more, counts-many}
+
+module _ (ranges : List Range) (i : ℕ) (r : Range) (at : i < length ranges) (is : r ≡ get_or ranges i r) where
+  at-range : i < length (map range_of ranges)
+  at-range = let e = length-map ranges range_of in omega arith
+
+  is-range : get_or (map range_of ranges) i (range_of r) ≡ range_of r
+  is-range = get_or-map range_of ranges i r (range_of r) at ∙ ap range_of (sym is)
+
+  size : length (range_of r).1 ≡ length r.choices.now
+  size = length-map r.choices.now type_of
+
+  module _ (number block rest : ℕ) (done : List (ℕ × ClosedType)) (h : Chooses (map range_of ranges) number i done block rest) where
+    pub length-positive : 0 < length r.choices.now
+    length-positive = subst (λ n. 0 < n) size (laws.length-positive (map range_of ranges) number i done block rest h (range_of r) at-range is-range)
+
+    pub block-positive : 0 < block / length r.choices.now
+    block-positive = subst (λ n. 0 < block / n) size (laws.block-positive (map range_of ranges) number i done block rest h (range_of r) at-range is-range)
+
+    pub number-within : rest / (block / length r.choices.now) < length r.choices.now
+    number-within = subst (λ n. rest / (block / n) < n) size (laws.number-within (map range_of ranges) number i done block rest h (range_of r) at-range is-range)
+
+    pub chooses-more : (t : Ty) → Chooses (map range_of ranges) number (i + 1) (done ++ (r.variable, type_of (get_or r.choices.now (rest / (block / length r.choices.now)) t)) ∷ []) (block / length r.choices.now) (rest % (block / length r.choices.now))
+    chooses-more t =
+        let chosen = get_or r.choices.now (rest / (block / length r.choices.now)) t in
+        subst (λ n. Chooses (map range_of ranges) number (i + 1) (done ++ (r.variable, type_of chosen) ∷ []) (block / n) (rest % (block / n))) size
+        (laws.chooses-more (map range_of ranges) number i done block rest h (range_of r) at-range is-range (type_of chosen)
+        (ap (λ n. get_or (range_of r).1 (rest / (block / n)) (type_of chosen)) size ∙ get_or-map type_of r.choices.now (rest / (block / length r.choices.now)) t (type_of chosen) number-within))
+
+  module _ (count : ℕ) (h : Counts (map range_of ranges) i count) where
+    pub counts_more : count * length r.choices.now ≤ max_instances → Counts (map range_of ranges) (i + 1) (count * length r.choices.now)
+    counts_more l =
+        subst (λ n. Counts (map range_of ranges) (i + 1) (count * n)) size
+        (counts-more (map range_of ranges) i count h (range_of r) at-range is-range (subst (λ n. count * n ≤ max_instances) (sym size) l))
+
+    pub counts_many : AreFull (map range_of ranges) → max_instances < count * length r.choices.now → max_instances < count_of (map range_of ranges)
+    counts_many full l = counts-many (map range_of ranges) i count h (range_of r) at-range is-range full (subst (λ n. max_instances < count * n) (sym size) l)

@@ -1,0 +1,6 @@
+pub mod ChoiceLaws
+pub mod Choosing
+pub mod Counting
+pub mod Going
+pub mod InstanceLaws
+pub mod KindLaws

@@ -1,0 +1,79 @@
+use Rattle.std.proofs.Common.{◌≡◌, ◌+◌, ◌<◌, ◌≤◌, ◌++◌, ◌∷◌, ℕ, List, [], true, false, length, map, take, get_or, arith, rules, sym, subst, ◌∙◌, ap, IsTrue}
+use Rattle.std.specs.Prelude.{slice_index_or}
+use Rattle.std.proofs.lemmas.List.{get_or_default, take_all}
+use Rattle.cls_path.specs.Paths.{PathLe, TypePath, unit}
+use Rattle.cls_taxon.specs.Decisions.{is_below}
+use Rattle.cls_library.specs.Arrows.{MultiArrow}
+use Rattle.cls_library.specs.Families.{IsFamilyIn}
+use Rattle.cls_library.specs.Libraries.{below_in, variances_in}
+use Rattle.cls_library.specs.Splits.{split_at, target_at, places_from}
+use Rattle.cls_library.proofs.EndingLaws.{place-within, mark-within, not-marked, suits-at}
+use Rattle.cls_library.proofs.FamilyLaws.{family-nil, family-skip, family-take}
+use Rattle.cls_library.proofs.Places.{IsPlace, place-in}
+use Rattle.cls_library.proofs.family.marked_family.Goals as goal
+use Rattle.cls_library.proofs.family.marked_family.Goals.{then-marks-endings+then-le+in-Ok+in_ok-push, else-marks-endings, else-marks-endings-via-then-marks-endings+else-le, else-marks-endings-via-else-marks-endings}
+
+differs : false ≡ true → ⊥
+differs e = cc
+
+pub bounds-endings-place : goal.bounds-endings-place
+bounds-endings-place c =
+    let place = place-in c.args.count c.args.paths.now c.args.column.now c.requires.column c.loop-i.i c.loop-i-test.true in
+    place-within (is_below c.args.taxonomy.now) c.args.count c.args.path.now c.args.marks.now c.args.endings.now c.args.paths.now (get_or c.args.column.now c.loop-i.i 0) c.requires.marked place.within
+
+pub bounds-marks-endings : goal.bounds-marks-endings
+bounds-marks-endings c =
+    let place = place-in c.args.count c.args.paths.now c.args.column.now c.requires.column c.loop-i.i c.loop-i-test.true in
+    mark-within (is_below c.args.taxonomy.now) c.args.count c.args.path.now c.args.marks.now c.args.endings.now c.args.paths.now (get_or c.args.column.now c.loop-i.i 0) c.requires.marked place.within
+
+pub bounds-paths-place : goal.bounds-paths-place
+bounds-paths-place c = (place-in c.args.count c.args.paths.now c.args.column.now c.requires.column c.loop-i.i c.loop-i-test.true).within
+
+pub le-requires-clause-suits : goal.le-requires-clause-suits
+le-requires-clause-suits c =
+    let k = get_or c.args.column.now c.loop-i.i 0 in
+    let place = place-in c.args.count c.args.paths.now c.args.column.now c.requires.column c.loop-i.i c.loop-i-test.true in
+    let t : c.target_of.result.now ≡ target_at c.args.count (slice_index_or c.args.paths.now k unit) = c.target_of.ensures ∙ ap (target_at c.args.count) (c.index-paths-place.is ∙ get_or_default c.args.paths.now k c.index-paths-place.result unit place.within) in
+    rw t (suits-at (variances_in c.args.taxonomy.now) c.args.count c.args.paths.now k c.requires.paths place.within)
+
+pub loop-i-preserved : goal.loop-i-preserved
+loop-i-preserved c =
+    let d = c.args.taxonomy.now in
+    let n = c.args.count in
+    let paths = c.args.paths.now in
+    let column = c.args.column.now in
+    let q = c.args.path.now in
+    let i = c.loop-i.i in
+    let k = get_or column i 0 in
+    let arrow_at : ℕ → MultiArrow = λ k. split_at n (slice_index_or paths k unit) in
+    let place : IsPlace n paths k = place-in n paths column c.requires.column i c.loop-i-test.true in
+    let is : k ≡ get_or column i k = get_or_default column i 0 k c.loop-i-test.true in
+    let target = λ (p : TypePath) (e : p ≡ get_or paths k p). ap (target_at n) (e ∙ get_or_default paths k p unit place.within) in
+    elim c.if-marks-endings.branch [
+      | then-marks-endings+then-le+in-Ok+in_ok-push w ↦ (let p : w.in-Ok.position ≡ i = search rules in
+          rw w.family-is (family-take (below_in d) (variances_in d) q arrow_at column i k c.loop-i-test.true is c.loop-i.family.items c.loop-i.invariant
+          (subst (λ x. PathLe (below_in d) (variances_in d) x q) (w.target_of.ensures ∙ target w.index-paths-place.result w.index-paths-place.is) (w.le.ensures.cases.0 w.if-le.true))
+          w.push.new.self.items (w.in_ok-push.ensures.items ∙ ap (λ m. c.loop-i.family.items ++ m ∷ []) p)))
+      | else-marks-endings w ↦ rw w.family-is (family-skip (below_in d) (variances_in d) q arrow_at column i k c.loop-i-test.true is c.loop-i.family.items c.loop-i.invariant
+          (elim w.else-marks-endings.branch [
+            | else-marks-endings-via-then-marks-endings+else-le w' ↦ (λ l. differs (sym w'.if-le.false ∙ w'.le.ensures.cases.1
+                (subst (λ x. PathLe (below_in d) (variances_in d) x q) (sym (w'.target_of.ensures ∙ target w'.index-paths-place.result w'.index-paths-place.is)) l)))
+            | else-marks-endings-via-else-marks-endings w' ↦ not-marked (is_below d) n q c.args.marks.now c.args.endings.now paths k c.requires.marked place.within (variances_in d) place.enough w'.if-marks-endings.false
+          ]))
+    ]
+
+pub returns : goal.returns
+returns c =
+    let at : ℕ → MultiArrow = λ k. split_at c.args.count (slice_index_or c.args.paths.now k unit) in
+    subst (λ (l : List ℕ). IsFamilyIn c.args.taxonomy.now (map at l) c.args.path.now c.loop-i.family.items) (take_all c.loop-i.i c.args.column.now c.loop-i-test.false) c.loop-i.invariant
+
+pub offset_bounds-endings-place : goal.offset_bounds-endings-place
+offset_bounds-endings-place c =
+    let place = place-in c.args.count c.args.paths.now c.args.column.now c.requires.column c.loop-i.i c.loop-i-test.true in
+    let within = place-within (is_below c.args.taxonomy.now) c.args.count c.args.path.now c.args.marks.now c.args.endings.now c.args.paths.now (get_or c.args.column.now c.loop-i.i 0) c.requires.marked place.within in
+    search rules
+
+pub offset_bounds-paths-place : goal.offset_bounds-paths-place
+offset_bounds-paths-place c =
+    let within = (place-in c.args.count c.args.paths.now c.args.column.now c.requires.column c.loop-i.i c.loop-i-test.true).within in
+    search rules

@@ -1,0 +1,54 @@
+-- internal: what a path is at its end, behind its leading arrows
+use Rattle.std.specs.Prelude.{ℕ, ◌≡◌, ◌+◌, ◌==◌, ◌&&◌, ◌≤◌, min, Bool, true, false, List, [], ◌∷◌, length, map, slice_get, slice_index_or, Some}
+use Rattle.cls_base.specs.Limits.{max_arity}
+use Rattle.cls_path.specs.Paths.{TypePath, atom, inside, unit, left, right, function, sealed, Paths, listed}
+use Rattle.cls_library.specs.declared.ending.Head.{Head}
+use Rattle.cls_library.specs.declared.ending.Head.TheVariants.{Covariant, Product, Sealed}
+use Rattle.cls_library.specs.declared.ending.Ending.{Ending}
+use Rattle.cls_library.specs.Arrows.{leading_arrows, arity_of}
+use Rattle.cls_library.specs.Splits.{places_from}
+
+-- what the path is behind its leading arrows, before anything inside it
+abbrev pub head_of : TypePath → Head
+head_of (atom c) = Covariant (record { 0 = c })
+head_of (inside c p) = Covariant (record { 0 = c })
+head_of unit = Product
+head_of (left p) = Product
+head_of (right p) = Product
+head_of (function n p) = head_of p
+head_of (sealed c n) = Sealed (record { 0 = c })
+
+-- the number of leading arrows, which counts up to one more than a component may take, with the head
+abbrev pub ending_of : TypePath → Ending
+ending_of p = record { arrows = min (max_arity + 1) (leading_arrows p); head = head_of p }
+
+module _ (test : ℕ → ℕ → Bool) where
+  -- whether a path of the one head may be below one of the other
+  abbrev pub may_be_below : Head → Head → Bool
+  may_be_below (Covariant c) (Covariant d) = test c.0 d.0
+  may_be_below Product Product = true
+  may_be_below (Sealed c) (Sealed d) = test c.0 d.0
+  may_be_below _ _ = false
+
+  -- whether a path of the first ending, behind n of its arrows, may be below one of the second
+  abbrev pub may_end_below : ℕ → Ending → Ending → Bool
+  may_end_below n e f = (e.arrows == min (max_arity + 1) (n + f.arrows)) && may_be_below e.head f.head
+
+-- at the place of each path stands its ending
+abbrev pub AreEndings : List Ending → List ℕ → List TypePath → Type 0
+AreEndings kinds [] [] = Unit {0}
+AreEndings kinds (k ∷ ks) (p ∷ ps) = (slice_get kinds k ≡ Some (ending_of p)) × AreEndings kinds ks ps
+AreEndings kinds _ _ = ⊥
+
+-- at the place of each path stands whether it may be below the path q behind its first n arrows
+abbrev pub AreMarks : (ℕ → ℕ → Bool) → ℕ → TypePath → List Bool → List ℕ → List TypePath → Type 0
+AreMarks test n q marks [] [] = Unit {0}
+AreMarks test n q marks (k ∷ ks) (p ∷ ps) =
+    (slice_get marks k ≡ Some (may_end_below test n (ending_of p) (ending_of q))) × AreMarks test n q marks ks ps
+AreMarks test n q marks _ _ = ⊥
+
+-- what is kept of a component: for each number of arguments the places of its arrows, and the endings of its paths
+pub record IsKept (paths : List TypePath) (columns : List (List ℕ)) (kinds : List Ending) (places : List ℕ) : Type 0 where
+  pub count : length columns ≡ arity_of (listed paths) + 1
+  pub each : (n : ℕ) → n ≤ arity_of (listed paths) → slice_index_or columns n [] ≡ places_from n 0 paths
+  pub endings : AreEndings kinds places paths

@@ -1,0 +1,35 @@
+-- What holds of all libraries.
+use Rattle.std.specs.Prelude.{ℕ, ◌≡◌, ◌↔◌, List, [], ◌∷◌, ◌++◌}
+use Rattle.cls_base.specs.Types.{ClosedType}
+use Rattle.cls_base.specs.Schemas.{OpenType}
+use Rattle.cls_base.specs.Terms.{Applicative}
+use Rattle.cls_taxon.specs.Orders.{Declared}
+use Rattle.cls_library.specs.declared.fault.LibraryFault.{LibraryFault}
+use Rattle.cls_library.specs.declared.fault.LibraryKind.TheVariants.{OutOfMemory}
+use Rattle.cls_library.specs.Libraries.{Library}
+use Rattle.cls_library.specs.Refusals.{Adds, IsLibraryOf, RefusesAt}
+use Rattle.cls_library.specs.Typing.{HasTypeIn, HasTypeByInstances}
+
+-- a schema that is added to the library of a list makes the library of the longer list
+abbrev pub AddingMakesLibraries : Type 0
+AddingMakesLibraries =
+    (d : Declared) (kinds : List (ℕ × List ClosedType)) (schemas : List OpenType) (s : OpenType) (old new : Library)
+    → IsLibraryOf d kinds schemas old → Adds d kinds s old new → IsLibraryOf d kinds (schemas ++ s ∷ []) new
+
+-- a list of schemas has one library
+abbrev pub LibrariesAreUnique : Type 0
+LibrariesAreUnique =
+    (d : Declared) (kinds : List (ℕ × List ClosedType)) (schemas : List OpenType) (l m : Library)
+    → IsLibraryOf d kinds schemas l → IsLibraryOf d kinds schemas m → l ≡ m
+
+-- a list of schemas isn't both accepted and refused, unless memory ran out
+abbrev pub RefusalsAreExact : Type 0
+RefusalsAreExact =
+    (d : Declared) (kinds : List (ℕ × List ClosedType)) (schemas : List OpenType) (l : Library) (f : LibraryFault)
+    → IsLibraryOf d kinds schemas l → RefusesAt d kinds schemas f → f.kind ≡ OutOfMemory
+
+-- a term has a type by the instances of the schemas if and only if it has it by the one type of each component
+abbrev pub ReadingsAgree : Type 0
+ReadingsAgree =
+    (d : Declared) (kinds : List (ℕ × List ClosedType)) (schemas : List OpenType) (l : Library)
+    → IsLibraryOf d kinds schemas l → (e : Applicative) (t : ClosedType) → HasTypeByInstances d kinds schemas e t ↔ HasTypeIn l e t

@@ -1,0 +1,40 @@
+-- internal: arrows as the code finds them, by the places of their paths
+use Rattle.std.specs.Prelude.{ℕ, zero, suc, ◌≡◌, ◌+◌, ◌≤◌, nat_lt, if◌then◌else◌, List, [], ◌∷◌, length, map, slice_index_or, Option, None, Some}
+use Rattle.std.specs.Borrow.{Bor}
+use Rattle.cls_path.specs.Paths.{TypePath, unit, function, Paths, listed}
+use Rattle.cls_library.specs.Arrows.{MultiArrow, leading_arrows, arity_of}
+
+-- what is left of the path behind its first n arrows
+abbrev pub target_at : ℕ → TypePath → TypePath
+target_at zero p = p
+target_at (suc k) (function n p) = target_at k p
+target_at (suc k) p = p
+
+-- what the first n arrows of the path take
+abbrev pub sources_at : ℕ → TypePath → List Paths
+sources_at zero p = []
+sources_at (suc k) (function n p) = n ∷ sources_at k p
+sources_at (suc k) p = []
+
+-- the path split at its first n arrows
+abbrev pub split_at : ℕ → TypePath → MultiArrow
+split_at n p = record { sources = sources_at n p; target = target_at n p }
+
+-- what the arrow with this number takes, if there is one
+abbrev pub source_at : ℕ → TypePath → Option Paths
+source_at zero (function n p) = Some n
+source_at (suc k) (function n p) = source_at k p
+source_at _ p = None
+
+-- an intersection of the code as one of the definition
+abbrev pub paths_of_form : Bor (List TypePath) → Paths
+paths_of_form nf = listed nf.now
+
+-- the places of the paths with at least n leading arrows, counted from i
+abbrev pub places_from : ℕ → ℕ → List TypePath → List ℕ
+places_from n i [] = []
+places_from n i (p ∷ ps) = if nat_lt (leading_arrows p) n then places_from n (i + 1) ps else i ∷ places_from n (i + 1) ps
+
+-- the paths at these places, each split at its first n arrows
+abbrev pub arrows_at_places : ℕ → List TypePath → List ℕ → List MultiArrow
+arrows_at_places n paths places = map (λ k. split_at n (slice_index_or paths k unit)) places

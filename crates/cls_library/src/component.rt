@@ -1,0 +1,142 @@
+//! A component of a library.
+ghost use Rattle.std.specs.Prelude.{◌≡◌, ◌≤◌, IfOk};
+ghost use Rattle.cls_base.specs.Limits.{max_arity};
+ghost use Rattle.cls_path.specs.Paths.{listed, Suits, SuitsAll};
+ghost use Rattle.cls_library.specs.Arrows.{arity_of, arrows_of};
+ghost use Rattle.cls_library.specs.Families.{IsFamilyIn};
+ghost use Rattle.cls_library.specs.Libraries.{variances_in};
+
+use crate::arrow::Arrows;
+use crate::column::Column;
+use crate::ending::Ending;
+use crate::endings::Endings;
+use crate::family::marked_family;
+use crate::measure::arity;
+use cls_base::{Numbers, OutOfMemory};
+use cls_path::{Nf, Path};
+use cls_taxon::Taxonomy;
+use std::alloc::Global;
+use std::marker::Model;
+
+/// A component: its paths, the places of its arrows for each number of arguments, the endings of its paths, and its weight.
+/// It is seen as its paths and its weight.
+#[derive(Drop)]
+pub(crate) struct Component {
+    paths: Nf,
+    columns: Vec<Column>,
+    endings: Endings,
+    weight: u64,
+}
+
+impl Model for Component {
+    ghost use Rattle.cls_path.specs.Paths.{listed};
+    ghost use Rattle.cls_library.specs.Endings.{IsKept};
+    ghost use Rattle.cls_library.specs.Libraries as libraries;
+    ghost use Rattle.cls_library.specs.Stored.{coded_component};
+
+    ghost Value = { libraries.Component };
+
+    ghost coded = { coded_component };
+
+    ghost view = { λ c. record { paths = listed c.paths; weight = c.weight } };
+
+    ghost invariant = { λ c. IsKept c.paths c.columns.items c.endings.kinds.keys c.endings.places.items };
+}
+
+impl Component {
+    /// The component with these paths, which have few leading arrows, and this weight.
+    pub fn new(alloc: Global, paths: Nf, weight: u64) -> Result<Component, OutOfMemory>
+        requires { arity_of (listed paths) ≤ max_arity }
+        ensures { IfOk result (λ c. c ≡ record { paths = listed paths; weight = weight }) }
+    {
+        let mut columns = Vec::new(alloc);
+        for count in 0..arity(&paths) + 1 {
+            columns.push(Column::new(alloc, paths.paths(), count)?)?;
+        }
+        let endings = Endings::new(alloc, paths.paths())?;
+        Ok(Component {
+            paths,
+            columns,
+            endings,
+            weight,
+        })
+    }
+
+    /// A component equal to this one.
+    pub fn copy(&self, alloc: Global) -> Result<Component, OutOfMemory>
+        ensures { IfOk result (λ copy. copy ≡ self.now) }
+    {
+        let paths = self.paths.copy(alloc)?;
+        let columns = copy_columns(alloc, &self.columns)?;
+        let endings = self.endings.copy(alloc)?;
+        Ok(Component {
+            paths,
+            columns,
+            endings,
+            weight: self.weight,
+        })
+    }
+
+    /// The sum of spread + 1 over its instances.
+    pub fn weight(&self) -> u64
+        ensures { result ≡ self.now.weight }
+    {
+        self.weight
+    }
+
+    /// The greatest number of arguments that an arrow takes.
+    pub fn arity(&self) -> usize
+        ensures { result ≡ arity_of self.now.paths }
+    {
+        self.columns.len() - 1
+    }
+
+    /// The arrows that take so many arguments.
+    pub fn arrows(&self, count: usize) -> Arrows<'_>
+        requires { count ≤ arity_of self.now.paths }
+        ensures { result ≡ arrows_of count self.now.paths }
+    {
+        Arrows::new(self.paths.paths(), self.columns[count].as_slice(), count)
+    }
+
+    /// The strictly ascending positions of those of them whose target is below the path. Only those are tested that have as
+    /// many arrows behind the first `count` as the path, and whose head may be below that of the path.
+    pub fn family(
+        &self,
+        alloc: Global,
+        taxonomy: &Taxonomy,
+        count: usize,
+        path: &Path,
+    ) -> Result<Numbers, OutOfMemory>
+        requires within { count ≤ arity_of self.now.paths }
+        requires paths { SuitsAll (variances_in taxonomy.now) self.now.paths }
+        requires suits { Suits (variances_in taxonomy.now) path.now }
+        ensures { IfOk result (IsFamilyIn taxonomy.now (arrows_of count self.now.paths) path.now) }
+    {
+        let marks = self
+            .endings
+            .marks(alloc, taxonomy, count, Ending::of(path))?;
+        let family = marked_family(
+            alloc,
+            taxonomy,
+            self.paths.paths(),
+            self.columns[count].as_slice(),
+            count,
+            &self.endings.places,
+            &marks,
+            path,
+        )?;
+        Ok(Numbers::new(family))
+    }
+}
+
+/// The columns once more.
+fn copy_columns(alloc: Global, columns: &[Column]) -> Result<Vec<Column>, OutOfMemory>
+    ensures { IfOk result (λ copy. copy.items ≡ columns.now) }
+{
+    let mut copy = Vec::with_capacity(alloc, columns.len())?;
+    for column in columns {
+        copy.push(column.copy(alloc)?)?;
+    }
+    Ok(copy)
+}

@@ -1,0 +1,74 @@
+//! What paths are at their ends, behind their leading arrows.
+ghost use Rattle.std.specs.Prelude.{◌≡◌};
+ghost use Rattle.cls_taxon.specs.Decisions.{is_below};
+ghost use Rattle.cls_library.specs.Endings.{ending_of, head_of, may_be_below, may_end_below};
+
+use crate::measure::{TOO_MANY, leading_arrows};
+use cls_base::{Name, Taxa};
+use cls_path::{Form, Path};
+use cls_taxon::Taxonomy;
+
+/// What a path is behind its leading arrows, before anything inside it.
+#[derive(Clone, Copy, Debug, PartialEq, Eq, Hash)]
+pub(crate) enum Head {
+    /// A covariant name.
+    Covariant(Name),
+    /// A product.
+    Product,
+    /// A contravariant or invariant name.
+    Sealed(Name),
+}
+
+/// The number of leading arrows of a path, or 33 if there are more, and its head.
+#[derive(Clone, Copy, Debug, PartialEq, Eq, Hash)]
+pub(crate) struct Ending {
+    pub arrows: usize,
+    pub head: Head,
+}
+
+impl Head {
+    /// The head of the path.
+    pub fn of(path: &Path) -> Head
+        ensures { result ≡ head_of path.now }
+    {
+        match path.form() {
+            Form::Atom(name) | Form::Con(name, _) => Head::Covariant(*name),
+            Form::Unit | Form::Left(_) | Form::Right(_) => Head::Product,
+            Form::Arrow(_, rest) => Head::of(rest),
+            Form::Sealed(name, _) => Head::Sealed(*name),
+        }
+    }
+
+    /// Whether a path of this head may be below one of the other.
+    pub fn may_be_below(self, taxonomy: &Taxonomy, upper: Head) -> bool
+        ensures { result ≡ may_be_below (is_below taxonomy.now) self upper }
+    {
+        match (self, upper) {
+            (Head::Covariant(c), Head::Covariant(d)) | (Head::Sealed(c), Head::Sealed(d)) => {
+                Taxa::below(taxonomy, c, d)
+            }
+            (Head::Product, Head::Product) => true,
+            _ => false,
+        }
+    }
+}
+
+impl Ending {
+    /// The ending of the path.
+    pub fn of(path: &Path) -> Ending
+        ensures { result ≡ ending_of path.now }
+    {
+        Ending {
+            arrows: leading_arrows(path),
+            head: Head::of(path),
+        }
+    }
+
+    /// Whether a path of this ending, behind its first `count` arrows, may be below one of the other.
+    pub fn may_end_below(self, taxonomy: &Taxonomy, count: usize, upper: Ending) -> bool
+        ensures { result ≡ may_end_below (is_below taxonomy.now) count self upper }
+    {
+        let wanted = TOO_MANY.min(count.saturating_add(upper.arrows));
+        self.arrows == wanted && self.head.may_be_below(taxonomy, upper.head)
+    }
+}

@@ -1,0 +1,62 @@
+//! The endings of the paths of a component.
+ghost use Rattle.std.specs.Prelude.{◌≡◌, map, IfOk};
+ghost use Rattle.cls_taxon.specs.Decisions.{is_below};
+ghost use Rattle.cls_library.specs.Endings.{AreEndings, may_end_below};
+
+use crate::ending::Ending;
+use cls_base::OutOfMemory;
+use cls_path::Path;
+use cls_taxon::Taxonomy;
+use indexmap::IndexSet;
+use std::alloc::Global;
+
+/// Different endings, and for each path the place of its own among them.
+#[derive(Drop)]
+pub(crate) struct Endings {
+    pub kinds: IndexSet<Ending>,
+    pub places: Vec<usize>,
+}
+
+impl Endings {
+    /// The endings of the paths.
+    pub fn new(alloc: Global, paths: &[Path]) -> Result<Endings, OutOfMemory>
+        ensures { IfOk result (λ endings. AreEndings endings.kinds.keys endings.places.items paths.now) }
+    {
+        let mut kinds = IndexSet::new(alloc);
+        let mut places = Vec::with_capacity(alloc, paths.len())?;
+        for path in paths {
+            let (place, _) = kinds.insert_full(Ending::of(path))?;
+            places.push(place)?;
+        }
+        Ok(Endings { kinds, places })
+    }
+
+    /// Endings equal to these.
+    pub fn copy(&self, alloc: Global) -> Result<Endings, OutOfMemory>
+        ensures kinds { IfOk result (λ copy. copy.kinds.keys ≡ self.now.kinds.keys) }
+        ensures places { IfOk result (λ copy. copy.places.items ≡ self.now.places.items) }
+    {
+        let kinds = self.kinds.clone()?;
+        let mut places = Vec::new(alloc);
+        places.extend_from_slice(&self.places)?;
+        Ok(Endings { kinds, places })
+    }
+
+    /// Whether a path of each ending, behind its first `count` arrows, may be below one of the ending `upper`.
+    pub fn marks(
+        &self,
+        alloc: Global,
+        taxonomy: &Taxonomy,
+        count: usize,
+        upper: Ending,
+    ) -> Result<Vec<bool>, OutOfMemory>
+        ensures { IfOk result (λ marks.
+            marks.items ≡ map (λ lower. may_end_below (is_below taxonomy.now) count lower upper) self.now.kinds.keys) }
+    {
+        let mut marks = Vec::with_capacity(alloc, self.kinds.len())?;
+        for lower in self.kinds.as_slice() {
+            marks.push(lower.may_end_below(taxonomy, count, upper))?;
+        }
+        Ok(marks)
+    }
+}
