@@ -1,0 +1,22 @@
+use Rattle.std.proofs.Common.{ℕ, ◌≡◌, ◌<◌, ◌⊎◌, inl, inr, length, get_or, ap, sym, ◌∙◌, subst, List, [], ◌∷◌, Bool, true, false, Some, slice_get}
+use Rattle.std.specs.Option.{option_copied}
+use Rattle.cls_cover.specs.Members.{Member}
+use Rattle.cls_cover.specs.Groups.{HasRowOf, row_at}
+use Rattle.cls_cover.proofs.Marks.{row_of}
+use Rattle.cls_cover.proofs.Grouping.{first_member, first_row, same_flags}
+use Rattle.cls_cover.proofs.groups.belongs.Goals as goal
+
+pub bounds-rows-y : goal.bounds-rows-y
+bounds-rows-y c = c.requires.group c.in-Some.y.now (first_member c.args.group.now c.in-Some.y.now (ap option_copied (sym c.in-Some.is) ∙ c.first.ensures.value))
+
+pub returns-in-Some : goal.returns-in-Some
+returns-in-Some c = go c.eq.result (λ i. c.eq.result)
+  where
+    go : (b : Bool) → c.eq.result ≡ b → (c.eq.result ≡ false) ⊎ HasRowOf c.args.rows.now c.args.group.now c.args.x
+    go false e = inl e
+    go true e =
+        let h = ap option_copied (sym c.in-Some.is) ∙ c.first.ensures.value in
+        let l = c.requires.group c.in-Some.y.now (first_member c.args.group.now c.in-Some.y.now h) in
+        let r = row_of c.args.rows.now c.in-Some.y.now c.as_slice.result.now c.index-rows-y.result l c.index-rows-y.is c.as_slice.ensures in
+        let o = row_of c.args.rows.now c.args.x c.as_slice-in-Some.result.now c.index-rows-x.result c.requires.here c.index-rows-x.is c.as_slice-in-Some.ensures in
+        inr (first_row c.args.rows.now c.args.group.now c.args.x c.in-Some.y.now h (sym o ∙ (sym (same_flags c.as_slice.result.now c.as_slice-in-Some.result.now (sym c.eq.ensures ∙ e)) ∙ r)))
