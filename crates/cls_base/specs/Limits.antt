@@ -50,3 +50,11 @@ max_type_spread = 16384
 -- workers of a run
 abbrev pub max_workers : ℕ
 max_workers = 64
+
+-- bytes of a term's text
+abbrev pub max_text_bytes : ℕ
+max_text_bytes = 65536
+
+-- the greatest number of a hole in a template
+abbrev pub max_hole : ℕ
+max_hole = 16

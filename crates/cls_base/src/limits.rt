@@ -35,3 +35,9 @@ pub const MAX_TYPE_DEPTH: u64 = 64;
 
 /// The greatest spread of a type.
 pub const MAX_TYPE_SPREAD: u64 = 16_384;
+
+/// The most bytes of a term's text.
+pub const MAX_TEXT_BYTES: usize = 65_536;
+
+/// The greatest number of a hole in a template.
+pub const MAX_HOLE: u8 = 16;

@@ -1,0 +1,5 @@
+pub mod Faults
+pub mod Fronts
+pub mod Segments
+pub mod Spelling
+pub mod Steps
