@@ -1,3 +1,5 @@
 pub mod Fronts
+pub mod Lengths
 pub mod Numerals
+pub mod Reading
 pub mod Segments

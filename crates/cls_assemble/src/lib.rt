@@ -2,10 +2,13 @@
 #![tactic(auto)]
 
 mod fault;
+mod length;
 mod piece;
 mod scan;
 mod template;
+mod templates;
 
 pub use fault::{TemplateFault, TextFault};
 pub use piece::Piece;
 pub use template::Template;
+pub use templates::Templates;

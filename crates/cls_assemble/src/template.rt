@@ -85,7 +85,7 @@ impl Template {
         requires short { length text.now < 2 ^ 32 }
         requires within { at < length text.now }
         requires so_far { IsReadUpTo text.now self.old at }
-        ensures on { IfOk result (λ next. at < next) }
+        ensures on { IfOk result (λ next. (at < next) × (next ≤ length text.now)) }
         ensures read { IfOk result (λ next. IsReadUpTo text.now self.new next) }
         ensures fault { IfErr result (λ fault. IsFaultOf text.now fault) }
     {
