@@ -45,3 +45,14 @@ numbered-segments [] tail = numbered-all_bytes tail
 numbered-segments (s ∷ ss) tail = numbered-bytes (string_bytes s.text) (Hole s.number ∷ pieces_in ss tail) ((s.least, s.most), numbered-segments ss tail)
 
 pub ruleset segments = (drop-segment, pieces_length-bytes, pieces_length-all_bytes, greatest_hole-bytes, greatest_hole-all_bytes, numbered-segments)
+
+pub greatest_hole-tail : (ss : List Segment) (tail : List ℕ) → greatest_hole (pieces_in ss tail) ≡ greatest_hole (pieces_in ss [])
+greatest_hole-tail [] tail = greatest_hole-all_bytes tail
+greatest_hole-tail (s ∷ ss) tail =
+    let rest = greatest_hole-tail ss tail in
+    omega (arith, rest, greatest_hole-bytes (string_bytes s.text) (Hole s.number ∷ pieces_in ss tail), greatest_hole-bytes (string_bytes s.text) (Hole s.number ∷ pieces_in ss []))
+
+-- one segment of those that are left
+pub pieces_length-segment : (lengths : List ℕ) (ss : List Segment) (tail : List ℕ) (i : ℕ) (s : Segment) → s ≡ get_or ss i s → i < length ss → pieces_length lengths (pieces_in (drop i ss) tail) ≡ length (string_bytes s.text) + (get_or lengths (s.number - 1) 1 + pieces_length lengths (pieces_in (drop (i + 1) ss) tail))
+pieces_length-segment lengths ss tail i s h l =
+    ap (λ (rest : List Segment). pieces_length lengths (pieces_in rest tail)) (drop-segment ss i s h l) ∙ pieces_length-bytes lengths (string_bytes s.text) (Hole s.number ∷ pieces_in (drop (i + 1) ss) tail)

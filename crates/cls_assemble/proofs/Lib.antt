@@ -1,5 +1,7 @@
+pub mod Counting
 pub mod Fronts
 pub mod Lengths
 pub mod Numerals
 pub mod Reading
 pub mod Segments
+pub mod Texts
