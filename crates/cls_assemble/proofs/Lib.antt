@@ -5,3 +5,4 @@ pub mod Numerals
 pub mod Reading
 pub mod Segments
 pub mod Texts
+pub mod Writing

@@ -7,8 +7,10 @@ mod piece;
 mod scan;
 mod template;
 mod templates;
+mod text;
 
 pub use fault::{TemplateFault, TextFault};
 pub use piece::Piece;
 pub use template::Template;
 pub use templates::Templates;
+pub use text::text_of;

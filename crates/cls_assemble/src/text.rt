@@ -1,5 +1,5 @@
 //! The text of a term.
-ghost use Rattle.std.specs.Prelude.{◌≡◌, ◌-◌, ◌<◌, ◌≤◌, ◌↔◌, ◌++◌, Err, length, map, codes, IfOk, OnOk, string_bytes, slice_index_or};
+ghost use Rattle.std.specs.Prelude.{◌≡◌, ◌-◌, ◌<◌, ◌≤◌, ◌↔◌, ◌++◌, Err, length, map, drop, codes, IfOk, OnOk, string_bytes, slice_index_or};
 ghost use Rattle.std.specs.List.{flat_map};
 ghost use Rattle.cls_base.specs.Limits.{max_text_bytes, max_hole};
 ghost use Rattle.cls_term.specs.Components.{greatest_of, greatest_in};
@@ -57,10 +57,7 @@ fn write(templates: &Templates, term: &Term, text: &mut String) -> Result<(), Ou
         write_hole(templates, arguments, segment.number, &mut spans, text)?;
     }
     text.push_str(template.tail.as_str())?;
-    if greatest < arguments.len() {
-        write_surplus(templates, &arguments[greatest..], text)?;
-    }
-    Ok(())
+    write_surplus(templates, arguments, greatest, text)
 }
 
 /// Writes the text of the argument with this number, or copies it from where it stands.
@@ -92,15 +89,21 @@ fn write_hole(templates: &Templates, arguments: &[Term], number: u8, spans: &mut
     Ok(())
 }
 
+/// Writes each argument from this place on in its parentheses.
 #[cycle(write)]
 #[tactic(auto, using(crate::proofs::Writing::writing))]
-fn write_surplus(templates: &Templates, arguments: &[Term], text: &mut String) -> Result<(), OutOfMemory>
+fn write_surplus(
+    templates: &Templates,
+    arguments: &[Term],
+    from: usize,
+    text: &mut String,
+) -> Result<(), OutOfMemory>
     requires { greatest_in arguments.now < length templates.now }
-    ensures { OnOk result (string_bytes text.new ≡ string_bytes text.old ++ flat_map in_parentheses (map (text_of (template_at templates.now)) arguments.now)) }
+    ensures { OnOk result (string_bytes text.new ≡ string_bytes text.old ++ flat_map in_parentheses (drop from (map (text_of (template_at templates.now)) arguments.now))) }
 {
-    for argument in arguments {
+    for i in from..arguments.len() {
         text.push('(')?;
-        write(templates, argument, text)?;
+        write(templates, &arguments[i], text)?;
         text.push(')')?;
     }
     Ok(())
