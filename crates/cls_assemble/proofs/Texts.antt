@@ -1,6 +1,7 @@
 -- The text of a spine, and the texts of its arguments.
-use Rattle.std.proofs.Common.{◌≡◌, ℕ, ◌<◌, ◌≤◌, List, [], ◌∷◌, ◌++◌, length, map, max, get_or, refl, sym, ap, ◌∙◌, arith, append_assoc, append-nil, suc, zero}
-use Rattle.std.proofs.lemmas.List.{get_or_read}
+use Rattle.std.proofs.Common.{◌≡◌, ℕ, ◌+◌, ◌<◌, ◌≤◌, List, [], ◌∷◌, ◌++◌, length, map, max, get_or, refl, sym, ap, ◌∙◌, arith, append_assoc, append-nil, suc, zero}
+use Rattle.std.proofs.lemmas.List.{get_or_read, get_or_default, length-map}
+use Rattle.std.proofs.Math.ListN.{get_or-map}
 use Rattle.cls_base.specs.Terms.{Applicative, component, apply, head_of, length_of}
 use Rattle.cls_base.specs.Spines.{spine, lengths_of}
 use Rattle.cls_term.specs.Components.{greatest_of, greatest_in}
@@ -53,5 +54,22 @@ pub text_of-parts : (templates slice : List (List Piece)) (x : ℕ) (es items : 
 text_of-parts templates slice x es items e ps v i s l h =
     let same : template_at templates x ≡ ps = ap (λ (ts : List (List Piece)). get_or ts x []) (sym s) ∙ sym (get_or_read slice x ps l h []) in
     ap (text_of (template_at templates)) (sym v) ∙ (text_of-spine (template_at templates) x es ∙ (λ j. filled (same j) (map (text_of (template_at templates)) (sym i j))))
+
+pub length_of-argument : (es : List Applicative) (i : ℕ) (e : Applicative) → e ≡ get_or es i e → i < length es → length_of e ≤ lengths_of es
+length_of-argument es i e h l = let part = ap length_of h in omega (arith, part, lengths_of-at es i e l)
+
+-- the arguments of a term, by its measures
+pub measures_of-parts : (x : ℕ) (es items : List Applicative) (e : Applicative) → spine (component x) es ≡ e → items ≡ es → (length_of e ≡ 1 + lengths_of items) × (greatest_in items ≤ greatest_of e) × (x ≤ greatest_of e)
+measures_of-parts x es items e v i =
+    let whole = length_of-spine_of x es in
+    let same = ap length_of v in
+    let sum = ap lengths_of i in
+    let most = ap greatest_in i in
+    let parts = greatest_of-parts x es e v in
+    (omega (arith, whole, same, sum), omega (arith, parts.1, most), parts.0)
+
+pub argument_text-at : (template : ℕ → List Piece) (es : List Applicative) (i : ℕ) (e : Applicative) (d : List ℕ) → e ≡ get_or es i e → i < length es → text_of template e ≡ get_or (map (text_of template) es) i d
+argument_text-at template es i e d h l =
+    ap (text_of template) h ∙ (sym (get_or-map (text_of template) es i e) ∙ get_or_default (map (text_of template) es) i (text_of template e) d (omega (arith, length-map es (text_of template))))
 
 pub ruleset parts = (greatest_of-spine_of, greatest_of-argument)

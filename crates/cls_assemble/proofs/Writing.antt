@@ -106,4 +106,21 @@ surplus_text texts i t l h =
 pub no_surplus : (texts : List (List ℕ)) (i : ℕ) → length texts ≤ i → flat_map in_parentheses (drop i texts) ≡ []
 no_surplus texts i l = ap (flat_map in_parentheses) (drop_all i texts l)
 
+-- what is written goes on with what is left
+pub write-step : (w a b c g f r x y : List ℕ) → y ≡ x ++ g → x ≡ a ++ c → c ≡ b → f ≡ b ++ (g ++ r) → a ++ f ≡ w → y ++ r ≡ w
+write-step w a b c g f r x y p q s h k =
+    let left : y ++ r ≡ ((a ++ b) ++ g) ++ r = λ i. (p ∙ ap (λ (z : List ℕ). z ++ g) (q ∙ ap (λ (z : List ℕ). a ++ z) s)) i ++ r in
+    let right : ((a ++ b) ++ g) ++ r ≡ a ++ (b ++ (g ++ r)) = simp append_assoc in
+    left ∙ (right ∙ (ap (λ (z : List ℕ). a ++ z) (sym h) ∙ k))
+
+pub write-end : (w a b c f g s x y : List ℕ) → y ≡ x ++ s → x ≡ a ++ c → c ≡ b → f ≡ b → a ++ f ≡ w ++ g → y ≡ w ++ (g ++ s)
+write-end w a b c f g s x y p q e h k =
+    p ∙ (ap (λ (z : List ℕ). z ++ s) (q ∙ (ap (λ (z : List ℕ). a ++ z) (e ∙ sym h) ∙ k)) ∙ append_assoc w g s)
+
+pub surplus-step : (w a t r f x y z : List ℕ) → x ≡ a ++ codes "(" → y ≡ x ++ t → z ≡ y ++ codes ")" → f ≡ codes "(" ++ (t ++ (codes ")" ++ r)) → a ++ f ≡ w → z ++ r ≡ w
+surplus-step w a t r f x y z p q s h k =
+    let left : z ++ r ≡ (((a ++ codes "(") ++ t) ++ codes ")") ++ r = λ i. (s ∙ ap (λ (v : List ℕ). v ++ codes ")") (q ∙ ap (λ (v : List ℕ). v ++ t) p)) i ++ r in
+    let right : (((a ++ codes "(") ++ t) ++ codes ")") ++ r ≡ a ++ (codes "(" ++ (t ++ (codes ")" ++ r))) = simp append_assoc in
+    left ∙ (right ∙ (ap (λ (v : List ℕ). a ++ v) (sym h) ∙ k))
+
 pub ruleset writing = (append_assoc, append-nil)

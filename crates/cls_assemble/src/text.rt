@@ -57,7 +57,8 @@ fn write(templates: &Templates, term: &Term, text: &mut String) -> Result<(), Ou
         write_hole(templates, arguments, segment.number, &mut spans, text)?;
     }
     text.push_str(template.tail.as_str())?;
-    write_surplus(templates, arguments, greatest, text)
+    write_surplus(templates, arguments, greatest, text)?;
+    Ok(())
 }
 
 /// Writes the text of the argument with this number, or copies it from where it stands.
@@ -72,16 +73,16 @@ fn write_hole(templates: &Templates, arguments: &[Term], number: u8, spans: &mut
     ensures written { OnOk result (AreWritten (map (text_of (template_at templates.now)) arguments.now) spans.new (string_bytes text.new)) }
 {
     let index = usize::from(number) - 1;
-    let Some(argument) = arguments.get(index) else {
+    if index >= arguments.len() {
         text.push('_')?;
         return Ok(());
-    };
+    }
     if let Some(span) = spans[index] {
         text.extend_from_within(span.start..span.end)?;
         return Ok(());
     }
     let start = text.len();
-    write(templates, argument, text)?;
+    write(templates, &arguments[index], text)?;
     spans[index] = Some(Span {
         start,
         end: text.len(),
