@@ -4,7 +4,7 @@ use Rattle.std.specs.Prelude.{Option, Some, None, IsUtf8, codes}
 use Rattle.std.specs.List.{flat_map, AllByRecursion}
 use Rattle.std.specs.String.Boundary.{IsSplitPoint}
 use Rattle.std.proofs.lemmas.Bool.{cases_lt}
-use Rattle.std.proofs.lemmas.List.{take-append-le, drop-append-le, get_or-set_same, get_or-set_other, take_all, drop_all, length-drop}
+use Rattle.std.proofs.lemmas.List.{take-append-le, drop-append-le, get_or-set_same, get_or-set_other, get_or_past, length-set, take_all, drop_all, length-drop}
 use Rattle.std.proofs.Math.Seq.{drop-append_seam, drop-cons}
 use Rattle.std.proofs.lemmas.Str.{IsCharBoundary-from_take}
 use Rattle.cls_base.specs.Terms.{Applicative}
@@ -61,11 +61,18 @@ new_span text xs zs span e s f u v =
       end_cut = subst (λ (bs : List ℕ). IsUtf8 bs) (sym (take_all span.end zs (omega (arith, f)))) v;
     }
 
-pub AreWritten-set : (texts : List (List ℕ)) (spans : List (Option Span)) (i : ℕ) (new : Span) (xs zs : List ℕ) → i < length spans → AreWritten texts spans xs → zs ≡ xs ++ get_or texts i [] → new.start ≡ length xs → new.end ≡ length zs → IsUtf8 xs → IsUtf8 zs → AreWritten texts (set spans i (Some new)) zs
-AreWritten-set texts spans i new xs zs l h e s f u v =
+-- what stands at the place that was set
+set_there : (spans : List (Option Span)) (i : ℕ) (new span : Span) → get_or (set spans i (Some new)) i None ≡ Some span → new ≡ span
+set_there spans i new span q =
+    elim (cases_lt i (length spans)) as (λ _. new ≡ span) [
+      | inl less ↦ let same = get_or-set_same spans i (Some new) None less in cc
+      | inr past ↦ let none = get_or_past (set spans i (Some new)) i None (omega (arith, length-set spans i (Some new))) in cc
+    ]
+
+pub AreWritten-set : (texts : List (List ℕ)) (spans : List (Option Span)) (i : ℕ) (new : Span) (xs zs : List ℕ) → AreWritten texts spans xs → zs ≡ xs ++ get_or texts i [] → new.start ≡ length xs → new.end ≡ length zs → IsUtf8 xs → IsUtf8 zs → AreWritten texts (set spans i (Some new)) zs
+AreWritten-set texts spans i new xs zs h e s f u v =
     let old = AreWritten-more texts spans xs (get_or texts i []) zs e h in
     let here = new_span (get_or texts i []) xs zs new e s f u v in
-    let same = get_or-set_same spans i (Some new) None l in
     record { each = λ k span q.
       (elim (cases_lt k i) as (λ _. IsWrittenAt (get_or texts k []) span zs) [
         | inl less ↦ old.each k span (sym (get_or-set_other spans i k (Some new) None (λ w. omega arith)) ∙ q)
@@ -73,7 +80,7 @@ AreWritten-set texts spans i new xs zs l h e s f u v =
           | inl more ↦ old.each k span (sym (get_or-set_other spans i k (Some new) None (λ w. omega arith)) ∙ q)
           | inr last ↦
               let at : k ≡ i = omega arith in
-              let both : new ≡ span = let found = ap (λ (n : ℕ). get_or (set spans i (Some new)) n None) at in cc in
+              let both = set_there spans i new span (ap (λ (n : ℕ). get_or (set spans i (Some new)) n None) (sym at) ∙ q) in
               subst (λ (n : ℕ). IsWrittenAt (get_or texts n []) span zs) (sym at) (subst (λ (w : Span). IsWrittenAt (get_or texts i []) w zs) both here)
         ]
       ]) }
