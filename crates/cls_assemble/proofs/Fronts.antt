@@ -27,11 +27,11 @@ pub record IsFirstMark (text : List ℕ) (piece : Piece) (count : ℕ) : Type 0 
   pub ascii : get_or text (count - 1) 0 < 128
   pub byte : (b : ℕ) → piece ≡ Byte b → b < 128
 
-abbrev piece_in : Option (Piece × ℕ) → Piece
+abbrev pub piece_in : Option (Piece × ℕ) → Piece
 piece_in None = Byte 0
 piece_in (Some f) = f.0
 
-abbrev count_in : Option (Piece × ℕ) → ℕ
+abbrev pub count_in : Option (Piece × ℕ) → ℕ
 count_in None = 0
 count_in (Some f) = f.1
 

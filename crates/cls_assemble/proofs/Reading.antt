@@ -16,7 +16,7 @@ use Rattle.cls_assemble.specs.Spelling.{is_plain, Spells, plain, AreSpelled, IsN
 use Rattle.cls_assemble.specs.Faults.{BeginsTemplate, BeginsPiece, HasBadHole, HasHole}
 use Rattle.cls_assemble.specs.Fronts.{first_piece, capped}
 use Rattle.cls_assemble.specs.Steps.{IsReadUpTo}
-use Rattle.cls_assemble.proofs.Fronts.{IsFirst, IsFirstMark, first_piece-mark, first_piece-spells}
+use Rattle.cls_assemble.proofs.Fronts.{IsFirst, IsFirstMark, piece_in, count_in, first_piece-mark, first_piece-spells}
 
 AreSpelled-append : (ps qs : List Piece) (xs ys : List ℕ) → AreSpelled ps xs → AreSpelled qs ys → AreSpelled (ps ++ qs) (xs ++ ys)
 AreSpelled-append [] qs xs ys h k = subst (λ (zs : List ℕ). AreSpelled qs (zs ++ ys)) (sym h) k
@@ -108,14 +108,6 @@ hole_at text ps at n k l h f = record {
   begins = begins text ps at l h;
   hole = record { front = take n (drop at text); more = drop n (drop at text); split = sym (take-append-drop n (drop at text)); spelled = f.first.spelled };
 }
-
-abbrev piece_in : Option (Piece × ℕ) → Piece
-piece_in None = Byte 0
-piece_in (Some f) = f.0
-
-abbrev count_in : Option (Piece × ℕ) → ℕ
-count_in None = 0
-count_in (Some f) = f.1
 
 uncapped : (o : Option (Piece × ℕ)) (q : Piece) (n : ℕ) → ◌≡◌ {A = Option (Piece × ℕ)} (Some (q, n)) (option_map (λ f. (capped f.0, f.1)) o) → (p : Piece) × (o ≡ Some (p, n)) × (capped p ≡ q)
 uncapped None q n e = cc

@@ -1,5 +1,6 @@
 pub mod Faults
 pub mod Fronts
+pub mod Laws
 pub mod Lengths
 pub mod Segments
 pub mod Spans
