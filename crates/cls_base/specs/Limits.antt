@@ -66,3 +66,11 @@ max_arity = 32
 -- the sum, over a library's instances, of spread + 1
 abbrev pub max_library_weight : ℕ
 max_library_weight = 1000000
+
+-- bytes of a term's text
+abbrev pub max_text_bytes : ℕ
+max_text_bytes = 65536
+
+-- the greatest number of a hole in a template
+abbrev pub max_hole : ℕ
+max_hole = 16

@@ -47,3 +47,9 @@ pub const MAX_ARITY: usize = 32;
 
 /// The most that the sum of spread + 1 over a library's instances may be.
 pub const MAX_LIBRARY_WEIGHT: u64 = 1_000_000;
+
+/// The most bytes of a term's text.
+pub const MAX_TEXT_BYTES: usize = 65_536;
+
+/// The greatest number of a hole in a template.
+pub const MAX_HOLE: u8 = 16;

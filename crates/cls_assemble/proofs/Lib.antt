@@ -1,0 +1,9 @@
+pub mod Counting
+pub mod Fronts
+pub mod Lengths
+pub mod Numerals
+pub mod Reading
+pub mod Readings
+pub mod Segments
+pub mod Texts
+pub mod Writing

@@ -1,0 +1,27 @@
+//! Templates of components, and the texts of terms that they make.
+//!
+//! - [`Template`] is what stands for a component: bytes, and holes for its arguments. [`Template::read`] reads it from its
+//!   text, or answers a [`TemplateFault`], and [`Template::of_name`] makes the template of a component that is given none.
+//! - [`Templates`] is a list with one template for each component, by number.
+//! - [`text_of`] makes the text of a term, or answers a [`TextFault`]. How long it is, is known before it is made.
+//! - [`laws`] says that a text is read in one way, and how long a filled template is.
+//!
+//! A term is gone down by calls that nest as deep as the term.
+#![tactic(auto)]
+
+mod fault;
+pub mod laws;
+mod length;
+mod piece;
+mod scan;
+mod template;
+mod templates;
+#[cfg(test)]
+mod tests;
+mod text;
+
+pub use fault::{TemplateFault, TextFault};
+pub use piece::Piece;
+pub use template::Template;
+pub use templates::Templates;
+pub use text::text_of;
