@@ -32,4 +32,5 @@ RefusalsAreExact =
 abbrev pub ReadingsAgree : Type 0
 ReadingsAgree =
     (d : Declared) (kinds : List (ℕ × List ClosedType)) (schemas : List OpenType) (l : Library)
-    → IsLibraryOf d kinds schemas l → (e : Applicative) (t : ClosedType) → HasTypeByInstances d kinds schemas e t ↔ HasTypeIn l e t
+    → IsLibraryOf d kinds schemas l → (e : Applicative) (t : ClosedType)
+    → HasTypeByInstances d kinds schemas e t ↔ HasTypeIn l e t

@@ -1,6 +1,6 @@
--- When a schema is accepted as the next component of a library, and why it is refused. The tests come in this order: too
--- many components, a variable without a kind, too many instances. Then each instance in turn may be too large, take too
--- many arguments, or make the library too large.
+-- When a schema is accepted as the next component of a library, and why it is refused. The tests come in this order:
+-- too many components, a variable without a kind, too many instances. Then each instance in turn may be too large, take
+-- too many arguments, or make the library too large.
 use Rattle.std.specs.Prelude.{ℕ, ◌≡◌, ◌+◌, ◌<◌, ◌≤◌, List, [], ◌∷◌, ◌++◌, length}
 use Rattle.cls_base.specs.Limits.{max_instances, max_components, max_arity, max_library_weight}
 use Rattle.cls_base.specs.Types.{ClosedType, spread}
@@ -56,13 +56,15 @@ module _ (d : Declared) (kinds : List (ℕ × List ClosedType)) where
   abbrev pub RefusesSchema : ℕ → OpenType → LibraryKind → Type 0
   RefusesSchema weight s TooManyComponents = ⊥
   RefusesSchema weight s (Kind (kind_faults.UnknownVariable v)) = IsFirstUnknown kinds s v.0
-  RefusesSchema weight s (Kind kind_faults.TooManyInstances) = AreKnown kinds s × (max_instances < count_of (ranges_of kinds s))
+  RefusesSchema weight s (Kind kind_faults.TooManyInstances) =
+      AreKnown kinds s × (max_instances < count_of (ranges_of kinds s))
   RefusesSchema weight s (Kind kind_faults.InstanceTooLarge) =
       HasInstances kinds s × FirstRefused (variances_in d) weight (instances_of kinds s) (λ w t. IsSmall t → ⊥)
   RefusesSchema weight s (Kind kind_faults.OutOfMemory) = ⊥
   RefusesSchema weight s ArityTooLarge =
       HasInstances kinds s
-      × FirstRefused (variances_in d) weight (instances_of kinds s) (λ w t. IsSmall t × TakesTooManyArguments (variances_in d) t)
+      × FirstRefused (variances_in d) weight (instances_of kinds s)
+      (λ w t. IsSmall t × TakesTooManyArguments (variances_in d) t)
   RefusesSchema weight s LibraryTooLarge =
       HasInstances kinds s
       × FirstRefused (variances_in d) weight (instances_of kinds s) (λ w t. IsSmall t × IsTooHeavy (variances_in d) w t)
@@ -83,7 +85,8 @@ module _ (d : Declared) (kinds : List (ℕ × List ClosedType)) where
   -- each schema is accepted after the ones before it
   abbrev pub AreAccepted : ℕ → ℕ → List OpenType → Type 0
   AreAccepted number weight [] = Unit {0}
-  AreAccepted number weight (s ∷ ss) = IsAccepted number weight s × AreAccepted (number + 1) (weight + weight_of (instances_of kinds s)) ss
+  AreAccepted number weight (s ∷ ss) =
+      IsAccepted number weight s × AreAccepted (number + 1) (weight + weight_of (instances_of kinds s)) ss
 
   -- the weight of the instances of all schemas
   abbrev pub weight_of_all : List OpenType → ℕ
