@@ -10,7 +10,11 @@ use std::alloc::Global;
 use std::mem;
 
 /// The positions of the family in groups. Those of a group stand in the same families: what is found of one holds of all.
-pub(crate) fn groups_of(alloc: Global, rows: &[Row], family: &Numbers) -> Result<Covers, OutOfMemory>
+pub(crate) fn groups_of(
+    alloc: Global,
+    rows: &[Row],
+    family: &Numbers,
+) -> Result<Covers, OutOfMemory>
     requires ascending { Ascending family.now }
     requires below { (x : ℕ) → Member family.now x → x < length rows.now }
     ensures { IfOk result (λ groups. AreGroups rows.now family.now groups) }

@@ -1,4 +1,4 @@
-use Rattle.std.proofs.Common.{ℕ, ◌≡◌, ◌<◌, ◌+◌, ◌∙◌, ◌⊎◌, inl, inr, List, [], ◌∷◌, zero, suc, length, get_or, sym, ap, subst, refl, arith, rules}
+use Rattle.std.proofs.Common.{ℕ, ◌≡◌, ◌<◌, ◌+◌, ◌∙◌, ◌⊎◌, inl, inr, List, [], ◌∷◌, zero, suc, length, get_or, sym, ap, subst, refl, arith}
 use Rattle.cls_cover.specs.Lists.{IsAscending}
 use Rattle.cls_cover.proofs.tests.are_ascending.Goals as goal
 

@@ -1,4 +1,4 @@
-use Rattle.std.proofs.Common.{ℕ, arith}
+use Rattle.std.proofs.Common.{arith}
 use Rattle.cls_cover.proofs.Ascending.{ascending}
 use Rattle.cls_cover.proofs.tests.is_ascending.Goals as goal
 
