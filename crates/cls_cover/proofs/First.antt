@@ -1,5 +1,5 @@
 -- Each number of the first family is a minimal cover of it.
-use Rattle.std.proofs.Common.{ℕ, zero, suc, ◌≡◌, ◌<◌, ◌≤◌, refl, sym, ◌∙◌, subst, ap, inl, inr, List, [], ◌∷◌, length, map, take, get_or, arith, Some, None, slice_get}
+use Rattle.std.proofs.Common.{ℕ, ◌≡◌, ◌<◌, refl, subst, ap, List, [], ◌∷◌, length, map, take, arith, Some, None, slice_get}
 use Rattle.std.proofs.lemmas.List.{length-map}
 use Rattle.cls_cover.specs.Members.{Member, first, later, Ascending, Differ}
 use Rattle.cls_cover.specs.Lists.{Sublist, ends, keeps, drops}

@@ -1,12 +1,12 @@
 -- From membership as a data family to std's word and back.
-use Rattle.std.proofs.Common.{ℕ, ◌<◌, ◌↔◌, List, [], ◌∷◌, length, All, take, get_or, Contains}
+use Rattle.std.proofs.Common.{ℕ, ◌<◌, List, [], ◌∷◌, length, All, take, get_or}
 use Rattle.cls_base.specs.Lists.{AreDistinct}
 use Rattle.cls_base.specs.Terms.{Precedes}
-use Rattle.cls_cover.specs.Lists.{Sublist, IsAscending, IsLexicographic}
-use Rattle.cls_cover.specs.Covers.{IsMinimal, AreMinimal, HasMore, Meets, MeetsEach, AreCovers, HaveMore}
+use Rattle.cls_cover.specs.Lists.{IsAscending, IsLexicographic}
+use Rattle.cls_cover.specs.Covers.{IsMinimal, MeetsEach, AreCovers, HaveMore}
 use Rattle.cls_cover.specs.Faults.{AreTooMany}
-use Rattle.cls_cover.specs.Members.{Member, Rises, Ascending, Differ}
-use Rattle.cls_cover.specs.MemberCovers.{IsMinimalSet, AreMinimalSets, HasMoreSets, Shares, SharesEach, AreCoverSets, HaveMoreSets}
+use Rattle.cls_cover.specs.Members.{Rises, Ascending, Differ}
+use Rattle.cls_cover.specs.MemberCovers.{IsMinimalSet, SharesEach, AreCoverSets, HaveMoreSets}
 use Rattle.cls_cover.specs.MemberFaults.{AreTooManySets}
 use Rattle.cls_cover.proofs.Lists.{contains_member, member_contains}
 

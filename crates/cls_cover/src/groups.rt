@@ -9,8 +9,12 @@ use cls_base::{Numbers, OutOfMemory};
 use std::alloc::Global;
 use std::mem;
 
-/// The positions of the family in groups. Those of a group stand in the same families, so what is found of one holds of all.
-pub(crate) fn groups_of(alloc: Global, rows: &[Row], family: &Numbers) -> Result<Covers, OutOfMemory>
+/// The positions of the family in groups. Those of a group stand in the same families: what is found of one holds of all.
+pub(crate) fn groups_of(
+    alloc: Global,
+    rows: &[Row],
+    family: &Numbers,
+) -> Result<Covers, OutOfMemory>
     requires ascending { Ascending family.now }
     requires below { (x : ℕ) → Member family.now x → x < length rows.now }
     ensures { IfOk result (λ groups. AreGroups rows.now family.now groups) }

@@ -1,7 +1,6 @@
-use Rattle.std.proofs.Common.{ℕ, ◌≡◌, ◌<◌, ◌⊎◌, inl, inr, length, get_or, ap, sym, ◌∙◌, subst, List, [], ◌∷◌, Bool, true, false, Some, slice_get}
+use Rattle.std.proofs.Common.{◌≡◌, ◌⊎◌, inl, inr, ap, sym, ◌∙◌, Bool, true, false}
 use Rattle.std.specs.Option.{option_copied}
-use Rattle.cls_cover.specs.Members.{Member}
-use Rattle.cls_cover.specs.Groups.{HasRowOf, row_at}
+use Rattle.cls_cover.specs.Groups.{HasRowOf}
 use Rattle.cls_cover.proofs.Marks.{row_of}
 use Rattle.cls_cover.proofs.Grouping.{first_member, first_row, same_flags}
 use Rattle.cls_cover.proofs.groups.belongs.Goals as goal

@@ -1,4 +1,4 @@
-use Rattle.std.proofs.Common.{ℕ, ◌≡◌, ◌<◌, ◌⊎◌, inl, inr, length, get_or, take, ap, sym, ◌∙◌, subst, arith, rules, List, [], ◌∷◌, ◌++◌, Bool, true, false}
+use Rattle.std.proofs.Common.{ℕ, ◌≡◌, inl, inr, get_or, take, ap, sym, ◌∙◌, subst, arith, List, [], ◌∷◌, ◌++◌, true}
 use Rattle.cls_cover.specs.Members.{Member}
 use Rattle.cls_cover.specs.Groups.{HasRowOf, AreRuns}
 use Rattle.cls_cover.proofs.Lists.{get_member}

@@ -1,7 +1,5 @@
-use Rattle.std.proofs.Common.{ℕ, ◌≡◌, ◌+◌, ◌<◌, ◌≤◌, length, get_or, take, drop, ap, sym, ◌∙◌, subst, arith, rules, refl, List, ◌++◌, ◌∷◌, [], IsTrue, true, false, append_assoc, take-append-drop, ◌⊎◌, inl, inr}
+use Rattle.std.proofs.Common.{ℕ, ◌≡◌, ◌+◌, ◌<◌, length, get_or, take, drop, ap, sym, ◌∙◌, subst, arith, rules, refl, List, ◌++◌, ◌∷◌, [], IsTrue, true, false, append_assoc, take-append-drop, inl, inr}
 use Rattle.cls_cover.specs.declared.cover.Cover.{Cover}
-use Rattle.cls_cover.specs.Members.{Member}
-use Rattle.cls_cover.specs.Rows.{family_at}
 use Rattle.cls_cover.specs.Growing.{IsPartlyAdded}
 use Rattle.cls_cover.proofs.Lists.{get_member, member_append}
 use Rattle.cls_cover.proofs.Grouping.{append_none, take_whole, taken_member, fresh_at, one_more}
@@ -23,8 +21,8 @@ returns-then-not-can_take_group c = λ old done r d p.
     let j = length c.args.cover.now.alone.items in
     partly_no c.args.families.now j c.requires.more c.args.limit c.args.cover.now.positions.items old c.args.list.now.items done p c.args.group.now
     (λ x m t q i.
-        let b : IsTrue c.can_take_group.result = (c.can_take_group.ensures x m).1 (minimal_stays c.args.families.now c.args.rows.now c.requires.rows j c.requires.more c.args.cover.now c.requires.known c.requires.missed x (c.requires.in_family x m) t q i) in
-        let g : c.can_take_group.result ≡ true = b in let h : c.can_take_group.result ≡ false = c.if-not-can_take_group.true in cc)
+    let b : IsTrue c.can_take_group.result = (c.can_take_group.ensures x m).1 (minimal_stays c.args.families.now c.args.rows.now c.requires.rows j c.requires.more c.args.cover.now c.requires.known c.requires.missed x (c.requires.in_family x m) t q i) in
+    let g : c.can_take_group.result ≡ true = b in let h : c.can_take_group.result ≡ false = c.if-not-can_take_group.true in cc)
 
 pub loop-x-init : goal.loop-x-init
 loop-x-init c = λ old done r d p.

@@ -1,7 +1,5 @@
-use Rattle.std.proofs.Common.{ℕ, ◌≡◌, ◌<◌, length, ap, sym, ◌∙◌, subst, List, [], ◌∷◌, Bool, true, false, Some, slice_get, IsTrue}
+use Rattle.std.proofs.Common.{ap, sym, ◌∙◌}
 use Rattle.std.specs.Option.{option_copied}
-use Rattle.cls_cover.specs.Members.{Member}
-use Rattle.cls_cover.specs.Growing.{StaysOwner}
 use Rattle.cls_cover.proofs.Grouping.{first_member, alike_rows, no_first}
 use Rattle.cls_cover.proofs.Marks.{stays_alike}
 use Rattle.cls_cover.proofs.grow.can_take_group.Goals as goal
