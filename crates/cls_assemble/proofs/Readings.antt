@@ -88,7 +88,6 @@ one_stop text us vs a b h k s t =
 pub templates_are_unique : TemplatesAreUnique
 templates_are_unique text ps qs h k = (one_stop text [] [] (length text) (length text) (whole_begins text ps h) (whole_begins text qs k) stops_at_end stops_at_end).pieces
 
-
 -- where a fault stands, and that nothing goes on there
 record IsStop (text : List ℕ) (byte : ℕ) (rest : List ℕ) : Type 0 where
   pub begins : BeginsTemplate text byte rest

@@ -55,7 +55,10 @@ fn digit_count(bytes: &[u8]) -> usize
     ensures count { result ≡ digit_count bytes.now }
     ensures within { result ≤ length bytes.now }
 {
-    bytes.iter().take_while(|byte| byte.is_ascii_digit()).count()
+    bytes
+        .iter()
+        .take_while(|byte| byte.is_ascii_digit())
+        .count()
 }
 
 /// The number that the digits spell, and 17 if it is over 16.
