@@ -30,8 +30,8 @@ in_parentheses text = codes "(" ++ text ++ codes ")"
 abbrev pub surplus_from : ℕ → List (List ℕ) → List ℕ
 surplus_from place texts = flat_map in_parentheses (drop place texts)
 
--- The template with its holes filled, and behind it each argument whose number is over the greatest hole, in parentheses. An
--- argument whose number has no hole and isn't over the greatest is dropped.
+-- The template with its holes filled, and behind it each argument whose number is over the greatest hole, in
+-- parentheses. An argument whose number has no hole and isn't over the greatest is dropped.
 abbrev pub filled : List Piece → List (List ℕ) → List ℕ
 filled pieces texts = flat_map (piece_text texts) pieces ++ surplus_from (greatest_hole pieces) texts
 

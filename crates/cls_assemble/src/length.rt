@@ -14,8 +14,8 @@ use cls_term::Term;
 /// What a length over the limit counts as.
 const TOO_LONG: usize = MAX_TEXT_BYTES + 1;
 
-/// The number of bytes of the term's text, and one more than the limit if it is over the limit. It takes no memory, and goes
-/// to each part of the term once.
+/// The number of bytes of the term's text, and one more than the limit if it is over the limit. It takes no memory, and
+/// goes to each part of the term once.
 #[tactic(auto, using(crate::proofs::Texts::parts))]
 pub(crate) fn text_length(templates: &Templates, term: &Term) -> usize
     requires { greatest_of term.now < length templates.now }

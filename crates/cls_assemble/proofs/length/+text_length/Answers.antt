@@ -1,4 +1,4 @@
-use Rattle.std.proofs.Common.{◌≡◌, ◌<◌, ◌+◌, ℕ, List, length, map, [], get_or, ap, sym, subst, ◌∙◌, arith}
+use Rattle.std.proofs.Common.{◌<◌, ◌+◌, ℕ, List, length, map, ap, sym, subst, ◌∙◌, arith}
 use Rattle.cls_base.specs.Terms.{component}
 use Rattle.cls_base.specs.Spines.{spine}
 use Rattle.cls_assemble.specs.Texts.{template_at, text_of}
