@@ -1,5 +1,5 @@
 -- The length of a text as the code counts it.
-use Rattle.std.proofs.Common.{◌≡◌, ℕ, ◌+◌, ◌-◌, ◌<◌, ◌≤◌, List, [], ◌∷◌, ◌++◌, length, map, min, max, get_or, set, take, drop, refl, sym, ap, ◌∙◌, subst, arith, suc, zero, inl, inr, length-append, length-set, add-one}
+use Rattle.std.proofs.Common.{◌≡◌, ℕ, ◌+◌, ◌-◌, ◌<◌, ◌≤◌, List, [], ◌∷◌, ◌++◌, length, map, max, get_or, set, take, drop, refl, sym, ap, ◌∙◌, arith, suc, zero, inl, inr, length-append, length-set}
 use Rattle.std.specs.Prelude.{codes}
 use Rattle.std.specs.List.{AllByRecursion, flat_map}
 use Rattle.std.proofs.lemmas.Bool.{cases_lt}
@@ -12,7 +12,7 @@ use Rattle.cls_assemble.specs.declared.piece.Piece.{Piece}
 use Rattle.cls_assemble.specs.declared.piece.Piece.TheVariants.{Byte, Hole}
 use Rattle.cls_assemble.specs.Spelling.{IsNumbered}
 use Rattle.cls_assemble.specs.Texts.{text_of, greatest_hole, piece_text, in_parentheses, filled}
-use Rattle.cls_assemble.specs.Lengths.{piece_length, pieces_length, surplus_length, filled_length, FilledLengths, capped_length}
+use Rattle.cls_assemble.specs.Lengths.{piece_length, pieces_length, surplus_length, FilledLengths, capped_length}
 
 piece_length-text : (texts : List (List ℕ)) (p : Piece) → length (piece_text texts p) ≡ piece_length (map length texts) p
 piece_length-text texts (Byte b) = refl

@@ -1,5 +1,5 @@
 -- Lengths of templates, segment by segment.
-use Rattle.std.proofs.Common.{◌≡◌, ℕ, ◌+◌, ◌-◌, ◌<◌, ◌≤◌, List, [], ◌∷◌, ◌++◌, length, map, max, get_or, drop, refl, sym, ap, ◌∙◌, arith, add-one, suc, string_bytes}
+use Rattle.std.proofs.Common.{◌≡◌, ℕ, ◌+◌, ◌-◌, ◌<◌, List, [], ◌∷◌, ◌++◌, length, map, get_or, drop, refl, sym, ap, ◌∙◌, arith, add-one, suc, string_bytes}
 use Rattle.std.specs.List.{AllByRecursion}
 use Rattle.std.proofs.Math.Seq.{drop-cons}
 use Rattle.cls_assemble.specs.declared.piece.Piece.{Piece}

@@ -1,5 +1,5 @@
 -- What is read from the left: templates that grow, and faults.
-use Rattle.std.proofs.Common.{◌≡◌, ℕ, ◌+◌, ◌-◌, ◌<◌, ◌≤◌, Bool, true, false, List, [], ◌∷◌, ◌++◌, length, map, min, take, drop, get_or, refl, sym, ap, ◌∙◌, subst, arith, append_assoc, append-nil, length-drop, inl, inr}
+use Rattle.std.proofs.Common.{◌≡◌, ℕ, ◌+◌, ◌-◌, ◌<◌, ◌≤◌, true, false, List, [], ◌∷◌, ◌++◌, length, map, min, take, drop, get_or, refl, sym, ap, ◌∙◌, subst, arith, append_assoc, append-nil, length-drop, inl, inr}
 use Rattle.std.specs.Prelude.{Option, Some, None, option_map, ◌≢◌}
 use Rattle.std.specs.List.{prefix_len, list_all, AllByRecursion}
 use Rattle.std.specs.Str.{IsUtf8, IsCharBoundary}
@@ -13,10 +13,10 @@ use Rattle.cls_syntax.proofs.Runs.{list_all-prefix}
 use Rattle.cls_assemble.specs.declared.piece.Piece.{Piece}
 use Rattle.cls_assemble.specs.declared.piece.Piece.TheVariants.{Byte, Hole}
 use Rattle.cls_assemble.specs.Spelling.{is_plain, Spells, plain, AreSpelled, IsNumbered, IsTemplate}
-use Rattle.cls_assemble.specs.Faults.{BeginsTemplate, BeginsPiece, HasBadHole, HasHole}
+use Rattle.cls_assemble.specs.Faults.{BeginsTemplate, HasBadHole, HasHole}
 use Rattle.cls_assemble.specs.Fronts.{first_piece, capped}
 use Rattle.cls_assemble.specs.Steps.{IsReadUpTo}
-use Rattle.cls_assemble.proofs.Fronts.{IsFirst, IsFirstMark, piece_in, count_in, first_piece-mark, first_piece-spells}
+use Rattle.cls_assemble.proofs.Fronts.{IsFirstMark, piece_in, count_in, first_piece-mark, first_piece-spells}
 
 AreSpelled-append : (ps qs : List Piece) (xs ys : List ℕ) → AreSpelled ps xs → AreSpelled qs ys → AreSpelled (ps ++ qs) (xs ++ ys)
 AreSpelled-append [] qs xs ys h k = subst (λ (zs : List ℕ). AreSpelled qs (zs ++ ys)) (sym h) k

@@ -1,15 +1,14 @@
 -- A text is read in one way.
-use Rattle.std.proofs.Common.{◌≡◌, ◌≢◌, ℕ, ◌+◌, ◌<◌, ◌≤◌, List, [], ◌∷◌, ◌++◌, length, take, drop, refl, sym, ap, ◌∙◌, subst, arith, append_assoc, append-nil, length-append}
-use Rattle.std.specs.Prelude.{Option, Some, None}
+use Rattle.std.proofs.Common.{◌≡◌, ◌≢◌, ℕ, ◌<◌, List, [], ◌∷◌, ◌++◌, length, take, drop, refl, sym, ap, ◌∙◌, subst, arith, append_assoc, append-nil, length-append}
+use Rattle.std.specs.Prelude.{Some}
 use Rattle.std.specs.List.{AllByRecursion}
 use Rattle.std.proofs.Math.Seq.{take-append_seam, drop-append_seam}
 use Rattle.cls_base.specs.Limits.{max_hole}
 use Rattle.cls_assemble.specs.declared.piece.Piece.{Piece}
-use Rattle.cls_assemble.specs.declared.piece.Piece.TheVariants.{Byte, Hole}
-use Rattle.cls_assemble.specs.declared.fault.TemplateFault.{TemplateFault}
+use Rattle.cls_assemble.specs.declared.piece.Piece.TheVariants.{Hole}
 use Rattle.cls_assemble.specs.declared.fault.TemplateFault.TheVariants.{BadHole, HoleZero, HoleOver16, OutOfMemory}
 use Rattle.cls_assemble.specs.Spelling.{Spells, plain, opening, closing, line_feed, backslash, hole, AreSpelled, IsNumbered, IsTemplate}
-use Rattle.cls_assemble.specs.Faults.{BeginsTemplate, BeginsPiece, HasBadHole, HasHole, IsFaultOf}
+use Rattle.cls_assemble.specs.Faults.{BeginsTemplate, BeginsPiece, HasBadHole, HasHole}
 use Rattle.cls_assemble.specs.Fronts.{first_piece}
 use Rattle.cls_assemble.specs.Laws.{TemplatesAreUnique, TemplatesHaveNoFault, FaultsAreUnique}
 use Rattle.cls_assemble.proofs.Fronts.{first_piece-spells, piece_in, count_in}
@@ -87,7 +86,6 @@ one_stop text us vs a b h k s t =
 
 pub templates_are_unique : TemplatesAreUnique
 templates_are_unique text ps qs h k = (one_stop text [] [] (length text) (length text) (whole_begins text ps h) (whole_begins text qs k) stops_at_end stops_at_end).pieces
-
 
 -- where a fault stands, and that nothing goes on there
 record IsStop (text : List ℕ) (byte : ℕ) (rest : List ℕ) : Type 0 where

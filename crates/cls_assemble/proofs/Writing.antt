@@ -7,7 +7,6 @@ use Rattle.std.proofs.lemmas.Bool.{cases_lt}
 use Rattle.std.proofs.lemmas.List.{take-append-le, drop-append-le, get_or-set_same, get_or-set_other, get_or_past, length-set, take_all, drop_all, length-drop}
 use Rattle.std.proofs.Math.Seq.{drop-append_seam, drop-cons}
 use Rattle.std.proofs.lemmas.Str.{IsCharBoundary-from_take}
-use Rattle.cls_base.specs.Terms.{Applicative}
 use Rattle.cls_assemble.specs.declared.piece.Piece.{Piece}
 use Rattle.cls_assemble.specs.declared.piece.Piece.TheVariants.{Byte, Hole}
 use Rattle.cls_assemble.specs.declared.template.Segment.{Segment}
@@ -73,17 +72,19 @@ pub AreWritten-set : (texts : List (List ℕ)) (spans : List (Option Span)) (i :
 AreWritten-set texts spans i new xs zs h e s f u v =
     let old = AreWritten-more texts spans xs (get_or texts i []) zs e h in
     let here = new_span (get_or texts i []) xs zs new e s f u v in
-    record { each = λ k span q.
-      (elim (cases_lt k i) as (λ _. IsWrittenAt (get_or texts k []) span zs) [
-        | inl less ↦ old.each k span (sym (get_or-set_other spans i k (Some new) None (λ w. omega arith)) ∙ q)
-        | inr most ↦ elim (cases_lt i k) as (λ _. IsWrittenAt (get_or texts k []) span zs) [
-          | inl more ↦ old.each k span (sym (get_or-set_other spans i k (Some new) None (λ w. omega arith)) ∙ q)
-          | inr last ↦
-              let at : k ≡ i = omega arith in
-              let both = set_there spans i new span (ap (λ (n : ℕ). get_or (set spans i (Some new)) n None) (sym at) ∙ q) in
-              subst (λ (n : ℕ). IsWrittenAt (get_or texts n []) span zs) (sym at) (subst (λ (w : Span). IsWrittenAt (get_or texts i []) w zs) both here)
-        ]
-      ]) }
+    record {
+      each = λ k span q.
+          (elim (cases_lt k i) as (λ _. IsWrittenAt (get_or texts k []) span zs) [
+            | inl less ↦ old.each k span (sym (get_or-set_other spans i k (Some new) None (λ w. omega arith)) ∙ q)
+            | inr most ↦ elim (cases_lt i k) as (λ _. IsWrittenAt (get_or texts k []) span zs) [
+              | inl more ↦ old.each k span (sym (get_or-set_other spans i k (Some new) None (λ w. omega arith)) ∙ q)
+              | inr last ↦
+                  let at : k ≡ i = omega arith in
+                  let both = set_there spans i new span (ap (λ (n : ℕ). get_or (set spans i (Some new)) n None) (sym at) ∙ q) in
+                  subst (λ (n : ℕ). IsWrittenAt (get_or texts n []) span zs) (sym at) (subst (λ (w : Span). IsWrittenAt (get_or texts i []) w zs) both here)
+            ]
+          ]);
+    }
 
 -- a written place may be cut
 pub split_point : (bytes : List ℕ) (n : ℕ) → IsUtf8 bytes → n ≤ length bytes → IsUtf8 (take n bytes) → IsSplitPoint bytes n

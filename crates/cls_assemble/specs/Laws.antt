@@ -12,8 +12,10 @@ TemplatesAreUnique = (text : List ℕ) (ps qs : List Piece) → IsTemplate text 
 
 -- a template has no fault
 abbrev pub TemplatesHaveNoFault : Type 0
-TemplatesHaveNoFault = (text : List ℕ) (ps : List Piece) (fault : TemplateFault) → IsTemplate text ps → IsFaultOf text fault → fault ≡ OutOfMemory
+TemplatesHaveNoFault =
+    (text : List ℕ) (ps : List Piece) (fault : TemplateFault) → IsTemplate text ps → IsFaultOf text fault → fault ≡ OutOfMemory
 
 -- no text has two faults, nor one fault at two bytes
 abbrev pub FaultsAreUnique : Type 0
-FaultsAreUnique = (text : List ℕ) (f g : TemplateFault) → f ≢ OutOfMemory → g ≢ OutOfMemory → IsFaultOf text f → IsFaultOf text g → f ≡ g
+FaultsAreUnique =
+    (text : List ℕ) (f g : TemplateFault) → f ≢ OutOfMemory → g ≢ OutOfMemory → IsFaultOf text f → IsFaultOf text g → f ≡ g

@@ -24,7 +24,8 @@ filled_length pieces lengths = pieces_length lengths pieces + surplus_length (dr
 
 -- The length of a filled template hangs on the lengths of the texts alone.
 abbrev pub FilledLengths : Type 0
-FilledLengths = (pieces : List Piece) (texts : List (List ℕ)) → length (filled pieces texts) ≡ filled_length pieces (map length texts)
+FilledLengths =
+    (pieces : List Piece) (texts : List (List ℕ)) → length (filled pieces texts) ≡ filled_length pieces (map length texts)
 
 -- the length, where all that are over the limit count as one more than it
 abbrev pub capped_length : ℕ → ℕ

@@ -1,5 +1,5 @@
 -- How a template is spelled.
-use Rattle.std.specs.Prelude.{ℕ, ◌≡◌, ◌≤◌, Bool, not, ◌&&◌, ◌==◌, List, [], ◌∷◌, ◌++◌, IsTrue, codes}
+use Rattle.std.specs.Prelude.{ℕ, ◌≡◌, ◌≤◌, Bool, not, ◌&&◌, ◌==◌, List, [], ◌∷◌, ◌++◌, IsTrue}
 use Rattle.std.specs.List.{AllByRecursion}
 use Rattle.cls_base.specs.Limits.{max_hole}
 use Rattle.cls_syntax.specs.Numerals.{is_numeral, number_value}
@@ -10,8 +10,8 @@ use Rattle.cls_assemble.specs.declared.piece.Piece.TheVariants.{Byte, Hole}
 abbrev pub is_plain : ℕ → Bool
 is_plain b = not (b == 123) && not (b == 125) && not (b == 92)
 
--- The bytes spell the piece: a byte for itself, `{{`, `}}`, `\n`, `\\`, and a hole with its number in braces. Leading zeros
--- are allowed, and any number.
+-- The bytes spell the piece: a byte for itself, `{{`, `}}`, `\n`, `\\`, and a hole with its number in braces. Leading
+-- zeros are allowed, and any number.
 pub data Spells : Piece → List ℕ → Type 0 where
   plain : {b : ℕ} → IsTrue (is_plain b) → Spells (Byte b) (b ∷ [])
   opening : Spells (Byte 123) (123 ∷ 123 ∷ [])

@@ -1,5 +1,5 @@
 -- How far a text is read.
-use Rattle.std.specs.Prelude.{ℕ, ◌≤◌, List, length, take}
+use Rattle.std.specs.Prelude.{ℕ, List, take}
 use Rattle.std.specs.Str.{IsCharBoundary}
 use Rattle.cls_assemble.specs.declared.piece.Piece.{Piece}
 use Rattle.cls_assemble.specs.Spelling.{IsTemplate}

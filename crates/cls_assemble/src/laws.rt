@@ -2,8 +2,8 @@
 ghost use Rattle.cls_assemble.specs.Laws.{TemplatesAreUnique, TemplatesHaveNoFault, FaultsAreUnique};
 ghost use Rattle.cls_assemble.specs.Lengths.{FilledLengths};
 
-/// A text is one template or has one fault. So what [`Template::read`](crate::Template::read) answers is the only answer that
-/// its clauses allow, unless it is out of memory.
+/// A text is at most one template or has at most one fault, and not both. So the clauses of
+/// [`Template::read`](crate::Template::read) allow one answer besides out of memory.
 pub fn a_text_is_read_in_one_way()
     ensures templates { TemplatesAreUnique }
     ensures no_fault { TemplatesHaveNoFault }

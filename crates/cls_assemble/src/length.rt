@@ -1,9 +1,9 @@
 //! How long a text is, known before it is made.
-ghost use Rattle.std.specs.Prelude.{◌≡◌, ◌+◌, ◌-◌, ◌<◌, ◌≤◌, length, slice_set};
+ghost use Rattle.std.specs.Prelude.{◌≡◌, ◌+◌, ◌<◌, length, slice_set};
 ghost use Rattle.std.specs.List.{AllByRecursion};
 ghost use Rattle.cls_term.specs.Components.{greatest_of};
 ghost use Rattle.cls_assemble.specs.Spelling.{IsNumbered};
-ghost use Rattle.cls_assemble.specs.Texts.{template_at, text_of, greatest_hole};
+ghost use Rattle.cls_assemble.specs.Texts.{text_by, greatest_hole};
 ghost use Rattle.cls_assemble.specs.Lengths.{pieces_length, capped_length};
 
 use crate::template::Template;
@@ -14,12 +14,12 @@ use cls_term::Term;
 /// What a length over the limit counts as.
 const TOO_LONG: usize = MAX_TEXT_BYTES + 1;
 
-/// The number of bytes of the term's text, and one more than the limit if it is over the limit. It takes no memory, and goes
-/// to each part of the term once.
+/// The number of bytes of the term's text, and one more than the limit if it is over the limit. It takes no memory, and
+/// goes to each part of the term once.
 #[tactic(auto, using(crate::proofs::Texts::parts))]
 pub(crate) fn text_length(templates: &Templates, term: &Term) -> usize
     requires { greatest_of term.now < length templates.now }
-    ensures { result ≡ capped_length (length (text_of (template_at templates.now) term.now)) }
+    ensures { result ≡ capped_length (length (text_by templates.now term.now)) }
 {
     let template = &templates.as_slice()[term.head as usize];
     let greatest = template.greatest();

@@ -1,7 +1,7 @@
 //! Templates of components, and the texts of terms that they make.
 //!
-//! - [`Template`] is what stands for a component: bytes, and holes for its arguments. [`Template::read`] reads it from its
-//!   text, or answers a [`TemplateFault`], and [`Template::of_name`] makes the template of a component that is given none.
+//! - [`Template`] is what stands for a component: bytes, and holes for its arguments. [`Template::read`] reads it from
+//!   its text, or answers a [`TemplateFault`]. [`Template::of_name`] is for a component that is given no template.
 //! - [`Templates`] is a list with one template for each component, by number.
 //! - [`text_of`] makes the text of a term, or answers a [`TextFault`]. How long it is, is known before it is made.
 //! - [`laws`] says that a text is read in one way, and how long a filled template is.

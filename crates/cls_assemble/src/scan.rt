@@ -16,8 +16,8 @@ pub(crate) fn plain_count(bytes: &[u8]) -> usize
     bytes.iter().take_while(|byte| is_plain(**byte)).count()
 }
 
-/// The piece that the bytes begin with, and how many of them spell it, or None if they begin no piece. A hole of a number
-/// over 16 has the number 17 here.
+/// The piece that the bytes begin with, and how many of them spell it, or None if they begin no piece. A hole of a
+/// number over 16 has the number 17 here.
 pub(crate) fn first_piece(bytes: &[u8]) -> Option<(Piece, usize)>
     ensures { result ≡ option_map (λ f. (capped f.0, f.1)) (first_piece bytes.now) }
 {
@@ -55,7 +55,10 @@ fn digit_count(bytes: &[u8]) -> usize
     ensures count { result ≡ digit_count bytes.now }
     ensures within { result ≤ length bytes.now }
 {
-    bytes.iter().take_while(|byte| byte.is_ascii_digit()).count()
+    bytes
+        .iter()
+        .take_while(|byte| byte.is_ascii_digit())
+        .count()
 }
 
 /// The number that the digits spell, and 17 if it is over 16.

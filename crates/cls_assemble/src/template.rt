@@ -43,8 +43,8 @@ impl Model for Template {
 }
 
 impl Template {
-    /// Reads a template. The bytes of a text stand for themselves, but for `{`, `}` and the backslash: `{{` and `}}` stand
-    /// for a brace, `\n` for a line feed, `\\` for a backslash, and `{1}` to `{16}` are holes, also with leading zeros.
+    /// Reads a template. The bytes of a text stand for themselves, but for `{`, `}` and the backslash: `{{` and `}}`
+    /// stand for a brace, `\n` for a line feed, `\\` for a backslash. `{1}` to `{16}` are holes, also with leading zeros.
     ///
     /// The error is the first fault from the left, with its byte: `BadHole` if a brace or a backslash begins none of
     /// these, `HoleZero` at a hole 0, and `HoleOver16` at a hole over 16. Otherwise it is out of memory.

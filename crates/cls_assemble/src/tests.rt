@@ -7,12 +7,7 @@ use std::alloc::Global;
 use std::test::Fail;
 
 /// The templates of three components, from their texts.
-fn templates_of(
-    alloc: Global,
-    first: &str,
-    second: &str,
-    third: &str,
-) -> Result<Templates, Fail>
+fn templates_of(alloc: Global, first: &str, second: &str, third: &str) -> Result<Templates, Fail>
     requires first { length first.now < 2 ^ 32 }
     requires second { length second.now < 2 ^ 32 }
     requires third { length third.now < 2 ^ 32 }
@@ -57,41 +52,59 @@ fn nested(alloc: Global, times: u32) -> Result<Term, Fail>
     Ok(term)
 }
 
-fn assert_filled(rt: HostRuntime, template: &str, expected: &str) -> Result<(), Fail>
+/// The text of component 0 applied to two, by this template and the texts `ab` and `c`.
+fn filled(alloc: Global, template: &str) -> Result<String, Fail>
     requires { length template.now < 2 ^ 32 }
 {
-    let templates = templates_of(rt.alloc(), template, "ab", "c")?;
-    let text = text_of(rt.alloc(), &templates, &applied_to_two(rt.alloc())?)?;
-    assert_eq!(rt; text.as_str(), expected);
-    Ok(())
+    let templates = templates_of(alloc, template, "ab", "c")?;
+    Ok(text_of(alloc, &templates, &applied_to_two(alloc)?)?)
 }
 
 #[test]
 fn holes_are_filled(rt: HostRuntime) -> Result<(), Fail> {
-    assert_filled(rt, "{1}+{02}", "ab+c")?;
-    assert_filled(rt, "{2}{2}{1}{2}", "ccabc")?;
-    assert_filled(rt, "{3}{1}", "_ab")?;
-    assert_filled(rt, "{2}", "c")?;
-    assert_filled(rt, "{1}", "ab(c)")?;
-    assert_filled(rt, "é{{}}\\n\\\\", "é{}\n\\(ab)(c)")
+    assert_eq!(rt; filled(rt.alloc(), "{1}+{02}")?.as_str(), "ab+c");
+    assert_eq!(rt; filled(rt.alloc(), "{2}{2}{1}{2}")?.as_str(), "ccabc");
+    assert_eq!(rt; filled(rt.alloc(), "{3}{1}")?.as_str(), "_ab");
+    assert_eq!(rt; filled(rt.alloc(), "{2}")?.as_str(), "c");
+    assert_eq!(rt; filled(rt.alloc(), "{1}")?.as_str(), "ab(c)");
+    assert_eq!(rt;
+        filled(rt.alloc(), "é{{}}\\n\\\\")?.as_str(),
+        "é{}\n\\(ab)(c)"
+    );
+    Ok(())
 }
 
-fn assert_fault(rt: HostRuntime, text: &str, expected: TemplateFault) -> Result<(), Fail>
+fn fault_of(alloc: Global, text: &str) -> Option<TemplateFault>
     requires { length text.now < 2 ^ 32 }
 {
-    assert_eq!(rt; Template::read(rt.alloc(), text).err(), Some(expected));
-    Ok(())
+    Template::read(alloc, text).err()
 }
 
 #[test]
 fn the_first_fault_has_its_byte(rt: HostRuntime) -> Result<(), Fail> {
-    assert_fault(rt, "a{", TemplateFault::BadHole(1))?;
-    assert_fault(rt, "é}", TemplateFault::BadHole(2))?;
-    assert_fault(rt, "\\\\\\x", TemplateFault::BadHole(2))?;
-    assert_fault(rt, "{}{17}", TemplateFault::BadHole(0))?;
-    assert_fault(rt, "{{{00}", TemplateFault::HoleZero(2))?;
-    assert_fault(rt, "{16}{017}{", TemplateFault::HoleOver16(4))?;
-    assert_fault(rt, "{99999999999999999999}", TemplateFault::HoleOver16(0))
+    assert_eq!(rt; fault_of(rt.alloc(), "a{"), Some(TemplateFault::BadHole(1)));
+    assert_eq!(rt; fault_of(rt.alloc(), "é}"), Some(TemplateFault::BadHole(2)));
+    assert_eq!(rt;
+        fault_of(rt.alloc(), "\\\\\\x"),
+        Some(TemplateFault::BadHole(2))
+    );
+    assert_eq!(rt;
+        fault_of(rt.alloc(), "{}{17}"),
+        Some(TemplateFault::BadHole(0))
+    );
+    assert_eq!(rt;
+        fault_of(rt.alloc(), "{{{00}"),
+        Some(TemplateFault::HoleZero(2))
+    );
+    assert_eq!(rt;
+        fault_of(rt.alloc(), "{16}{017}{"),
+        Some(TemplateFault::HoleOver16(4))
+    );
+    assert_eq!(rt;
+        fault_of(rt.alloc(), "{99999999999999999999}"),
+        Some(TemplateFault::HoleOver16(0))
+    );
+    Ok(())
 }
 
 #[test]
@@ -99,7 +112,12 @@ fn a_text_may_have_65536_bytes(rt: HostRuntime) -> Result<(), Fail> {
     let templates = templates_of(rt.alloc(), "ab", "{1}{1}", "")?;
     let longest = text_of(rt.alloc(), &templates, &nested(rt.alloc(), 15)?)?;
     assert_eq!(rt; longest.len(), 65_536);
-    assert!(rt; longest.as_bytes().chunks(2).all(|pair| pair == b"ab"));
+    assert!(rt;
+        longest
+            .as_bytes()
+            .chunks(2)
+            .all(|pair| pair == b"ab".as_slice())
+    );
     let over = text_of(rt.alloc(), &templates, &nested(rt.alloc(), 16)?);
     assert_eq!(rt; over.err(), Some(TextFault::TextTooLong));
     let far_over = text_of(rt.alloc(), &templates, &nested(rt.alloc(), 64)?);

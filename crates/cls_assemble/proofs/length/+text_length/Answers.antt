@@ -1,4 +1,4 @@
-use Rattle.std.proofs.Common.{◌≡◌, ◌<◌, ◌+◌, ℕ, List, length, map, [], get_or, ap, sym, subst, ◌∙◌, arith}
+use Rattle.std.proofs.Common.{◌<◌, ◌+◌, ℕ, List, length, map, ap, sym, subst, ◌∙◌, arith}
 use Rattle.cls_base.specs.Terms.{component}
 use Rattle.cls_base.specs.Spines.{spine}
 use Rattle.cls_assemble.specs.Texts.{template_at, text_of}
@@ -35,7 +35,7 @@ loop-index-preserved t c =
     record {
       known = subst (λ (known : List ℕ). AreKnown (argument_lengths template items) (c.loop-index.index + 1) known) (sym c.put_length.ensures) (AreKnown-more (argument_lengths template items) c.loop-index.index c.loop-index.lengths c.text_length-length.result within same c.loop-index.invariant.known);
       surplus = elim c.if-index-greatest.branch [
-        then-index-greatest w ↦ subst (λ (surplus : ℕ). IsSurplus (argument_lengths template items) c.greatest-greatest.result (c.loop-index.index + 1) surplus) (sym (w.surplus-is ∙ w.add_capped-surplus.ensures)) (IsSurplus-over (argument_lengths template items) c.greatest-greatest.result c.loop-index.index c.loop-index.surplus c.text_length-length.result w.if-index-greatest.true within same c.loop-index.invariant.surplus)
+        | then-index-greatest w ↦ subst (λ (surplus : ℕ). IsSurplus (argument_lengths template items) c.greatest-greatest.result (c.loop-index.index + 1) surplus) (sym (w.surplus-is ∙ w.add_capped-surplus.ensures)) (IsSurplus-over (argument_lengths template items) c.greatest-greatest.result c.loop-index.index c.loop-index.surplus c.text_length-length.result w.if-index-greatest.true within same c.loop-index.invariant.surplus)
         | else-index-greatest w ↦ subst (λ (surplus : ℕ). IsSurplus (argument_lengths template items) c.greatest-greatest.result (c.loop-index.index + 1) surplus) (sym w.surplus-is) (IsSurplus-under (argument_lengths template items) c.greatest-greatest.result c.loop-index.index c.loop-index.surplus w.if-index-greatest.false c.loop-index.invariant.surplus)
       ];
     }

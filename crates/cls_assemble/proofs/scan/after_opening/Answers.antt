@@ -1,6 +1,3 @@
-use Rattle.std.proofs.Common.{◌≡◌, take, length}
-use Rattle.std.specs.List.{prefix_len}
-use Rattle.cls_syntax.specs.Characters.{is_digit}
 use Rattle.cls_assemble.proofs.Numerals.{prefix_len-front}
 use Rattle.cls_assemble.proofs.scan.after_opening.Goals as goal
 

@@ -1,4 +1,4 @@
-use Rattle.std.proofs.Common.{length, get_or, refl, arith}
+use Rattle.std.proofs.Common.{get_or, refl, arith}
 use Rattle.cls_assemble.proofs.Numerals.{digit_at, number_value-more}
 use Rattle.cls_assemble.proofs.scan.hole_number.Goals as goal
 

@@ -2,5 +2,5 @@ use Rattle.std.proofs.Common.{◌<◌}
 use Rattle.cls_term.specs.Components.{greatest_of}
 use Rattle.cls_assemble.proofs.tests.nested.Given as goal
 
-abbrev pub invariant-loop-1 : goal.invariant-loop-1
-invariant-loop-1 l = greatest_of l.term < 3
+abbrev pub invariant-loop : goal.invariant-loop
+invariant-loop l = greatest_of l.term < 3

@@ -1,15 +1,14 @@
-use Rattle.std.proofs.Common.{◌≡◌, ◌<◌, ◌+◌, ◌-◌, ◌++◌, ℕ, List, [], length, map, get_or, take, drop, sym, ap, ◌∙◌, arith, string_bytes}
+use Rattle.std.proofs.Common.{◌<◌, ◌+◌, ◌-◌, ◌++◌, ℕ, List, [], length, map, get_or, take, drop, sym, ap, ◌∙◌, arith, string_bytes}
 use Rattle.std.specs.Prelude.{codes}
 use Rattle.std.specs.List.{flat_map}
 use Rattle.std.proofs.lemmas.List.{get_or_default, length-map}
 use Rattle.std.proofs.lemmas.Str.{IsUtf8-string_bytes, encode_ascii}
-use Rattle.cls_assemble.specs.declared.piece.Piece.{Piece}
 use Rattle.cls_assemble.specs.declared.template.Segment.{Segment}
 use Rattle.cls_assemble.specs.declared.text.Span.{Span}
 use Rattle.cls_assemble.specs.Segments.{pieces_in}
-use Rattle.cls_assemble.specs.Texts.{template_at, text_of, piece_text, in_parentheses, greatest_hole}
+use Rattle.cls_assemble.specs.Texts.{template_at, text_of, piece_text, in_parentheses}
 use Rattle.cls_assemble.proofs.Texts.{text_of-parts, measures_of-parts, greatest_of-argument, length_of-argument, argument_text-at}
-use Rattle.cls_assemble.proofs.Writing.{AreWritten-none, AreWritten-more, AreWritten-set, split_point, segment_text, tail_text, surplus_text, write-step, write-end, surplus-step}
+use Rattle.cls_assemble.proofs.Writing.{AreWritten-more, AreWritten-set, split_point, segment_text, tail_text, surplus_text, write-step, write-end, surplus-step}
 use Rattle.cls_assemble.proofs.text.+write.Goals as goal
 
 pub write-bounds-as_slice-term-inside : goal.write-bounds-as_slice-term-inside

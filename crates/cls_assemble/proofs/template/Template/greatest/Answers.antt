@@ -1,4 +1,4 @@
-use Rattle.std.proofs.Common.{List, [], ap, sym, ◌∙◌, string_bytes, drop, arith}
+use Rattle.std.proofs.Common.{List, [], ap, string_bytes, arith}
 use Rattle.std.proofs.lemmas.List.{drop_all}
 use Rattle.cls_assemble.specs.declared.template.Segment.{Segment}
 use Rattle.cls_assemble.specs.Segments.{pieces_in}

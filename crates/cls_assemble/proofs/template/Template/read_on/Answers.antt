@@ -1,5 +1,4 @@
-use Rattle.std.proofs.Common.{◌≡◌, ℕ, ◌+◌, ◌-◌, ◌≤◌, ◌<◌, ◌++◌, List, length, map, take, drop, sym, ap, subst, ◌∙◌, arith}
-use Rattle.cls_base.specs.Limits.{max_hole}
+use Rattle.std.proofs.Common.{◌≡◌, ℕ, ◌+◌, ◌-◌, ◌++◌, List, map, take, drop, sym, ap, subst, ◌∙◌, arith}
 use Rattle.cls_assemble.specs.declared.piece.Piece.{Piece}
 use Rattle.cls_assemble.specs.declared.piece.Piece.TheVariants.{Byte, Hole}
 use Rattle.cls_assemble.specs.Faults.{HasHole}
