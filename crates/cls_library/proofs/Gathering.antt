@@ -1,5 +1,5 @@
 -- The instances of a schema, gathered one by one.
-use Rattle.std.proofs.Common.{◌≡◌, ℕ, suc, ◌+◌, ◌<◌, ◌≤◌, max, List, [], ◌∷◌, ◌++◌, length, refl, sym, subst, ap, ◌∙◌, arith, append_assoc, Option, Some, Result, Ok, Err}
+use Rattle.std.proofs.Common.{◌≡◌, ℕ, ◌+◌, ◌≤◌, max, List, [], ◌∷◌, ◌++◌, refl, sym, subst, ap, ◌∙◌, arith, append_assoc, Some, Result, Ok, Err}
 use Rattle.std.proofs.lemmas.List.{append-nil}
 use Rattle.cls_base.specs.Limits.{max_arity, max_library_weight}
 use Rattle.cls_base.specs.declared.ty.Ty.{Ty}
@@ -22,7 +22,7 @@ use Rattle.cls_kind.specs.Kinds.{HasInstances, instances_of}
 use Rattle.cls_kind.specs.Faults.{HasNoInstances, IsAnswerFor, TakesFirst, left_after}
 use Rattle.cls_library.specs.declared.fault.LibraryKind.{LibraryKind}
 use Rattle.cls_library.specs.declared.fault.LibraryKind.TheVariants.{TooManyComponents, LibraryTooLarge, Kind, ArityTooLarge, OutOfMemory}
-use Rattle.cls_library.specs.Arrows.{leading_arrows, arity_of}
+use Rattle.cls_library.specs.Arrows.{arity_of}
 use Rattle.cls_library.specs.Faults.{kind_of_fault}
 use Rattle.cls_library.specs.Gathered.{RefusesInstance, AreGathered, ArePartlyGathered}
 use Rattle.cls_library.specs.Libraries.{below_in, variances_in, all_of, weight_of}

@@ -1,20 +1,18 @@
 -- Libraries of lists of schemas.
-use Rattle.std.proofs.Common.{◌≡◌, ℕ, zero, suc, ◌+◌, ◌<◌, ◌≤◌, List, [], ◌∷◌, ◌++◌, length, map, take, drop, get_or, refl, sym, subst, ap, ◌∙◌, arith, append_assoc}
-use Rattle.std.specs.Prelude.{All, slice_index_or}
+use Rattle.std.proofs.Common.{◌≡◌, ℕ, suc, ◌+◌, ◌<◌, ◌≤◌, List, [], ◌∷◌, ◌++◌, length, map, take, drop, get_or, refl, sym, subst, ap, ◌∙◌, arith}
+use Rattle.std.specs.Prelude.{All}
 use Rattle.std.proofs.lemmas.List.{drop_more, map-append, take-append-drop}
 use Rattle.cls_base.specs.Limits.{max_instances, max_components, max_arity, max_library_weight}
-use Rattle.cls_base.specs.Taxonomies.{Variance}
 use Rattle.cls_base.specs.Types.{ClosedType, spread}
 use Rattle.cls_base.specs.Schemas.{OpenType}
 use Rattle.cls_base.specs.Subtyping.{reflexivity}
-use Rattle.cls_path.specs.Paths.{Paths, paths_of}
+use Rattle.cls_path.specs.Paths.{paths_of}
 use Rattle.cls_path.proofs.Uniqueness.{form_unique}
 use Rattle.cls_taxon.specs.Orders.{Declared}
-use Rattle.cls_taxon.specs.Decisions.{is_below}
 use Rattle.cls_taxon.specs.DecisionLaws.{is_below-reflexive, is_below-transitive, is_below-antisymmetric}
 use Rattle.cls_kind.specs.declared.fault.KindFault.TheVariants as kind_faults
-use Rattle.cls_kind.specs.Instances.{IsSmall, variables_of, count_of}
-use Rattle.cls_kind.specs.Kinds.{kind_of, ranges_of, HasInstances, instances_of, AreKnown}
+use Rattle.cls_kind.specs.Instances.{IsSmall, count_of}
+use Rattle.cls_kind.specs.Kinds.{kind_of, ranges_of, instances_of, AreKnown}
 use Rattle.cls_kind.specs.Faults.{IsFirstUnknown}
 use Rattle.cls_library.specs.declared.fault.LibraryFault.{LibraryFault}
 use Rattle.cls_library.specs.declared.fault.LibraryKind.{LibraryKind}

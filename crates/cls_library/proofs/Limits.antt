@@ -1,11 +1,11 @@
 -- What the components count for.
-use Rattle.std.proofs.Common.{◌≡◌, ℕ, zero, suc, ◌+◌, ◌<◌, ◌≤◌, List, [], ◌∷◌, ◌++◌, length, drop, get_or, refl, sym, subst, ap, ◌∙◌, arith}
+use Rattle.std.proofs.Common.{◌≡◌, ℕ, zero, suc, ◌+◌, ◌<◌, ◌≤◌, List, [], ◌∷◌, ◌++◌, length, drop, get_or, sym, ap, ◌∙◌, arith}
 use Rattle.std.specs.Prelude.{All, remove}
 use Rattle.std.proofs.lemmas.List.{drop_more, drop_all, length-append}
 use Rattle.std.proofs.lemmas.List.Elements.{All-push}
 use Rattle.cls_base.specs.Limits.{max_components, max_library_weight}
 use Rattle.cls_taxon.specs.Orders.{Declared}
-use Rattle.cls_library.specs.Libraries.{Component, Library, total_of, IsWithinLimits, IsLibrary}
+use Rattle.cls_library.specs.Libraries.{Component, total_of, IsWithinLimits, IsLibrary}
 
 -- one component more is counted
 pub total-more : (cs : List Component) (i : ℕ) (c : Component) (w whole : ℕ) → i < length cs → c ≡ get_or cs i c → w + total_of (drop i cs) ≡ whole → (w + c.weight) + total_of (drop (i + 1) cs) ≡ whole

@@ -1,16 +1,13 @@
 -- The arrows of a component by the places of their paths.
-use Rattle.std.proofs.Common.{◌≡◌, ℕ, zero, suc, ◌+◌, ◌-◌, ◌<◌, ◌≤◌, Bool, true, false, List, [], ◌∷◌, ◌++◌, length, map, drop, get_or, Option, None, Some, refl, sym, subst, ap, ◌∙◌, arith, append_assoc}
+use Rattle.std.proofs.Common.{◌≡◌, ℕ, zero, suc, ◌+◌, ◌<◌, ◌≤◌, Bool, true, false, List, [], ◌∷◌, ◌++◌, length, map, drop, get_or, None, Some, refl, sym, subst, ap, ◌∙◌, arith, append_assoc}
 use Rattle.std.specs.Prelude.{slice_get, slice_index_or, nat_lt, if◌then◌else◌}
 use Rattle.std.proofs.lemmas.Bool.Decides.{nat_tests}
 use Rattle.std.proofs.lemmas.List.{drop_more, drop_all, append-nil, length-append}
 use Rattle.std.proofs.Math.Seq.{get_or-append_seam}
 use Rattle.cls_base.specs.Lists.{AreBelow}
-use Rattle.cls_path.specs.Paths.{TypePath, atom, inside, unit, left, right, function, sealed, Paths, listed}
-use Rattle.cls_path.specs.Seen.{path_of}
-use Rattle.cls_path.specs.declared.path.Form.{Form}
-use Rattle.cls_path.specs.declared.path.Form.TheVariants as forms
+use Rattle.cls_path.specs.Paths.{TypePath, atom, inside, unit, left, right, function, sealed, listed}
 use Rattle.cls_library.specs.Arrows.{MultiArrow, leading_arrows, with_source, split, onto, arrows_of}
-use Rattle.cls_library.specs.Splits.{target_at, sources_at, split_at, source_at, places_from, arrows_at_places}
+use Rattle.cls_library.specs.Splits.{sources_at, split_at, source_at, places_from, arrows_at_places}
 
 -- a path with fewer leading arrows isn't split
 split-few : (n : ℕ) (p : TypePath) → leading_arrows p < n → split n p ≡ None

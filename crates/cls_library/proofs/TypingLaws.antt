@@ -1,16 +1,15 @@
 -- The two readings of typing have the same judgements.
-use Rattle.std.proofs.Common.{◌≡◌, ℕ, zero, suc, ◌+◌, ◌<◌, ◌≤◌, ◌↔◌, ◌⊎◌, inl, inr, List, [], ◌∷◌, length, map, refl, sym, subst, ap, ◌∙◌, arith}
+use Rattle.std.proofs.Common.{◌≡◌, ℕ, zero, suc, ◌+◌, ◌<◌, ◌↔◌, inl, inr, List, [], ◌∷◌, length, refl, sym, subst, arith}
 use Rattle.std.specs.Prelude.{Contains, slice_get, slice_index_or, IsSomeAnd}
 use Rattle.std.proofs.lemmas.List.{length-map}
 use Rattle.cls_base.proofs.Lists.{Contains-nil, Contains-here, Contains-later, Contains-cases}
-use Rattle.cls_base.specs.Taxonomies.{Variance}
 use Rattle.cls_base.specs.Types as types
 use Rattle.cls_base.specs.Types.{ClosedType, meet}
 use Rattle.cls_base.specs.Schemas.{OpenType}
-use Rattle.cls_base.specs.Terms.{Applicative, component, apply}
+use Rattle.cls_base.specs.Terms.{Applicative, component}
 use Rattle.cls_base.specs.Typing.{HasType, by_instance, by_application, by_intersection, by_subsumption}
-use Rattle.cls_base.specs.Subtyping.{Subtype, reflexivity, transitivity, to_omega, meet_left, meet_right}
-use Rattle.cls_path.specs.Paths.{Paths, type_of_paths}
+use Rattle.cls_base.specs.Subtyping.{Subtype, transitivity, to_omega, meet_left, meet_right}
+use Rattle.cls_path.specs.Paths.{type_of_paths}
 use Rattle.cls_path.proofs.Equivalence.{to_form, from_form}
 use Rattle.cls_taxon.specs.Orders.{Declared}
 use Rattle.cls_taxon.specs.DecisionLaws.{is_below-reflexive, is_below-transitive}
@@ -21,8 +20,8 @@ use Rattle.cls_kind.proofs.Counting.{count-positive}
 use Rattle.cls_kind.proofs.InstanceLaws.{instances-exact}
 use Rattle.cls_kind.proofs.KindLaws.{full-ranges}
 use Rattle.cls_library.specs.Libraries.{Component, Library, below_in, variances_in, paths_at, no_component, all_of, weight_of, IsComponentOf, AreComponentsOf, no_components, one_component}
-use Rattle.cls_library.specs.Refusals.{IsAccepted, AreAccepted, IsLibraryOf}
-use Rattle.cls_library.specs.Typing.{IsTypeOf, HasTypeIn, IsInstanceOf, HasTypeByInstances}
+use Rattle.cls_library.specs.Refusals.{AreAccepted, IsLibraryOf}
+use Rattle.cls_library.specs.Typing.{HasTypeIn, IsInstanceOf, HasTypeByInstances}
 
 -- a schema with its component
 pub record Stands (d : Declared) (kinds : List (ℕ × List ClosedType)) (cs : List Component) (x : ℕ) (s : OpenType) : Type 0 where

@@ -1,7 +1,7 @@
 -- internal: what a path is at its end, behind its leading arrows
-use Rattle.std.specs.Prelude.{ℕ, ◌≡◌, ◌+◌, ◌==◌, ◌&&◌, ◌≤◌, min, Bool, true, false, List, [], ◌∷◌, length, map, slice_get, slice_index_or, Some}
+use Rattle.std.specs.Prelude.{ℕ, ◌≡◌, ◌+◌, ◌==◌, ◌&&◌, ◌≤◌, min, Bool, true, false, List, [], ◌∷◌, length, slice_get, slice_index_or, Some}
 use Rattle.cls_base.specs.Limits.{max_arity}
-use Rattle.cls_path.specs.Paths.{TypePath, atom, inside, unit, left, right, function, sealed, Paths, listed}
+use Rattle.cls_path.specs.Paths.{TypePath, atom, inside, unit, left, right, function, sealed, listed}
 use Rattle.cls_library.specs.declared.ending.Head.{Head}
 use Rattle.cls_library.specs.declared.ending.Head.TheVariants.{Covariant, Product, Sealed}
 use Rattle.cls_library.specs.declared.ending.Ending.{Ending}

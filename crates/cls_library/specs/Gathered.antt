@@ -1,7 +1,7 @@
 -- internal: the instances of a schema that were accepted so far, and what comes of the next one
 use Rattle.std.specs.Prelude.{ℕ, ◌≡◌, ◌+◌, ◌≤◌, List, ◌++◌}
 use Rattle.cls_base.specs.Limits.{max_library_weight}
-use Rattle.cls_base.specs.Types.{ClosedType, spread}
+use Rattle.cls_base.specs.Types.{ClosedType}
 use Rattle.cls_base.specs.Schemas.{OpenType}
 use Rattle.cls_base.specs.Taxonomies.{Variance}
 use Rattle.cls_path.specs.Paths.{TypePath, Paths, listed}
@@ -11,7 +11,7 @@ use Rattle.cls_taxon.specs.Orders.{Declared}
 use Rattle.cls_kind.specs.Kinds.{instances_of}
 use Rattle.cls_library.specs.declared.gather.Gathered.{Gathered}
 use Rattle.cls_library.specs.declared.fault.LibraryKind.{LibraryKind}
-use Rattle.cls_library.specs.declared.fault.LibraryKind.TheVariants.{TooManyComponents, LibraryTooLarge, Kind, ArityTooLarge, OutOfMemory}
+use Rattle.cls_library.specs.declared.fault.LibraryKind.TheVariants.{LibraryTooLarge, ArityTooLarge, OutOfMemory}
 use Rattle.cls_library.specs.Libraries.{below_in, variances_in, all_of, weight_of}
 use Rattle.cls_library.specs.Refusals.{TakesTooManyArguments, IsTooHeavy, AreAcceptable}
 

@@ -1,5 +1,5 @@
 -- Libraries: components, each as the normal form of the intersection of its instances.
-use Rattle.std.specs.Prelude.{ℕ, ◌≡◌, ◌+◌, ◌≤◌, List, [], ◌∷◌, ◌++◌, length, map, All, slice_index_or}
+use Rattle.std.specs.Prelude.{ℕ, ◌≡◌, ◌+◌, ◌≤◌, List, [], ◌∷◌, length, All, slice_index_or}
 use Rattle.cls_base.specs.Limits.{max_components, max_arity, max_library_weight}
 use Rattle.cls_base.specs.Types.{ClosedType, omega, meet, spread}
 use Rattle.cls_base.specs.Taxonomies.{Variance}

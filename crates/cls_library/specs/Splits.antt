@@ -1,8 +1,8 @@
 -- internal: arrows as the code finds them, by the places of their paths
-use Rattle.std.specs.Prelude.{ℕ, zero, suc, ◌≡◌, ◌+◌, ◌≤◌, nat_lt, if◌then◌else◌, List, [], ◌∷◌, length, map, slice_index_or, Option, None, Some}
+use Rattle.std.specs.Prelude.{ℕ, zero, suc, ◌+◌, nat_lt, if◌then◌else◌, List, [], ◌∷◌, map, slice_index_or, Option, None, Some}
 use Rattle.std.specs.Borrow.{Bor}
 use Rattle.cls_path.specs.Paths.{TypePath, unit, function, Paths, listed}
-use Rattle.cls_library.specs.Arrows.{MultiArrow, leading_arrows, arity_of}
+use Rattle.cls_library.specs.Arrows.{MultiArrow, leading_arrows}
 
 -- what is left of the path behind its first n arrows
 abbrev pub target_at : ℕ → TypePath → TypePath

@@ -1,6 +1,6 @@
 -- The two readings of typing by a library: a component has each instance of its schema, or the one type that is the
 -- intersection of its paths.
-use Rattle.std.specs.Prelude.{ℕ, ◌≡◌, ◌<◌, ◌↔◌, List, length, slice_get, IsSomeAnd}
+use Rattle.std.specs.Prelude.{ℕ, ◌≡◌, ◌<◌, List, length, slice_get, IsSomeAnd}
 use Rattle.cls_base.specs.Types.{ClosedType}
 use Rattle.cls_base.specs.Terms.{Applicative}
 use Rattle.cls_base.specs.Typing.{HasType}

@@ -1,4 +1,4 @@
-use Rattle.std.proofs.Common.{◌≡◌, ◌+◌, ◌<◌, ◌≤◌, ◌++◌, ◌∷◌, ℕ, List, [], true, false, length, map, take, get_or, arith, rules, sym, subst, ◌∙◌, ap, IsTrue}
+use Rattle.std.proofs.Common.{◌≡◌, ◌++◌, ◌∷◌, ℕ, List, [], true, false, map, get_or, rules, sym, subst, ◌∙◌, ap}
 use Rattle.std.specs.Prelude.{slice_index_or}
 use Rattle.std.proofs.lemmas.List.{get_or_default, take_all}
 use Rattle.cls_path.specs.Paths.{PathLe, TypePath, unit}
@@ -6,9 +6,9 @@ use Rattle.cls_taxon.specs.Decisions.{is_below}
 use Rattle.cls_library.specs.Arrows.{MultiArrow}
 use Rattle.cls_library.specs.Families.{IsFamilyIn}
 use Rattle.cls_library.specs.Libraries.{below_in, variances_in}
-use Rattle.cls_library.specs.Splits.{split_at, target_at, places_from}
+use Rattle.cls_library.specs.Splits.{split_at, target_at}
 use Rattle.cls_library.proofs.EndingLaws.{place-within, mark-within, not-marked, suits-at}
-use Rattle.cls_library.proofs.FamilyLaws.{family-nil, family-skip, family-take}
+use Rattle.cls_library.proofs.FamilyLaws.{family-skip, family-take}
 use Rattle.cls_library.proofs.Places.{IsPlace, place-in}
 use Rattle.cls_library.proofs.family.marked_family.Goals as goal
 use Rattle.cls_library.proofs.family.marked_family.Goals.{then-marks-endings+then-le+in-Ok+in_ok-push, else-marks-endings, else-marks-endings-via-then-marks-endings+else-le, else-marks-endings-via-else-marks-endings}

@@ -1,9 +1,5 @@
-use Rattle.std.proofs.Common.{◌≡◌, List, [], ap, sym, subst, ◌∙◌}
 use Rattle.cls_base.specs.Schemas.{schema_of}
-use Rattle.cls_base.specs.Types.{ClosedType}
 use Rattle.cls_kind.specs.Kinds.{instances_of}
-use Rattle.cls_path.specs.Paths.{TypePath, none, listed}
-use Rattle.cls_library.specs.Gathered.{ArePartlyGathered}
 use Rattle.cls_library.proofs.Gathering.{partly-none, partly-step}
 use Rattle.cls_library.proofs.gather.gather.Goals as goal
 

@@ -1,8 +1,6 @@
-use Rattle.std.proofs.Common.{◌≡◌, ◌+◌, ◌<◌, ◌≤◌, arith, rules, sym, ◌∙◌}
+use Rattle.std.proofs.Common.{arith}
 use Rattle.cls_base.specs.Ty.{type_of}
-use Rattle.cls_base.specs.Types.{spread}
-use Rattle.cls_path.specs.Paths.{listed, paths_of}
-use Rattle.cls_library.specs.Arrows.{arity_of}
+use Rattle.cls_path.specs.Paths.{listed}
 use Rattle.cls_library.specs.Libraries.{below_in, variances_in}
 use Rattle.cls_library.proofs.Splitting.{arity-form}
 use Rattle.cls_library.proofs.gather.put_instance.Goals as goal

@@ -1,4 +1,4 @@
-use Rattle.std.proofs.Common.{◌≡◌, ◌∙◌, ap}
+use Rattle.std.proofs.Common.{◌∙◌, ap}
 use Rattle.std.specs.Prelude.{slice_get}
 use Rattle.cls_library.specs.Arrows.{MultiArrow}
 use Rattle.cls_library.proofs.Places.{source-within, source-past}

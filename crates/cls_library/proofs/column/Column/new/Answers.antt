@@ -1,6 +1,4 @@
-use Rattle.std.proofs.Common.{◌≡◌, ◌+◌, ◌<◌, ◌≤◌, ◌++◌, ◌∷◌, [], arith, rules}
-use Rattle.cls_library.specs.Arrows.{leading_arrows}
-use Rattle.cls_library.specs.Splits.{places_from}
+use Rattle.std.proofs.Common.{arith}
 use Rattle.cls_library.proofs.Places.{places-more, places-skip, places-all}
 use Rattle.cls_library.proofs.column.Column.new.Goals as goal
 use Rattle.cls_library.proofs.column.Column.new.Goals.{then-leading_arrows-count+in_ok-push, else-leading_arrows-count}

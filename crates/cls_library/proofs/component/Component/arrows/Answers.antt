@@ -1,6 +1,6 @@
-use Rattle.std.proofs.Common.{◌≡◌, ℕ, List, length, subst, sym, ◌∙◌, ap}
+use Rattle.std.proofs.Common.{◌≡◌, length, ap}
 use Rattle.cls_base.specs.Lists.{AreBelow}
-use Rattle.cls_path.specs.Paths.{TypePath, Paths, listed}
+use Rattle.cls_path.specs.Paths.{listed}
 use Rattle.cls_library.specs.Arrows.{arrows_of}
 use Rattle.cls_library.specs.Libraries.{Component}
 use Rattle.cls_library.specs.Splits.{arrows_at_places}

@@ -1,11 +1,9 @@
-use Rattle.std.proofs.Common.{◌≡◌, ℕ, List, length, map, subst, sym, ◌∙◌, ap}
-use Rattle.cls_path.specs.Paths.{TypePath, Paths, listed, SuitsAll}
+use Rattle.std.proofs.Common.{◌≡◌, subst, sym, ap}
+use Rattle.cls_path.specs.Paths.{listed, SuitsAll}
 use Rattle.cls_taxon.specs.Decisions.{is_below}
 use Rattle.cls_library.specs.Arrows.{arrows_of}
-use Rattle.cls_library.specs.Endings.{AreMarks, ending_of, may_end_below}
-use Rattle.cls_library.specs.Families.{IsFamilyIn}
 use Rattle.cls_library.specs.Libraries.{Component, variances_in}
-use Rattle.cls_library.specs.Splits.{arrows_at_places, places_from}
+use Rattle.cls_library.specs.Splits.{arrows_at_places}
 use Rattle.cls_library.proofs.Columns.{column-places, column-arrows}
 use Rattle.cls_library.proofs.EndingLaws.{marks-of_endings}
 use Rattle.cls_library.proofs.component.Component.family.Goals as goal

@@ -1,6 +1,6 @@
-use Rattle.std.proofs.Common.{◌≡◌, ◌+◌, ◌<◌, ◌≤◌, ◌++◌, ◌∷◌, [], length, sym, subst}
+use Rattle.std.proofs.Common.{◌+◌, ◌<◌, ◌≤◌, length, sym, subst}
 use Rattle.cls_base.specs.Limits.{max_components, max_library_weight}
-use Rattle.cls_library.specs.Libraries.{Component, Library, total_of, IsWithinLimits, IsLibrary}
+use Rattle.cls_library.specs.Libraries.{Library, total_of, IsWithinLimits}
 use Rattle.cls_library.proofs.Limits.{library-push}
 use Rattle.cls_library.proofs.library.Library.add.Goals as goal
 use Rattle.cls_library.proofs.library.Library.add.Goals.{in-Ok-push, in-Err-push}

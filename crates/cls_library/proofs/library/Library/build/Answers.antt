@@ -1,10 +1,10 @@
-use Rattle.std.proofs.Common.{◌≡◌, ◌+◌, List, [], ◌∷◌, ◌++◌, length, map, take, drop, sym, subst, ap, ◌∙◌}
+use Rattle.std.proofs.Common.{◌+◌, length, map, take, drop, subst}
 use Rattle.std.proofs.lemmas.Result.{err_from_is_err_and}
 use Rattle.std.proofs.lemmas.List.{map_more}
 use Rattle.cls_base.specs.Schemas.{schema_of}
 use Rattle.cls_taxon.specs.Orders.{Declared}
 use Rattle.cls_library.specs.Libraries.{total_of}
-use Rattle.cls_library.specs.Refusals.{Adds, IsRefused, IsLibraryOf}
+use Rattle.cls_library.specs.Refusals.{Adds, IsRefused}
 use Rattle.cls_library.proofs.LibraryLaws.{library-none, adding, refuses-next, map-split}
 use Rattle.cls_library.proofs.library.Library.build.Goals as goal
 
