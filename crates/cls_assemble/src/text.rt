@@ -81,7 +81,7 @@ fn write_hole(
 {
     let index = usize::from(number) - 1;
     if index >= arguments.len() {
-        text.push('_')?;
+        text.push_str("_")?;
         return Ok(());
     }
     if let Some(span) = spans[index] {
@@ -111,9 +111,9 @@ fn write_surplus(
         ≡ string_bytes text.old ++ surplus_from from (texts_by templates.now arguments.now)) }
 {
     for i in from..arguments.len() {
-        text.push('(')?;
+        text.push_str("(")?;
         write(templates, &arguments[i], text)?;
-        text.push(')')?;
+        text.push_str(")")?;
     }
     Ok(())
 }

@@ -2,7 +2,7 @@ use Rattle.std.proofs.Common.{◌<◌, ◌+◌, ◌-◌, ◌++◌, ℕ, List, []
 use Rattle.std.specs.Prelude.{codes}
 use Rattle.std.specs.List.{flat_map}
 use Rattle.std.proofs.lemmas.List.{get_or_default, length-map}
-use Rattle.std.proofs.lemmas.Str.{IsUtf8-string_bytes, encode_ascii}
+use Rattle.std.proofs.lemmas.Str.{IsUtf8-string_bytes}
 use Rattle.cls_assemble.specs.declared.template.Segment.{Segment}
 use Rattle.cls_assemble.specs.declared.text.Span.{Span}
 use Rattle.cls_assemble.specs.Segments.{pieces_in}
@@ -59,7 +59,7 @@ write-returns t c =
 
 pub write_hole-returns-then-index-arguments-clause-written : goal.write_hole-returns-then-index-arguments-clause-written
 write_hole-returns-then-index-arguments-clause-written t c =
-    AreWritten-more (map (text_of (template_at c.args.templates.now)) c.args.arguments.now) c.args.spans.now (string_bytes c.args.text.now) (codes "_") (string_bytes c.push.new.self) (c.in_ok-push.ensures.bytes ∙ ap (λ (bs : List ℕ). string_bytes c.args.text.now ++ bs) (encode_ascii 95 (omega arith))) c.requires.written
+    AreWritten-more (map (text_of (template_at c.args.templates.now)) c.args.arguments.now) c.args.spans.now (string_bytes c.args.text.now) _ (string_bytes c.push_str.new.self) c.in_ok-push_str.ensures.bytes c.requires.written
 
 pub write_hole-extend_from_within-requires-clause-start_le_end :
     goal.write_hole-extend_from_within-requires-clause-start_le_end
@@ -119,4 +119,4 @@ pub write_surplus-loop-i-preserved : goal.write_surplus-loop-i-preserved
 write_surplus-loop-i-preserved t c =
     let texts = map (text_of (template_at c.args.templates.now)) c.args.arguments.now in
     let text = argument_text-at (template_at c.args.templates.now) c.args.arguments.now c.loop-i.i c.index-arguments-i.result [] c.index-arguments-i.is c.loop-i-test.true in
-    surplus-step (string_bytes c.args.text.now ++ flat_map in_parentheses (drop c.args.from texts)) (string_bytes c.loop-i.text) (text_of (template_at c.args.templates.now) c.index-arguments-i.result) (flat_map in_parentheses (drop (c.loop-i.i + 1) texts)) (flat_map in_parentheses (drop c.loop-i.i texts)) (string_bytes c.push.new.self) (string_bytes c.write.new.text) (string_bytes c.push-in-loop-i.new.self) (c.in_ok-push.ensures.bytes ∙ ap (λ (bs : List ℕ). string_bytes c.loop-i.text ++ bs) (encode_ascii 40 (omega arith))) c.in_ok-write.ensures (c.in_ok-push-2.ensures.bytes ∙ ap (λ (bs : List ℕ). string_bytes c.write.new.text ++ bs) (encode_ascii 41 (omega arith))) (surplus_text texts c.loop-i.i (text_of (template_at c.args.templates.now) c.index-arguments-i.result) (omega (arith, length-map c.args.arguments.now (text_of (template_at c.args.templates.now)), c.loop-i-test.true)) text) c.loop-i.invariant
+    surplus-step (string_bytes c.args.text.now ++ flat_map in_parentheses (drop c.args.from texts)) (string_bytes c.loop-i.text) (text_of (template_at c.args.templates.now) c.index-arguments-i.result) (flat_map in_parentheses (drop (c.loop-i.i + 1) texts)) (flat_map in_parentheses (drop c.loop-i.i texts)) (string_bytes c.push_str.new.self) (string_bytes c.write.new.text) (string_bytes c.push_str-in-loop-i.new.self) c.in_ok-push_str.ensures.bytes c.in_ok-write.ensures c.in_ok-push_str-2.ensures.bytes (surplus_text texts c.loop-i.i (text_of (template_at c.args.templates.now) c.index-arguments-i.result) (omega (arith, length-map c.args.arguments.now (text_of (template_at c.args.templates.now)), c.loop-i-test.true)) text) c.loop-i.invariant
