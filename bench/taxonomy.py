@@ -65,15 +65,6 @@ fn main(rt: HostRuntime) -> io::Result<()> {
 '''
 
 
-# No names are different names, which `Taxonomy::new` asks of those that have a variance.
-PROOF = '''use Rattle.cls_taxon.proofs.PlaceLaws.{AreDifferent-none}
-use Rattle.bench_taxonomy.proofs.main.Goals as goal
-
-pub new-requires : goal.new-requires
-new-requires c = AreDifferent-none
-'''
-
-
 def cases():
     """Each list of pairs with what it is, and whether it is an order."""
     source = random.Random(1)
@@ -105,7 +96,7 @@ def main():
     parser.add_argument("--runs", type=int, default=3)
     options = parser.parse_args()
     with tempfile.TemporaryDirectory() as folder:
-        program = build(folder, "bench_taxonomy", CRATES, PROGRAM, PROOF)
+        program = build(folder, "bench_taxonomy", CRATES, PROGRAM)
         for name, pairs, is_order in cases():
             results = [run(program, pairs) for _ in range(options.runs)]
             assert all(result[0] == is_order for result in results), name
