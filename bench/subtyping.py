@@ -12,7 +12,7 @@ import tempfile
 
 from proved import build
 
-CRATES = ["cls_base", "cls_path", "cls_norm"]
+CRATES = ["cls_base", "cls_taxon", "cls_path", "cls_norm"]
 LETTERS = "ABCDEFGHIJKLMNOPQRSTUVWXYZ"
 
 PROGRAM = '''// Reads lines of two words, each a type whose operators stand behind their parts, and decides whether the one is below the other.
