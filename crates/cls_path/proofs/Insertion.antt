@@ -20,11 +20,11 @@ use Rattle.cls_path.proofs.RoundTrip.{path_back, paths_back}
 use Rattle.cls_path.proofs.Decided.{le_tested, tested_le, tested_some}
 use Rattle.cls_path.proofs.Uniqueness.{before_trans}
 
-or_no_left : (x y : Bool) → (x || y) ≡ false → x ≡ false
+pub or_no_left : (x y : Bool) → (x || y) ≡ false → x ≡ false
 or_no_left true y h = cc
 or_no_left false y h = refl
 
-or_no_right : (x y : Bool) → (x || y) ≡ false → y ≡ false
+pub or_no_right : (x y : Bool) → (x || y) ≡ false → y ≡ false
 or_no_right true y h = cc
 or_no_right false y h = h
 

@@ -4,6 +4,7 @@ pub mod Derivations
 pub mod Equivalence
 pub mod Existence
 pub mod Insertion
+pub mod LabelLaws
 pub mod Orders
 pub mod PathLaws
 pub mod Remains

@@ -1,0 +1,98 @@
+-- Labels of paths: spans of the classes of their names. Paths that are below each other have labels that lie within each other,
+-- so most pairs of paths are told apart by their labels alone.
+use Rattle.std.specs.Prelude.{ℕ, min, max, Bool, ◌&&◌, nat_le}
+use Rattle.cls_path.specs.Paths.{TypePath, atom, inside, unit, left, right, function, sealed, Paths, none, more}
+use Rattle.cls_path.specs.declared.label.Span.{Span}
+use Rattle.cls_path.specs.declared.label.Label.{Label}
+
+-- no number, one number of 64 bits, and the numbers of two spans with those between
+abbrev pub no_span : Span
+no_span = record { low = 18446744073709551615; high = 0 }
+
+abbrev pub one_span : ℕ → Span
+one_span n = record { low = min n 18446744073709551615; high = min n 18446744073709551615 }
+
+abbrev pub join : Span → Span → Span
+join s t = record { low = min s.low t.low; high = max s.high t.high }
+
+-- whether the first span lies within the second
+abbrev pub within : Span → Span → Bool
+within s t = nat_le t.low s.low && nat_le s.high t.high
+
+-- class is the class of each name
+module _ (class : ℕ → ℕ) where
+  -- the names of the path, but for those in lists
+  abbrev pub names_of : TypePath → Span
+  names_of (atom c) = one_span (class c)
+  names_of (inside c p) = join (one_span (class c)) (names_of p)
+  names_of unit = no_span
+  names_of (left p) = names_of p
+  names_of (right p) = names_of p
+  names_of (function n p) = names_of p
+  names_of (sealed c n) = one_span (class c)
+
+  -- the name behind all arrows
+  abbrev pub head_of : TypePath → Span
+  head_of (atom c) = one_span (class c)
+  head_of (inside c p) = one_span (class c)
+  head_of unit = no_span
+  head_of (left p) = no_span
+  head_of (right p) = no_span
+  head_of (function n p) = head_of p
+  head_of (sealed c n) = one_span (class c)
+
+  -- the names inside it
+  abbrev pub inner_of : TypePath → Span
+  inner_of (atom c) = no_span
+  inner_of (inside c p) = names_of p
+  inner_of unit = no_span
+  inner_of (left p) = names_of p
+  inner_of (right p) = names_of p
+  inner_of (function n p) = inner_of p
+  inner_of (sealed c n) = no_span
+
+  -- those of a span and of the names of a list
+  abbrev pub join_all : Span → Paths → Span
+  join_all s none = s
+  join_all s (more p n) = join_all (join s (names_of p)) n
+
+  -- the names of a list
+  abbrev pub all_names_of : Paths → Span
+  all_names_of n = join_all no_span n
+
+  -- those of all sources
+  abbrev pub sources_of : TypePath → Span
+  sources_of (atom c) = no_span
+  sources_of (inside c p) = no_span
+  sources_of unit = no_span
+  sources_of (left p) = no_span
+  sources_of (right p) = no_span
+  sources_of (function n p) = join (all_names_of n) (sources_of p)
+  sources_of (sealed c n) = no_span
+
+  -- those of the first source, or of the list under the name
+  abbrev pub first_of : TypePath → Span
+  first_of (atom c) = no_span
+  first_of (inside c p) = no_span
+  first_of unit = no_span
+  first_of (left p) = no_span
+  first_of (right p) = no_span
+  first_of (function n p) = all_names_of n
+  first_of (sealed c n) = all_names_of n
+
+  -- those of the later sources
+  abbrev pub later_of : TypePath → Span
+  later_of (atom c) = no_span
+  later_of (inside c p) = no_span
+  later_of unit = no_span
+  later_of (left p) = no_span
+  later_of (right p) = no_span
+  later_of (function n p) = sources_of p
+  later_of (sealed c n) = no_span
+
+  abbrev pub label_of : TypePath → Label
+  label_of p = record { head = head_of p; inner = inner_of p; first = first_of p; later = later_of p }
+
+-- whether a path with the first label may be below one with the second
+abbrev pub admits : Label → Label → Bool
+admits l m = within m.head l.head && (within m.inner l.inner && (within l.first m.first && within l.later m.later))
