@@ -124,7 +124,7 @@ module _ (below : ℕ → ℕ → Type 0) (variance : ℕ → Variance) where
     | false ↦ leads_filter f p n h.3
   ]
 
-  canonical_filter : (f : TypePath → Bool) (n : List TypePath) → IsCanonical below variance (listed n) → IsCanonical below variance (listed (filter f n))
+  pub canonical_filter : (f : TypePath → Bool) (n : List TypePath) → IsCanonical below variance (listed n) → IsCanonical below variance (listed (filter f n))
   canonical_filter f [] h = tt
   canonical_filter f (q ∷ n) h = elim (f q) as (λ v. IsCanonical below variance (listed (cond v (q ∷ filter f n) (filter f n)))) [
     | true ↦ (h.0, leads_filter f q n h.1, canonical_filter f n h.2)

@@ -1,3 +1,4 @@
+pub mod Ascending
 pub mod Completeness
 pub mod Decided
 pub mod Derivations
