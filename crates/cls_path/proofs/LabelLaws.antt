@@ -7,7 +7,7 @@ use Rattle.cls_base.specs.Taxonomies.{Variance}
 use Rattle.cls_base.specs.Taxa.{Below}
 use Rattle.cls_path.specs.declared.label.Span.{Span}
 use Rattle.cls_path.specs.Paths.{TypePath, atom, inside, unit, left, right, function, sealed, Paths, none, more, PathLe, atoms, inside_atom, insides, units, left_unit, right_unit, lefts, rights, functions, contravariants, invariants, SomeLe, here, there, PathsLe, empty, each, Suits}
-use Rattle.cls_path.specs.Labels.{no_span, one_span, join, within, names_of, head_of, inner_of, join_all, all_names_of, sources_of, first_of, later_of, label_of, admits}
+use Rattle.cls_path.specs.Labels.{no_span, one_span, join, plus, within, names_of, head_of, inner_of, join_all, all_names_of, sources_of, first_of, later_of, label_of, admits}
 use Rattle.cls_path.specs.Tests.{path_below}
 use Rattle.std.proofs.lemmas.List.{drop-map, take-map, map-append}
 use Rattle.cls_path.specs.Insertion.{some_above, without_above}
@@ -29,6 +29,9 @@ in_left u h = ((grind arith), (grind arith))
 
 in_right : {s u : Span} (t : Span) → IsIn s u → IsIn s (join t u)
 in_right t h = ((grind arith), (grind arith))
+
+plus_in : {s t u v : Span} → IsIn s t → IsIn u v → IsIn (plus s u) (plus t v)
+plus_in h k = ((grind arith), (grind arith))
 
 in_trans : {s t u : Span} → IsIn s t → IsIn t u → IsIn s u
 in_trans h k = ((grind arith), (grind arith))
@@ -93,7 +96,7 @@ module _ (class : ℕ → ℕ) where
     sources_in right_unit = same_in refl
     sources_in (lefts h) = same_in refl
     sources_in (rights h) = same_in refl
-    sources_in (functions k h) = join_in (in_left _ (all_in k)) (in_right _ (sources_in h))
+    sources_in (functions k h) = plus_in (all_in k) (sources_in h)
     sources_in (contravariants v w b k) = same_in refl
     sources_in (invariants v w b h k) = same_in refl
 

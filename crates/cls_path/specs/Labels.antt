@@ -1,6 +1,6 @@
 -- Labels of paths: spans of the classes of their names. Paths that are below each other have labels that lie within each other,
 -- so most pairs of paths are told apart by their labels alone.
-use Rattle.std.specs.Prelude.{ℕ, min, max, Bool, ◌&&◌, nat_le}
+use Rattle.std.specs.Prelude.{ℕ, ◌+◌, min, max, Bool, ◌&&◌, nat_le}
 use Rattle.cls_path.specs.Paths.{TypePath, atom, inside, unit, left, right, function, sealed, Paths, none, more}
 use Rattle.cls_path.specs.declared.label.Span.{Span}
 use Rattle.cls_path.specs.declared.label.Label.{Label}
@@ -14,6 +14,13 @@ one_span n = record { low = min n 18446744073709551615; high = min n 18446744073
 
 abbrev pub join : Span → Span → Span
 join s t = record { low = min s.low t.low; high = max s.high t.high }
+
+-- the number 0 alone, and the sums of both low and of both high numbers, within 64 bits
+abbrev pub zero_span : Span
+zero_span = record { low = 0; high = 0 }
+
+abbrev pub plus : Span → Span → Span
+plus s t = record { low = min (s.low + t.low) 18446744073709551615; high = min (s.high + t.high) 18446744073709551615 }
 
 -- whether the first span lies within the second
 abbrev pub within : Span → Span → Bool
@@ -60,15 +67,15 @@ module _ (class : ℕ → ℕ) where
   abbrev pub all_names_of : Paths → Span
   all_names_of n = join_all no_span n
 
-  -- those of all sources
+  -- the sums over all sources
   abbrev pub sources_of : TypePath → Span
-  sources_of (atom c) = no_span
-  sources_of (inside c p) = no_span
-  sources_of unit = no_span
-  sources_of (left p) = no_span
-  sources_of (right p) = no_span
-  sources_of (function n p) = join (all_names_of n) (sources_of p)
-  sources_of (sealed c n) = no_span
+  sources_of (atom c) = zero_span
+  sources_of (inside c p) = zero_span
+  sources_of unit = zero_span
+  sources_of (left p) = zero_span
+  sources_of (right p) = zero_span
+  sources_of (function n p) = plus (all_names_of n) (sources_of p)
+  sources_of (sealed c n) = zero_span
 
   -- those of the first source, or of the list under the name
   abbrev pub first_of : TypePath → Span
@@ -80,7 +87,7 @@ module _ (class : ℕ → ℕ) where
   first_of (function n p) = all_names_of n
   first_of (sealed c n) = all_names_of n
 
-  -- those of the later sources
+  -- the sums over the later sources
   abbrev pub later_of : TypePath → Span
   later_of (atom c) = no_span
   later_of (inside c p) = no_span

@@ -1,7 +1,7 @@
 //! Labels of paths, by which most pairs are told apart.
 ghost use Rattle.std.specs.Prelude.{◌≡◌};
 ghost use Rattle.cls_path.specs.Paths.{listed};
-ghost use Rattle.cls_path.specs.Labels.{one_span, join, within, names_of, head_of, inner_of, join_all, all_names_of, sources_of, first_of, later_of, label_of, admits};
+ghost use Rattle.cls_path.specs.Labels.{one_span, join, plus, within, names_of, head_of, inner_of, join_all, all_names_of, sources_of, first_of, later_of, label_of, admits};
 
 use crate::path::{Form, Nf, Path};
 use cls_base::Taxa;
@@ -19,7 +19,11 @@ const NONE: Span = Span {
     high: 0,
 };
 
-/// Spans of the classes of names: of the head of a path, inside it, and of its first and later sources.
+/// The number 0 alone.
+const ZERO: Span = Span { low: 0, high: 0 };
+
+/// Spans of the classes of names: of the head of a path, inside it, and of its first source. The last one has the sums over
+/// the later sources, so that it tells apart paths that differ in one of them.
 #[derive(Clone, Copy, Debug, PartialEq, Eq)]
 pub(crate) struct Label {
     head: Span,
@@ -46,6 +50,16 @@ impl Span {
         Span {
             low: self.low.min(other.low),
             high: self.high.max(other.high),
+        }
+    }
+
+    /// The sums of both low and of both high numbers, within 64 bits.
+    fn plus(self, other: Span) -> Span
+        ensures { result ≡ plus self other }
+    {
+        Span {
+            low: self.low.saturating_add(other.low),
+            high: self.high.saturating_add(other.high),
         }
     }
 
@@ -127,8 +141,8 @@ fn sources<T: Taxa>(taxa: &T, path: &Path) -> Span
     ensures { result ≡ sources_of (T.class taxa.now) path.now }
 {
     match &path.form {
-        Form::Arrow(source, rest) => all_names(taxa, source).join(sources(taxa, rest)),
-        _ => NONE,
+        Form::Arrow(source, rest) => all_names(taxa, source).plus(sources(taxa, rest)),
+        _ => ZERO,
     }
 }
 
