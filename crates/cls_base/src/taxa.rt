@@ -35,7 +35,7 @@ pub trait Taxa {
     fn variance(&self, name: Name) -> Variance
         ensures is { variance_of result ≡ variance_of_name self.now name.0 };
 
-    /// A number that a name shares with those below it. It tells apart names that aren't below each other where it can.
+    /// A number that a name shares with those below it. Two names with different numbers are not below each other.
     fn class(&self, name: Name) -> u64
         ensures is { result ≡ class self.now name.0 };
 

@@ -1,16 +1,20 @@
--- Labels of paths: spans of the classes of their names. Paths that are below each other have labels that lie within each other,
--- so most pairs of paths are told apart by their labels alone.
+-- internal: labels of paths, made of spans of the classes of their names. If a path is below another one, the span of its
+-- end has that of the other's end, and the spans of its sources lie in those of the other's. So labels tell most pairs apart.
 use Rattle.std.specs.Prelude.{ℕ, ◌+◌, min, max, Bool, ◌&&◌, nat_le}
 use Rattle.cls_path.specs.Paths.{TypePath, atom, inside, unit, left, right, function, sealed, Paths, none, more}
 use Rattle.cls_path.specs.declared.label.Span.{Span}
 use Rattle.cls_path.specs.declared.label.Label.{Label}
 
+-- the greatest number of 64 bits
+abbrev pub greatest : ℕ
+greatest = 18446744073709551615
+
 -- no number, one number of 64 bits, and the numbers of two spans with those between
 abbrev pub no_span : Span
-no_span = record { low = 18446744073709551615; high = 0 }
+no_span = record { low = greatest; high = 0 }
 
 abbrev pub one_span : ℕ → Span
-one_span n = record { low = min n 18446744073709551615; high = min n 18446744073709551615 }
+one_span n = record { low = min n greatest; high = min n greatest }
 
 abbrev pub join : Span → Span → Span
 join s t = record { low = min s.low t.low; high = max s.high t.high }
@@ -20,7 +24,7 @@ abbrev pub zero_span : Span
 zero_span = record { low = 0; high = 0 }
 
 abbrev pub plus : Span → Span → Span
-plus s t = record { low = min (s.low + t.low) 18446744073709551615; high = min (s.high + t.high) 18446744073709551615 }
+plus s t = record { low = min (s.low + t.low) greatest; high = min (s.high + t.high) greatest }
 
 -- whether the first span lies within the second
 abbrev pub within : Span → Span → Bool

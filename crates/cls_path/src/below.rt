@@ -75,8 +75,8 @@ impl Nf {
         true
     }
 
-    /// False only if this list is not below the other: for two lists of one name each it compares the names. It tells most
-    /// arrows with different sources apart before the way to their ends is walked.
+    /// False only if this list is not below the other: for two lists of one name each it compares the names. It tells
+    /// most arrows with different sources apart before the way to their ends is walked.
     fn may_be_below<T: Taxa>(&self, taxa: &T, other: &Nf) -> bool
         ensures { IsTrue (list_below (T.is_below taxa.now) (T.variance_of_name taxa.now)
             (listed self.now) (listed other.now)) → IsTrue result }

@@ -6,7 +6,7 @@ ghost use Rattle.cls_path.specs.Labels.{one_span, join, plus, within, names_of, 
 use crate::path::{Form, Nf, Path};
 use cls_base::Taxa;
 
-/// The numbers from the low to the high one, none where the low one is the greater.
+/// The numbers from the low to the high one, none if the low one is the greater.
 #[derive(Clone, Copy, Debug, PartialEq, Eq)]
 pub(crate) struct Span {
     low: u64,
@@ -22,8 +22,8 @@ const NONE: Span = Span {
 /// The number 0 alone.
 const ZERO: Span = Span { low: 0, high: 0 };
 
-/// Spans of the classes of names: of the head of a path, inside it, and of its first source. The last one has the sums over
-/// the later sources, so that it tells apart paths that differ in one of them.
+/// Spans of the classes of names: of the head of a path, inside it, and of its first source. The last span has the sums
+/// over the later sources, so that it tells apart paths that differ in one of them.
 #[derive(Clone, Copy, Debug, PartialEq, Eq)]
 pub(crate) struct Label {
     head: Span,
