@@ -23,6 +23,9 @@ flat_transitive a b c p q = Prim.search (comparing, rules)
 pub flat_one_variance : taxonomies.covariant ≡ taxonomies.covariant
 flat_one_variance = Prim.search rules
 
+pub flat_one_class : (a b : ℕ) → IsTrue (a == b) → a ≡ b
+flat_one_class a b p = Prim.search (comparing, rules)
+
 -- the order of names that a test of two names decides
 abbrev pub Below : (ℕ → ℕ → Bool) → ℕ → ℕ → Type 0
 Below test a b = IsTrue (test a b)

@@ -24,6 +24,9 @@ pub trait Taxa {
     // the variance of a name
     ghost variance_of_name: { Self → ℕ → taxonomies.Variance };
 
+    // a number that a name shares with those below it
+    ghost class: { Self → ℕ → ℕ };
+
     /// Whether the first name is below the second.
     fn below(&self, lower: Name, upper: Name) -> bool
         ensures is { result ≡ is_below self.now lower.0 upper.0 };
@@ -32,6 +35,10 @@ pub trait Taxa {
     fn variance(&self, name: Name) -> Variance
         ensures is { variance_of result ≡ variance_of_name self.now name.0 };
 
+    /// A number that a name shares with those below it. Two names with different numbers are not below each other.
+    fn class(&self, name: Name) -> u64
+        ensures is { result ≡ class self.now name.0 };
+
     ghost reflexive: { (t : Self) (a : ℕ) → IsTrue (is_below t a a) };
 
     ghost transitive: { (t : Self) (a b c : ℕ) → IsTrue (is_below t a b) → IsTrue (is_below t b c) → IsTrue (is_below t a c) };
@@ -39,6 +46,8 @@ pub trait Taxa {
     ghost antisymmetric: { (t : Self) (a b : ℕ) → IsTrue (is_below t a b) → IsTrue (is_below t b a) → a ≡ b };
 
     ghost one_variance: { (t : Self) (a b : ℕ) → IsTrue (is_below t a b) → variance_of_name t a ≡ variance_of_name t b };
+
+    ghost one_class: { (t : Self) (a b : ℕ) → IsTrue (is_below t a b) → class t a ≡ class t b };
 }
 
 /// The names without any declared pair, all covariant.
@@ -46,14 +55,20 @@ pub trait Taxa {
 pub struct Flat;
 
 impl Taxa for Flat {
-    ghost use Rattle.cls_base.specs.Taxa.{flat_reflexive, flat_transitive, flat_antisymmetric, flat_one_variance};
+    ghost use Rattle.cls_base.specs.Taxa.{flat_reflexive, flat_transitive, flat_antisymmetric, flat_one_variance, flat_one_class};
 
     ghost is_below = { λ t a b. a == b };
 
     ghost variance_of_name = { λ t a. taxonomies.covariant };
 
+    ghost class = { λ t a. a };
+
     fn below(&self, lower: Name, upper: Name) -> bool {
         lower.0 == upper.0
+    }
+
+    fn class(&self, name: Name) -> u64 {
+        u64::from(name.0)
     }
 
     fn variance(&self, _name: Name) -> Variance {
@@ -67,4 +82,6 @@ impl Taxa for Flat {
     ghost antisymmetric = { λ t a b. flat_antisymmetric a b };
 
     ghost one_variance = { λ t a b l. flat_one_variance };
+
+    ghost one_class = { λ t a b l. flat_one_class a b l };
 }

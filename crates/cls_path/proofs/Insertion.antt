@@ -20,11 +20,11 @@ use Rattle.cls_path.proofs.RoundTrip.{path_back, paths_back}
 use Rattle.cls_path.proofs.Decided.{le_tested, tested_le, tested_some}
 use Rattle.cls_path.proofs.Uniqueness.{before_trans}
 
-or_no_left : (x y : Bool) → (x || y) ≡ false → x ≡ false
+pub or_no_left : (x y : Bool) → (x || y) ≡ false → x ≡ false
 or_no_left true y h = cc
 or_no_left false y h = refl
 
-or_no_right : (x y : Bool) → (x || y) ≡ false → y ≡ false
+pub or_no_right : (x y : Bool) → (x || y) ≡ false → y ≡ false
 or_no_right true y h = cc
 or_no_right false y h = h
 
@@ -124,7 +124,7 @@ module _ (below : ℕ → ℕ → Type 0) (variance : ℕ → Variance) where
     | false ↦ leads_filter f p n h.3
   ]
 
-  canonical_filter : (f : TypePath → Bool) (n : List TypePath) → IsCanonical below variance (listed n) → IsCanonical below variance (listed (filter f n))
+  pub canonical_filter : (f : TypePath → Bool) (n : List TypePath) → IsCanonical below variance (listed n) → IsCanonical below variance (listed (filter f n))
   canonical_filter f [] h = tt
   canonical_filter f (q ∷ n) h = elim (f q) as (λ v. IsCanonical below variance (listed (cond v (q ∷ filter f n) (filter f n)))) [
     | true ↦ (h.0, leads_filter f q n h.1, canonical_filter f n h.2)

@@ -1,9 +1,11 @@
+pub mod Ascending
 pub mod Completeness
 pub mod Decided
 pub mod Derivations
 pub mod Equivalence
 pub mod Existence
 pub mod Insertion
+pub mod LabelLaws
 pub mod Orders
 pub mod PathLaws
 pub mod Remains

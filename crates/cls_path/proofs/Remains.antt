@@ -37,11 +37,11 @@ module _ (below : ℕ → ℕ → Type 0) (variance : ℕ → Variance) where
   pub next_canonical : {whole out rest : Paths} (p : TypePath) → Remains whole out rest → In p rest → IsCanonicalPath below variance p
   next_canonical {rest = rest} p h i = canonical_in rest p h.canonical i
 
-  suits_within : (n m : Paths) → SuitsAll variance m → ((q : TypePath) → In q n → In q m) → SuitsAll variance n
+  pub suits_within : (n m : Paths) → SuitsAll variance m → ((q : TypePath) → In q n → In q m) → SuitsAll variance n
   suits_within none m s f = tt
   suits_within (more q n) m s f = (suits_at m q s (f q first_in), suits_within n m s (λ r i. f r (later_in i)))
 
-  canonical_within : (n m : Paths) → EachCanonical below variance m → ((q : TypePath) → In q n → In q m) → EachCanonical below variance n
+  pub canonical_within : (n m : Paths) → EachCanonical below variance m → ((q : TypePath) → In q n → In q m) → EachCanonical below variance n
   canonical_within none m s f = tt
   canonical_within (more q n) m s f = (canonical_in m q s (f q first_in), canonical_within n m s (λ r i. f r (later_in i)))
 

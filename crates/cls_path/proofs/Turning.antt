@@ -1,5 +1,6 @@
 -- To be above is to be below the other way round.
-use Rattle.std.proofs.Common.{◌≡◌, refl, sym, ℕ, Bool, ◌&&◌, ◌||◌}
+use Rattle.std.proofs.Common.{◌≡◌, ◌∙◌, refl, sym, ℕ, Bool, true, false, IsTrue, ◌&&◌, ◌||◌}
+use Rattle.std.proofs.lemmas.Bool.{false≢true}
 use Rattle.cls_base.specs.Taxonomies.{Variance}
 use Rattle.cls_path.specs.Paths.{TypePath, atom, inside, unit, left, right, function, sealed, Paths, none, more}
 use Rattle.cls_path.specs.Tests.{some_passes, each_passes, same_paths, sealed_below, path_below, path_above, each_above, some_below, list_below}
@@ -61,3 +62,14 @@ module _ (test : ℕ → ℕ → Bool) (variance : ℕ → Variance) where
       (c d : ℕ) (n m : Paths)
       → path_below test variance (sealed c n) (sealed d m) ≡ (test c d && sealed_below (variance c) (same_paths n m) (list_below test variance m n) (list_below test variance n m))
   sealed-list_below c d n m = λ i. test c d && sealed_below (variance c) (same_paths n m) (each_above-list_below n m i) (each_passes-list_below n m i)
+
+  -- arrows are not below each other if their sources fail a test that no lists below each other fail
+  pub refused_below :
+      (p q : TypePath) (n m : Paths) (passes : Bool) → (IsTrue (list_below test variance m n) → IsTrue passes) → passes ≡ false
+      → path_below test variance (function n p) (function m q) ≡ false
+  refused_below p q n m passes f e = ends (path_below test variance p q) (each_above test variance n m) (λ h. f (sym (each_above-list_below n m) ∙ h))
+    where
+      ends : (x y : Bool) → (IsTrue y → IsTrue passes) → (x && y) ≡ false
+      ends true true g = absurd (false≢true (sym e ∙ g refl))
+      ends false y g = refl
+      ends true false g = refl

@@ -3,6 +3,7 @@
 pub mod Falls
 pub mod Feed
 pub mod Insertion
+pub mod Labels
 pub mod Laws
 pub mod NormalForms
 pub mod OrderLaws

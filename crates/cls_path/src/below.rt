@@ -35,7 +35,9 @@ impl Path {
             (Form::Unit | Form::Left(_) | Form::Right(_), Form::Unit) => true,
             (Form::Left(p), Form::Left(q)) => p.is_below(taxa, q),
             (Form::Right(p), Form::Right(q)) => p.is_below(taxa, q),
-            (Form::Arrow(n, p), Form::Arrow(m, q)) => p.is_below(taxa, q) && m.is_below(taxa, n),
+            (Form::Arrow(n, p), Form::Arrow(m, q)) => {
+                m.may_be_below(taxa, n) && p.is_below(taxa, q) && m.is_below(taxa, n)
+            }
             (Form::Sealed(c, n), Form::Sealed(d, m)) => taxa.below(*c, *d)
                 && n.is_sealed_below(taxa, taxa.variance(*c), m),
             _ => false,
@@ -71,6 +73,21 @@ impl Nf {
             }
         }
         true
+    }
+
+    /// False only if this list is not below the other: for two lists of one name each it compares the names. It tells
+    /// most arrows with different sources apart before the way to their ends is walked.
+    fn may_be_below<T: Taxa>(&self, taxa: &T, other: &Nf) -> bool
+        ensures { IsTrue (list_below (T.is_below taxa.now) (T.variance_of_name taxa.now)
+            (listed self.now) (listed other.now)) → IsTrue result }
+    {
+        if self.paths.len() != 1 || other.paths.len() != 1 {
+            return true;
+        }
+        match (&self.paths[0].form, &other.paths[0].form) {
+            (Form::Atom(c), Form::Atom(d)) => taxa.below(*c, *d),
+            _ => true,
+        }
     }
 
     /// Whether a name of this variance over this list is below one over the other, if the name itself is.

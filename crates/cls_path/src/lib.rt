@@ -9,6 +9,7 @@
 mod below;
 mod feed;
 mod key;
+mod label;
 pub mod laws;
 mod make;
 mod meet;

@@ -42,11 +42,29 @@ impl Path {
     {
         match (&self.form, &other.form) {
             (Form::Atom(c), Form::Atom(d)) => c.0.cmp(&d.0),
-            (Form::Con(c, p), Form::Con(d, q)) => c.0.cmp(&d.0).then(p.order_by_kind(q)),
+            (Form::Con(c, p), Form::Con(d, q)) => {
+                let names = c.0.cmp(&d.0);
+                if names.is_ne() {
+                    return names;
+                }
+                p.order_by_kind(q)
+            }
             (Form::Left(p), Form::Left(q)) => p.order_by_kind(q),
             (Form::Right(p), Form::Right(q)) => p.order_by_kind(q),
-            (Form::Arrow(n, p), Form::Arrow(m, q)) => n.order_by_path(m).then(p.order_by_kind(q)),
-            (Form::Sealed(c, n), Form::Sealed(d, m)) => c.0.cmp(&d.0).then(n.order_by_path(m)),
+            (Form::Arrow(n, p), Form::Arrow(m, q)) => {
+                let sources = n.order_by_path(m);
+                if sources.is_ne() {
+                    return sources;
+                }
+                p.order_by_kind(q)
+            }
+            (Form::Sealed(c, n), Form::Sealed(d, m)) => {
+                let names = c.0.cmp(&d.0);
+                if names.is_ne() {
+                    return names;
+                }
+                n.order_by_path(m)
+            }
             (one, another) => one.kind().cmp(&another.kind()),
         }
     }

@@ -7,7 +7,7 @@ use Rattle.std.proofs.lemmas.Bool.{cases_eq, cases_Bool, and_parts, and_from, or
 use Rattle.std.proofs.lemmas.Bool.Decides.{nat_tests}
 use Rattle.cls_base.specs.Taxonomies.{Variance, covariant, contravariant, invariant, Chain, stay, step}
 use Rattle.cls_base.proofs.Lists.{Contains-nil, Contains-here, Contains-later, Contains-cases}
-use Rattle.cls_taxon.specs.Orders.{Declared, variance_in, IsOnCycle, KeepsVariance, IsOrder}
+use Rattle.cls_taxon.specs.Orders.{Declared, variance_in, class_by, IsOnCycle, KeepsVariance, IsOrder}
 use Rattle.cls_taxon.specs.Decisions.{leads, same_variance, fits_order, is_order, is_below}
 use Rattle.cls_taxon.specs.Laws.{LookupsAreChains}
 
@@ -229,6 +229,17 @@ pub is_below-one_variance :
 is_below-one_variance d a b p = elim (answer d a b p) [
   | inl (o, h) ↦ Chain-variance d o.keeps a b h
   | inr (n, e) ↦ ap (variance_in d.variances) e
+]
+
+-- names of a chain have one class
+Chain-class : (pairs : List (ℕ × ℕ)) (a b : ℕ) → Chain pairs a b → class_by pairs a ≡ class_by pairs b
+Chain-class [] a b h = ap (class_by []) (Chain-none a b h)
+Chain-class (p ∷ pairs) a b h = refl
+
+pub is_below-one_class : (d : Declared) (a b : ℕ) → IsTrue (is_below d a b) → class_by d.pairs a ≡ class_by d.pairs b
+is_below-one_class d a b p = elim (answer d a b p) [
+  | inl (o, h) ↦ Chain-class d.pairs a b h
+  | inr (n, e) ↦ ap (class_by d.pairs) e
 ]
 
 -- for an order, below is what a chain leads to

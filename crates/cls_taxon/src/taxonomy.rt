@@ -115,8 +115,8 @@ impl Taxonomy {
 
 impl Taxa for Taxonomy {
     ghost use Rattle.cls_taxon.specs.Decisions.{is_below};
-    ghost use Rattle.cls_taxon.specs.DecisionLaws.{is_below-reflexive, is_below-transitive, is_below-antisymmetric, is_below-one_variance};
-    ghost use Rattle.cls_taxon.specs.Orders.{variance_in};
+    ghost use Rattle.cls_taxon.specs.DecisionLaws.{is_below-reflexive, is_below-transitive, is_below-antisymmetric, is_below-one_variance, is_below-one_class};
+    ghost use Rattle.cls_taxon.specs.Orders.{variance_in, class_by};
 
     ghost is_below = { λ t a b. is_below t a b };
 
@@ -126,8 +126,18 @@ impl Taxa for Taxonomy {
         Taxonomy::below(self, lower, upper)
     }
 
+    ghost class = { λ t a. class_by t.pairs a };
+
     fn variance(&self, name: Name) -> Variance {
         self.variances.of(name)
+    }
+
+    fn class(&self, name: Name) -> u64 {
+        if self.pairs.is_empty() {
+            u64::from(name.0) + 1
+        } else {
+            0
+        }
     }
 
     ghost reflexive = { is_below-reflexive };
@@ -137,6 +147,8 @@ impl Taxa for Taxonomy {
     ghost antisymmetric = { is_below-antisymmetric };
 
     ghost one_variance = { is_below-one_variance };
+
+    ghost one_class = { is_below-one_class };
 }
 
 /// Whether the spans at the second place have the first.

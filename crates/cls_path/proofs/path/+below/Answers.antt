@@ -1,13 +1,27 @@
 use Rattle.std.proofs.Common.{rules}
 use Rattle.cls_path.specs.Paths.{listed}
 use Rattle.cls_path.proofs.Orders.{paths_order-listed}
-use Rattle.cls_path.proofs.Turning.{each_above-list_below, sealed-list_below}
+use Rattle.cls_path.proofs.Turning.{each_above-list_below, sealed-list_below, refused_below}
 use Rattle.cls_path.proofs.path.+below.Goals as goal
+use Rattle.cls_path.proofs.path.+below.Goals.{Path::is_below-then-may_be_below, Path::is_below-else-may_be_below}
 
 pub Path::is_below-returns-then-is_below : goal.Path::is_below-returns-then-is_below
 Path::is_below-returns-then-is_below g t c =
     let e = each_above-list_below (g.T.Taxa.is_below c.args.taxa.now) (g.T.Taxa.variance_of_name c.args.taxa.now) (listed c.in-Arrow-Arrow.n) (listed c.in-Arrow-Arrow.m) in
     search rules
+
+pub Path::is_below-returns-else-is_below : goal.Path::is_below-returns-else-is_below
+Path::is_below-returns-else-is_below g t c =
+    let b = g.T.Taxa.is_below c.args.taxa.now in
+    let v = g.T.Taxa.variance_of_name c.args.taxa.now in
+    let n = listed c.in-Arrow-Arrow.n in
+    let m = listed c.in-Arrow-Arrow.m in
+    elim c.if-may_be_below.branch [
+      | Path::is_below-then-may_be_below w ↦ search rules
+      | Path::is_below-else-may_be_below w ↦
+          let e = refused_below b v c.in-Arrow-Arrow.p.value c.in-Arrow-Arrow.q.value n m c.may_be_below.result c.may_be_below.ensures w.if-may_be_below.false in
+          search rules
+    ]
 
 pub Path::is_below-returns-then-below-2 : goal.Path::is_below-returns-then-below-2
 Path::is_below-returns-then-below-2 g t c =

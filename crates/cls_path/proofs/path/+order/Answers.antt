@@ -16,12 +16,17 @@ Nf::order_by_path-returns t c =
     let e = exhausted c.loop-i.i xs.items ys.items c.loop-i.invariant.in_one c.loop-i.invariant.in_two over in
     search rules
 
-pub Path::order_by_kind-returns-in-Arrow-Arrow : goal.Path::order_by_kind-returns-in-Arrow-Arrow
-Path::order_by_kind-returns-in-Arrow-Arrow t c =
+pub Path::order_by_kind-returns-then-is_ne-2 : goal.Path::order_by_kind-returns-then-is_ne-2
+Path::order_by_kind-returns-then-is_ne-2 t c =
     let e = paths_order-listed c.in-Arrow-Arrow.n c.in-Arrow-Arrow.m in
     search rules
 
-pub Path::order_by_kind-returns-in-Sealed-Sealed : goal.Path::order_by_kind-returns-in-Sealed-Sealed
-Path::order_by_kind-returns-in-Sealed-Sealed t c =
+pub Path::order_by_kind-returns-else-is_ne-2 : goal.Path::order_by_kind-returns-else-is_ne-2
+Path::order_by_kind-returns-else-is_ne-2 t c =
+    let e = paths_order-listed c.in-Arrow-Arrow.n c.in-Arrow-Arrow.m in
+    search rules
+
+pub Path::order_by_kind-returns-else-is_ne-3 : goal.Path::order_by_kind-returns-else-is_ne-3
+Path::order_by_kind-returns-else-is_ne-3 t c =
     let e = paths_order-listed c.in-Sealed-Sealed.n c.in-Sealed-Sealed.m in
     search rules

@@ -1,0 +1,165 @@
+//! Labels of paths, by which most pairs are told apart.
+ghost use Rattle.std.specs.Prelude.{◌≡◌};
+ghost use Rattle.cls_path.specs.Paths.{listed};
+ghost use Rattle.cls_path.specs.Labels.{one_span, join, plus, within, names_of, head_of, inner_of, join_all, all_names_of, sources_of, first_of, later_of, label_of, admits};
+
+use crate::path::{Form, Nf, Path};
+use cls_base::Taxa;
+
+/// The numbers from the low to the high one, none if the low one is the greater.
+#[derive(Clone, Copy, Debug, PartialEq, Eq)]
+pub(crate) struct Span {
+    low: u64,
+    high: u64,
+}
+
+/// No number.
+const NONE: Span = Span {
+    low: u64::MAX,
+    high: 0,
+};
+
+/// The number 0 alone.
+const ZERO: Span = Span { low: 0, high: 0 };
+
+/// Spans of the classes of names: of the head of a path, inside it, and of its first source. The last span has the sums
+/// over the later sources, so that it tells apart paths that differ in one of them.
+#[derive(Clone, Copy, Debug, PartialEq, Eq)]
+pub(crate) struct Label {
+    head: Span,
+    inner: Span,
+    first: Span,
+    later: Span,
+}
+
+impl Span {
+    /// The number alone.
+    fn one(number: u64) -> Span
+        ensures { result ≡ one_span number }
+    {
+        Span {
+            low: number,
+            high: number,
+        }
+    }
+
+    /// The numbers of both and those between.
+    fn join(self, other: Span) -> Span
+        ensures { result ≡ join self other }
+    {
+        Span {
+            low: self.low.min(other.low),
+            high: self.high.max(other.high),
+        }
+    }
+
+    /// The sums of both low and of both high numbers, within 64 bits.
+    fn plus(self, other: Span) -> Span
+        ensures { result ≡ plus self other }
+    {
+        Span {
+            low: self.low.saturating_add(other.low),
+            high: self.high.saturating_add(other.high),
+        }
+    }
+
+    /// Whether all numbers lie in the other span.
+    fn is_within(self, other: Span) -> bool
+        ensures { result ≡ within self other }
+    {
+        other.low <= self.low && self.high <= other.high
+    }
+}
+
+impl Label {
+    /// The label of the path.
+    pub fn of<T: Taxa>(taxa: &T, path: &Path) -> Label
+        ensures { result ≡ label_of (T.class taxa.now) path.now }
+    {
+        Label {
+            head: head(taxa, path),
+            inner: inner(taxa, path),
+            first: first(taxa, path),
+            later: later(taxa, path),
+        }
+    }
+
+    /// Whether a path with this label may be below one with the other.
+    pub fn admits(self, upper: Label) -> bool
+        ensures { result ≡ admits self upper }
+    {
+        upper.head.is_within(self.head)
+            && (upper.inner.is_within(self.inner)
+                && (self.first.is_within(upper.first) && self.later.is_within(upper.later)))
+    }
+}
+
+fn names<T: Taxa>(taxa: &T, path: &Path) -> Span
+    ensures { result ≡ names_of (T.class taxa.now) path.now }
+{
+    match &path.form {
+        Form::Atom(name) | Form::Sealed(name, _) => Span::one(taxa.class(*name)),
+        Form::Con(name, rest) => Span::one(taxa.class(*name)).join(names(taxa, rest)),
+        Form::Unit => NONE,
+        Form::Left(rest) | Form::Right(rest) | Form::Arrow(_, rest) => names(taxa, rest),
+    }
+}
+
+fn head<T: Taxa>(taxa: &T, path: &Path) -> Span
+    ensures { result ≡ head_of (T.class taxa.now) path.now }
+{
+    match &path.form {
+        Form::Atom(name) | Form::Sealed(name, _) | Form::Con(name, _) => {
+            Span::one(taxa.class(*name))
+        }
+        Form::Unit | Form::Left(_) | Form::Right(_) => NONE,
+        Form::Arrow(_, rest) => head(taxa, rest),
+    }
+}
+
+fn inner<T: Taxa>(taxa: &T, path: &Path) -> Span
+    ensures { result ≡ inner_of (T.class taxa.now) path.now }
+{
+    match &path.form {
+        Form::Atom(_) | Form::Sealed(..) | Form::Unit => NONE,
+        Form::Con(_, rest) | Form::Left(rest) | Form::Right(rest) => names(taxa, rest),
+        Form::Arrow(_, rest) => inner(taxa, rest),
+    }
+}
+
+fn all_names<T: Taxa>(taxa: &T, nf: &Nf) -> Span
+    ensures { result ≡ all_names_of (T.class taxa.now) (listed nf.now) }
+{
+    let mut span = NONE;
+    for path in nf.paths() {
+        span = span.join(names(taxa, path));
+    }
+    span
+}
+
+fn sources<T: Taxa>(taxa: &T, path: &Path) -> Span
+    ensures { result ≡ sources_of (T.class taxa.now) path.now }
+{
+    match &path.form {
+        Form::Arrow(source, rest) => all_names(taxa, source).plus(sources(taxa, rest)),
+        _ => ZERO,
+    }
+}
+
+fn first<T: Taxa>(taxa: &T, path: &Path) -> Span
+    ensures { result ≡ first_of (T.class taxa.now) path.now }
+{
+    match &path.form {
+        Form::Arrow(list, _) | Form::Sealed(_, list) => all_names(taxa, list),
+        _ => NONE,
+    }
+}
+
+fn later<T: Taxa>(taxa: &T, path: &Path) -> Span
+    ensures { result ≡ later_of (T.class taxa.now) path.now }
+{
+    match &path.form {
+        Form::Arrow(_, rest) => sources(taxa, rest),
+        _ => NONE,
+    }
+}
