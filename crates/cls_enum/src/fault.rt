@@ -6,7 +6,7 @@ use std::alloc::{AllocError, AllocFailed};
 /// Why no page is made.
 #[derive(Clone, Copy, Debug, PartialEq, Eq)]
 pub enum PageFault {
-    /// Want of memory.
+    /// Out of memory.
     OutOfMemory,
     /// More terms would have to be held than are allowed.
     TooManyTerms,
