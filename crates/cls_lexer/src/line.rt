@@ -1,4 +1,4 @@
-ghost use Rattle.std.specs.Prelude.{◌≡◌, ℕ, ◌<◌, ◌≤◌, ◌↔◌, List, length, Ok, Err, IsTrue, IsOk, IfOk, IsUtf8, find, not};
+ghost use Rattle.std.specs.Prelude.{◌≡◌, ℕ, ◌<◌, ◌≤◌, ◌↔◌, List, length, Ok, Err, IsOk, IfOk, IfSome, IsNone, IsUtf8, find, not};
 ghost use Rattle.cls_base.specs.Limits.{max_line_bytes};
 ghost use Rattle.cls_lexer.specs.Characters.{is_blank};
 ghost use Rattle.cls_lexer.specs.Lines.{without_return};
@@ -85,11 +85,21 @@ impl Line {
         }
     }
 
-    /// Whether the line is skipped: it can be read, and has only blanks, or its first byte that isn't blank is `#`.
-    pub fn is_skipped(&self) -> bool
-        ensures { IsTrue result ↔ IsSkipped self.now }
+    /// The line as a text, or None if it is skipped: it can be read, and has only blanks, or its first byte that isn't blank
+    /// is `#`. The errors are those of [`text`](Line::text).
+    pub fn content(&self) -> Result<Option<&str>, TextFault>
+        ensures same { IfOk result (λ content. IfSome content (λ text. text.now ≡ self.now)) }
+        ensures skipped { IfOk result (λ content. IsNone content ↔ IsSkipped self.now) }
+        ensures ok { IsOk result ↔ IsText self.now }
+        ensures too_long { (result ≡ Err TextFault.TooLong) ↔ (max_line_bytes < length self.now) }
+        ensures not_utf8 { (result ≡ Err TextFault.NotUtf8)
+            ↔ ((length self.now ≤ max_line_bytes) × ¬ IsUtf8 self.now) }
     {
-        self.text().is_ok() && says_nothing(self.as_bytes())
+        let text = self.text()?;
+        if says_nothing(self.as_bytes()) {
+            return Ok(None);
+        }
+        Ok(Some(text))
     }
 }
 
@@ -116,7 +126,7 @@ mod tests {
     #[test]
     fn a_comment_after_blanks_is_skipped(rt: HostRuntime) -> Result<(), Fail> {
         let line = Line::new(rt.alloc(), b" \t# said once")?;
-        assert!(rt; line.is_skipped());
+        assert!(rt; line.content()?.is_none());
         assert_eq!(rt; line.text()?, " \t# said once");
         Ok(())
     }

@@ -1,19 +1,20 @@
 -- How long an output for a few short lines is at most.
-use Rattle.std.proofs.Common.{length-take, length-drop, ◌≡◌, ℕ, zero, suc, ◌+◌, ◌-◌, ◌*◌, ◌<◌, ◌≤◌, List, [], ◌∷◌, ◌++◌, length, map, drop, refl, sym, ap, ◌∙◌, subst, arith, length-append, Bool, true, false, get_or}
-use Rattle.std.specs.Prelude.{All, codes}
+use Rattle.std.proofs.Common.{◌≡◌, ℕ, zero, suc, ◌+◌, ◌-◌, ◌*◌, ◌<◌, ◌≤◌, List, [], ◌∷◌, ◌++◌, length, map, refl, sym, ap, ◌∙◌, subst, arith, length-append, Bool, true, false, get_or}
+use Rattle.std.specs.Prelude.{All, codes, bytes_eq, if◌then◌else◌}
 use Rattle.std.specs.List.{flat_map, AllByRecursion}
 use Rattle.std.specs.Fmt.{decimal}
 use Rattle.std.proofs.lemmas.Fmt.{length-decimal-le_wide}
 use Rattle.std.proofs.lemmas.List.Elements.{All-contains_itself}
 use Rattle.cls_base.specs.Limits.{max_input_bytes, max_term_length}
 use Rattle.cls_base.specs.Terms.{Applicative, component, apply, length_of}
-use Rattle.cls_syntax.specs.declared.token.TokenKind.{TokenKind}
-use Rattle.cls_syntax.specs.declared.token.TokenKind.TheVariants.{Name, Number, To, And, Times, Open, Close, Comma, Dollar, Colon, Equals, Bar, AtMost, Bad}
-use Rattle.cls_syntax.specs.declared.token.Token.{Token}
-use Rattle.cls_syntax.specs.Lines.{lines_of}
-use Rattle.cls_syntax.specs.Tokens.{tokens_of}
-use Rattle.cls_syntax.specs.Tokens as tokens
-use Rattle.cls_syntax.specs.Words.{Word, name, word_from, word_in, words_of}
+use Rattle.cls_lexer.specs.declared.token.TokenKind.{TokenKind}
+use Rattle.cls_lexer.specs.declared.token.TokenKind.TheVariants.{Name, Number, To, And, Times, Open, Close, Comma, Dollar, Colon, Equals, Bar, AtMost, Bad}
+use Rattle.cls_lexer.specs.Lines.{lines_of}
+use Rattle.cls_lexer.specs.Spelling.{IsLongestAt}
+use Rattle.cls_lexer.specs.Tokens.{Located, tokens_of}
+use Rattle.cls_lexer.specs.Words as word
+use Rattle.cls_lexer.specs.Words.{Word, name, reserved_name, word_from, said, words_of}
+use Rattle.cls_lexer.proofs.TokenPlaces.{tokens_longest}
 use Rattle.cls_term.specs.Texts.{name_at, text_of, open_text}
 use Rattle.cls_session.specs.declared.status.Status.{Status}
 use Rattle.cls_session.specs.Declarations.{Declaration, names_of}
@@ -33,8 +34,12 @@ IsShort line = length line ≤ 24
 abbrev name_in : List Declaration → ℕ → List ℕ
 name_in ds = name_at (names_of ds)
 
+name_case : (reserved : Bool) (text xs : List ℕ) → (if reserved then word.omega else name text) ≡ name xs → text ≡ xs
+name_case true text xs e = cc
+name_case false text xs e = cc
+
 name_text : (kind : TokenKind) (text xs : List ℕ) → word_from kind text ≡ name xs → text ≡ xs
-name_text Name text xs e = cc
+name_text Name text xs e = name_case (bytes_eq text reserved_name) text xs e
 name_text Number text xs e = cc
 name_text To text xs e = cc
 name_text And text xs e = cc
@@ -50,19 +55,18 @@ name_text AtMost text xs e = cc
 name_text Bad text xs e = cc
 
 -- a name stands in its line
-second_within : (line : List ℕ) (ts : List Token) (w : Word) (ws : List Word) (xs : List ℕ) → map (word_in line) ts ≡ w ∷ name xs ∷ ws → length xs ≤ length line
-second_within line [] w ws xs e = absurd cc
-second_within line (t ∷ []) w ws xs e = absurd cc
-second_within line (t ∷ u ∷ ts) w ws xs e =
-    let same : word_from u.kind (tokens.text_of line u) ≡ name xs = cc in
-    let text = ap length (name_text u.kind (tokens.text_of line u) xs same) in
-    let a = length-take (u.end - u.start) (drop u.start line) in
-    let b = length-drop u.start line in
+second_within : (line : List ℕ) (ts : List Located) (w : Word) (ws : List Word) (xs : List ℕ) → AllByRecursion (IsLongestAt line) ts → map said ts ≡ w ∷ name xs ∷ ws → length xs ≤ length line
+second_within line [] w ws xs h e = absurd cc
+second_within line (t ∷ []) w ws xs h e = absurd cc
+second_within line (t ∷ u ∷ ts) w ws xs h e =
+    let same : word_from u.kind u.text ≡ name xs = cc in
+    let text = ap length (name_text u.kind u.text xs same) in
+    let within = h.1.0.within in
     omega arith
 
 component_within : (line : List ℕ) (d : Declaration) → IsDeclaration line d → length d.component ≤ length line
 unfolding words_of
-component_within line d p = second_within line (tokens_of line) _ _ d.component p.tokens
+component_within line d p = second_within line (tokens_of line) _ _ d.component (tokens_longest line) (sym p.words)
 
 -- short lines declare short names
 entry_short : (line : List ℕ) (first rest : List Declaration) → IsShort line → Declared line first → ((x : ℕ) → IsShort (name_in rest x)) → (x : ℕ) → IsShort (name_in (first ++ rest) x)

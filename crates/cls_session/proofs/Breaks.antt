@@ -2,7 +2,7 @@
 use Rattle.std.proofs.Common.{◌≡◌, ℕ, List, [], ◌∷◌, ◌++◌, sym, subst, inl, inr, append_assoc, append-nil}
 use Rattle.std.specs.Prelude.{Err}
 use Rattle.cls_base.specs.Outside.{SinkSeen}
-use Rattle.cls_syntax.specs.Lines.{CutsLine, lines_of}
+use Rattle.cls_lexer.specs.Lines.{CutsLine, lines_of}
 use Rattle.cls_session.specs.declared.driver.Stop.{Stop}
 use Rattle.cls_session.specs.declared.status.Status.{Status}
 use Rattle.cls_session.specs.Driving.{WritesFront, IsWritten, AnswersLine, RefusesLine, BreaksLine, AnswersLines, RefusesLines, BreaksLines, IsEnded, AnswersLast, RefusesLast, BreaksLast, MatchStop}

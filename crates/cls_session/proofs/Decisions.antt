@@ -6,12 +6,16 @@ use Rattle.std.specs.Str.{is_utf8}
 use Rattle.std.proofs.lemmas.Str.{IsUtf8-from_is_utf8, is_utf8-from_IsUtf8}
 use Rattle.std.proofs.lemmas.Bool.{cases_lt}
 use Rattle.cls_base.specs.Limits.{max_term_size, max_page_terms}
-use Rattle.cls_syntax.specs.declared.token.TokenKind.TheVariants.{Colon}
-use Rattle.cls_syntax.specs.Skipped.{IsText, IsSkipped, says_nothing}
-use Rattle.cls_syntax.specs.Words.{Word, name, number, sign, words_of}
-use Rattle.cls_syntax.specs.Numerals.{number_value}
+use Rattle.cls_lexer.specs.Skipped.{IsText, IsSkipped, says_nothing}
+use Rattle.cls_lexer.specs.Words.{words_of}
+use Rattle.cls_lexer.specs.Numerals.{number_value}
 use Rattle.cls_session.specs.Declarations.{Declaration}
-use Rattle.cls_session.specs.Forms.{IsRead, IsDeclaration, IsEnd, IsListing, declaration_tokens, end_tokens, listing_tokens}
+use Rattle.cls_syntax.specs.LineGrammars.{Row, LineOf, row_words, IsGoodGrammar}
+use Rattle.cls_syntax.specs.Spans.{omega_text}
+use Rattle.cls_syntax.specs.TypeTexts as grammar
+use Rattle.cls_syntax.specs.TypeTexts.{TypeText, only_meet, only_product, only_atom}
+use Rattle.cls_session.specs.Forms.{repository_rows, query_rows, declaration_line, end_line, listing_line, IsRead, Says, IsDeclaration, IsEnd, IsListing}
+use Rattle.cls_session.proofs.LineForms.{repository_good, query_good, said_decided, goal_in, max_in, take_in, AsksFor, asked, asking}
 
 -- the fact or its refutation
 abbrev pub Decided : Type 0 → Type 0
@@ -29,39 +33,6 @@ text_decided xs ys =
       | false ↦ λ e. inr (λ p. let q : bytes_eq xs ys ≡ true = (bytes_eq-Decides xs ys).1 p in cc)
     ] refl
 
-declaration_decided : (ws : List Word) → Decided ((d : Declaration) × (ws ≡ declaration_tokens d))
-declaration_decided (name c ∷ name x ∷ sign Colon ∷ name t ∷ []) =
-    elim (text_decided c (codes "comp")) [
-      | inl e ↦ inl (record { component = x; type = t }, ap (λ (z : List ℕ). name z ∷ name x ∷ sign Colon ∷ name t ∷ []) e)
-      | inr n ↦ inr (λ p. n (let e = p.1 in cc))
-    ]
-declaration_decided ws = inr (λ p. let e = p.1 in cc)
-
-end_decided : (ws : List Word) → Decided (ws ≡ end_tokens)
-end_decided (name e ∷ []) =
-    elim (text_decided e (codes "end")) [
-      | inl p ↦ inl (ap (λ (z : List ℕ). name z ∷ []) p)
-      | inr n ↦ inr (λ p. n (cc))
-    ]
-end_decided ws = inr (λ p. cc)
-
-listing_decided : (ws : List Word) → Decided ((max take : List ℕ) × (ws ≡ listing_tokens max take))
-listing_decided (name l ∷ name o ∷ name m ∷ number max ∷ name t ∷ number take ∷ []) =
-    elim (text_decided l (codes "list")) [
-      | inr n ↦ inr (λ p. n (let e = p.2 in cc))
-      | inl a ↦ elim (text_decided o (codes "omega")) [
-        | inr n ↦ inr (λ p. n (let e = p.2 in cc))
-        | inl b ↦ elim (text_decided m (codes "max")) [
-          | inr n ↦ inr (λ p. n (let e = p.2 in cc))
-          | inl c ↦ elim (text_decided t (codes "take")) [
-            | inr n ↦ inr (λ p. n (let e = p.2 in cc))
-            | inl d ↦ inl (max, take, λ i. name (a i) ∷ name (b i) ∷ name (c i) ∷ number max ∷ name (d i) ∷ number take ∷ [])
-          ]
-        ]
-      ]
-    ]
-listing_decided ws = inr (λ p. let e = p.2 in cc)
-
 at_most_decided : (m n : ℕ) → Decided (m ≤ n)
 at_most_decided m n = elim (cases_lt n m) [ inl l ↦ inr (λ h. absurd (omega arith)) | inr g ↦ inl g ]
 
@@ -69,10 +40,6 @@ both_decided : {P Q : Type 0} → Decided P → Decided Q → Decided (P × Q)
 both_decided (inl p) (inl q) = inl (p, q)
 both_decided (inl p) (inr n) = inr (λ w. n w.1)
 both_decided (inr n) d = inr (λ w. n w.0)
-
-not_decided : {P : Type 0} → Decided P → Decided (P → ⊥)
-not_decided (inl p) = inr (λ n. n p)
-not_decided (inr n) = inl n
 
 utf8_decided : (line : List ℕ) → Decided (IsUtf8 line)
 utf8_decided line =
@@ -99,49 +66,71 @@ read_decided line =
       | inl t ↦ elim (skipped_decided line) [ inl s ↦ inr (λ r. r.unskipped s) | inr n ↦ inl record { text = t; unskipped = n } ]
     ]
 
+-- whether a line is one of the rows, where it says something
+says_decided : (rows : List Row) (good : IsGoodGrammar rows) (line : List ℕ) → Decided ((said : LineOf rows) × Says rows said line)
+says_decided rows good line =
+    elim (read_decided line) [
+      | inr n ↦ inr (λ p. n p.1.read)
+      | inl r ↦ elim (said_decided rows good (words_of line)) [
+        | inr n ↦ inr (λ p. n p.0 p.1.words)
+        | inl s ↦ inl (s.0, record { read = r; words = s.1 })
+      ]
+    ]
+
+-- whether a line declares a component, ends the repository, or neither
+end_or_declaration : (line : List ℕ) (said : LineOf repository_rows) → Says repository_rows said line → Decided (IsEnd line) × Decided ((d : Declaration) × IsDeclaration line d)
+end_or_declaration line (inl v) s = (
+  inr (λ e. let w : row_words repository_rows end_line ≡ row_words repository_rows (inl v) = e.words ∙ sym s.words in cc),
+  inl (record { component = v.0; type = v.1.1.0 }, record { read = s.read; words = s.words }),
+)
+end_or_declaration line (inr (inl v)) s = (
+  inl record { read = s.read; words = s.words },
+  inr (λ p. let w : row_words repository_rows (declaration_line p.0) ≡ row_words repository_rows end_line = p.1.words ∙ sym s.words in cc),
+)
+end_or_declaration line (inr (inr v)) s = absurd v
+
 -- whether a line ends the repository
 pub is_end_decided : (line : List ℕ) → Decided (IsEnd line)
 is_end_decided line =
-    elim (read_decided line) [
-      | inr n ↦ inr (λ e. n e.read)
-      | inl r ↦ elim (end_decided (words_of line)) [ inr n ↦ inr (λ e. n e.tokens) | inl w ↦ inl record { read = r; tokens = w } ]
+    elim (says_decided repository_rows repository_good line) [
+      | inr n ↦ inr (λ e. n (end_line, e))
+      | inl s ↦ (end_or_declaration line s.0 s.1).0
     ]
 
 -- whether a line declares a component
 pub is_declaration_decided : (line : List ℕ) → Decided ((d : Declaration) × IsDeclaration line d)
 is_declaration_decided line =
-    elim (read_decided line) [
-      | inr n ↦ inr (λ p. n p.1.read)
-      | inl r ↦ elim (declaration_decided (words_of line)) [
-        | inr n ↦ inr (λ p. n (p.0, p.1.tokens))
-        | inl w ↦
-            let same : (d : Declaration) → IsDeclaration line d → (d.component ≡ w.0.component) × (d.type ≡ w.0.type) = λ d q. (let e = sym q.tokens ∙ w.1 in (cc, cc)) in
-            elim (both_decided (not_decided (text_decided w.0.component (codes "omega"))) (not_decided (text_decided w.0.type (codes "omega")))) [
-              | inl b ↦ inl (w.0, record { read = r; tokens = w.1; component = b.0; type = b.1 })
-              | inr n ↦ inr (λ p. n (let e = same p.0 p.1 in ((λ q. p.1.component (e.0 ∙ q)), (λ q. p.1.type (e.1 ∙ q)))))
-            ]
-      ]
+    elim (says_decided repository_rows repository_good line) [
+      | inr n ↦ inr (λ p. n (declaration_line p.0, p.1))
+      | inl s ↦ (end_or_declaration line s.0 s.1).1
     ]
+
+-- whether the text of a type is omega
+omega_decided : (t : TypeText) → Decided (t ≡ omega_text)
+omega_decided (only_meet (only_product (only_atom grammar.omega))) = inl refl
+omega_decided _ = inr (λ e. cc)
 
 -- whether a line asks for a listing
 pub is_listing_decided : (line : List ℕ) → Decided ((max take : ℕ) × IsListing line max take)
 is_listing_decided line =
-    elim (read_decided line) [
-      | inr n ↦ inr (λ p. n p.2.read)
-      | inl r ↦ elim (listing_decided (words_of line)) [
-        | inr n ↦ inr (λ p. n (p.2.max_digits, p.2.take_digits, p.2.tokens))
-        | inl w ↦
-            let max = number_value w.0 in
-            let take = number_value w.1 in
-            let same : (m k : ℕ) → IsListing line m k → (m ≡ max) × (k ≡ take) = λ m k q. (let e = sym q.tokens ∙ w.2 in
-            let a : q.max_digits ≡ w.0 = cc in
-            let b : q.take_digits ≡ w.1 = cc in
-            (sym q.max_value ∙ ap number_value a, sym q.take_value ∙ ap number_value b)) in
-            elim (both_decided (both_decided (at_most_decided 1 max) (at_most_decided max max_term_size)) (both_decided (at_most_decided 1 take) (at_most_decided take max_page_terms))) [
-              | inl b ↦ inl (max, take, record { max_digits = w.0; take_digits = w.1; read = r; tokens = w.2; max_value = refl; take_value = refl; max_within = b.0; take_within = b.1 })
-              | inr n ↦ inr (λ p. n (let e = same p.0 p.1 p.2 in let a = p.2.max_within in let b = p.2.take_within in ((omega arith, omega arith), (omega arith, omega arith))))
+    elim (says_decided query_rows query_good line) [
+      | inr n ↦ inr (λ p. n (listing_line p.2.max_digits p.2.take_digits, p.2.says))
+      | inl s ↦
+          let max = number_value (max_in s.0) in
+          let take = number_value (take_in s.0) in
+          let same : (m k : ℕ) (q : IsListing line m k) → AsksFor q.max_digits q.take_digits s.0 = λ m k q. asked (words_of line) s.0 q.max_digits q.take_digits s.1.words q.says.words in
+          elim (omega_decided (goal_in s.0)) [
+            | inr n ↦ inr (λ p. n (same p.0 p.1 p.2).goal)
+            | inl g ↦ elim (both_decided (both_decided (at_most_decided 1 max) (at_most_decided max max_term_size)) (both_decided (at_most_decided 1 take) (at_most_decided take max_page_terms))) [
+              | inl b ↦ inl (max, take, record { max_digits = max_in s.0; take_digits = take_in s.0; says = record { read = s.1.read; words = asking (words_of line) s.0 s.1.words g }; max_value = refl; take_value = refl; max_within = b.0; take_within = b.1 })
+              | inr n ↦ inr (λ p.
+                let e = same p.0 p.1 p.2 in
+                let a : max ≡ p.0 = ap number_value e.max_digits ∙ p.2.max_value in
+                let b : take ≡ p.1 = ap number_value e.take_digits ∙ p.2.take_value in
+                let c = p.2.max_within in let d = p.2.take_within in
+                n ((omega arith, omega arith), (omega arith, omega arith)))
             ]
-      ]
+          ]
     ]
 
 contains_cases : (x y : List ℕ) (xs : List (List ℕ)) → Contains (x ∷ xs) y → (x ≡ y) ⊎ Contains xs y

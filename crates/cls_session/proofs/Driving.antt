@@ -4,7 +4,7 @@ use Rattle.std.specs.Prelude.{Err}
 use Rattle.cls_session.specs.declared.driver.Stop.{Stop}
 use Rattle.cls_session.specs.declared.driver.Stop.TheVariants as stops
 use Rattle.cls_base.specs.Outside.{SinkSeen, Holds}
-use Rattle.cls_syntax.specs.Lines.{CutsLine}
+use Rattle.cls_lexer.specs.Lines.{CutsLine}
 use Rattle.cls_session.specs.Driving.{CutsLines, IsWritten, FitsLine, FitsLines, AnswersLine, RefusesLine, AnswersLines, RefusesLines, MatchStop}
 use Rattle.cls_session.specs.Standings.{Standing, Stands}
 use Rattle.cls_session.specs.Transcripts.{IsRefused}

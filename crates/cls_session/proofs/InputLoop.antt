@@ -6,8 +6,8 @@ use Rattle.std.specs.Io.KnownBytes.{Consumes, Keeps, IsAtEnd}
 use Rattle.std.proofs.KnownBytes.{Appends-trans, Consumes-nil, Consumes-trans, Consumes-kept}
 use Rattle.cls_base.specs.Limits.{max_input_bytes, max_read_bytes}
 use Rattle.cls_base.specs.Outside.{SourceSeen, SinkSeen}
-use Rattle.cls_syntax.specs.Lines.{HasNoFeed, lines_of, ended_lines}
-use Rattle.cls_syntax.proofs.LinePieces.{ended_lines-HasNoFeed}
+use Rattle.cls_lexer.specs.Lines.{HasNoFeed, lines_of, ended_lines}
+use Rattle.cls_lexer.proofs.LinePieces.{ended_lines-HasNoFeed}
 use Rattle.cls_session.specs.declared.driver.Stop.{Stop}
 use Rattle.cls_session.specs.declared.driver.Stop.TheVariants as stops
 use Rattle.cls_session.specs.declared.status.Status.{Status}

@@ -2,7 +2,7 @@
 use Rattle.std.proofs.Common.{◌≡◌, ℕ, List, [], ◌∷◌, ◌++◌, length, sym, subst, inl, inr, arith, append_assoc, append-nil, length-append}
 use Rattle.std.specs.Prelude.{Option, None, Some}
 use Rattle.cls_base.specs.Outside.{SinkSeen, Holds}
-use Rattle.cls_syntax.specs.Lines.{lines_of}
+use Rattle.cls_lexer.specs.Lines.{lines_of}
 use Rattle.cls_session.specs.declared.status.Status.{Status}
 use Rattle.cls_session.specs.Driving.{Writes, FitsLine, FitsLast, AnswersLine, RefusesLine, AnswersLast, RefusesLast, EndsOutput}
 use Rattle.cls_session.specs.Standings.{Standing, Stands}

@@ -11,7 +11,6 @@ pub mod Writing
 pub mod Pages
 pub mod Replying
 pub mod Driving
-pub mod Readings
 pub mod LineForms
 pub mod Outputs
 pub mod InputLoop

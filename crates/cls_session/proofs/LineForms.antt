@@ -1,123 +1,131 @@
--- What a line is, from what its words are.
-use Rattle.std.proofs.Common.{◌≡◌, ◌≢◌, ℕ, ◌≤◌, List, refl, sym, ap, ◌∙◌, subst, arith, Bool, true, false}
-use Rattle.std.specs.Prelude.{Option, Some, None, codes, bytes_eq, not, is_some, unwrap_or, IsTrue, ◌↔◌}
-use Rattle.std.specs.Option.{SomeIff}
-use Rattle.cls_base.specs.Limits.{max_term_size, max_page_terms}
-use Rattle.cls_syntax.specs.Numerals.{number_value}
-use Rattle.cls_syntax.specs.Skipped.{IsText, IsSkipped}
-use Rattle.cls_syntax.specs.Words.{Word, words_of}
-use Rattle.cls_session.specs.declared.forms.RepositoryLine.{RepositoryLine}
-use Rattle.cls_session.specs.declared.forms.RepositoryLine.TheVariants as repository
+-- What is read of a line's words is what the line says.
+use Rattle.std.proofs.Common.{◌≡◌, ◌≢◌, ℕ, ◌≤◌, List, refl, sym, ap, ◌∙◌, subst, arith, rules, inl, inr, true, false}
+use Rattle.std.specs.Prelude.{◌⊎◌, ◌↔◌, Result, Ok, Err, is_ok}
+use Rattle.cls_lexer.specs.Numerals.{number_value}
+use Rattle.cls_lexer.specs.Skipped.{IsText, IsSkipped}
+use Rattle.cls_lexer.specs.Words.{Word, words_of}
+use Rattle.cls_syntax.specs.Faults.{Stop, Exactly}
+use Rattle.cls_syntax.specs.LineGrammars.{Row, LineOf, row_words, grammar_read, IsGoodGrammar}
+use Rattle.cls_syntax.specs.Spans.{omega_text}
+use Rattle.cls_syntax.specs.TypeTexts.{TypeText}
+use Rattle.cls_syntax.proofs.GrammarFronts.{grammar_exactly, grammar_reads}
+use Rattle.cls_session.specs.declared.forms.RepositoryForm.{RepositoryForm}
+use Rattle.cls_session.specs.declared.forms.ListingForm.{ListingForm}
 use Rattle.cls_session.specs.declared.forms.QueryLine.{QueryLine}
 use Rattle.cls_session.specs.declared.forms.QueryLine.TheVariants as query
 use Rattle.cls_session.specs.Declarations.{Declaration}
-use Rattle.cls_session.specs.Forms.{declaration_tokens, end_tokens, listing_tokens, IsRead}
-use Rattle.cls_session.specs.LineAnswers.{IsFree, AreInRange, IsRepositoryForm, IsQueryForm, IsRepositoryLine, IsQueryLine}
-use Rattle.cls_session.specs.Readings.{declaration_at, listing_at}
-use Rattle.std.proofs.lemmas.Slice.Eq.{bytes_eq-Decides}
-use Rattle.cls_session.proofs.Decisions.{same_bytes}
-use Rattle.cls_session.proofs.Readings.{declaration_reads, listing_read, listing_reads}
+use Rattle.cls_session.specs.Forms.{repository_rows, query_rows, declaration_line, end_line, listing_line, IsRead, Says, IsDeclaration, IsEnd, IsListing}
+use Rattle.cls_session.specs.LineAnswers.{repository_says, listing_says, IsListed, IsQueryLine}
 
-none_some : {A : Type 0} (x : A) → ◌≡◌ {A = Option A} None (Some x) → ⊥
-none_some x e = let p = ap is_some e in absurd (cc)
+pub repository_good : IsGoodGrammar repository_rows
+repository_good = search rules
 
-some_same : {A : Type 0} (x y : A) → Some x ≡ Some y → x ≡ y
-some_same x y e = ap (λ o. unwrap_or o x) e
+pub query_good : IsGoodGrammar query_rows
+query_good = search rules
 
-pair_same : (a b c d : List ℕ) → ◌≡◌ {A = Option (List ℕ × List ℕ)} (Some (a, b)) (Some (c, d)) → (a ≡ c) × (b ≡ d)
-pair_same a b c d e =
-    let x : List ℕ × List ℕ = (a, b) in
-    let y : List ℕ × List ℕ = (c, d) in
-    let p : x ≡ y = some_same x y e in
-    (ap (λ (z : List ℕ × List ℕ). z.0) p, ap (λ (z : List ℕ × List ℕ). z.1) p)
+ok_is_no_err : {A E : Type 0} (x : A) (e : E) → ◌≡◌ {A = Result A E} (Ok x) (Err e) → ⊥
+ok_is_no_err x e p = let q = ap is_ok p in absurd (cc)
 
-not_true : (b : Bool) → not b ≡ true → b ≡ false
-not_true true e = cc
-not_true false e = refl
+abbrev said_or : {A : Type 0} → A → Result A Stop → A
+said_or a (Ok b) = b
+said_or a (Err e) = a
 
-not_false : (b : Bool) → not b ≡ false → b ≡ true
-not_false true e = refl
-not_false false e = cc
+module _ (rows : List Row) (good : IsGoodGrammar rows) (ws : List Word) where
+  -- the words say what was read
+  pub read_says : (said : LineOf rows) → grammar_read rows ws ≡ Ok said → row_words rows said ≡ ws
+  read_says said e = subst (λ (r : Result (LineOf rows) Stop). Exactly (row_words rows) ws r) e (grammar_exactly rows good ws)
 
--- what comparing two texts for being different says
-pub differs : (answer : Bool) (xs word : List ℕ) → answer ≡ not (bytes_eq xs word) → answer ≡ true → xs ≢ word
-differs answer xs word e t = λ p.
-    let f : bytes_eq xs word ≡ false = not_true (bytes_eq xs word) (sym e ∙ t) in
-    let s : bytes_eq xs word ≡ true = (bytes_eq-Decides xs word).1 p in
-    absurd (cc)
+  -- what the words say is read
+  pub said_reads : (said : LineOf rows) → row_words rows said ≡ ws → grammar_read rows ws ≡ Ok said
+  said_reads said e = subst (λ (us : List Word). grammar_read rows us ≡ Ok said) e (grammar_reads rows good said)
 
-pub agrees : (answer : Bool) (xs word : List ℕ) → answer ≡ not (bytes_eq xs word) → answer ≡ false → xs ≡ word
-agrees answer xs word e f = same_bytes xs word (not_false (bytes_eq xs word) (sym e ∙ f))
+  -- where the reading stopped, the words say nothing
+  pub stop_says_nothing : (s : Stop) → grammar_read rows ws ≡ Err s → (said : LineOf rows) → row_words rows said ≡ ws → ⊥
+  stop_says_nothing s e said w = ok_is_no_err said s (sym (said_reads said w) ∙ e)
 
--- a declaration whose names aren't both free isn't one
-module _ (ws : List Word) (component type : List ℕ) (read : declaration_at ws ≡ Some (component, type)) where
-  other_declaration : (d : Declaration) → ws ≡ declaration_tokens d → (component ≡ d.component) × (type ≡ d.type)
-  other_declaration d e = pair_same component type d.component d.type (sym read ∙ declaration_reads ws d e)
+  -- whether they say something
+  pub said_decided : ((said : LineOf rows) × (row_words rows said ≡ ws)) ⊎ ((said : LineOf rows) → row_words rows said ≡ ws → ⊥)
+  said_decided = elim (grammar_read rows ws) as (λ r. grammar_read rows ws ≡ r → ((said : LineOf rows) × (row_words rows said ≡ ws)) ⊎ ((said : LineOf rows) → row_words rows said ≡ ws → ⊥)) [
+    | Ok said ↦ λ e. inl (said, read_says said e)
+    | Err s ↦ λ e. inr (stop_says_nothing s e)
+  ] refl
 
-  pub reserved_component : component ≡ codes "omega" → (d : Declaration) → ws ≡ declaration_tokens d → IsFree d → ⊥
-  reserved_component p d e f = f.0 (sym (other_declaration d e).0 ∙ p)
+  -- they say one thing alone
+  pub said_one : (a b : LineOf rows) → row_words rows a ≡ ws → row_words rows b ≡ ws → a ≡ b
+  said_one a b p q = ap (λ (r : Result (LineOf rows) Stop). said_or a r) (sym (said_reads a p) ∙ said_reads b q)
 
-  pub reserved_type : type ≡ codes "omega" → (d : Declaration) → ws ≡ declaration_tokens d → IsFree d → ⊥
-  reserved_type p d e f = f.1 (sym (other_declaration d e).1 ∙ p)
+-- the parts of a listing
+abbrev pub goal_in : LineOf query_rows → TypeText
+goal_in (inl v) = v.0
+goal_in (inr v) = absurd v
 
--- what wasn't read isn't there
-pub no_declaration : (ws : List Word) → declaration_at ws ≡ None → (d : Declaration) → ws ≡ declaration_tokens d → IsFree d → ⊥
-no_declaration ws n d e f = none_some (d.component, d.type) (sym n ∙ declaration_reads ws d e)
+abbrev pub max_in : LineOf query_rows → List ℕ
+max_in (inl v) = v.1.1.0
+max_in (inr v) = absurd v
 
-pub no_end : (answer : Bool) (ws : List Word) → IsTrue answer ↔ (ws ≡ end_tokens) → answer ≡ false → ws ≡ end_tokens → ⊥
-no_end answer ws h f e = let t = h.1 e in absurd (cc)
+abbrev pub take_in : LineOf query_rows → List ℕ
+take_in (inl v) = v.1.1.1.1.0
+take_in (inr v) = absurd v
 
-pub no_listing : (ws : List Word) → listing_at ws ≡ None → (m k : List ℕ) → ws ≡ listing_tokens m k → ⊥
-no_listing ws n m k e = none_some (m, k) (sym n ∙ listing_reads ws m k e)
+-- a listing of omega with these digits is what the words say, where it is read
+pub record AsksFor (max take : List ℕ) (said : LineOf query_rows) : Type 0 where
+  pub goal : goal_in said ≡ omega_text
+  pub max_digits : max_in said ≡ max
+  pub take_digits : take_in said ≡ take
 
-module _ (ws : List Word) (max take : List ℕ) (read : listing_at ws ≡ Some (max, take)) where
-  -- the numbers of a listing are those that were read
-  pub other_listing : (m k : List ℕ) → ws ≡ listing_tokens m k → (max ≡ m) × (take ≡ k)
-  other_listing m k e = pair_same max take m k (sym read ∙ listing_reads ws m k e)
+pub asked : (ws : List Word) (said : LineOf query_rows) (max take : List ℕ) → row_words query_rows said ≡ ws → row_words query_rows (listing_line max take) ≡ ws → AsksFor max take said
+asked ws said max take p q =
+    let e = said_one query_rows query_good ws said (listing_line max take) p q in
+    record { goal = ap goal_in e; max_digits = ap max_in e; take_digits = ap take_in e }
 
-  -- a number that isn't within its limits makes no listing
-  pub wide_max : ((1 ≤ number_value max) × (number_value max ≤ max_term_size) → ⊥) → (m k : List ℕ) → ws ≡ listing_tokens m k → AreInRange (number_value m) (number_value k) → ⊥
-  wide_max n m k e w = n (subst (λ (x : List ℕ). (1 ≤ number_value x) × (number_value x ≤ max_term_size)) (sym (other_listing m k e).0) w.0)
+pub asking : (ws : List Word) (said : LineOf query_rows) → row_words query_rows said ≡ ws → goal_in said ≡ omega_text → row_words query_rows (listing_line (max_in said) (take_in said)) ≡ ws
+asking ws (inl v) p e = subst (λ (t : TypeText). row_words query_rows (inl (t, (tt, (v.1.1.0, (tt, (v.1.1.1.1.0, tt)))))) ≡ ws) e p
+asking ws (inr v) p e = absurd v
 
-  pub wide_take : ((1 ≤ number_value take) × (number_value take ≤ max_page_terms) → ⊥) → (m k : List ℕ) → ws ≡ listing_tokens m k → AreInRange (number_value m) (number_value k) → ⊥
-  wide_take n m k e w = n (subst (λ (x : List ℕ). (1 ≤ number_value x) × (number_value x ≤ max_page_terms)) (sym (other_listing m k e).1) w.1)
-
-  -- two numbers within their limits make one
-  pub within_both : (m k : ℕ) → ((1 ≤ number_value max) × (number_value max ≤ max_term_size)) × (number_value max ≡ m) → ((1 ≤ number_value take) × (number_value take ≤ max_page_terms)) × (number_value take ≡ k)
-      → (a b : List ℕ) × (ws ≡ listing_tokens a b) × (number_value a ≡ m) × (number_value b ≡ k) × AreInRange m k
-  within_both m k p q = (max, take, listing_read ws max take read, p.1, q.1, (let a = p.0 in let b = q.0 in let e = p.1 in let f = q.1 in ((omega arith, omega arith), (omega arith, omega arith))))
-
--- the line of these words
+-- a line that isn't skipped, and what was read of its words
 module _ (line : List ℕ) (ws : List Word) (is : ws ≡ words_of line) (text : IsText line) (unskipped : IsSkipped line → ⊥) where
   read : IsRead line
   read = record { text = text; unskipped = unskipped }
 
-  pub repository_line : (r : RepositoryLine) → IsRepositoryForm ws r → IsRepositoryLine line r
-  repository_line repository.Skipped f = absurd f
-  repository_line (repository.Component name) (d, e, w, free) =
-      (d.type, record { read = read; tokens = sym is ∙ (w ∙ λ i. declaration_tokens record { component = e i; type = d.type }); component = λ p. free.0 (e ∙ p); type = free.1 })
-  repository_line repository.End w = record { read = read; tokens = sym is ∙ w }
-  repository_line repository.Unbuilt (n, m) = (unskipped, (λ d q. n d (is ∙ q.tokens) (q.component, q.type)), λ q. m (is ∙ q.tokens))
+  says : (rows : List Row) (good : IsGoodGrammar rows) (said : LineOf rows) → grammar_read rows ws ≡ Ok said → Says rows said line
+  says rows good said e = record { read = read; words = read_says rows good ws said e ∙ is }
 
-  pub query_line : (q : QueryLine) → IsQueryForm ws q → IsQueryLine line q
-  query_line query.Skipped f = absurd f
-  query_line (query.Listing max take) (m, k, w, a, b, within) = record { max_digits = m; take_digits = k; read = read; tokens = sym is ∙ w; max_value = a; take_value = b; max_within = within.0; take_within = within.1 }
-  query_line query.Unbuilt n = (
+  nothing : (rows : List Row) (good : IsGoodGrammar rows) (s : Stop) → grammar_read rows ws ≡ Err s → (said : LineOf rows) → Says rows said line → ⊥
+  nothing rows good s e said q = stop_says_nothing rows good ws s e said (q.words ∙ sym is)
+
+  pub component_line : (name type : List ℕ) → grammar_read repository_rows ws ≡ Ok (declaration_line record { component = name; type = type }) → (t : List ℕ) × IsDeclaration line record { component = name; type = t }
+  component_line name type e = (type, says repository_rows repository_good (declaration_line record { component = name; type = type }) e)
+
+  pub closing_line : grammar_read repository_rows ws ≡ Ok end_line → IsEnd line
+  closing_line e = says repository_rows repository_good end_line e
+
+  pub unbuilt_line : (s : Stop) → grammar_read repository_rows ws ≡ Err s → (IsSkipped line → ⊥) × ((d : Declaration) → IsDeclaration line d → ⊥) × (IsEnd line → ⊥)
+  unbuilt_line s e = (unskipped, (λ d q. nothing repository_rows repository_good s e (declaration_line d) q), λ q. nothing repository_rows repository_good s e end_line q)
+
+  pub listing_read : (form : ListingForm) (q : QueryLine) → grammar_read query_rows ws ≡ Ok (listing_says form) → IsListed form q → IsQueryLine line q
+  listing_read form query.Skipped e h = absurd h
+  listing_read form (query.Listing max take) e (goal, a, b, within) = record {
+    max_digits = form.max.text.now;
+    take_digits = form.take.text.now;
+    says = record { read = read; words = asking ws (listing_says form) (read_says query_rows query_good ws (listing_says form) e) goal ∙ is };
+    max_value = a;
+    take_value = b;
+    max_within = within.0;
+    take_within = within.1;
+  }
+  listing_read form query.Unbuilt e n = (
     unskipped,
-    λ max take q. n q.max_digits q.take_digits (is ∙ q.tokens)
-        (let a = q.max_within in let b = q.take_within in let c = q.max_value in let d = q.take_value in ((omega arith, omega arith), (omega arith, omega arith))),
+    λ max take q.
+      let s = asked ws (listing_says form) q.max_digits q.take_digits (read_says query_rows query_good ws (listing_says form) e) (q.says.words ∙ sym is) in
+      let a : number_value form.max.text.now ≡ max = ap number_value s.max_digits ∙ q.max_value in
+      let b : number_value form.take.text.now ≡ take = ap number_value s.take_digits ∙ q.take_value in
+      let c = q.max_within in let d = q.take_within in
+      n s.goal ((omega arith, omega arith), (omega arith, omega arith)),
   )
 
--- the answer that the line isn't skipped
-pub unskipped : (answer : Bool) (line : List ℕ) → IsTrue answer ↔ IsSkipped line → answer ≡ false → IsSkipped line → ⊥
-unskipped answer line h f s = let t = h.1 s in absurd (cc)
+  pub no_listing : (s : Stop) → grammar_read query_rows ws ≡ Err s → (IsSkipped line → ⊥) × ((max take : ℕ) → IsListing line max take → ⊥)
+  no_listing s e = (unskipped, λ max take q. nothing query_rows query_good s e (listing_line q.max_digits q.take_digits) q.says)
 
--- what a number within its limits says
-pub within : (r : Option ℕ) (n value low high : ℕ) → SomeIff r ((low ≤ value) × (value ≤ high)) value → r ≡ Some n → ((low ≤ value) × (value ≤ high)) × (value ≡ n)
-within None n value low high s e = absurd (none_some n e)
-within (Some m) n value low high s e = (s.0, sym s.1 ∙ some_same m n e)
-
--- no number came, so it isn't within its limits
-pub not_within : (r : Option ℕ) (value low high : ℕ) → SomeIff r ((low ≤ value) × (value ≤ high)) value → r ≡ None → (low ≤ value) × (value ≤ high) → ⊥
-not_within None value low high s e w = s w
-not_within (Some m) value low high s e w = none_some m (sym e)
+-- what would make a content none can't be
+pub told : {S : Type 0} → (S → true ≡ false) → S → ⊥
+told h s = let e = h s in absurd (cc)

@@ -4,14 +4,15 @@ use Rattle.std.specs.Prelude.{Contains, IsTrue, ◌↔◌, bytes_eq, if◌then�
 use Rattle.std.specs.List.{list_any}
 use Rattle.std.proofs.lemmas.Map.Views.{Contains-from_any}
 use Rattle.cls_base.specs.Limits.{max_components}
-use Rattle.cls_syntax.specs.Skipped.{IsSkipped}
+use Rattle.cls_lexer.specs.Skipped.{IsSkipped}
+use Rattle.cls_syntax.specs.LineGrammars.{row_words}
 use Rattle.cls_session.specs.declared.status.Status.TheVariants.{Done, Refused}
 use Rattle.cls_session.specs.Declarations.{Declaration, names_of}
-use Rattle.cls_session.specs.Forms.{IsDeclaration, IsEnd, declaration_tokens, end_tokens}
+use Rattle.cls_session.specs.Forms.{IsDeclaration, IsEnd, declaration_line, end_line, repository_rows}
 use Rattle.cls_session.specs.Replies.{Reply}
 use Rattle.cls_session.specs.Transcripts.{refusal, IsRefused, Ending}
 use Rattle.cls_session.specs.Standings.{Standing, Stands}
-use Rattle.cls_syntax.specs.Names.{with_text}
+use Rattle.cls_lexer.specs.Names.{with_text}
 use Rattle.std.proofs.lemmas.Bool.{cases_lt}
 use Rattle.cls_session.proofs.Decisions.{same_bytes, contains_decided}
 use Rattle.cls_session.proofs.Standings.{reading, querying, IsFaulty, repeated, full, Stands-skip, Stands-declare, Stands-end, Stands-refused, Stands-reply, Ending-reading, Ending-querying}
@@ -77,7 +78,7 @@ new_text table text n =
 
 -- a line that declares a component isn't the line `end`
 pub not_end : (line : List ℕ) (d : Declaration) → IsDeclaration line d → IsEnd line → ⊥
-not_end line d p q = let e : declaration_tokens d ≡ end_tokens = sym p.tokens ∙ q.tokens in cc
+not_end line d p q = let e : row_words repository_rows (declaration_line d) ≡ row_words repository_rows end_line = p.words ∙ sym q.words in cc
 
 -- a name that may not be declared makes the line faulty
 pub refused_name : (names : List (List ℕ)) (line name type : List ℕ) (may : Bool) → IsDeclaration line record { component = name; type = type }

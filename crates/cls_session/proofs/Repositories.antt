@@ -1,13 +1,14 @@
 -- How a repository grows by a line, and that its lines determine it.
 use Rattle.std.proofs.Common.{◌≡◌, ℕ, suc, List, [], ◌∷◌, ◌++◌, length, refl, sym, ap, ◌∙◌, append_assoc, append-nil}
+use Rattle.cls_syntax.specs.LineGrammars.{row_words}
 use Rattle.cls_session.specs.Declarations.{Declaration, names_of}
-use Rattle.cls_session.specs.Forms.{IsDeclaration, declaration_tokens}
+use Rattle.cls_session.specs.Forms.{IsDeclaration, declaration_line, repository_rows}
 use Rattle.cls_session.specs.Repositories.{Declared, skipped, declares, Declares}
 
 -- a line declares one component at most
 pub same_declaration : (line : List ℕ) (c d : Declaration) → IsDeclaration line c → IsDeclaration line d → c ≡ d
 same_declaration line c d p q =
-    let tokens : declaration_tokens c ≡ declaration_tokens d = sym p.tokens ∙ q.tokens in
+    let words : row_words repository_rows (declaration_line c) ≡ row_words repository_rows (declaration_line d) = p.words ∙ sym q.words in
     let component : c.component ≡ d.component = cc in
     let type : c.type ≡ d.type = cc in
     λ i. record { component = component i; type = type i }

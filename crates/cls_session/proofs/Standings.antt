@@ -3,7 +3,7 @@ use Rattle.std.proofs.Common.{◌≡◌, ℕ, ◌+◌, ◌<◌, ◌≤◌, List,
 use Rattle.std.specs.Prelude.{Contains}
 use Rattle.std.proofs.lemmas.List.{length_push}
 use Rattle.cls_base.specs.Limits.{max_components}
-use Rattle.cls_syntax.specs.Skipped.{IsSkipped}
+use Rattle.cls_lexer.specs.Skipped.{IsSkipped}
 use Rattle.cls_session.specs.Declarations.{Declaration, names_of}
 use Rattle.cls_session.specs.Forms.{IsDeclaration, IsEnd}
 use Rattle.cls_session.specs.Repositories.{Declared, skipped, declares, IsRepository}

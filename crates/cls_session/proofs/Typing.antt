@@ -10,7 +10,7 @@ use Rattle.cls_base.specs.Terms.{Applicative, component, apply, IsTermOver}
 use Rattle.cls_base.specs.Typing.{by_instance, by_application, by_intersection, by_subsumption}
 use Rattle.cls_base.specs.Pages.{Request, IsDue, IsPage}
 use Rattle.cls_session.specs.Declarations.{Declaration}
-use Rattle.cls_syntax.specs.Names.{with_text}
+use Rattle.cls_lexer.specs.Names.{with_text}
 use Rattle.cls_session.specs.Typings.{constructors_from, HasTypeIn}
 use Rattle.cls_session.proofs.Decisions.{same_bytes}
 

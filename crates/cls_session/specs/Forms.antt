@@ -1,49 +1,67 @@
--- The forms of lines, by what their tokens say.
-use Rattle.std.specs.Prelude.{ℕ, ◌≡◌, ◌≢◌, ◌≤◌, List, [], ◌∷◌, codes}
+-- The forms of lines.
+use Rattle.std.specs.Prelude.{ℕ, ◌≡◌, ◌≤◌, List, [], ◌∷◌, codes}
+use Rattle.std.proofs.Common.{inl, inr}
 use Rattle.cls_base.specs.Limits.{max_term_size, max_page_terms}
-use Rattle.cls_syntax.specs.declared.token.TokenKind.TheVariants.{Colon}
-use Rattle.cls_syntax.specs.Skipped.{IsText, IsSkipped}
-use Rattle.cls_syntax.specs.Words.{Word, name, number, sign, words_of}
-use Rattle.cls_syntax.specs.Numerals.{number_value}
+use Rattle.cls_lexer.specs.declared.token.TokenKind.TheVariants.{Colon}
+use Rattle.cls_lexer.specs.Skipped.{IsText, IsSkipped}
+use Rattle.cls_lexer.specs.Words.{words_of}
+use Rattle.cls_lexer.specs.Numerals.{number_value}
+use Rattle.cls_syntax.specs.Forms.{Form, nothing, followed, the_word, the_sign, a_name, a_number, a_type}
+use Rattle.cls_syntax.specs.LineGrammars.{Row, LineOf, row_words}
+use Rattle.cls_syntax.specs.Spans.{omega_text}
 use Rattle.cls_session.specs.Declarations.{Declaration}
+
+-- NAME : NAME
+abbrev pub component_form : Form
+component_form = followed a_name (followed (the_sign Colon) (followed a_name nothing))
+
+-- TYPE max N take K
+abbrev pub listing_form : Form
+listing_form = followed a_type (followed (the_word (codes "max")) (followed a_number (followed (the_word (codes "take")) (followed a_number nothing))))
+
+-- The lines of a repository, by their first words.
+abbrev pub repository_rows : List Row
+repository_rows = record { first = codes "comp"; form = component_form } ∷ record { first = codes "end"; form = nothing } ∷ []
+
+-- The lines after it.
+abbrev pub query_rows : List Row
+query_rows = record { first = codes "list"; form = listing_form } ∷ []
+
+-- comp NAME : NAME
+abbrev pub declaration_line : Declaration → LineOf repository_rows
+declaration_line d = inl (d.component, (tt, (d.type, tt)))
+
+-- end
+abbrev pub end_line : LineOf repository_rows
+end_line = inr (inl tt)
+
+-- list omega max N take K, the numbers in their digits
+abbrev pub listing_line : List ℕ → List ℕ → LineOf query_rows
+listing_line max take = inl (omega_text, (tt, (max, (tt, (take, tt)))))
 
 -- A line that is cut into tokens: a text of at most `max_line_bytes` that isn't skipped.
 pub record IsRead (line : List ℕ) : Type 0 where
   pub text : IsText line
   pub unskipped : IsSkipped line → ⊥
 
--- comp NAME : NAME
-abbrev pub declaration_tokens : Declaration → List Word
-declaration_tokens d = name (codes "comp") ∷ name d.component ∷ sign Colon ∷ name d.type ∷ []
-
--- end
-abbrev pub end_tokens : List Word
-end_tokens = name (codes "end") ∷ []
-
--- list omega max N take K, the numbers in their digits
-abbrev pub listing_tokens : List ℕ → List ℕ → List Word
-listing_tokens max take =
-    name (codes "list") ∷ name (codes "omega")
-    ∷ name (codes "max") ∷ number max ∷ name (codes "take") ∷ number take ∷ []
+-- The line is one of the rows, and says this.
+pub record Says (rows : List Row) (said : LineOf rows) (line : List ℕ) : Type 0 where
+  pub read : IsRead line
+  pub words : row_words rows said ≡ words_of line
 
 -- The line declares a component. Neither name is omega, which is reserved.
-pub record IsDeclaration (line : List ℕ) (d : Declaration) : Type 0 where
-  pub read : IsRead line
-  pub tokens : words_of line ≡ declaration_tokens d
-  pub component : d.component ≢ codes "omega"
-  pub type : d.type ≢ codes "omega"
+abbrev pub IsDeclaration : List ℕ → Declaration → Type 0
+IsDeclaration line d = Says repository_rows (declaration_line d) line
 
 -- The line ends the repository.
-pub record IsEnd (line : List ℕ) : Type 0 where
-  pub read : IsRead line
-  pub tokens : words_of line ≡ end_tokens
+abbrev pub IsEnd : List ℕ → Type 0
+IsEnd line = Says repository_rows end_line line
 
 -- The line asks for `take` terms of at most the size `max`, both within their limits.
 pub record IsListing (line : List ℕ) (max take : ℕ) : Type 0 where
   pub max_digits : List ℕ
   pub take_digits : List ℕ
-  pub read : IsRead line
-  pub tokens : words_of line ≡ listing_tokens max_digits take_digits
+  pub says : Says query_rows (listing_line max_digits take_digits) line
   pub max_value : number_value max_digits ≡ max
   pub take_value : number_value take_digits ≡ take
   pub max_within : (1 ≤ max) × (max ≤ max_term_size)

@@ -5,7 +5,6 @@ pub mod Forms
 pub mod LineAnswers
 pub mod Listings
 pub mod Outputs
-pub mod Readings
 pub mod Replies
 pub mod Repositories
 pub mod Sessions

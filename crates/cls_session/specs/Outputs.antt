@@ -3,7 +3,7 @@ use Rattle.std.specs.Prelude.{ℕ, ◌≡◌, ◌≤◌, ◌<◌, List, [], ◌+
 use Rattle.std.specs.Io.KnownBytes.{Appends}
 use Rattle.cls_base.specs.Limits.{max_input_bytes, max_read_bytes}
 use Rattle.cls_base.specs.Outside.{SourceSeen, SinkSeen}
-use Rattle.cls_syntax.specs.Lines.{lines_of, ended_lines}
+use Rattle.cls_lexer.specs.Lines.{lines_of, ended_lines}
 use Rattle.cls_session.specs.declared.status.Status.{Status}
 use Rattle.cls_session.specs.declared.status.Status.TheVariants.{Done, Usage, Refused, ReadFault, WriteFault, NoMemory, TooLong}
 use Rattle.cls_session.specs.Commands.{AsksSession, usage}

@@ -5,7 +5,7 @@ use Rattle.cls_base.specs.Limits.{max_pool}
 use Rattle.cls_base.specs.Types as types
 use Rattle.cls_base.specs.Terms.{Applicative}
 use Rattle.cls_base.specs.Pages.{IsPage}
-use Rattle.cls_syntax.specs.Skipped.{IsSkipped}
+use Rattle.cls_lexer.specs.Skipped.{IsSkipped}
 use Rattle.cls_session.specs.Declarations.{Declaration, names_of}
 use Rattle.cls_session.specs.Forms.{IsListing}
 use Rattle.cls_session.specs.Listings.{omega_request, AreFew, AreMany}

@@ -2,7 +2,7 @@
 use Rattle.std.specs.Prelude.{ℕ, ◌≡◌, ◌≤◌, ◌+◌, List, [], ◌∷◌, ◌++◌, length}
 use Rattle.cls_base.specs.Limits.{max_components}
 use Rattle.cls_base.specs.Lists.{AreDistinct}
-use Rattle.cls_syntax.specs.Skipped.{IsSkipped}
+use Rattle.cls_lexer.specs.Skipped.{IsSkipped}
 use Rattle.cls_session.specs.Declarations.{Declaration, names_of}
 use Rattle.cls_session.specs.Forms.{IsDeclaration, IsEnd}
 

@@ -4,7 +4,7 @@ use Rattle.cls_base.specs.Types.{ClosedType, omega, constructor}
 use Rattle.cls_base.specs.Taxonomies.{covariant, Chain}
 use Rattle.cls_base.specs.Terms.{Applicative}
 use Rattle.cls_base.specs.Typing.{HasType}
-use Rattle.cls_syntax.specs.Names.{with_text}
+use Rattle.cls_lexer.specs.Names.{with_text}
 use Rattle.cls_session.specs.Declarations.{Declaration}
 
 -- the table with the names of these types, in the order of their first occurrence

@@ -1,6 +1,6 @@
 ghost use Rattle.std.specs.Prelude.{◌≡◌, ℕ, ◌+◌, ◌^◌, ◌<◌, ◌≤◌, ◌++◌, length, OnOk, OnErr};
 ghost use Rattle.cls_base.specs.Outside.{HasRisen, Holds};
-ghost use Rattle.cls_syntax.specs.Lines.{HasNoFeed};
+ghost use Rattle.cls_lexer.specs.Lines.{HasNoFeed};
 ghost use Rattle.cls_session.specs.declared.driver.Stop.TheVariants.{WriteFault, NoMemory};
 ghost use Rattle.cls_session.specs.Driving.{Writes, WritesFront, MatchStop, CountsFaults};
 ghost use Rattle.cls_session.specs.Driving.{FitsLine, AnswersLine, RefusesLine, BreaksLine};
@@ -10,7 +10,7 @@ ghost use Rattle.cls_session.specs.Driving.{FitsLast, AnswersLast, RefusesLast, 
 use crate::session::{Answer, Session};
 use crate::status::Status;
 use cls_base::{Failed, OutOfMemory, Sink};
-use cls_syntax::{Line, LineReader};
+use cls_lexer::{Line, LineReader};
 use std::alloc::Global;
 
 /// Why the lines of an input aren't answered to the end.

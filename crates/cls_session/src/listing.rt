@@ -14,7 +14,7 @@ use cls_base::limits::MAX_POOL;
 use cls_base::{Numbers, OutOfMemory};
 use cls_enum::{Page, PageFault, page};
 use cls_grammar::OmegaBook;
-use cls_syntax::Names;
+use cls_lexer::Names;
 use std::alloc::Global;
 
 /// The reply to a listing of at most `take` terms of at most the size `max`. The only error is out of memory.

@@ -4,7 +4,7 @@ ghost use Rattle.cls_base.specs.Limits.{max_term_size};
 
 use crate::listing::answer_listing;
 use cls_base::limits::MAX_COMPONENTS;
-use cls_syntax::Names;
+use cls_lexer::Names;
 use std::alloc::Global;
 use std::process::Abort;
 use std::test::Fail;

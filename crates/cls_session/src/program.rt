@@ -13,7 +13,7 @@ use crate::status::Status;
 use crate::words::{Command, read_words};
 use cls_base::limits::{MAX_INPUT_BYTES, MAX_READ_BYTES};
 use cls_base::{Gate, Sink, Source};
-use cls_syntax::LineReader;
+use cls_lexer::LineReader;
 use std::alloc::Global;
 use std::sync::Wait;
 use std::thread::Threads;

@@ -11,7 +11,7 @@ use crate::listing::answer_listing;
 use crate::status::Status;
 use cls_base::OutOfMemory;
 use cls_base::limits::MAX_COMPONENTS;
-use cls_syntax::{Line, Names};
+use cls_lexer::{Line, Names};
 use std::alloc::Global;
 use std::marker::Model;
 

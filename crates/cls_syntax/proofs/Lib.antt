@@ -30,3 +30,4 @@ pub mod TypeSpans
 pub mod TypeStates
 pub mod Variables
 pub mod WordFronts
+pub mod OmegaTexts

@@ -8,6 +8,7 @@ ghost use Rattle.cls_syntax.specs.Spans.{is_whole, type_in};
 
 use crate::closing::closed;
 use crate::interning::intern_names;
+use crate::syntax_fault::begins_reserved;
 use crate::schema_builder::{Tables, build};
 use cls_base::limits::MAX_TYPE_NODES;
 use cls_base::{OutOfMemory, Schema, Ty};
@@ -35,12 +36,20 @@ impl SpelledType<'_, '_> {
     ghost use Rattle.cls_syntax.specs.TypeTexts.{type_words};
     ghost use Rattle.cls_syntax.specs.TypeSchemas.{type_schema, constructors_in, variables_in};
     ghost use Rattle.cls_syntax.specs.SpelledTypes.{type_text};
+    ghost use Rattle.cls_syntax.specs.Spans.{omega_text};
 
     /// Whether the type has no more than [`MAX_TYPE_NODES`] nodes.
     pub fn is_small(&self) -> bool
         ensures { IsTrue result ↔ (type_nodes (type_text self.now) ≤ max_type_nodes) }
     {
         self.nodes as u64 <= MAX_TYPE_NODES
+    }
+
+    /// Whether the type is `omega` alone, without parentheses.
+    pub fn is_omega(&self) -> bool
+        ensures { IsTrue result ↔ (type_text self.now ≡ omega_text) }
+    {
+        self.tokens.len() == 1 && begins_reserved(self.tokens)
     }
 
     /// The schema that the tokens spell. Its names are numbered in the order of their tokens, constructors and variables in

@@ -1,10 +1,11 @@
 use Rattle.std.proofs.Common.{ap, ◌∙◌, refl}
-use Rattle.cls_syntax.specs.Fronts.{words}
-use Rattle.cls_syntax.specs.Words.{words_of}
-use Rattle.cls_session.proofs.LineForms.{repository_line, unskipped}
+use Rattle.cls_lexer.specs.Words.{words, words_of}
+use Rattle.cls_session.proofs.LineForms.{component_line, told}
 use Rattle.cls_session.proofs.forms.repository_line.Goals as goal
 
-pub returns : goal.returns
-returns c =
-    let said = ap words c.deref.ensures.value ∙ c.in_ok-lexemes_of.ensures ∙ ap words_of c.in-Ok.ensures.same in
-    repository_line c.args.line.now _ said (c.in-Ok.ensures.ok.0 refl) (unskipped _ _ c.is_skipped.ensures c.if-is_skipped.false) _ c.repository_form.ensures
+pub returns-in-Ok-Component : goal.returns-in-Ok-Component
+returns-in-Ok-Component c =
+    let same = rw c.in-Ok-Some.field-0-is at c.in-Ok-Some.ensures.same in
+    let content = rw c.in-Ok-Some.field-0-is at c.in-Ok-Some.ensures.skipped in
+    let is = ap words c.deref.ensures.value ∙ c.in_ok-tokens.ensures.words ∙ ap words_of same in
+    component_line c.args.line.now _ is (c.in-Ok-Some.ensures.ok.0 refl) (told content.1) _ _ (rw c.in-Ok-Component.field-0-is at c.in-Ok-Component.ensures)
