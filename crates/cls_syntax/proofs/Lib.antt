@@ -5,10 +5,9 @@ pub mod FrontFaults
 pub mod GrammarFronts
 pub mod GrowingTables
 pub mod ItemFronts
-pub mod LexemeFronts
 pub mod LineFronts
+pub mod LineParts
 pub mod MachineRuns
-pub mod NumberFronts
 pub mod PrintedTexts
 pub mod ReadBack
 pub mod ReadTypes
@@ -18,6 +17,8 @@ pub mod Tails
 pub mod TermReads
 pub mod TermShapeReads
 pub mod TermSpans
+pub mod TokenFronts
+pub mod TokenLists
 pub mod TypeBytes
 pub mod TypeFaults
 pub mod TypeListParts
@@ -30,3 +31,4 @@ pub mod TypeSpans
 pub mod TypeStates
 pub mod Variables
 pub mod WordFronts
+pub mod WordLists

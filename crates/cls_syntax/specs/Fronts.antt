@@ -1,5 +1,5 @@
 -- The front of a line's words, as line forms are read from the left.
-use Rattle.std.specs.Prelude.{ℕ, ◌≡◌, ◌↔◌, ◌==◌, List, [], ◌∷◌, Option, Some, None, if◌then◌else◌}
+use Rattle.std.specs.Prelude.{ℕ, ◌≡◌, ◌↔◌, ◌==◌, Bool, false, List, [], ◌∷◌, Option, Some, None, if◌then◌else◌}
 use Rattle.std.specs.Str.{bytes_eq}
 use Rattle.cls_lexer.specs.declared.token.TokenKind.{TokenKind}
 use Rattle.cls_lexer.specs.declared.token.TokenKind.TheVariants.{Name, Number, To, And, Times, Open, Close, Comma, Dollar, Colon, Equals, Bar, AtMost, Bad}
@@ -37,6 +37,13 @@ first_number (omega ∷ ws) = None
 first_number (name text ∷ ws) = None
 first_number (number digits ∷ ws) = Some (digits, ws)
 first_number (sign kind ∷ ws) = None
+
+-- The word is this very name.
+abbrev pub is_word : List ℕ → Word → Bool
+is_word text omega = false
+is_word text (name text') = bytes_eq text text'
+is_word text (number digits) = false
+is_word text (sign kind) = false
 
 -- What follows this very name.
 abbrev pub after_word : List ℕ → List Word → Option (List Word)

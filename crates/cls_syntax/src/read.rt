@@ -7,9 +7,8 @@ ghost use Rattle.cls_lexer.specs.Words.{words, word_of, words_of};
 ghost use Rattle.cls_lexer.specs.Tokens.{tokens_of, located};
 ghost use Rattle.cls_syntax.specs.Sorts.{begins_reserved};
 ghost use Rattle.cls_lexer.specs.Names.{number_of, with_texts};
-ghost use Rattle.cls_syntax.specs.Forms.{followed, a_type, nothing};
-ghost use Rattle.cls_syntax.specs.LineReading.{line_read};
-ghost use Rattle.cls_syntax.specs.Stops.{stop_of};
+ghost use Rattle.cls_syntax.specs.Forms.{a_type, nothing, ◌⨾◌};
+ghost use Rattle.cls_syntax.specs.Readings.{Reads};
 ghost use Rattle.cls_syntax.specs.TypePrinting.{HasNamesBelow};
 ghost use Rattle.cls_syntax.specs.TypeTexts.{TypeText};
 ghost use Rattle.cls_syntax.specs.SpelledTypes.{type_text};
@@ -109,7 +108,7 @@ fn whole_type<'t, 'a>(
 
 /// A type and nothing after it.
 fn type_line<'t, 'a>(tokens: &'t [Token<'a>]) -> Result<SpelledType<'t, 'a>, Stop<'t, 'a>>
-    ensures { MatchResult result (λ x. line_read (followed a_type nothing) (words tokens.now) ≡ Ok (type_text x, tt)) (λ s. line_read (followed a_type nothing) (words tokens.now) ≡ Err (stop_of s)) }
+    ensures { Reads (a_type ⨾ nothing) tokens.now result (λ x. (type_text x, tt)) }
 {
     let (spelled, rest) = type_at(tokens)?;
     end_at(rest)?;
