@@ -8,6 +8,7 @@ pub mod ItemFronts
 pub mod LineFronts
 pub mod LineParts
 pub mod MachineRuns
+pub mod PartNames
 pub mod PrintedTexts
 pub mod ReadBack
 pub mod ReadTypes

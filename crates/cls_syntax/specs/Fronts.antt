@@ -61,7 +61,7 @@ after_sign kind (name text ∷ ws) = None
 after_sign kind (number digits ∷ ws) = None
 after_sign kind (sign kind' ∷ ws) = if kind_place kind == kind_place kind' then Some ws else None
 
--- Each front gives a word, and what follows it, exactly where the words begin with that word.
+-- Each front gives a word, and what follows it, if and only if the words begin with that word.
 pub record FrontsAreExact : Type 0 where
   pub names : (ws rest : List Word) (text : List ℕ) → (first_name ws ≡ Some (text, rest)) ↔ (ws ≡ name text ∷ rest)
   pub numbers : (ws rest : List Word) (digits : List ℕ) → (first_number ws ≡ Some (digits, rest)) ↔ (ws ≡ number digits ∷ rest)

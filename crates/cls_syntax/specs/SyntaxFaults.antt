@@ -3,6 +3,9 @@ use Rattle.cls_base.specs.Limits.{max_type_nodes, max_type_depth}
 use Rattle.std.specs.Prelude.{ℕ, ◌≡◌, ◌<◌, ◌≤◌, ◌&&◌, Bool, true, false, if◌then◌else◌, List, length}
 use Rattle.cls_syntax.specs.declared.syntax_fault.SyntaxFault.{SyntaxFault}
 use Rattle.cls_syntax.specs.declared.syntax_fault.SyntaxFault.TheVariants.{TooDeep, Unexpected, ReservedName, TooManyNodes, Variable, OutOfMemory}
+use Rattle.cls_base.specs.Schemas.{OpenType}
+use Rattle.cls_lexer.specs.Names.{number_of}
+use Rattle.cls_syntax.specs.TypeSchemas.{type_schema}
 use Rattle.cls_lexer.specs.Words.{Word, words_of}
 use Rattle.cls_syntax.specs.Sorts.{begins_reserved}
 use Rattle.cls_syntax.specs.Faults.{Always, IsFault}
@@ -44,3 +47,9 @@ IsNoType line (ReservedName byte) = IsFlat line × LeavesAt type_words Always li
 IsNoType line TooManyNodes = IsFlat line × ((t : TypeText) × (type_words t ≡ words_of line) × (max_type_nodes < type_nodes t))
 IsNoType line (Variable byte) = ⊥
 IsNoType line OutOfMemory = Unit {0}
+
+-- The line spells the schema, with the numbers that the tables give its names.
+pub record IsSchemaIn (constructors variables : List (List ℕ)) (line : List ℕ) (schema : OpenType) : Type 0 where
+  pub text : TypeText
+  pub whole : IsWholeType line text
+  pub is : schema ≡ type_schema (number_of constructors) (number_of variables) text

@@ -1,5 +1,5 @@
-//! A line of tokens, read from the left: a recursive descent with one token of sight. Each call answers what stands in front and
-//! the tokens after it, or where the reading stops.
+//! A line of tokens, read from the left with one token of sight. Each call answers what stands in front and the tokens after
+//! it, or where the reading stops.
 ghost use Rattle.std.specs.Prelude.{◌≡◌, Ok, Err, MatchResult, nat_le};
 ghost use Rattle.cls_lexer.specs.declared.token.TokenKind.TheVariants.{Bar};
 ghost use Rattle.cls_lexer.specs.Words.{words, word_of};
