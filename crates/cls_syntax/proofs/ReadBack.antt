@@ -22,7 +22,7 @@ use Rattle.cls_syntax.proofs.ItemFronts.{type_again}
 use Rattle.cls_syntax.proofs.TypeBytes.{bytes_read}
 use Rattle.cls_syntax.proofs.PrintedTexts.{texts, printed_is, names_proper, nodes_are, NumbersBack, schema_is, Known, HasKnownNames, words_known, no_dollars, nothing_new, depth_is}
 
-same_bytes : (x : List ℕ) → bytes_eq x x ≡ true
+pub same_bytes : (x : List ℕ) → bytes_eq x x ≡ true
 same_bytes x = (bytes_eq-Decides x x).1 refl
 
 apart_at : (x : List ℕ) (xs : List (List ℕ)) (n : ℕ) → AllByRecursion (λ y. bytes_eq x y ≡ false) xs → n < length xs → bytes_eq (get_or xs n []) x ≡ false
@@ -31,7 +31,7 @@ apart_at x (y ∷ xs) zero h l = false_from_ne_true _ (λ t. let e = (bytes_eq-D
 apart_at x (y ∷ xs) (suc n) h l = apart_at x xs n h.1 (omega arith)
 
 -- the number of the name of a number
-number_back : (names : List (List ℕ)) (n : ℕ) → IsDistinct bytes_eq names → n < length names → number_of names (get_or names n []) ≡ n
+pub number_back : (names : List (List ℕ)) (n : ℕ) → IsDistinct bytes_eq names → n < length names → number_of names (get_or names n []) ≡ n
 unfolding IsDistinct
 number_back [] n d l = absurd (omega arith)
 number_back (x ∷ xs) zero d l = ap (λ (b : Bool). cond (not b) (1 + position_or_len (bytes_eq x) xs) 0) (same_bytes x)
