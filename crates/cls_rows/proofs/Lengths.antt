@@ -66,7 +66,7 @@ second_within line (t ∷ u ∷ ts) w ws xs h e =
 
 component_within : (line : List ℕ) (d : Declaration) → IsDeclaration line d → length d.component ≤ length line
 unfolding words_of
-component_within line d p = second_within line (tokens_of line) _ _ d.component (tokens_longest line) (sym p.words)
+component_within line d p = second_within line (tokens_of line) _ _ d.component (tokens_longest line) (sym p.says.spelled)
 
 -- short lines declare short names
 entry_short : (line : List ℕ) (first rest : List Declaration) → IsShort line → Declared line first → ((x : ℕ) → IsShort (name_in rest x)) → (x : ℕ) → IsShort (name_in (first ++ rest) x)

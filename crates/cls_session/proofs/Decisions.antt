@@ -14,7 +14,7 @@ use Rattle.cls_syntax.specs.LineGrammars.{Row, LineOf, row_words, IsGoodGrammar}
 use Rattle.cls_syntax.specs.Spans.{omega_text}
 use Rattle.cls_syntax.specs.TypeTexts as grammar
 use Rattle.cls_syntax.specs.TypeTexts.{TypeText, only_meet, only_product, only_atom}
-use Rattle.cls_session.specs.Forms.{repository_rows, query_rows, declaration_line, end_line, listing_line, IsRead, Says, IsDeclaration, IsEnd, IsListing}
+use Rattle.cls_session.specs.Forms.{repository_rows, query_rows, declaration_line, end_line, listing_line, IsLine, IsDeclaration, IsEnd, IsListing}
 use Rattle.cls_session.proofs.LineForms.{repository_good, query_good, said_decided, goal_in, max_in, take_in, AsksFor, asked, asking}
 
 -- the fact or its refutation
@@ -59,40 +59,36 @@ is_text_decided line = both_decided (at_most_decided (length line) 65536) (utf8_
 pub skipped_decided : (line : List ℕ) → Decided (IsSkipped line)
 skipped_decided line = both_decided (is_text_decided line) (true_decided (says_nothing line))
 
-read_decided : (line : List ℕ) → Decided (IsRead line)
-read_decided line =
+-- whether a line is one of the rows, with what it says
+line_decided : (rows : List Row) (good : IsGoodGrammar rows) (line : List ℕ) → Decided ((said : LineOf rows) × IsLine rows said line)
+line_decided rows good line =
     elim (is_text_decided line) [
-      | inr n ↦ inr (λ r. n r.text)
-      | inl t ↦ elim (skipped_decided line) [ inl s ↦ inr (λ r. r.unskipped s) | inr n ↦ inl record { text = t; unskipped = n } ]
-    ]
-
--- whether a line is one of the rows, where it says something
-says_decided : (rows : List Row) (good : IsGoodGrammar rows) (line : List ℕ) → Decided ((said : LineOf rows) × Says rows said line)
-says_decided rows good line =
-    elim (read_decided line) [
-      | inr n ↦ inr (λ p. n p.1.read)
-      | inl r ↦ elim (said_decided rows good (words_of line)) [
-        | inr n ↦ inr (λ p. n p.0 p.1.words)
-        | inl s ↦ inl (s.0, record { read = r; words = s.1 })
+      | inr n ↦ inr (λ p. n p.1.text)
+      | inl t ↦ elim (skipped_decided line) [
+        | inl s ↦ inr (λ p. p.1.unskipped s)
+        | inr n ↦ elim (said_decided rows good (words_of line)) [
+          | inr m ↦ inr (λ p. m p.0 p.1.says)
+          | inl s ↦ inl (s.0, record { text = t; unskipped = n; says = s.1 })
+        ]
       ]
     ]
 
--- whether a line declares a component, ends the repository, or neither
-end_or_declaration : (line : List ℕ) (said : LineOf repository_rows) → Says repository_rows said line → Decided (IsEnd line) × Decided ((d : Declaration) × IsDeclaration line d)
+-- whether a line that is one of the rows ends the repository, and whether it declares a component
+end_or_declaration : (line : List ℕ) (said : LineOf repository_rows) → IsLine repository_rows said line → Decided (IsEnd line) × Decided ((d : Declaration) × IsDeclaration line d)
 end_or_declaration line (inl v) s = (
-  inr (λ e. let w : row_words repository_rows end_line ≡ row_words repository_rows (inl v) = e.words ∙ sym s.words in cc),
-  inl (record { component = v.0; type = v.1.1.0 }, record { read = s.read; words = s.words }),
+  inr (λ e. let w : row_words repository_rows end_line ≡ row_words repository_rows (inl v) = e.says.spelled ∙ sym s.says.spelled in cc),
+  inl (record { component = v.0; type = v.1.0 }, s),
 )
 end_or_declaration line (inr (inl v)) s = (
-  inl record { read = s.read; words = s.words },
-  inr (λ p. let w : row_words repository_rows (declaration_line p.0) ≡ row_words repository_rows end_line = p.1.words ∙ sym s.words in cc),
+  inl s,
+  inr (λ p. let w : row_words repository_rows (declaration_line p.0) ≡ row_words repository_rows end_line = p.1.says.spelled ∙ sym s.says.spelled in cc),
 )
 end_or_declaration line (inr (inr v)) s = absurd v
 
 -- whether a line ends the repository
 pub is_end_decided : (line : List ℕ) → Decided (IsEnd line)
 is_end_decided line =
-    elim (says_decided repository_rows repository_good line) [
+    elim (line_decided repository_rows repository_good line) [
       | inr n ↦ inr (λ e. n (end_line, e))
       | inl s ↦ (end_or_declaration line s.0 s.1).0
     ]
@@ -100,7 +96,7 @@ is_end_decided line =
 -- whether a line declares a component
 pub is_declaration_decided : (line : List ℕ) → Decided ((d : Declaration) × IsDeclaration line d)
 is_declaration_decided line =
-    elim (says_decided repository_rows repository_good line) [
+    elim (line_decided repository_rows repository_good line) [
       | inr n ↦ inr (λ p. n (declaration_line p.0, p.1))
       | inl s ↦ (end_or_declaration line s.0 s.1).1
     ]
@@ -113,16 +109,16 @@ omega_decided _ = inr (λ e. cc)
 -- whether a line asks for a listing
 pub is_listing_decided : (line : List ℕ) → Decided ((max take : ℕ) × IsListing line max take)
 is_listing_decided line =
-    elim (says_decided query_rows query_good line) [
-      | inr n ↦ inr (λ p. n (listing_line p.2.max_digits p.2.take_digits, p.2.says))
+    elim (line_decided query_rows query_good line) [
+      | inr n ↦ inr (λ p. n (listing_line p.2.max_digits p.2.take_digits, p.2.is_line))
       | inl s ↦
           let max = number_value (max_in s.0) in
           let take = number_value (take_in s.0) in
-          let same : (m k : ℕ) (q : IsListing line m k) → AsksFor q.max_digits q.take_digits s.0 = λ m k q. asked (words_of line) s.0 q.max_digits q.take_digits s.1.words q.says.words in
+          let same : (m k : ℕ) (q : IsListing line m k) → AsksFor q.max_digits q.take_digits s.0 = λ m k q. asked (words_of line) s.0 q.max_digits q.take_digits s.1.says q.is_line.says in
           elim (omega_decided (goal_in s.0)) [
             | inr n ↦ inr (λ p. n (same p.0 p.1 p.2).goal)
             | inl g ↦ elim (both_decided (both_decided (at_most_decided 1 max) (at_most_decided max max_term_size)) (both_decided (at_most_decided 1 take) (at_most_decided take max_page_terms))) [
-              | inl b ↦ inl (max, take, record { max_digits = max_in s.0; take_digits = take_in s.0; says = record { read = s.1.read; words = asking (words_of line) s.0 s.1.words g }; max_value = refl; take_value = refl; max_within = b.0; take_within = b.1 })
+              | inl b ↦ inl (max, take, record { max_digits = max_in s.0; take_digits = take_in s.0; is_line = record { text = s.1.text; unskipped = s.1.unskipped; says = asking (words_of line) s.0 s.1.says g }; max_value = refl; take_value = refl; max_within = b.0; take_within = b.1 })
               | inr n ↦ inr (λ p.
                 let e = same p.0 p.1 p.2 in
                 let a : max ≡ p.0 = ap number_value e.max_digits ∙ p.2.max_value in

@@ -4,8 +4,8 @@ use Rattle.std.specs.Prelude.{◌⊎◌, ◌↔◌, Result, Ok, Err, is_ok}
 use Rattle.cls_lexer.specs.Numerals.{number_value}
 use Rattle.cls_lexer.specs.Skipped.{IsText, IsSkipped}
 use Rattle.cls_lexer.specs.Words.{Word, words_of}
-use Rattle.cls_syntax.specs.Faults.{Stop, Exactly}
-use Rattle.cls_syntax.specs.LineGrammars.{Row, LineOf, row_words, grammar_read, IsGoodGrammar}
+use Rattle.cls_syntax.specs.Faults.{Stop, Says, Exactly}
+use Rattle.cls_syntax.specs.LineGrammars.{Row, LineOf, row_words, RowStands, grammar_read, IsGoodGrammar}
 use Rattle.cls_syntax.specs.Spans.{omega_text}
 use Rattle.cls_syntax.specs.TypeTexts.{TypeText}
 use Rattle.cls_syntax.proofs.GrammarFronts.{grammar_exactly, grammar_reads}
@@ -14,7 +14,7 @@ use Rattle.cls_session.specs.declared.forms.ListingForm.{ListingForm}
 use Rattle.cls_session.specs.declared.forms.QueryLine.{QueryLine}
 use Rattle.cls_session.specs.declared.forms.QueryLine.TheVariants as query
 use Rattle.cls_session.specs.Declarations.{Declaration}
-use Rattle.cls_session.specs.Forms.{repository_rows, query_rows, declaration_line, end_line, listing_line, IsRead, Says, IsDeclaration, IsEnd, IsListing}
+use Rattle.cls_session.specs.Forms.{repository_rows, query_rows, declaration_line, end_line, listing_line, IsLine, IsDeclaration, IsEnd, IsListing}
 use Rattle.cls_session.specs.LineAnswers.{repository_says, listing_says, IsListed, IsQueryLine}
 
 pub repository_good : IsGoodGrammar repository_rows
@@ -31,27 +31,31 @@ said_or a (Ok b) = b
 said_or a (Err e) = a
 
 module _ (rows : List Row) (good : IsGoodGrammar rows) (ws : List Word) where
+  -- what the words say
+  abbrev SaysThis : LineOf rows → Type 0
+  SaysThis said = Says (row_words rows) (RowStands rows) said ws
+
   -- the words say what was read
-  pub read_says : (said : LineOf rows) → grammar_read rows ws ≡ Ok said → row_words rows said ≡ ws
-  read_says said e = subst (λ (r : Result (LineOf rows) Stop). Exactly (row_words rows) ws r) e (grammar_exactly rows good ws)
+  pub read_says : (said : LineOf rows) → grammar_read rows ws ≡ Ok said → Says (row_words rows) (RowStands rows) said ws
+  read_says said e = subst (λ (r : Result (LineOf rows) Stop). Exactly (row_words rows) (RowStands rows) ws r) e (grammar_exactly rows good ws)
 
   -- what the words say is read
-  pub said_reads : (said : LineOf rows) → row_words rows said ≡ ws → grammar_read rows ws ≡ Ok said
-  said_reads said e = subst (λ (us : List Word). grammar_read rows us ≡ Ok said) e (grammar_reads rows good said)
+  pub said_reads : (said : LineOf rows) → Says (row_words rows) (RowStands rows) said ws → grammar_read rows ws ≡ Ok said
+  said_reads said s = subst (λ (us : List Word). grammar_read rows us ≡ Ok said) s.spelled (grammar_reads rows good said s.stands)
 
   -- where the reading stopped, the words say nothing
-  pub stop_says_nothing : (s : Stop) → grammar_read rows ws ≡ Err s → (said : LineOf rows) → row_words rows said ≡ ws → ⊥
+  pub stop_says_nothing : (s : Stop) → grammar_read rows ws ≡ Err s → (said : LineOf rows) → Says (row_words rows) (RowStands rows) said ws → ⊥
   stop_says_nothing s e said w = ok_is_no_err said s (sym (said_reads said w) ∙ e)
 
   -- whether they say something
-  pub said_decided : ((said : LineOf rows) × (row_words rows said ≡ ws)) ⊎ ((said : LineOf rows) → row_words rows said ≡ ws → ⊥)
-  said_decided = elim (grammar_read rows ws) as (λ r. grammar_read rows ws ≡ r → ((said : LineOf rows) × (row_words rows said ≡ ws)) ⊎ ((said : LineOf rows) → row_words rows said ≡ ws → ⊥)) [
+  pub said_decided : ((said : LineOf rows) × Says (row_words rows) (RowStands rows) said ws) ⊎ ((said : LineOf rows) → Says (row_words rows) (RowStands rows) said ws → ⊥)
+  said_decided = elim (grammar_read rows ws) as (λ r. grammar_read rows ws ≡ r → ((said : LineOf rows) × SaysThis said) ⊎ ((said : LineOf rows) → SaysThis said → ⊥)) [
     | Ok said ↦ λ e. inl (said, read_says said e)
     | Err s ↦ λ e. inr (stop_says_nothing s e)
   ] refl
 
   -- they say one thing alone
-  pub said_one : (a b : LineOf rows) → row_words rows a ≡ ws → row_words rows b ≡ ws → a ≡ b
+  pub said_one : (a b : LineOf rows) → Says (row_words rows) (RowStands rows) a ws → Says (row_words rows) (RowStands rows) b ws → a ≡ b
   said_one a b p q = ap (λ (r : Result (LineOf rows) Stop). said_or a r) (sym (said_reads a p) ∙ said_reads b q)
 
 -- the parts of a listing
@@ -60,11 +64,11 @@ goal_in (inl v) = v.0
 goal_in (inr v) = absurd v
 
 abbrev pub max_in : LineOf query_rows → List ℕ
-max_in (inl v) = v.1.1.0
+max_in (inl v) = v.1.0
 max_in (inr v) = absurd v
 
 abbrev pub take_in : LineOf query_rows → List ℕ
-take_in (inl v) = v.1.1.1.1.0
+take_in (inl v) = v.1.1.0
 take_in (inr v) = absurd v
 
 -- a listing of omega with these digits is what the words say, where it is read
@@ -73,31 +77,35 @@ pub record AsksFor (max take : List ℕ) (said : LineOf query_rows) : Type 0 whe
   pub max_digits : max_in said ≡ max
   pub take_digits : take_in said ≡ take
 
-pub asked : (ws : List Word) (said : LineOf query_rows) (max take : List ℕ) → row_words query_rows said ≡ ws → row_words query_rows (listing_line max take) ≡ ws → AsksFor max take said
+pub asked : (ws : List Word) (said : LineOf query_rows) (max take : List ℕ) → Says (row_words query_rows) (RowStands query_rows) said ws
+    → Says (row_words query_rows) (RowStands query_rows) (listing_line max take) ws → AsksFor max take said
 asked ws said max take p q =
     let e = said_one query_rows query_good ws said (listing_line max take) p q in
     record { goal = ap goal_in e; max_digits = ap max_in e; take_digits = ap take_in e }
 
-pub asking : (ws : List Word) (said : LineOf query_rows) → row_words query_rows said ≡ ws → goal_in said ≡ omega_text → row_words query_rows (listing_line (max_in said) (take_in said)) ≡ ws
-asking ws (inl v) p e = subst (λ (t : TypeText). row_words query_rows (inl (t, (tt, (v.1.1.0, (tt, (v.1.1.1.1.0, tt)))))) ≡ ws) e p
+pub asking : (ws : List Word) (said : LineOf query_rows) → Says (row_words query_rows) (RowStands query_rows) said ws → goal_in said ≡ omega_text
+    → Says (row_words query_rows) (RowStands query_rows) (listing_line (max_in said) (take_in said)) ws
+asking ws (inl v) p e = subst (λ (t : TypeText). Says (row_words query_rows) (RowStands query_rows) (inl (t, (v.1.0, (v.1.1.0, tt)))) ws) e p
 asking ws (inr v) p e = absurd v
 
 -- a line that isn't skipped, and what was read of its words
 module _ (line : List ℕ) (ws : List Word) (is : ws ≡ words_of line) (text : IsText line) (unskipped : IsSkipped line → ⊥) where
-  read : IsRead line
-  read = record { text = text; unskipped = unskipped }
+  line_says : (rows : List Row) (said : LineOf rows) → Says (row_words rows) (RowStands rows) said ws → IsLine rows said line
+  line_says rows said s = record { text = text; unskipped = unskipped; says = subst (λ (us : List Word). Says (row_words rows) (RowStands rows) said us) is s }
 
-  says : (rows : List Row) (good : IsGoodGrammar rows) (said : LineOf rows) → grammar_read rows ws ≡ Ok said → Says rows said line
-  says rows good said e = record { read = read; words = read_says rows good ws said e ∙ is }
+  words_say : (rows : List Row) (said : LineOf rows) → IsLine rows said line → Says (row_words rows) (RowStands rows) said ws
+  words_say rows said q = subst (λ (us : List Word). Says (row_words rows) (RowStands rows) said us) (sym is) q.says
 
-  nothing : (rows : List Row) (good : IsGoodGrammar rows) (s : Stop) → grammar_read rows ws ≡ Err s → (said : LineOf rows) → Says rows said line → ⊥
-  nothing rows good s e said q = stop_says_nothing rows good ws s e said (q.words ∙ sym is)
+  nothing : (rows : List Row) (good : IsGoodGrammar rows) (s : Stop) → grammar_read rows ws ≡ Err s → (said : LineOf rows) → IsLine rows said line → ⊥
+  nothing rows good s e said q = stop_says_nothing rows good ws s e said (words_say rows said q)
 
   pub component_line : (name type : List ℕ) → grammar_read repository_rows ws ≡ Ok (declaration_line record { component = name; type = type }) → (t : List ℕ) × IsDeclaration line record { component = name; type = t }
-  component_line name type e = (type, says repository_rows repository_good (declaration_line record { component = name; type = type }) e)
+  component_line name type e =
+      let said = declaration_line record { component = name; type = type } in
+      (type, line_says repository_rows said (read_says repository_rows repository_good ws said e))
 
   pub closing_line : grammar_read repository_rows ws ≡ Ok end_line → IsEnd line
-  closing_line e = says repository_rows repository_good end_line e
+  closing_line e = line_says repository_rows end_line (read_says repository_rows repository_good ws end_line e)
 
   pub unbuilt_line : (s : Stop) → grammar_read repository_rows ws ≡ Err s → (IsSkipped line → ⊥) × ((d : Declaration) → IsDeclaration line d → ⊥) × (IsEnd line → ⊥)
   unbuilt_line s e = (unskipped, (λ d q. nothing repository_rows repository_good s e (declaration_line d) q), λ q. nothing repository_rows repository_good s e end_line q)
@@ -107,7 +115,7 @@ module _ (line : List ℕ) (ws : List Word) (is : ws ≡ words_of line) (text : 
   listing_read form (query.Listing max take) e (goal, a, b, within) = record {
     max_digits = form.max.text.now;
     take_digits = form.take.text.now;
-    says = record { read = read; words = asking ws (listing_says form) (read_says query_rows query_good ws (listing_says form) e) goal ∙ is };
+    is_line = line_says query_rows (listing_line form.max.text.now form.take.text.now) (asking ws (listing_says form) (read_says query_rows query_good ws (listing_says form) e) goal);
     max_value = a;
     take_value = b;
     max_within = within.0;
@@ -116,7 +124,7 @@ module _ (line : List ℕ) (ws : List Word) (is : ws ≡ words_of line) (text : 
   listing_read form query.Unbuilt e n = (
     unskipped,
     λ max take q.
-      let s = asked ws (listing_says form) q.max_digits q.take_digits (read_says query_rows query_good ws (listing_says form) e) (q.says.words ∙ sym is) in
+      let s = asked ws (listing_says form) q.max_digits q.take_digits (read_says query_rows query_good ws (listing_says form) e) (words_say query_rows (listing_line q.max_digits q.take_digits) q.is_line) in
       let a : number_value form.max.text.now ≡ max = ap number_value s.max_digits ∙ q.max_value in
       let b : number_value form.take.text.now ≡ take = ap number_value s.take_digits ∙ q.take_value in
       let c = q.max_within in let d = q.take_within in
@@ -124,7 +132,7 @@ module _ (line : List ℕ) (ws : List Word) (is : ws ≡ words_of line) (text : 
   )
 
   pub no_listing : (s : Stop) → grammar_read query_rows ws ≡ Err s → (IsSkipped line → ⊥) × ((max take : ℕ) → IsListing line max take → ⊥)
-  no_listing s e = (unskipped, λ max take q. nothing query_rows query_good s e (listing_line q.max_digits q.take_digits) q.says)
+  no_listing s e = (unskipped, λ max take q. nothing query_rows query_good s e (listing_line q.max_digits q.take_digits) q.is_line)
 
 -- what would make a content none can't be
 pub told : {S : Type 0} → (S → true ≡ false) → S → ⊥

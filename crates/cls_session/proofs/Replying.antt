@@ -78,7 +78,7 @@ new_text table text n =
 
 -- a line that declares a component isn't the line `end`
 pub not_end : (line : List ℕ) (d : Declaration) → IsDeclaration line d → IsEnd line → ⊥
-not_end line d p q = let e : row_words repository_rows (declaration_line d) ≡ row_words repository_rows end_line = p.words ∙ sym q.words in cc
+not_end line d p q = let e : row_words repository_rows (declaration_line d) ≡ row_words repository_rows end_line = p.says.spelled ∙ sym q.says.spelled in cc
 
 -- a name that may not be declared makes the line faulty
 pub refused_name : (names : List (List ℕ)) (line name type : List ℕ) (may : Bool) → IsDeclaration line record { component = name; type = type }

@@ -8,15 +8,15 @@ use Rattle.cls_session.specs.Repositories.{Declared, skipped, declares, Declares
 -- a line declares one component at most
 pub same_declaration : (line : List ℕ) (c d : Declaration) → IsDeclaration line c → IsDeclaration line d → c ≡ d
 same_declaration line c d p q =
-    let words : row_words repository_rows (declaration_line c) ≡ row_words repository_rows (declaration_line d) = p.words ∙ sym q.words in
+    let words : row_words repository_rows (declaration_line c) ≡ row_words repository_rows (declaration_line d) = p.says.spelled ∙ sym q.says.spelled in
     let component : c.component ≡ d.component = cc in
     let type : c.type ≡ d.type = cc in
     λ i. record { component = component i; type = type i }
 
 Declared-unique : (line : List ℕ) (a b : List Declaration) → Declared line a → Declared line b → a ≡ b
 Declared-unique line a b (skipped s e) (skipped t f) = e ∙ sym f
-Declared-unique line a b (skipped s e) (declares d q f) = absurd (q.read.unskipped s)
-Declared-unique line a b (declares c p e) (skipped t f) = absurd (p.read.unskipped t)
+Declared-unique line a b (skipped s e) (declares d q f) = absurd (q.unskipped s)
+Declared-unique line a b (declares c p e) (skipped t f) = absurd (p.unskipped t)
 Declared-unique line a b (declares c p e) (declares d q f) = e ∙ (ap (λ (x : Declaration). x ∷ []) (same_declaration line c d p q) ∙ sym f)
 
 pub Declares-unique : (lines : List (List ℕ)) (a b : List Declaration) → Declares lines a → Declares lines b → a ≡ b

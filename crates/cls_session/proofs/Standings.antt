@@ -40,12 +40,12 @@ pub data IsFaulty (names : List (List ℕ)) (line : List ℕ) : Type 0 where
 entry_of : (ds : List Declaration) (line : List ℕ) (b : List Declaration) → IsFaulty (names_of ds) line → Declared line b → AreDistinct (names_of (ds ++ b)) → length (ds ++ b) ≤ max_components → ⊥
 entry_of ds line b (foreign n m) (skipped s e) different few = n s
 entry_of ds line b (foreign n m) (declares d q e) different few = m d q
-entry_of ds line b (repeated d p c) (skipped s e) different few = p.read.unskipped s
+entry_of ds line b (repeated d p c) (skipped s e) different few = p.unskipped s
 entry_of ds line b (repeated d p c) (declares f q e) different few =
     let grown : names_of (ds ++ b) ≡ names_of ds ++ f.component ∷ [] = ap (λ (xs : List Declaration). names_of (ds ++ xs)) e ∙ names_of-append ds (f ∷ []) in
     let same : d ≡ f = same_declaration line d f p q in
     AreDistinct-last (names_of ds) f.component (subst (λ (xs : List (List ℕ)). AreDistinct xs) grown different) (subst (λ (x : Declaration). Contains (names_of ds) x.component) same c)
-entry_of ds line b (full d p c) (skipped s e) different few = p.read.unskipped s
+entry_of ds line b (full d p c) (skipped s e) different few = p.unskipped s
 entry_of ds line b (full d p c) (declares f q e) different few =
     let n = length-names_of ds in let m = ap (λ (xs : List Declaration). length (ds ++ xs)) e in let k = length_push ds f in absurd (omega arith)
 

@@ -6,18 +6,20 @@ use Rattle.cls_lexer.specs.declared.token.TokenKind.TheVariants.{Colon}
 use Rattle.cls_lexer.specs.Skipped.{IsText, IsSkipped}
 use Rattle.cls_lexer.specs.Words.{words_of}
 use Rattle.cls_lexer.specs.Numerals.{number_value}
-use Rattle.cls_syntax.specs.Forms.{Form, nothing, followed, the_word, the_sign, a_name, a_number, a_type}
-use Rattle.cls_syntax.specs.LineGrammars.{Row, LineOf, row_words}
+use Rattle.cls_syntax.specs.declared.role.Role.TheVariants.{Constructor, NewComponent}
+use Rattle.cls_syntax.specs.Faults.{Says}
+use Rattle.cls_syntax.specs.Forms.{Form, nothing, ◌⨾◌, the_word, the_sign, a_name, a_number, a_type}
+use Rattle.cls_syntax.specs.LineGrammars.{Row, LineOf, row_words, RowStands}
 use Rattle.cls_syntax.specs.Spans.{omega_text}
 use Rattle.cls_session.specs.Declarations.{Declaration}
 
 -- NAME : NAME
 abbrev pub component_form : Form
-component_form = followed a_name (followed (the_sign Colon) (followed a_name nothing))
+component_form = a_name NewComponent ⨾ the_sign Colon ⨾ a_name Constructor ⨾ nothing
 
 -- TYPE max N take K
 abbrev pub listing_form : Form
-listing_form = followed a_type (followed (the_word (codes "max")) (followed a_number (followed (the_word (codes "take")) (followed a_number nothing))))
+listing_form = a_type ⨾ the_word (codes "max") ⨾ a_number 1 max_term_size ⨾ the_word (codes "take") ⨾ a_number 1 max_page_terms ⨾ nothing
 
 -- The lines of a repository, by their first words.
 abbrev pub repository_rows : List Row
@@ -29,7 +31,7 @@ query_rows = record { first = codes "list"; form = listing_form } ∷ []
 
 -- comp NAME : NAME
 abbrev pub declaration_line : Declaration → LineOf repository_rows
-declaration_line d = inl (d.component, (tt, (d.type, tt)))
+declaration_line d = inl (d.component, (d.type, tt))
 
 -- end
 abbrev pub end_line : LineOf repository_rows
@@ -37,31 +39,27 @@ end_line = inr (inl tt)
 
 -- list omega max N take K, the numbers in their digits
 abbrev pub listing_line : List ℕ → List ℕ → LineOf query_rows
-listing_line max take = inl (omega_text, (tt, (max, (tt, (take, tt)))))
+listing_line max take = inl (omega_text, (max, (take, tt)))
 
--- A line that is cut into tokens: a text of at most `max_line_bytes` that isn't skipped.
-pub record IsRead (line : List ℕ) : Type 0 where
+-- The line is cut into tokens, a text of at most `max_line_bytes` that isn't skipped, and they are one of the rows.
+pub record IsLine (rows : List Row) (said : LineOf rows) (line : List ℕ) : Type 0 where
   pub text : IsText line
   pub unskipped : IsSkipped line → ⊥
-
--- The line is one of the rows, and says this.
-pub record Says (rows : List Row) (said : LineOf rows) (line : List ℕ) : Type 0 where
-  pub read : IsRead line
-  pub words : row_words rows said ≡ words_of line
+  pub says : Says (row_words rows) (RowStands rows) said (words_of line)
 
 -- The line declares a component. Neither name is omega, which is reserved.
 abbrev pub IsDeclaration : List ℕ → Declaration → Type 0
-IsDeclaration line d = Says repository_rows (declaration_line d) line
+IsDeclaration line d = IsLine repository_rows (declaration_line d) line
 
 -- The line ends the repository.
 abbrev pub IsEnd : List ℕ → Type 0
-IsEnd line = Says repository_rows end_line line
+IsEnd line = IsLine repository_rows end_line line
 
 -- The line asks for `take` terms of at most the size `max`, both within their limits.
 pub record IsListing (line : List ℕ) (max take : ℕ) : Type 0 where
   pub max_digits : List ℕ
   pub take_digits : List ℕ
-  pub says : Says query_rows (listing_line max_digits take_digits) line
+  pub is_line : IsLine query_rows (listing_line max_digits take_digits) line
   pub max_value : number_value max_digits ≡ max
   pub take_value : number_value take_digits ≡ take
   pub max_within : (1 ≤ max) × (max ≤ max_term_size)

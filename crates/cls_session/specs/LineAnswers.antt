@@ -24,7 +24,7 @@ repository_says form.End = end_line
 
 -- What a line after the repository says.
 abbrev pub listing_says : ListingForm → LineOf query_rows
-listing_says listing = inl (type_text listing.goal, (tt, (listing.max.text.now, (tt, (listing.take.text.now, tt)))))
+listing_says listing = inl (type_text listing.goal, (listing.max.text.now, (listing.take.text.now, tt)))
 
 -- The line as a line of the repository.
 abbrev pub IsRepositoryLine : List ℕ → RepositoryLine → Type 0

@@ -1,17 +1,15 @@
 //! What the lines of a repository and the lines after it say.
-ghost use Rattle.std.specs.Prelude.{◌≡◌, ℕ, ◌≤◌, Ok, Err, MatchResult, IfOk};
+ghost use Rattle.std.specs.Prelude.{ℕ, ◌≤◌, IfOk};
 ghost use Rattle.std.specs.Option.{SomeIff};
 ghost use Rattle.cls_lexer.specs.Numerals.{number_value};
-ghost use Rattle.cls_lexer.specs.Words.{words};
-ghost use Rattle.cls_syntax.specs.LineGrammars.{grammar_read};
-ghost use Rattle.cls_syntax.specs.Stops.{stop_of};
+ghost use Rattle.cls_syntax.specs.Readings.{ReadsLine};
 ghost use Rattle.cls_session.specs.Forms.{repository_rows, query_rows};
 ghost use Rattle.cls_session.specs.LineAnswers.{repository_says, listing_says, IsRepositoryLine, IsQueryLine, IsListed};
 
 use cls_base::OutOfMemory;
 use cls_base::limits::{MAX_PAGE_TERMS, MAX_TERM_SIZE};
 use cls_lexer::{Line, Numeral, Token, TokenKind, tokens};
-use cls_syntax::{SpelledType, Stop, end_at, name_at, number_at, sign_at, type_at, word_at};
+use cls_syntax::{Role, SpelledType, Stop, end_at, name_at, number_at, sign_at, type_at, word_at};
 use std::alloc::Global;
 
 /// What a line of the repository says.
@@ -90,14 +88,12 @@ pub fn query_line(alloc: Global, line: &Line) -> Result<QueryLine, OutOfMemory>
 }
 
 fn repository_form<'t, 'a>(tokens: &'t [Token<'a>]) -> Result<RepositoryForm<'a>, Stop<'t, 'a>>
-    ensures { MatchResult result
-        (λ form. grammar_read repository_rows (words tokens.now) ≡ Ok (repository_says form))
-        (λ stop. grammar_read repository_rows (words tokens.now) ≡ Err (stop_of stop)) }
+    ensures { ReadsLine repository_rows tokens.now result repository_says }
 {
     if let Ok(rest) = word_at(tokens, "comp") {
-        let (component, rest) = name_at(rest)?;
+        let (component, rest) = name_at(rest, Role::NewComponent)?;
         let rest = sign_at(rest, TokenKind::Colon)?;
-        let (type_name, rest) = name_at(rest)?;
+        let (type_name, rest) = name_at(rest, Role::Constructor)?;
         end_at(rest)?;
         return Ok(RepositoryForm::Component(component, type_name));
     }
@@ -112,9 +108,7 @@ fn repository_form<'t, 'a>(tokens: &'t [Token<'a>]) -> Result<RepositoryForm<'a>
 }
 
 fn query_form<'t, 'a>(tokens: &'t [Token<'a>]) -> Result<ListingForm<'t, 'a>, Stop<'t, 'a>>
-    ensures { MatchResult result
-        (λ form. grammar_read query_rows (words tokens.now) ≡ Ok (listing_says form))
-        (λ stop. grammar_read query_rows (words tokens.now) ≡ Err (stop_of stop)) }
+    ensures { ReadsLine query_rows tokens.now result listing_says }
 {
     let rest = word_at(tokens, "list")?;
     let (goal, rest) = type_at(rest)?;

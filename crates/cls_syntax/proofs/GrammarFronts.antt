@@ -7,16 +7,29 @@ use Rattle.std.proofs.lemmas.Slice.Eq.{bytes_eq-Decides}
 use Rattle.std.proofs.lemmas.Bool.{false_from_ne_true}
 use Rattle.cls_lexer.specs.Words as word
 use Rattle.cls_lexer.specs.Words.{Word, name, number, sign}
-use Rattle.cls_syntax.specs.Faults.{Stop, stop, CanGoOn, Exactly}
-use Rattle.cls_syntax.specs.Forms.{Form, Values, line_words}
+use Rattle.cls_syntax.specs.Roles.{is_set_aside}
+use Rattle.cls_syntax.specs.Faults.{Stop, stop, CanGoOn, Says, Exactly}
+use Rattle.cls_syntax.specs.Forms.{Form, Values}
 use Rattle.cls_syntax.specs.GoodForms.{IsGood}
 use Rattle.cls_syntax.specs.LineReading.{line_read, after_or_stop}
 use Rattle.cls_syntax.specs.LineGrammars as grammar
-use Rattle.cls_syntax.specs.LineGrammars.{Row, LineOf, row_words, of_first, by_first, AreGood, IsGoodGrammar}
+use Rattle.cls_syntax.specs.LineGrammars.{Row, LineOf, RowStands, of_first, by_first, AreGood, IsGoodGrammar}
 use Rattle.cls_syntax.proofs.FrontFaults.{FrontFault}
-use Rattle.cls_syntax.proofs.LineFronts.{line_some, line_again, line_ok, line_err}
+use Rattle.cls_syntax.proofs.LineFronts.{form_words, FormStands, line_some, some_stands, line_again, line_ok, line_err}
+use Rattle.cls_syntax.proofs.LineParts.{line_same, line_stands, form_stands}
 use Rattle.cls_syntax.proofs.MachineRuns.{stop_parts}
 use Rattle.cls_syntax.proofs.Exactness as exactness
+
+-- the words of a line, item by item
+abbrev row_words : (rows : List Row) → LineOf rows → List Word
+row_words [] v = absurd v
+row_words (row ∷ rows) (inl v) = name row.first ∷ form_words row.form v
+row_words (row ∷ rows) (inr v) = row_words rows v
+
+abbrev Stands : (rows : List Row) → LineOf rows → Type 0
+Stands [] v = ⊥
+Stands (row ∷ rows) (inl v) = FormStands row.form v
+Stands (row ∷ rows) (inr v) = Stands rows v
 
 -- the rows are looked up by the first word
 abbrev of_later : {A B : Type 0} → Option (Result B Stop) → Option (Result (A ⊎ B) Stop)
@@ -67,7 +80,8 @@ record IsRowOf (rows : List Row) (x : List ℕ) : Type 0 where
   form : Form
   good : IsGood form
   into : Values form → LineOf rows
-  words : (v : Values form) → row_words rows (into v) ≡ name x ∷ line_words form v
+  words : (v : Values form) → row_words rows (into v) ≡ name x ∷ form_words form v
+  stands : (v : Values form) → FormStands form v → Stands rows (into v)
   oks : (us : List Word) (v : Values form) → line_read form us ≡ Ok v → row_read rows x us ≡ Some (Ok (into v))
   errs : (us : List Word) (e : Stop) → line_read form us ≡ Err e → row_read rows x us ≡ Some (Err e)
 
@@ -83,7 +97,8 @@ row_of (row ∷ rows) x g =
         form = row.form;
         good = g.1;
         into = λ v. inl v;
-        words = λ v. ap (λ (y : List ℕ). name y ∷ line_words row.form v) ((bytes_eq-Decides row.first x).0 e);
+        words = λ v. ap (λ (y : List ℕ). name y ∷ form_words row.form v) ((bytes_eq-Decides row.first x).0 e);
+        stands = λ v st. st;
         oks = λ us v h. ap (λ (b : Bool). if b then Some (of_first (line_read row.form us)) else of_later (row_read rows x us)) e ∙ ap (λ (r : Result (Values row.form) Stop). Some (of_first r)) h;
         errs = λ us d h. ap (λ (b : Bool). if b then Some (of_first (line_read row.form us)) else of_later (row_read rows x us)) e ∙ ap (λ (r : Result (Values row.form) Stop). Some (of_first r)) h;
       })
@@ -93,6 +108,7 @@ row_of (row ∷ rows) x g =
           good = r.good;
           into = λ v. inr (r.into v);
           words = r.words;
+          stands = r.stands;
           oks = λ us v h. ap (λ (b : Bool). if b then Some (of_first (line_read row.form us)) else of_later (row_read rows x us)) e ∙ ap (λ (o : Option (Result (LineOf rows) Stop)). of_later o) (r.oks us v h);
           errs = λ us d h. ap (λ (b : Bool). if b then Some (of_first (line_read row.form us)) else of_later (row_read rows x us)) e ∙ ap (λ (o : Option (Result (LineOf rows) Stop)). of_later o) (r.errs us d h);
         })
@@ -101,18 +117,18 @@ row_of (row ∷ rows) x g =
     ]) refl
 
 -- each line is read again, row by row
-row_again : (rows : List Row) (v : LineOf rows) → AreGood rows → (x : List ℕ) × (ws : List Word) × (row_words rows v ≡ name x ∷ ws) × (row_read rows x ws ≡ Some (Ok v)) × ((P : List ℕ → Type 0) → AllByRecursion (λ r. P r.first) rows → P x)
-row_again [] v g = absurd v
-row_again (row ∷ rows) (inl v) g =
-    (row.first, line_words row.form v, refl, ap (λ (b : Bool). if b then Some (of_first (line_read row.form (line_words row.form v))) else of_later (row_read rows row.first (line_words row.form v))) (same_bytes row.first) ∙ ap (λ (r : Result (Values row.form) Stop). Some (of_first r)) (line_again row.form v g.1), λ P all. all.0)
-row_again (row ∷ rows) (inr v) g =
-    let r = row_again rows v g.2 in
+row_again : (rows : List Row) (v : LineOf rows) → AreGood rows → Stands rows v → (x : List ℕ) × (ws : List Word) × (row_words rows v ≡ name x ∷ ws) × (row_read rows x ws ≡ Some (Ok v)) × ((P : List ℕ → Type 0) → AllByRecursion (λ r. P r.first) rows → P x)
+row_again [] v g st = absurd v
+row_again (row ∷ rows) (inl v) g st =
+    (row.first, form_words row.form v, refl, ap (λ (b : Bool). if b then Some (of_first (line_read row.form (form_words row.form v))) else of_later (row_read rows row.first (form_words row.form v))) (same_bytes row.first) ∙ ap (λ (r : Result (Values row.form) Stop). Some (of_first r)) (line_again row.form v g.1 st), λ P all. all.0)
+row_again (row ∷ rows) (inr v) g st =
+    let r = row_again rows v g.2 st in
     let another : bytes_eq row.first r.0 ≡ false = r.4 (λ (y : List ℕ). bytes_eq row.first y ≡ false) g.0 in
     (r.0, r.1, r.2, ap (λ (b : Bool). if b then Some (of_first (line_read row.form r.1)) else of_later (row_read rows r.0 r.1)) another ∙ ap (λ (o : Option (Result (LineOf rows) Stop)). of_later o) r.3, λ P all. r.4 P all.1)
 
-grammar_again : (rows : List Row) → AreGood rows → (v : LineOf rows) → grammar_read rows (row_words rows v) ≡ Ok v
-grammar_again rows g v =
-    let r = row_again rows v g in
+grammar_again : (rows : List Row) → AreGood rows → (v : LineOf rows) → Stands rows v → grammar_read rows (row_words rows v) ≡ Ok v
+grammar_again rows g v st =
+    let r = row_again rows v g st in
     ap (grammar_read rows) r.2 ∙ ap (λ (o : Option (Result (LineOf rows) Stop)). or_refused (name r.0 ∷ r.1) o) r.3
 
 of_first_ok : {A B : Type 0} (r : Result A Stop) (v : A ⊎ B) → of_first r ≡ Ok v → (a : A) × (r ≡ Ok a) × (inl a ≡ v)
@@ -124,23 +140,31 @@ of_later_ok None v h = cc
 of_later_ok (Some (Ok b)) v h = (b, refl, cc)
 of_later_ok (Some (Err e)) v h = cc
 
-row_ok : (rows : List Row) (x : List ℕ) (us : List Word) (v : LineOf rows) → AreGood rows → row_read rows x us ≡ Some (Ok v) → row_words rows v ≡ name x ∷ us
+abbrev RowSays : (rows : List Row) → LineOf rows → List Word → Type 0
+RowSays rows v ws = Says (row_words rows) (Stands rows) v ws
+
+row_ok : (rows : List Row) (x : List ℕ) (us : List Word) (v : LineOf rows) → AreGood rows → row_read rows x us ≡ Some (Ok v) → RowSays rows v (name x ∷ us)
 row_ok [] x us v g h = cc
 row_ok (row ∷ rows) x us v g h =
-    (elim (bytes_eq row.first x) as (λ b. bytes_eq row.first x ≡ b → (if b then Some (of_first (line_read row.form us)) else of_later (row_read rows x us)) ≡ Some (Ok v) → row_words (row ∷ rows) v ≡ name x ∷ us) [
+    (elim (bytes_eq row.first x) as (λ b. bytes_eq row.first x ≡ b → (if b then Some (of_first (line_read row.form us)) else of_later (row_read rows x us)) ≡ Some (Ok v) → RowSays (row ∷ rows) v (name x ∷ us)) [
       | true ↦ λ e k.
           let r = of_first_ok {A = Values row.form} {B = LineOf rows} (line_read row.form us) v (cc) in
-          ap (row_words (row ∷ rows)) (sym r.2) ∙ (ap (λ (y : List ℕ). name y ∷ line_words row.form r.0) ((bytes_eq-Decides row.first x).0 e) ∙ ap (λ (ws : List Word). name x ∷ ws) (line_ok row.form us r.0 g.1 r.1))
+          let said = line_ok row.form us r.0 g.1 r.1 in
+          subst (λ (y : LineOf (row ∷ rows)). RowSays (row ∷ rows) y (name x ∷ us)) r.2 (record {
+            spelled = ap (λ (y : List ℕ). name y ∷ form_words row.form r.0) ((bytes_eq-Decides row.first x).0 e) ∙ ap (λ (ws : List Word). name x ∷ ws) said.spelled;
+            stands = said.stands;
+          })
       | false ↦ λ e k.
           let r = of_later_ok {A = Values row.form} {B = LineOf rows} (row_read rows x us) v k in
-          ap (row_words (row ∷ rows)) (sym r.2) ∙ row_ok rows x us r.0 g.2 r.1
+          let said = row_ok rows x us r.0 g.2 r.1 in
+          subst (λ (y : LineOf (row ∷ rows)). RowSays (row ∷ rows) y (name x ∷ us)) r.2 (record { spelled = said.spelled; stands = said.stands })
     ]) refl h
 
 or_refused_ok : {A : Type 0} (ws : List Word) (o : Option (Result A Stop)) (v : A) → or_refused ws o ≡ Ok v → o ≡ Some (Ok v)
 or_refused_ok ws None v h = cc
 or_refused_ok ws (Some r) v h = ap (λ x. Some x) h
 
-grammar_ok : (rows : List Row) → AreGood rows → (ws : List Word) (v : LineOf rows) → grammar_read rows ws ≡ Ok v → row_words rows v ≡ ws
+grammar_ok : (rows : List Row) → AreGood rows → (ws : List Word) (v : LineOf rows) → grammar_read rows ws ≡ Ok v → RowSays rows v ws
 grammar_ok rows g [] v h = cc
 grammar_ok rows g (word.omega ∷ ws) v h = cc
 grammar_ok rows g (name x ∷ ws) v h = row_ok rows x ws v g (or_refused_ok (name x ∷ ws) (row_read rows x ws) v h)
@@ -169,32 +193,39 @@ some_line : (rows : List Row) → IsGoodGrammar rows → LineOf rows
 some_line [] g = absurd g
 some_line (row ∷ rows) g = inl (line_some row.form)
 
+some_line_stands : (rows : List Row) (g : IsGoodGrammar rows) → Stands rows (some_line rows g)
+unfolding some_line
+some_line_stands [] g = absurd g
+some_line_stands (row ∷ rows) g = some_stands row.form
+
 -- the first word is refused, whatever follows
-at_first : (rows : List Row) (ws rest : List Word) (b : Bool) → IsGoodGrammar rows → (ws ≡ rest) × (false ≡ b) → ((w : Word) (vs us : List Word) → ws ≡ w ∷ vs → grammar_read rows (w ∷ us) ≡ Err (stop (w ∷ us) false)) → FrontFault (grammar_read rows) (row_words rows) ws rest b
+at_first : (rows : List Row) (ws rest : List Word) (b : Bool) → IsGoodGrammar rows → (ws ≡ rest) × (false ≡ b) → ((w : Word) (vs us : List Word) → ws ≡ w ∷ vs → grammar_read rows (w ∷ us) ≡ Err (stop (w ∷ us) false)) → FrontFault (grammar_read rows) (row_words rows) (Stands rows) ws rest b
 at_first rows ws rest b g parts always = record {
   front = [];
   split = parts.0;
-  live = record { line = some_line rows g; more = row_words rows (some_line rows g); begins = refl };
+  live = record { line = some_line rows g; stands = some_line_stands rows g; more = row_words rows (some_line rows g); begins = refl };
   always = λ w vs us is. always w vs us (parts.0 ∙ is) ∙ ap (λ c. Err (stop (w ∷ us) c)) parts.1;
   named = λ want. let no = parts.1 ∙ want in cc;
   unnamed = λ _. record {
     text = 0 ∷ all_bytes rows;
+    plain = refl;
     always = λ us. ap (λ (o : Option (Result (LineOf rows) Stop)). or_refused (name (0 ∷ all_bytes rows) ∷ us) o) (no_row rows us) ∙ ap (λ c. Err (stop (name (0 ∷ all_bytes rows) ∷ us) c)) parts.1;
   };
 }
 
-row_goes : (rows : List Row) (x : List ℕ) (r : IsRowOf rows x) (front : List Word) → CanGoOn (line_words r.form) front → CanGoOn (row_words rows) (name x ∷ front)
-row_goes rows x r front go = record { line = r.into go.line; more = go.more; begins = r.words go.line ∙ ap (λ (ws : List Word). name x ∷ ws) go.begins }
+row_goes : (rows : List Row) (x : List ℕ) (r : IsRowOf rows x) (front : List Word) → CanGoOn (form_words r.form) (FormStands r.form) front → CanGoOn (row_words rows) (Stands rows) (name x ∷ front)
+row_goes rows x r front go = record { line = r.into go.line; stands = r.stands go.line go.stands; more = go.more; begins = r.words go.line ∙ ap (λ (ws : List Word). name x ∷ ws) go.begins }
 
-row_fault : (rows : List Row) (x : List ℕ) (us rest : List Word) (b : Bool) (r : IsRowOf rows x) → FrontFault (line_read r.form) (line_words r.form) us rest b → FrontFault (grammar_read rows) (row_words rows) (name x ∷ us) rest b
+row_fault : (rows : List Row) (x : List ℕ) (us rest : List Word) (b : Bool) (r : IsRowOf rows x) → FrontFault (line_read r.form) (form_words r.form) (FormStands r.form) us rest b → FrontFault (grammar_read rows) (row_words rows) (Stands rows) (name x ∷ us) rest b
 row_fault rows x us rest b r f = record {
   front = name x ∷ f.front;
   split = ap (λ (ws : List Word). name x ∷ ws) f.split;
   live = row_goes rows x r f.front f.live;
   always = λ w vs ws is. ap (λ (o : Option (Result (LineOf rows) Stop)). or_refused (name x ∷ (f.front ++ w ∷ ws)) o) (r.errs (f.front ++ w ∷ ws) (stop (w ∷ ws) b) (f.always w vs ws is));
-  named = λ want y. row_goes rows x r (f.front ++ name y ∷ []) (f.named want y);
+  named = λ want y plain. row_goes rows x r (f.front ++ name y ∷ []) (f.named want y plain);
   unnamed = λ not_wanted. let u = f.unnamed not_wanted in record {
     text = u.text;
+    plain = u.plain;
     always = λ ws. ap (λ (o : Option (Result (LineOf rows) Stop)). or_refused (name x ∷ (f.front ++ name u.text ∷ ws)) o) (r.errs (f.front ++ name u.text ∷ ws) (stop (name u.text ∷ ws) b) (u.always ws));
   };
 }
@@ -206,7 +237,7 @@ row_err rows x us rest b r h =
       | Err d ↦ λ e. let k = ap (λ (o : Option (Result (LineOf rows) Stop)). or_refused (name x ∷ us) o) (r.errs us d e) in let both : Path (Result (LineOf rows) Stop) (Err d) (Err (stop rest b)) = sym k ∙ h in let same : d ≡ stop rest b = cc in ap (λ x. Err x) same
     ]) refl
 
-first_err : (rows : List Row) (w : Word) (us rest : List Word) (b : Bool) → IsGoodGrammar rows → ((vs : List Word) → grammar_read rows (w ∷ vs) ≡ Err (stop (w ∷ vs) false)) → grammar_read rows (w ∷ us) ≡ Err (stop rest b) → FrontFault (grammar_read rows) (row_words rows) (w ∷ us) rest b
+first_err : (rows : List Row) (w : Word) (us rest : List Word) (b : Bool) → IsGoodGrammar rows → ((vs : List Word) → grammar_read rows (w ∷ vs) ≡ Err (stop (w ∷ vs) false)) → grammar_read rows (w ∷ us) ≡ Err (stop rest b) → FrontFault (grammar_read rows) (row_words rows) (Stands rows) (w ∷ us) rest b
 first_err rows w us rest b g always h =
     at_first rows (w ∷ us) rest b g (stop_parts {B = LineOf rows} (w ∷ us) rest false b (sym (always us) ∙ h))
     (λ v vs ws is. let e : w ≡ v = cc in subst (λ (x : Word). grammar_read rows (x ∷ ws) ≡ Err (stop (x ∷ ws) false)) e (always ws))
@@ -215,7 +246,7 @@ grammar_good : (rows : List Row) → IsGoodGrammar rows → AreGood rows
 grammar_good [] g = absurd g
 grammar_good (row ∷ rows) g = g
 
-grammar_err : (rows : List Row) → IsGoodGrammar rows → (ws rest : List Word) (b : Bool) → grammar_read rows ws ≡ Err (stop rest b) → FrontFault (grammar_read rows) (row_words rows) ws rest b
+grammar_err : (rows : List Row) → IsGoodGrammar rows → (ws rest : List Word) (b : Bool) → grammar_read rows ws ≡ Err (stop rest b) → FrontFault (grammar_read rows) (row_words rows) (Stands rows) ws rest b
 grammar_err rows g [] rest b h = at_first rows [] rest b g (stop_parts {B = LineOf rows} [] rest false b h) (λ w vs us is. cc)
 grammar_err rows g (word.omega ∷ us) rest b h = first_err rows word.omega us rest b g (λ vs. refl) h
 grammar_err rows g (number n ∷ us) rest b h = first_err rows (number n) us rest b g (λ vs. refl) h
@@ -226,12 +257,32 @@ grammar_err rows g (name x ∷ us) rest b h =
       | inr none ↦ first_err rows (name x) us rest b g (λ vs. ap (λ (o : Option (Result (LineOf rows) Stop)). or_refused (name x ∷ vs) o) (none vs)) h
     ]
 
--- exactly the lines of the grammar are read, and a fault is the first word that can't follow
-pub grammar_exactly : (rows : List Row) → IsGoodGrammar rows → (ws : List Word) → Exactly (row_words rows) ws (grammar.grammar_read rows ws)
-grammar_exactly rows g ws =
-    subst (λ (r : Result (LineOf rows) Stop). Exactly (row_words rows) ws r) (sym (same_reading rows ws))
-    (exactness.exactly (grammar_read rows) (row_words rows) (grammar_again rows (grammar_good rows g)) (grammar_ok rows (grammar_good rows g)) (grammar_err rows g) ws)
+-- the words of a line are those of its parts
+row_same : (rows : List Row) (v : LineOf rows) → row_words rows v ≡ grammar.row_words rows v
+row_same [] v = absurd v
+row_same (row ∷ rows) (inl v) = ap (λ (ws : List Word). name row.first ∷ ws) (line_same row.form v)
+row_same (row ∷ rows) (inr v) = row_same rows v
 
--- each line of the grammar is read as itself
-pub grammar_reads : (rows : List Row) → IsGoodGrammar rows → (v : LineOf rows) → grammar.grammar_read rows (row_words rows v) ≡ Ok v
-grammar_reads rows g v = same_reading rows (row_words rows v) ∙ grammar_again rows (grammar_good rows g) v
+row_stands : (rows : List Row) (v : LineOf rows) → Stands rows v → RowStands rows v
+row_stands [] v st = st
+row_stands (row ∷ rows) (inl v) st = line_stands row.form v st
+row_stands (row ∷ rows) (inr v) st = row_stands rows v st
+
+stands_row : (rows : List Row) (v : LineOf rows) → RowStands rows v → Stands rows v
+stands_row [] v st = st
+stands_row (row ∷ rows) (inl v) st = form_stands row.form v st
+stands_row (row ∷ rows) (inr v) st = stands_row rows v st
+
+-- exactly the lines of the grammar are read, and a fault is the first word that can't follow
+pub grammar_exactly : (rows : List Row) → IsGoodGrammar rows → (ws : List Word) → Exactly (grammar.row_words rows) (RowStands rows) ws (grammar.grammar_read rows ws)
+grammar_exactly rows g ws =
+    let good = grammar_good rows g in
+    exactness.exactly_as (row_words rows) (grammar.row_words rows) (Stands rows) (RowStands rows) (row_same rows) (row_stands rows) (stands_row rows) ws (grammar.grammar_read rows ws)
+    (subst (λ (r : Result (LineOf rows) Stop). Exactly (row_words rows) (Stands rows) ws r) (sym (same_reading rows ws))
+    (exactness.exactly (grammar_read rows) (row_words rows) (Stands rows) (grammar_again rows good) (grammar_ok rows good) (grammar_err rows g) ws))
+
+-- each line of the grammar is read as what it says
+pub grammar_reads : (rows : List Row) → IsGoodGrammar rows → (v : LineOf rows) → RowStands rows v → grammar.grammar_read rows (grammar.row_words rows v) ≡ Ok v
+grammar_reads rows g v st =
+    ap (grammar.grammar_read rows) (sym (row_same rows v))
+    ∙ (same_reading rows (row_words rows v) ∙ grammar_again rows (grammar_good rows g) v (stands_row rows v st))

@@ -5,10 +5,10 @@ pub mod FrontFaults
 pub mod GrammarFronts
 pub mod GrowingTables
 pub mod ItemFronts
-pub mod LexemeFronts
 pub mod LineFronts
+pub mod LineParts
 pub mod MachineRuns
-pub mod NumberFronts
+pub mod PartNames
 pub mod PrintedTexts
 pub mod ReadBack
 pub mod ReadTypes
@@ -18,6 +18,8 @@ pub mod Tails
 pub mod TermReads
 pub mod TermShapeReads
 pub mod TermSpans
+pub mod TokenFronts
+pub mod TokenLists
 pub mod TypeBytes
 pub mod TypeFaults
 pub mod TypeListParts
@@ -31,3 +33,4 @@ pub mod TypeStates
 pub mod Variables
 pub mod WordFronts
 pub mod OmegaTexts
+pub mod WordLists

@@ -2,7 +2,7 @@
 use Rattle.std.proofs.Common.{◌≡◌, ℕ, Bool, true, false, List, [], ◌∷◌, ◌++◌, refl, ap, sym, ◌∙◌, subst}
 use Rattle.std.specs.Prelude.{Option, Some, None, Result, Ok, Err}
 use Rattle.cls_lexer.specs.Words.{Word, name}
-use Rattle.cls_syntax.specs.Faults.{Stop, stop, CanGoOn}
+use Rattle.cls_syntax.specs.Faults.{Stop, stop, Always, CanGoOn}
 use Rattle.cls_syntax.specs.Machines.{Machine, stopped, reading}
 use Rattle.cls_syntax.proofs.FrontFaults.{FrontFault}
 
@@ -82,10 +82,10 @@ module _ {S A : Type 0} (m : Machine S A) where
     past_runs ws a e = subst (λ (vs : List Word). run start vs ≡ Some (past a)) e (reads.runs a)
 
     -- what runs to a state can go on
-    pub live : (ws : List Word) (s : S) → run start ws ≡ Some s → CanGoOn words ws
+    pub live : (ws : List Word) (s : S) → run start ws ≡ Some s → CanGoOn words Always ws
     live ws s h =
         let r = reads.goes s in
-        record { line = r.value; more = r.words; begins = reads.sound (ws ++ r.words) r.last r.value (run_append ws r.words start s h ∙ r.runs) r.ended }
+        record { line = r.value; stands = tt; more = r.words; begins = reads.sound (ws ++ r.words) r.last r.value (run_append ws r.words start s h ∙ r.runs) r.ended }
 
     pub reading_again : (a : A) (rest : List Word) → Halts (past a) rest → reading m start (words a ++ rest) ≡ Ok (a, rest)
     reading_again a rest h =
@@ -114,7 +114,7 @@ module _ {S A : Type 0} (m : Machine S A) where
     stuck : (front vs : List Word) (s : S) → run start front ≡ Some s → Halts s vs → m.ended s ≡ None → reading m start (front ++ vs) ≡ Err (stop vs (m.wants_name s))
     stuck front vs s runs h e = reading_run front vs start s runs ∙ (halted s vs h ∙ ap (λ (o : Option A). stopped o (m.wants_name s) vs) e)
 
-    err_at : (ws front vs rest : List Word) (s : S) (o : Option A) (b : Bool) → ws ≡ front ++ vs → run start front ≡ Some s → Halts s vs → m.ended s ≡ o → stopped o (m.wants_name s) vs ≡ Err (stop rest b) → FrontFault (reading m start) words ws rest b
+    err_at : (ws front vs rest : List Word) (s : S) (o : Option A) (b : Bool) → ws ≡ front ++ vs → run start front ≡ Some s → Halts s vs → m.ended s ≡ o → stopped o (m.wants_name s) vs ≡ Err (stop rest b) → FrontFault (reading m start) words Always ws rest b
     err_at ws front vs rest s (Some t) b split runs h e g = cc
     err_at ws front vs rest s None b split runs h e g =
         let parts = stop_parts {B = A × List Word} vs rest (m.wants_name s) b g in
@@ -125,9 +125,9 @@ module _ {S A : Type 0} (m : Machine S A) where
           split = split ∙ ap (λ xs. front ++ xs) left;
           live = live front s runs;
           always = λ w ws' us is. stuck front (w ∷ us) s runs (subst (λ (xs : List Word). Halts s xs) (left ∙ is) h) e ∙ ap (λ c. Err (stop (w ∷ us) c)) wants;
-          named = λ want x. let r = reads.names s x (wants ∙ want) in live (front ++ name x ∷ []) r.0 (run_then front [] (name x) start s r.0 runs r.1);
-          unnamed = λ not_wanted. record { text = []; always = λ us. stuck front (name [] ∷ us) s runs (reads.no_names s [] (wants ∙ not_wanted)) e ∙ ap (λ c. Err (stop (name [] ∷ us) c)) wants };
+          named = λ want x plain. let r = reads.names s x (wants ∙ want) in live (front ++ name x ∷ []) r.0 (run_then front [] (name x) start s r.0 runs r.1);
+          unnamed = λ not_wanted. record { text = []; plain = refl; always = λ us. stuck front (name [] ∷ us) s runs (reads.no_names s [] (wants ∙ not_wanted)) e ∙ ap (λ c. Err (stop (name [] ∷ us) c)) wants };
         }
 
-    pub reading_err : (ws rest : List Word) (b : Bool) → reading m start ws ≡ Err (stop rest b) → FrontFault (reading m start) words ws rest b
+    pub reading_err : (ws rest : List Word) (b : Bool) → reading m start ws ≡ Err (stop rest b) → FrontFault (reading m start) words Always ws rest b
     reading_err ws rest b g = let r = stops ws start in err_at ws r.front r.rest rest r.last (m.ended r.last) b r.split r.runs r.halts refl (sym r.gives ∙ g)

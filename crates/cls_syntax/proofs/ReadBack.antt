@@ -17,12 +17,12 @@ use Rattle.cls_syntax.specs.TypeReading.{type_front}
 use Rattle.cls_syntax.specs.TypeSchemas.{constructors_in}
 use Rattle.cls_syntax.specs.ClosedTypes.{HasNoDollar}
 use Rattle.cls_syntax.specs.TypePrinting.{name_in, HasNamesBelow, printed}
-use Rattle.cls_syntax.specs.RoundTrips.{PrintedTypesAreRead}
+use Rattle.cls_syntax.specs.RoundTrips.{PrintedTypesAreRead, DepthIsMostOpen}
 use Rattle.cls_syntax.proofs.ItemFronts.{type_again}
 use Rattle.cls_syntax.proofs.TypeBytes.{bytes_read}
 use Rattle.cls_syntax.proofs.PrintedTexts.{texts, printed_is, names_proper, nodes_are, NumbersBack, schema_is, Known, HasKnownNames, words_known, no_dollars, nothing_new, depth_is}
 
-same_bytes : (x : List ℕ) → bytes_eq x x ≡ true
+pub same_bytes : (x : List ℕ) → bytes_eq x x ≡ true
 same_bytes x = (bytes_eq-Decides x x).1 refl
 
 apart_at : (x : List ℕ) (xs : List (List ℕ)) (n : ℕ) → AllByRecursion (λ y. bytes_eq x y ≡ false) xs → n < length xs → bytes_eq (get_or xs n []) x ≡ false
@@ -31,7 +31,7 @@ apart_at x (y ∷ xs) zero h l = false_from_ne_true _ (λ t. let e = (bytes_eq-D
 apart_at x (y ∷ xs) (suc n) h l = apart_at x xs n h.1 (omega arith)
 
 -- the number of the name of a number
-number_back : (names : List (List ℕ)) (n : ℕ) → IsDistinct bytes_eq names → n < length names → number_of names (get_or names n []) ≡ n
+pub number_back : (names : List (List ℕ)) (n : ℕ) → IsDistinct bytes_eq names → n < length names → number_of names (get_or names n []) ≡ n
 unfolding IsDistinct
 number_back [] n d l = absurd (omega arith)
 number_back (x ∷ xs) zero d l = ap (λ (b : Bool). cond (not b) (1 + position_or_len (bytes_eq x) xs) 0) (same_bytes x)
@@ -78,3 +78,9 @@ read_back names t distinct below proper few shallow =
       spells = λ v. sym (schema_is name (number_of names) v t (numbers_back names v t distinct below));
       known = ap (λ (ws : List Word). with_texts names (constructors_in false ws)) said ∙ nothing_new name names false (type_words text) are_known;
     }
+
+pub depth_open : DepthIsMostOpen
+depth_open names t proper =
+    let name : ℕ → List ℕ = name_in names in
+    let said : words_of (printed name 0 t) ≡ type_words (texts name t).type = ap words_of (printed_is name t) ∙ bytes_read (texts name t).type (names_proper name t proper) in
+    sym (ap (most_open 0 0) said ∙ depth_is name t)

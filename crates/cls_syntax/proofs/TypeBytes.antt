@@ -56,7 +56,7 @@ abbrev mutual
   AtomNames (inside t) = TypeNames t
 
 -- the words of bytes, where the first `skip` of them belong to the word before
-unfoldable words_from : (skip : ℕ) → List ℕ → List Word
+unfoldable pub words_from : (skip : ℕ) → List ℕ → List Word
 words_from skip [] = []
 words_from (suc n) (b ∷ bs) = words_from n bs
 words_from zero (b ∷ bs) =
@@ -75,12 +75,12 @@ same_words (b ∷ bs) at zero =
       | false ↦ λ i. word_from (token_at b bs).0 (take n (b ∷ bs)) ∷ more i
     ]
 
-words_are : (line : List ℕ) → words_of line ≡ words_from 0 line
+pub words_are : (line : List ℕ) → words_of line ≡ words_from 0 line
 unfolding words_of
 words_are line = same_words line 0 0
 
 -- no name goes on
-abbrev Stops : List ℕ → Type 0
+abbrev pub Stops : List ℕ → Type 0
 Stops [] = Unit {0}
 Stops (b ∷ bs) = is_name_byte b ≡ false
 
@@ -96,11 +96,15 @@ at_times : (rest : List ℕ) → words_from 0 (32 ∷ 42 ∷ 32 ∷ rest) ≡ si
 unfolding words_from token_at
 at_times rest = refl
 
-at_open : (rest : List ℕ) → words_from 0 (40 ∷ rest) ≡ sign kind.Open ∷ words_from 0 rest
+pub at_open : (rest : List ℕ) → words_from 0 (40 ∷ rest) ≡ sign kind.Open ∷ words_from 0 rest
 unfolding words_from token_at
 at_open rest = refl
 
-at_close : (rest : List ℕ) → words_from 0 (41 ∷ rest) ≡ sign kind.Close ∷ words_from 0 rest
+pub at_comma : (rest : List ℕ) → words_from 0 (44 ∷ 32 ∷ rest) ≡ sign kind.Comma ∷ words_from 0 rest
+unfolding words_from token_at
+at_comma rest = refl
+
+pub at_close : (rest : List ℕ) → words_from 0 (41 ∷ rest) ≡ sign kind.Close ∷ words_from 0 rest
 unfolding words_from token_at
 at_close rest = refl
 
@@ -141,7 +145,7 @@ at_word b bs rest n a l s =
     let skip : 1 + length bs - 1 ≡ length bs = omega arith in
     rw (blank, token, taken bs rest b, skip, passed bs rest) refl
 
-at_name : (x rest : List ℕ) → IsProperName x → Stops rest → words_from 0 (x ++ rest) ≡ name x ∷ words_from 0 rest
+pub at_name : (x rest : List ℕ) → IsProperName x → Stops rest → words_from 0 (x ++ rest) ≡ name x ∷ words_from 0 rest
 at_name [] rest n s = absurd n
 at_name (b ∷ bs) rest n s = at_word b bs rest n.0 n.1 (omega (arith, n.2)) s ∙ ap (λ (v : Bool). (if v then word.omega else name (b ∷ bs)) ∷ words_from 0 rest) n.3
 
@@ -191,7 +195,7 @@ mutual
   atom_is (variable x) rest n s = at_dollar (x ++ rest) ∙ ap (λ (ws : List Word). sign kind.Dollar ∷ ws) (at_name x rest n s)
   atom_is (inside t) rest n s = enclosed_is t rest (type_is t (41 ∷ rest) n refl)
 
-no_words : words_from 0 [] ≡ []
+pub no_words : words_from 0 [] ≡ []
 unfolding words_from
 no_words = refl
 

@@ -7,6 +7,7 @@ use Rattle.cls_base.specs.Schemas as schemas
 use Rattle.cls_base.specs.Schemas.{OpenType}
 use Rattle.cls_syntax.specs.declared.syntax_fault.SyntaxFault.{SyntaxFault}
 use Rattle.cls_syntax.specs.declared.syntax_fault.SyntaxFault.TheVariants.{TooDeep, Unexpected, ReservedName, TooManyNodes, Variable, OutOfMemory}
+use Rattle.cls_lexer.specs.Names.{number_of}
 use Rattle.cls_lexer.specs.Words.{Word, words_of}
 use Rattle.cls_lexer.specs.Tokens.{byte_at}
 use Rattle.cls_syntax.specs.TypeTexts.{TypeText}
@@ -37,6 +38,12 @@ HasNoDollar ws = list_any is_dollar ws ≡ false
 abbrev pub Spells : (List ℕ → ℕ) → TypeText → ClosedType → Type 0
 Spells constructor t closed = (variable : List ℕ → ℕ) → opened closed ≡ type_schema constructor variable t
 
+-- The line spells the type, with the numbers that the table gives its names.
+pub record IsTypeIn (constructors : List (List ℕ)) (line : List ℕ) (type : ClosedType) : Type 0 where
+  pub text : TypeText
+  pub whole : IsWholeType line text
+  pub is : Spells (number_of constructors) text type
+
 -- The line spells a type within the limits, and the byte is that of its first `$`.
 pub record HasVariableAt (line : List ℕ) (byte : ℕ) : Type 0 where
   pub text : TypeText
@@ -45,7 +52,7 @@ pub record HasVariableAt (line : List ℕ) (byte : ℕ) : Type 0 where
   pub first : position is_dollar (words_of line) ≡ Some place
   pub byte_is : byte ≡ byte_at line place
 
--- Why the line spells no closed type within the limits. Want of memory says nothing.
+-- Why the line spells no closed type within the limits. Out of memory says nothing.
 abbrev pub IsNoClosedType : List ℕ → SyntaxFault → Type 0
 IsNoClosedType line TooDeep = IsNoType line TooDeep
 IsNoClosedType line (Unexpected byte) = IsNoType line (Unexpected byte)

@@ -1,5 +1,5 @@
 -- The front of a line's words, as line forms are read from the left.
-use Rattle.std.specs.Prelude.{ℕ, ◌≡◌, ◌↔◌, ◌==◌, List, [], ◌∷◌, Option, Some, None, if◌then◌else◌}
+use Rattle.std.specs.Prelude.{ℕ, ◌≡◌, ◌↔◌, ◌==◌, Bool, false, List, [], ◌∷◌, Option, Some, None, if◌then◌else◌}
 use Rattle.std.specs.Str.{bytes_eq}
 use Rattle.cls_lexer.specs.declared.token.TokenKind.{TokenKind}
 use Rattle.cls_lexer.specs.declared.token.TokenKind.TheVariants.{Name, Number, To, And, Times, Open, Close, Comma, Dollar, Colon, Equals, Bar, AtMost, Bad}
@@ -38,6 +38,13 @@ first_number (name text ∷ ws) = None
 first_number (number digits ∷ ws) = Some (digits, ws)
 first_number (sign kind ∷ ws) = None
 
+-- The word is this very name.
+abbrev pub is_word : List ℕ → Word → Bool
+is_word text omega = false
+is_word text (name text') = bytes_eq text text'
+is_word text (number digits) = false
+is_word text (sign kind) = false
+
 -- What follows this very name.
 abbrev pub after_word : List ℕ → List Word → Option (List Word)
 after_word text [] = None
@@ -54,7 +61,7 @@ after_sign kind (name text ∷ ws) = None
 after_sign kind (number digits ∷ ws) = None
 after_sign kind (sign kind' ∷ ws) = if kind_place kind == kind_place kind' then Some ws else None
 
--- Each front gives a word, and what follows it, exactly where the words begin with that word.
+-- Each front gives a word, and what follows it, if and only if the words begin with that word.
 pub record FrontsAreExact : Type 0 where
   pub names : (ws rest : List Word) (text : List ℕ) → (first_name ws ≡ Some (text, rest)) ↔ (ws ≡ name text ∷ rest)
   pub numbers : (ws rest : List Word) (digits : List ℕ) → (first_number ws ≡ Some (digits, rest)) ↔ (ws ≡ number digits ∷ rest)

@@ -7,11 +7,13 @@ pub mod GoodForms
 pub mod LineGrammars
 pub mod LineReading
 pub mod Machines
-pub mod Numeration
+pub mod Readings
+pub mod Roles
 pub mod RoundTrips
 pub mod SchemaReading
 pub mod Sorts
 pub mod Spans
+pub mod SpelledNumbers
 pub mod SpelledTerms
 pub mod SpelledTypes
 pub mod Stops
@@ -19,6 +21,7 @@ pub mod SyntaxFaults
 pub mod TermReading
 pub mod TermShapes
 pub mod TermTexts
+pub mod TokenTexts
 pub mod TypeLists
 pub mod TypePrinting
 pub mod TypeReading

@@ -5,7 +5,7 @@ use Rattle.std.specs.List.{AllByRecursion}
 use Rattle.std.specs.Str.{bytes_eq}
 use Rattle.cls_lexer.specs.Words.{Word, name}
 use Rattle.cls_syntax.specs.Faults.{Stop, stop}
-use Rattle.cls_syntax.specs.Forms.{the_word, Form, Values, line_words}
+use Rattle.cls_syntax.specs.Forms.{the_word, Form, Values, line_words, LineStands}
 use Rattle.cls_syntax.specs.GoodForms.{IsGood}
 use Rattle.cls_syntax.specs.LineReading.{item_front, line_read}
 
@@ -24,6 +24,12 @@ abbrev pub row_words : (rows : List Row) → LineOf rows → List Word
 row_words [] v = absurd v
 row_words (row ∷ rows) (inl v) = name row.first ∷ line_words row.form v
 row_words (row ∷ rows) (inr v) = row_words rows v
+
+-- Each name of the line may stand where it does.
+abbrev pub RowStands : (rows : List Row) → LineOf rows → Type 0
+RowStands [] v = ⊥
+RowStands (row ∷ rows) (inl v) = LineStands row.form v
+RowStands (row ∷ rows) (inr v) = RowStands rows v
 
 -- A line of the first row, and a line of a later one.
 abbrev pub of_first : {A B : Type 0} → Result A Stop → Result (A ⊎ B) Stop

@@ -7,9 +7,10 @@ use Rattle.cls_base.specs.Types.{ClosedType, omega, constructor, product, arrow,
 use Rattle.cls_lexer.specs.Characters.{is_name_start, is_name_byte}
 use Rattle.cls_base.specs.Limits.{max_name_bytes}
 use Rattle.cls_lexer.specs.Words.{words_of, reserved_name}
-use Rattle.cls_lexer.specs.Names.{number_of, with_texts}
+use Rattle.cls_lexer.specs.Names.{number_of}
+use Rattle.cls_syntax.specs.Depths.{most_open}
 use Rattle.cls_syntax.specs.TypeTexts.{TypeText}
-use Rattle.cls_syntax.specs.TypeSchemas.{constructors_in}
+use Rattle.cls_syntax.specs.TypeSchemas.{with_constructors}
 use Rattle.cls_syntax.specs.TypePrinting.{name_in, HasNamesBelow, printed}
 use Rattle.cls_syntax.specs.SyntaxFaults.{IsWholeType}
 use Rattle.cls_syntax.specs.ClosedTypes.{HasNoDollar, Spells}
@@ -34,18 +35,24 @@ pub record IsReadBack (names : List (List ℕ)) (t : ClosedType) : Type 0 where
   pub only : (other : TypeText) → IsWholeType (printed (name_in names) 0 t) other → other ≡ text
   pub closed : HasNoDollar (words_of (printed (name_in names) 0 t))
   pub spells : Spells (number_of names) text t
-  pub known : with_texts names (constructors_in false (words_of (printed (name_in names) 0 t))) ≡ names
+  pub known : with_constructors names (words_of (printed (name_in names) 0 t)) ≡ names
 
 -- What is printed is read as the type that it was, where it is within the limits.
 abbrev pub PrintedTypesAreRead : Type 0
 PrintedTypesAreRead =
-    (names : List (List ℕ)) (t : ClosedType) → IsDistinct bytes_eq names → HasNamesBelow (length names) t → HasProperNames (name_in names) t
-    → nodes t ≤ max_type_nodes → depth t ≤ max_type_depth → IsReadBack names t
+    (names : List (List ℕ)) (t : ClosedType) → IsDistinct bytes_eq names → HasNamesBelow (length names) t
+    → HasProperNames (name_in names) t → nodes t ≤ max_type_nodes → depth t ≤ max_type_depth → IsReadBack names t
+
+-- The depth of a type is the most parentheses that are open at once in its text.
+abbrev pub DepthIsMostOpen : Type 0
+DepthIsMostOpen =
+    (names : List (List ℕ)) (t : ClosedType) → HasProperNames (name_in names) t
+    → depth t ≡ most_open 0 0 (words_of (printed (name_in names) 0 t))
 
 -- What is read and then printed is read again as the type that it was, with the names as they are.
 abbrev pub ReadTypesAreReadAgain : Type 0
 ReadTypesAreReadAgain =
     (old : List (List ℕ)) (line : List ℕ) (text : TypeText) (t : ClosedType)
-    → IsDistinct bytes_eq (with_texts old (constructors_in false (words_of line)))
-    → IsWholeType line text → HasNoDollar (words_of line) → Spells (number_of (with_texts old (constructors_in false (words_of line)))) text t
-    → HasNamesBelow (length (with_texts old (constructors_in false (words_of line)))) t × IsReadBack (with_texts old (constructors_in false (words_of line))) t
+    → IsDistinct bytes_eq (with_constructors old (words_of line)) → IsWholeType line text → HasNoDollar (words_of line)
+    → Spells (number_of (with_constructors old (words_of line))) text t
+    → HasNamesBelow (length (with_constructors old (words_of line))) t × IsReadBack (with_constructors old (words_of line)) t

@@ -17,7 +17,7 @@ is_whole (Ok (a, [])) = true
 is_whole (Ok (a, w ∷ ws)) = false
 is_whole (Err e) = false
 
--- what was read, or else the value that is given
+-- what was read, otherwise the value that is given
 abbrev pub read_or : {A : Type 0} → A → Result (A × List Word) Stop → A
 read_or a (Ok p) = p.0
 read_or a (Err e) = a

@@ -2,6 +2,7 @@
 use Rattle.std.specs.Prelude.{ℕ, Bool, true, false, List, [], ◌∷◌, ◌++◌, if◌then◌else◌}
 use Rattle.cls_base.specs.Schemas as schema
 use Rattle.cls_base.specs.Schemas.{OpenType}
+use Rattle.cls_lexer.specs.Names.{with_texts}
 use Rattle.cls_lexer.specs.declared.token.TokenKind.TheVariants.{Dollar}
 use Rattle.cls_lexer.specs.Words.{Word, omega, name, number, sign}
 use Rattle.cls_syntax.specs.TypeTexts.{TypeText, MeetText, ProductText, AtomText, only_meet, arrow, only_product, meet, only_atom, product, named, applied, variable, inside}
@@ -49,3 +50,10 @@ constructors_in behind (w ∷ ws) = name_text (if behind then false else true) w
 abbrev pub variables_in : (behind : Bool) → List Word → List (List ℕ)
 variables_in behind [] = []
 variables_in behind (w ∷ ws) = name_text behind w ++ variables_in (is_dollar w) ws
+
+-- The tables after the words of a type came: constructors and variables are numbered in the order of the words.
+abbrev pub with_constructors : List (List ℕ) → List Word → List (List ℕ)
+with_constructors table ws = with_texts table (constructors_in false ws)
+
+abbrev pub with_variables : List (List ℕ) → List Word → List (List ℕ)
+with_variables table ws = with_texts table (variables_in false ws)

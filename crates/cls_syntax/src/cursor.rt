@@ -1,19 +1,18 @@
-ghost use Rattle.std.specs.Prelude.{◌≡◌, ◌≤◌, Ok, Err, MatchResult, nat_le, length};
-ghost use Rattle.std.specs.List.{prefix_len};
-ghost use Rattle.cls_lexer.specs.Words.{word_of};
-ghost use Rattle.cls_syntax.specs.Sorts.{is_number};
-ghost use Rattle.cls_lexer.specs.Words.{words};
-ghost use Rattle.cls_syntax.specs.Fronts.{kind_place};
-ghost use Rattle.cls_syntax.specs.Forms.{the_word, the_sign, a_name, a_number, a_type, a_term, some_types, numbers, nothing};
-ghost use Rattle.cls_syntax.specs.LineReading.{item_front, line_read};
-ghost use Rattle.cls_syntax.specs.Numeration.{numerals_of};
+//! A line of tokens, read from the left with one token of sight. Each call answers what stands in front and the tokens after
+//! it, or where the reading stops.
+ghost use Rattle.std.specs.Prelude.{◌≡◌, Ok, Err, MatchResult, nat_le};
+ghost use Rattle.cls_lexer.specs.declared.token.TokenKind.TheVariants.{Bar};
+ghost use Rattle.cls_lexer.specs.Words.{words, word_of};
+ghost use Rattle.cls_syntax.specs.Fronts.{kind_place, is_word};
+ghost use Rattle.cls_syntax.specs.Forms.{the_word, the_sign, a_name, a_number, a_type, a_term, nothing, types};
+ghost use Rattle.cls_syntax.specs.Readings.{Takes, Reads};
+ghost use Rattle.cls_syntax.specs.TypeLists.{types_front};
 ghost use Rattle.cls_syntax.specs.Stops.{stop_of};
 ghost use Rattle.cls_syntax.specs.SpelledTypes.{type_text, types_text};
-ghost use Rattle.cls_syntax.specs.GoodForms.{EndsType};
 ghost use Rattle.cls_syntax.specs.SpelledTerms.{term_text};
 
-use crate::numeral_list::NumeralList;
-use crate::sort::{is_name, is_number};
+use crate::role::Role;
+use crate::sort::is_name;
 use crate::spelled_term::SpelledTerm;
 use crate::spelled_type::SpelledType;
 use crate::spelled_types::SpelledTypes;
@@ -22,25 +21,28 @@ use crate::term_shape::term_end;
 use crate::type_shape::type_end;
 use cls_lexer::{Numeral, Token, TokenKind};
 
-/// The text of the name that the tokens begin with, and the tokens after it. The reserved name is none.
-#[tactic(auto, using(crate::proofs::LexemeFronts::name_fronts))]
-pub fn name_at<'t, 'a>(tokens: &'t [Token<'a>]) -> Result<(&'a str, &'t [Token<'a>]), Stop<'t, 'a>>
-    ensures { MatchResult result (λ x. item_front a_name (words tokens.now) ≡ Ok (x.0.now, words x.1.now)) (λ s. item_front a_name (words tokens.now) ≡ Err (stop_of s)) }
+/// The text of the name in this role that the tokens begin with, and the tokens after it. `omega` is no name.
+#[tactic(auto, using(crate::proofs::TokenFronts::name_fronts))]
+pub fn name_at<'t, 'a>(
+    tokens: &'t [Token<'a>],
+    role: Role,
+) -> Result<(&'a str, &'t [Token<'a>]), Stop<'t, 'a>>
+    ensures { Takes (a_name role) tokens.now result (λ x. (x.0.now, words x.1.now)) }
 {
     match tokens {
-        [first, rest @ ..] if is_name(first) => Ok((first.text, rest)),
+        [first, rest @ ..] if is_name(first) && role.allows(first.text) => Ok((first.text, rest)),
         _ => Err(Stop {
             rest: tokens,
-            wants_name: true,
+            wants_name: role.takes_names(),
         }),
     }
 }
 
-/// The number that the tokens begin with, and the tokens after it.
+/// The number that the tokens begin with, whatever its value, and the tokens after it.
 pub fn number_at<'t, 'a>(
     tokens: &'t [Token<'a>],
 ) -> Result<(Numeral<'a>, &'t [Token<'a>]), Stop<'t, 'a>>
-    ensures { MatchResult result (λ x. item_front a_number (words tokens.now) ≡ Ok (x.0.text.now, words x.1.now)) (λ s. item_front a_number (words tokens.now) ≡ Err (stop_of s)) }
+    ensures { Takes (a_number 0 0) tokens.now result (λ x. (x.0.text.now, words x.1.now)) }
 {
     match tokens {
         [first, rest @ ..] if first.kind == TokenKind::Number => {
@@ -53,13 +55,13 @@ pub fn number_at<'t, 'a>(
     }
 }
 
-/// The tokens after this very name, which isn't the reserved one.
-#[tactic(auto, using(crate::proofs::LexemeFronts::word_fronts))]
+/// The tokens after this very word, which isn't `omega`.
+#[tactic(auto, using(crate::proofs::TokenFronts::word_fronts))]
 pub fn word_at<'t, 'a>(tokens: &'t [Token<'a>], word: &str) -> Result<&'t [Token<'a>], Stop<'t, 'a>>
-    ensures { MatchResult result (λ rest. item_front (the_word word.now) (words tokens.now) ≡ Ok (tt, words rest.now)) (λ s. item_front (the_word word.now) (words tokens.now) ≡ Err (stop_of s)) }
+    ensures { Takes (the_word word.now) tokens.now result (λ rest. (tt, words rest.now)) }
 {
-    match name_at(tokens) {
-        Ok((text, rest)) if text == word => Ok(rest),
+    match tokens {
+        [first, rest @ ..] if is_word(first, word) => Ok(rest),
         _ => Err(Stop {
             rest: tokens,
             wants_name: false,
@@ -72,7 +74,7 @@ pub fn sign_at<'t, 'a>(
     tokens: &'t [Token<'a>],
     kind: TokenKind,
 ) -> Result<&'t [Token<'a>], Stop<'t, 'a>>
-    ensures { MatchResult result (λ rest. item_front (the_sign kind) (words tokens.now) ≡ Ok (tt, words rest.now)) (λ s. item_front (the_sign kind) (words tokens.now) ≡ Err (stop_of s)) }
+    ensures { Takes (the_sign kind) tokens.now result (λ rest. (tt, words rest.now)) }
 {
     match tokens {
         [first, rest @ ..] if first.kind == kind && is_sign(kind) => Ok(rest),
@@ -83,26 +85,12 @@ pub fn sign_at<'t, 'a>(
     }
 }
 
-/// Nothing, where no token is left.
-pub fn end_at<'t, 'a>(tokens: &'t [Token<'a>]) -> Result<(), Stop<'t, 'a>>
-    ensures { MatchResult result (λ _. line_read nothing (words tokens.now) ≡ Ok tt) (λ s. line_read nothing (words tokens.now) ≡ Err (stop_of s)) }
-{
-    if tokens.is_empty() {
-        Ok(())
-    } else {
-        Err(Stop {
-            rest: tokens,
-            wants_name: false,
-        })
-    }
-}
-
 /// The type that the tokens begin with, and the tokens after it.
 #[tactic(auto, using(crate::proofs::TypeSpans::type_spans))]
 pub fn type_at<'t, 'a>(
     tokens: &'t [Token<'a>],
 ) -> Result<(SpelledType<'t, 'a>, &'t [Token<'a>]), Stop<'t, 'a>>
-    ensures { MatchResult result (λ x. item_front a_type (words tokens.now) ≡ Ok (type_text x.0, words x.1.now)) (λ s. item_front a_type (words tokens.now) ≡ Err (stop_of s)) }
+    ensures { Takes a_type tokens.now result (λ x. (type_text x.0, words x.1.now)) }
 {
     match type_end(tokens) {
         Ok((end, nodes)) => {
@@ -125,7 +113,7 @@ pub fn type_at<'t, 'a>(
 pub fn term_at<'t, 'a>(
     tokens: &'t [Token<'a>],
 ) -> Result<(SpelledTerm<'t, 'a>, &'t [Token<'a>]), Stop<'t, 'a>>
-    ensures { MatchResult result (λ x. item_front a_term (words tokens.now) ≡ Ok (term_text x.0, words x.1.now)) (λ s. item_front a_term (words tokens.now) ≡ Err (stop_of s)) }
+    ensures { Takes a_term tokens.now result (λ x. (term_text x.0, words x.1.now)) }
 {
     match term_end(tokens) {
         Ok(end) => {
@@ -139,18 +127,40 @@ pub fn term_at<'t, 'a>(
     }
 }
 
-/// The types, one or more, that the tokens begin with, with the sign between two of them, and the tokens after them.
+/// Nothing, if no token is left.
+pub fn end_at<'t, 'a>(tokens: &'t [Token<'a>]) -> Result<(), Stop<'t, 'a>>
+    ensures { Reads nothing tokens.now result (λ _. tt) }
+{
+    if tokens.is_empty() {
+        Ok(())
+    } else {
+        Err(Stop {
+            rest: tokens,
+            wants_name: false,
+        })
+    }
+}
+
+/// The types, one or more with bars between them, that all the tokens are.
+pub fn types_at<'t, 'a>(tokens: &'t [Token<'a>]) -> Result<SpelledTypes<'t, 'a>, Stop<'t, 'a>>
+    ensures { Reads types tokens.now result types_text }
+{
+    let (types, rest) = some_types(tokens)?;
+    end_at(rest)?;
+    Ok(types)
+}
+
+/// The types that the tokens begin with, and the tokens after them.
 #[tactic(auto, using(crate::proofs::TypeListSpans::types_spans))]
-pub fn types_at<'t, 'a>(
+pub(crate) fn some_types<'t, 'a>(
     tokens: &'t [Token<'a>],
-    separator: TokenKind,
 ) -> Result<(SpelledTypes<'t, 'a>, &'t [Token<'a>]), Stop<'t, 'a>>
-    requires { EndsType separator }
-    ensures { MatchResult result (λ x. item_front (some_types separator) (words tokens.now) ≡ Ok (types_text x.0, words x.1.now)) (λ s. item_front (some_types separator) (words tokens.now) ≡ Err (stop_of s)) }
+    ensures { MatchResult result (λ x. types_front Bar (words tokens.now) ≡ Ok (types_text x.0, words x.1.now))
+        (λ s. types_front Bar (words tokens.now) ≡ Err (stop_of s)) }
 {
     let (first, mut rest) = type_at(tokens)?;
     let mut most_nodes = first.nodes;
-    while let Ok(next) = sign_at(rest, separator) {
+    while let Ok(next) = sign_at(rest, TokenKind::Bar) {
         let (spelled, after) = type_at(next)?;
         most_nodes = most_nodes.max(spelled.nodes);
         rest = after;
@@ -158,25 +168,16 @@ pub fn types_at<'t, 'a>(
     let (front, _) = tokens.split_at(tokens.len() - rest.len());
     let spelled = SpelledTypes {
         tokens: front,
-        separator,
         most_nodes,
     };
     Ok((spelled, rest))
 }
 
-/// The numbers that the tokens begin with, as many as there are, and the tokens after them.
-pub fn numbers_at<'t, 'a>(tokens: &'t [Token<'a>]) -> (NumeralList<'t, 'a>, &'t [Token<'a>])
-    ensures { item_front numbers (words tokens.now) ≡ Ok (numerals_of result.0, words result.1.now) }
+#[tactic(auto, using(crate::proofs::TokenFronts::word_tests))]
+fn is_word(token: &Token, word: &str) -> bool
+    ensures { result ≡ is_word word.now (word_of token.now) }
 {
-    let (front, rest) = tokens.split_at(number_count(tokens));
-    (NumeralList { tokens: front }, rest)
-}
-
-fn number_count(tokens: &[Token]) -> usize
-    ensures count { result ≡ prefix_len (λ l. is_number (word_of l)) tokens.now }
-    ensures within { result ≤ length tokens.now }
-{
-    tokens.iter().take_while(|token| is_number(token)).count()
+    is_name(token) && token.text == word
 }
 
 fn is_sign(kind: TokenKind) -> bool

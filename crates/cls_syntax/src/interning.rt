@@ -1,16 +1,16 @@
 //! Numbers the names of a type in the order of its tokens.
 ghost use Rattle.std.specs.Prelude.{◌≡◌, false, length, take, OnOk, OnErr};
 ghost use Rattle.cls_lexer.specs.Words.{words};
-ghost use Rattle.cls_lexer.specs.Names.{with_text, with_texts};
-ghost use Rattle.cls_syntax.specs.TypeSchemas.{constructors_in, variables_in};
+ghost use Rattle.cls_lexer.specs.Names.{with_text};
+ghost use Rattle.cls_syntax.specs.TypeSchemas.{with_constructors, with_variables};
 
 use crate::sort::is_name;
 use cls_base::OutOfMemory;
 use cls_lexer::{Names, Token, TokenKind};
 use std::alloc::Global;
 
-/// Numbers the names of the tokens: behind a `$` they are variables, and else constructors. After an error the tables may
-/// have grown.
+/// Numbers the names of the tokens: behind a `$` they are variables, otherwise constructors. After an error the tables
+/// may have grown.
 #[tactic(auto, using(crate::proofs::GrowingTables::kept))]
 pub(crate) fn intern_names(
     alloc: Global,
@@ -18,8 +18,8 @@ pub(crate) fn intern_names(
     variables: &mut Names,
     tokens: &[Token],
 ) -> Result<(), OutOfMemory>
-    ensures constructors { OnOk result (constructors.new ≡ with_texts constructors.old (constructors_in false (words tokens.now))) }
-    ensures variables { OnOk result (variables.new ≡ with_texts variables.old (variables_in false (words tokens.now))) }
+    ensures constructors { OnOk result (constructors.new ≡ with_constructors constructors.old (words tokens.now)) }
+    ensures variables { OnOk result (variables.new ≡ with_variables variables.old (words tokens.now)) }
     ensures kept { take (length constructors.old) constructors.new ≡ constructors.old }
     ensures variables_kept { take (length variables.old) variables.new ≡ variables.old }
 {
@@ -37,7 +37,7 @@ pub(crate) fn intern_names(
     Ok(())
 }
 
-/// Numbers the text. A table that is full is want of memory.
+/// Numbers the text. A table that is full is out of memory.
 fn put(alloc: Global, names: &mut Names, text: &str) -> Result<(), OutOfMemory>
     ensures table { OnOk result (names.new ≡ with_text names.old text.now) }
     ensures err { OnErr result (names.new ≡ names.old) }

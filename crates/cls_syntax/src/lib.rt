@@ -17,6 +17,7 @@ pub mod laws;
 mod numeral_list;
 mod print;
 mod read;
+mod role;
 mod schema_builder;
 mod sort;
 mod spelled_term;
@@ -26,17 +27,18 @@ mod stop;
 mod syntax_fault;
 mod term_shape;
 mod type_shape;
+mod word_list;
 
-pub use cursor::{
-    end_at, name_at, number_at, numbers_at, sign_at, term_at, type_at, types_at, word_at,
-};
+pub use cursor::{end_at, name_at, number_at, sign_at, term_at, type_at, types_at, word_at};
 pub use depth::deepest;
 pub use numeral_list::NumeralList;
 pub use print::print_type;
 pub use read::{first_variable, read_schema, read_type};
+pub use role::Role;
 pub use sort::is_name;
 pub use spelled_term::SpelledTerm;
 pub use spelled_type::SpelledType;
 pub use spelled_types::SpelledTypes;
 pub use stop::Stop;
 pub use syntax_fault::{SyntaxFault, begins_reserved};
+pub use word_list::{names_at, numbers_at};

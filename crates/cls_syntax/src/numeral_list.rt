@@ -10,15 +10,14 @@ use cls_lexer::{Numeral, Token};
 pub struct NumeralList<'t, 'a> {
     pub(crate) tokens: &'t [Token<'a>],
     // Each token is a number.
-    ghost numbers: { IsTrue (list_all (λ l. is_number (word_of l)) tokens.now) },
+    ghost numbers: { IsTrue (list_all (λ t. is_number (word_of t)) tokens.now) },
 }
 
 impl<'t, 'a> NumeralList<'t, 'a> {
     ghost use Rattle.std.specs.Prelude.{◌≡◌, [], ◌∷◌, length, MatchOption};
-    ghost use Rattle.cls_syntax.specs.Numeration.{numerals_of};
+    ghost use Rattle.cls_syntax.specs.SpelledNumbers.{numerals_of};
 
     /// How many numbers there are.
-    #[tactic(auto, using(crate::proofs::NumberFronts::first_many))]
     pub fn len(&self) -> usize
         ensures { result ≡ length (numerals_of self.now) }
     {
@@ -26,9 +25,10 @@ impl<'t, 'a> NumeralList<'t, 'a> {
     }
 
     /// The first number, and those after it.
-    #[tactic(auto, using(crate::proofs::NumberFronts::parts))]
+    #[tactic(auto, using(crate::proofs::TokenLists::parts))]
     pub fn split_first(&self) -> Option<(Numeral<'a>, NumeralList<'t, 'a>)>
-        ensures { MatchOption result (numerals_of self.now ≡ []) (λ x. numerals_of self.now ≡ x.0.text.now ∷ numerals_of x.1) }
+        ensures { MatchOption result (numerals_of self.now ≡ [])
+            (λ x. numerals_of self.now ≡ x.0.text.now ∷ numerals_of x.1) }
     {
         match self.tokens {
             [] => None,

@@ -7,8 +7,8 @@ use cls_base::{OutOfMemory, Ty};
 use cls_lexer::Names;
 use std::alloc::Global;
 
-/// The text of the type: ` -> `, ` & ` and ` * ` between parts, and parentheses only where they are needed. A name over omega
-/// is the bare name. The only error is want of memory.
+/// The text of the type: ` -> `, ` & ` and ` * ` between parts, and parentheses only where they are needed. A name over
+/// omega is the bare name. The only error is out of memory.
 pub fn print_type(alloc: Global, names: &Names, ty: &Ty) -> Result<String, OutOfMemory>
     requires { HasNamesBelow (length names.now) (type_of ty.now) }
     ensures { IfOk result (λ text. string_bytes text ≡ printed (name_in names.now) 0 (type_of ty.now)) }
@@ -23,7 +23,8 @@ pub fn print_type(alloc: Global, names: &Names, ty: &Ty) -> Result<String, OutOf
 #[tactic(auto, using(crate::proofs::Regrouping::regroup), unfolding(crate::specs::TypePrinting::printed))]
 fn push_type(text: &mut String, names: &Names, ty: &Ty, strength: u8) -> Result<(), OutOfMemory>
     requires { HasNamesBelow (length names.now) (type_of ty.now) }
-    ensures { OnOk result (string_bytes text.new ≡ string_bytes text.old ++ printed (name_in names.now) strength (type_of ty.now)) }
+    ensures { OnOk result (string_bytes text.new
+        ≡ string_bytes text.old ++ printed (name_in names.now) strength (type_of ty.now)) }
 {
     match ty {
         Ty::Omega => text.push_str("omega")?,

@@ -52,7 +52,9 @@ pub(crate) fn build(
     tables: Tables,
     tokens: &[Token],
 ) -> Result<Option<Schema>, OutOfMemory>
-    ensures { IfOk result (λ t. option_map schema_of t ≡ schema_reading (number_of tables.entry.constructors.now) (number_of tables.entry.variables.now) (operand whole empty_level) tokens.now) }
+    ensures { IfOk result (λ t. option_map schema_of t
+        ≡ schema_reading (number_of tables.entry.constructors.now) (number_of tables.entry.variables.now)
+        (operand whole empty_level) tokens.now) }
 {
     let mut frames = Vec::new(alloc);
     let mut level = new_level(alloc);
@@ -74,7 +76,10 @@ fn step(
     place: Place,
     token: &Token,
 ) -> Result<Option<Place>, OutOfMemory>
-    ensures { IfOk result (λ p. next_of (outer_of frames.new.items) (level_of level.new) p ≡ step (number_of tables.entry.constructors.now) (number_of tables.entry.variables.now) (state_of (outer_of frames.old.items) (level_of level.old) place) (sort_of (word_of token.now)) token.now.text.now) }
+    ensures { IfOk result (λ p. next_of (outer_of frames.new.items) (level_of level.new) p
+        ≡ step (number_of tables.entry.constructors.now) (number_of tables.entry.variables.now)
+        (state_of (outer_of frames.old.items) (level_of level.old) place)
+        (sort_of (word_of token.now)) token.now.text.now) }
 {
     let sort = sort_of(token);
     match place {
@@ -119,7 +124,8 @@ fn after(
     read: Schema,
     sort: Sort,
 ) -> Result<Option<Place>, OutOfMemory>
-    ensures { IfOk result (λ p. next_of (outer_of frames.new.items) (level_of level.new) p ≡ step_after (outer_of frames.old.items) (level_of level.old) (schema_of read) sort) }
+    ensures { IfOk result (λ p. next_of (outer_of frames.new.items) (level_of level.new) p
+        ≡ step_after (outer_of frames.old.items) (level_of level.old) (schema_of read) sort) }
 {
     match sort {
         Sort::Times => {
@@ -159,7 +165,8 @@ fn finish(
     mut level: Level,
     place: Place,
 ) -> Result<Option<Schema>, OutOfMemory>
-    ensures { IfOk result (λ t. option_map schema_of t ≡ ended (state_of (outer_of frames.items) (level_of level) place)) }
+    ensures { IfOk result (λ t. option_map schema_of t
+        ≡ ended (state_of (outer_of frames.items) (level_of level) place)) }
 {
     if !frames.is_empty() {
         return Ok(None);
@@ -193,7 +200,9 @@ fn open(
     level: &mut Level,
     name: Option<Name>,
 ) -> Result<(), OutOfMemory>
-    ensures { OnOk result ((outer_of frames.new.items ≡ within (outer_of frames.old.items) (option_map (λ c. c.0) name) (level_of level.old)) × (level_of level.new ≡ empty_level)) }
+    ensures outer { OnOk result (outer_of frames.new.items
+        ≡ within (outer_of frames.old.items) (option_map (λ c. c.0) name) (level_of level.old)) }
+    ensures level { OnOk result (level_of level.new ≡ empty_level) }
 {
     let outer = std::mem::replace(level, new_level(alloc));
     frames.push(Frame { name, level: outer })?;
@@ -202,7 +211,8 @@ fn open(
 
 /// An atom was read.
 fn atom(alloc: Global, level: &mut Level, read: Schema) -> Result<Place, OutOfMemory>
-    ensures { IfOk result (λ p. (o : Outer) → state_of o (level_of level.new) p ≡ atom_read o (level_of level.old) (schema_of read)) }
+    ensures { IfOk result (λ p. (o : Outer) → state_of o (level_of level.new) p
+        ≡ atom_read o (level_of level.old) (schema_of read)) }
 {
     let product = product_of(alloc, level.product.take(), read)?;
     Ok(Place::After(product))

@@ -73,7 +73,7 @@ pub fn is_name(token: &Token) -> bool
 }
 
 /// Whether the token is a number.
-#[tactic(auto, using(crate::proofs::NumberFronts::number_kind))]
+#[tactic(auto, using(crate::proofs::TokenLists::number_kind))]
 pub(crate) fn is_number(token: &Token) -> bool
     ensures { result ≡ is_number (word_of token.now) }
 {

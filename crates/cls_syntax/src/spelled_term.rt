@@ -5,7 +5,7 @@ ghost use Rattle.cls_syntax.specs.Spans.{is_whole};
 
 use cls_lexer::Token;
 
-/// Lexemes that spell a term.
+/// Tokens that spell a term.
 #[derive(Clone, Copy, Debug)]
 pub struct SpelledTerm<'t, 'a> {
     pub(crate) tokens: &'t [Token<'a>],

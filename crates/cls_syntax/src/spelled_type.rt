@@ -15,7 +15,7 @@ use cls_base::{OutOfMemory, Schema, Ty};
 use cls_lexer::{Names, Token};
 use std::alloc::Global;
 
-/// Lexemes that spell a type.
+/// Tokens that spell a type.
 #[derive(Clone, Copy, Debug)]
 pub struct SpelledType<'t, 'a> {
     pub(crate) tokens: &'t [Token<'a>],
@@ -32,11 +32,10 @@ impl SpelledType<'_, '_> {
     ghost use Rattle.cls_base.specs.Ty.{type_of};
     ghost use Rattle.cls_syntax.specs.ClosedTypes.{HasNoDollar, Spells};
     ghost use Rattle.cls_syntax.specs.TypePrinting.{HasNamesBelow};
-    ghost use Rattle.cls_lexer.specs.Names.{number_of, with_texts};
-    ghost use Rattle.cls_syntax.specs.TypeTexts.{type_words};
-    ghost use Rattle.cls_syntax.specs.TypeSchemas.{type_schema, constructors_in, variables_in};
-    ghost use Rattle.cls_syntax.specs.SpelledTypes.{type_text};
     ghost use Rattle.cls_syntax.specs.Spans.{omega_text};
+    ghost use Rattle.cls_lexer.specs.Names.{number_of};
+    ghost use Rattle.cls_syntax.specs.TypeSchemas.{type_schema, with_constructors, with_variables};
+    ghost use Rattle.cls_syntax.specs.SpelledTypes.{type_text, words_in};
 
     /// Whether the type has no more than [`MAX_TYPE_NODES`] nodes.
     pub fn is_small(&self) -> bool
@@ -53,16 +52,18 @@ impl SpelledType<'_, '_> {
     }
 
     /// The schema that the tokens spell. Its names are numbered in the order of their tokens, constructors and variables in
-    /// tables of their own. The only error is want of memory, and leaves the tables as before.
+    /// tables of their own. The only error is out of memory, and leaves the tables as
+    /// before.
     pub fn schema(
         &self,
         alloc: Global,
         constructors: &mut Names,
         variables: &mut Names,
     ) -> Result<Schema, OutOfMemory>
-        ensures schema { IfOk result (λ s. schema_of s ≡ type_schema (number_of constructors.new) (number_of variables.new) (type_text self.now)) }
-        ensures constructors { OnOk result (constructors.new ≡ with_texts constructors.old (constructors_in false (type_words (type_text self.now)))) }
-        ensures variables { OnOk result (variables.new ≡ with_texts variables.old (variables_in false (type_words (type_text self.now)))) }
+        ensures schema { IfOk result (λ s. schema_of s
+            ≡ type_schema (number_of constructors.new) (number_of variables.new) (type_text self.now)) }
+        ensures constructors { OnOk result (constructors.new ≡ with_constructors constructors.old (words_in self.now)) }
+        ensures variables { OnOk result (variables.new ≡ with_variables variables.old (words_in self.now)) }
         ensures constructors_stay { OnErr result (constructors.new ≡ constructors.old) }
         ensures variables_stay { OnErr result (variables.new ≡ variables.old) }
     {
@@ -84,9 +85,10 @@ impl SpelledType<'_, '_> {
         constructors: &mut Names,
         variables: &mut Names,
     ) -> Result<Schema, OutOfMemory>
-        ensures schema { IfOk result (λ s. schema_of s ≡ type_schema (number_of constructors.new) (number_of variables.new) (type_text self.now)) }
-        ensures constructors { OnOk result (constructors.new ≡ with_texts constructors.old (constructors_in false (type_words (type_text self.now)))) }
-        ensures variables { OnOk result (variables.new ≡ with_texts variables.old (variables_in false (type_words (type_text self.now)))) }
+        ensures schema { IfOk result (λ s. schema_of s
+            ≡ type_schema (number_of constructors.new) (number_of variables.new) (type_text self.now)) }
+        ensures constructors { OnOk result (constructors.new ≡ with_constructors constructors.old (words_in self.now)) }
+        ensures variables { OnOk result (variables.new ≡ with_variables variables.old (words_in self.now)) }
         ensures kept { take (length constructors.old) constructors.new ≡ constructors.old }
         ensures variables_kept { take (length variables.old) variables.new ≡ variables.old }
     {
@@ -102,12 +104,12 @@ impl SpelledType<'_, '_> {
     }
 
     /// The type that the tokens spell, which has no variable. Its names are numbered in the order of their tokens. The only
-    /// error is want of memory, and leaves the table as before.
+    /// error is out of memory, and leaves the table as before.
     pub fn ty(&self, alloc: Global, constructors: &mut Names) -> Result<Ty, OutOfMemory>
-        requires { HasNoDollar (type_words (type_text self.now)) }
+        requires { HasNoDollar (words_in self.now) }
         ensures ty { IfOk result (λ ty. Spells (number_of constructors.new) (type_text self.now) (type_of ty)) }
         ensures held { IfOk result (λ ty. HasNamesBelow (length constructors.new) (type_of ty)) }
-        ensures constructors { OnOk result (constructors.new ≡ with_texts constructors.old (constructors_in false (type_words (type_text self.now)))) }
+        ensures constructors { OnOk result (constructors.new ≡ with_constructors constructors.old (words_in self.now)) }
         ensures constructors_stay { OnErr result (constructors.new ≡ constructors.old) }
     {
         let count = constructors.len();
@@ -120,10 +122,10 @@ impl SpelledType<'_, '_> {
 
     /// The same, but an error may leave more in the table.
     fn numbered_type(&self, alloc: Global, constructors: &mut Names) -> Result<Ty, OutOfMemory>
-        requires { HasNoDollar (type_words (type_text self.now)) }
+        requires { HasNoDollar (words_in self.now) }
         ensures ty { IfOk result (λ ty. Spells (number_of constructors.new) (type_text self.now) (type_of ty)) }
         ensures held { IfOk result (λ ty. HasNamesBelow (length constructors.new) (type_of ty)) }
-        ensures constructors { OnOk result (constructors.new ≡ with_texts constructors.old (constructors_in false (type_words (type_text self.now)))) }
+        ensures constructors { OnOk result (constructors.new ≡ with_constructors constructors.old (words_in self.now)) }
         ensures kept { take (length constructors.old) constructors.new ≡ constructors.old }
     {
         let mut variables = Names::new(alloc);

@@ -76,7 +76,7 @@ impl TermShape {
         }
     }
 
-    /// Where no token follows at the place: the end of the term, or else the stop.
+    /// No token follows at the place: the end of the term, or the stop.
     fn stopped(self, place: usize) -> Result<usize, (usize, bool)>
         ensures { result ≡ shape_stopped self place }
     {

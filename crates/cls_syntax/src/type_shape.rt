@@ -114,7 +114,7 @@ impl TypeShape {
         }
     }
 
-    /// Where no token follows at the place: the end of the type with its nodes, or else the stop.
+    /// No token follows at the place: the end of the type with its nodes, or the stop.
     fn stopped(self, place: usize) -> Result<(usize, usize), (usize, bool)>
         ensures { result ≡ shape_stopped self place }
     {

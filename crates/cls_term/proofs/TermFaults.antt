@@ -16,10 +16,10 @@ use Rattle.cls_lexer.specs.Words.{Word, name, number, sign, word_from, words_of,
 use Rattle.cls_lexer.specs.Words.{words, reserved_name}
 use Rattle.cls_lexer.specs.Tokens.{tokens_of}
 use Rattle.cls_syntax.specs.Sorts.{begins_reserved, is_name}
-use Rattle.cls_syntax.specs.Faults.{Stop, stop}
+use Rattle.cls_syntax.specs.Faults.{Stop, stop, Always}
 use Rattle.cls_lexer.specs.Tokens.{byte_at}
 use Rattle.cls_syntax.specs.TermTexts.{TermText, term_words}
-use Rattle.cls_syntax.specs.Forms.{followed, a_term, nothing}
+use Rattle.cls_syntax.specs.Forms.{a_term, nothing, ◌⨾◌}
 use Rattle.cls_syntax.specs.LineReading.{line_read}
 use Rattle.cls_syntax.specs.SyntaxFaults.{IsFlat, LeavesAt}
 use Rattle.cls_syntax.proofs.LineFronts.{line_ok}
@@ -29,20 +29,20 @@ use Rattle.cls_lexer.proofs.TextTables.{position-map}
 use Rattle.cls_term.specs.TokenFaults.{IsWholeTerm, is_unknown, IsBadAt}
 
 module _ (line : List ℕ) (ws : List Word) (said : ws ≡ words_of line) where
-  pub term_stop_within : (rest : List Word) (b : Bool) (count : ℕ) → count ≡ length (tokens_of line) → line_read (followed a_term nothing) ws ≡ Err (stop rest b) → length rest ≤ count
-  term_stop_within rest b count e h = let r = rest_within term_words line rest b (item_refused a_term (words_of line) rest b tt (ap (line_read (followed a_term nothing)) (sym said) ∙ h)) in omega (arith, r, e)
+  pub term_stop_within : (rest : List Word) (b : Bool) (count : ℕ) → count ≡ length (tokens_of line) → line_read (a_term ⨾ nothing) ws ≡ Err (stop rest b) → length rest ≤ count
+  term_stop_within rest b count e h = let r = rest_within term_words line rest b (item_refused a_term (λ e. tt) (words_of line) rest b (ap (line_read (a_term ⨾ nothing)) (sym said) ∙ h)) in omega (arith, r, e)
 
-  pub term_stop_refused : (rest : List Word) (b : Bool) (count : ℕ) → count ≡ length (tokens_of line) → IsFlat line → line_read (followed a_term nothing) ws ≡ Err (stop rest b) → IsBadAt line (byte_at line (count - length rest))
+  pub term_stop_refused : (rest : List Word) (b : Bool) (count : ℕ) → count ≡ length (tokens_of line) → IsFlat line → line_read (a_term ⨾ nothing) ws ≡ Err (stop rest b) → IsBadAt line (byte_at line (count - length rest))
   term_stop_refused rest b count e flat h =
-      let f = item_refused a_term (words_of line) rest b tt (ap (line_read (followed a_term nothing)) (sym said) ∙ h) in
+      let f = item_refused a_term (λ e. tt) (words_of line) rest b (ap (line_read (a_term ⨾ nothing)) (sym said) ∙ h) in
       record {
         flat = flat;
         reserved = b && begins_reserved rest;
-        leaves = subst (λ n. LeavesAt term_words line (byte_at line (n - length rest)) (b && begins_reserved rest)) (sym e) (stops_at term_words line rest b f);
+        leaves = subst (λ n. LeavesAt term_words Always line (byte_at line (n - length rest)) (b && begins_reserved rest)) (sym e) (stops_at term_words line rest b f);
       }
 
-  pub term_whole : (e : TermText) → line_read (followed a_term nothing) ws ≡ Ok (e, tt) → IsFlat line → IsWholeTerm line e
-  term_whole e h flat = record { flat = flat; spells = sym (append-nil (term_words e)) ∙ (line_ok (followed a_term nothing) ws (e, tt) (tt, tt, tt) h ∙ said) }
+  pub term_whole : (e : TermText) → line_read (a_term ⨾ nothing) ws ≡ Ok (e, tt) → IsFlat line → IsWholeTerm line e
+  term_whole e h flat = record { flat = flat; spells = sym (append-nil (term_words e)) ∙ ((line_ok (a_term ⨾ nothing) ws (e, tt) (tt, tt) h).spelled ∙ said) }
 
 module _ (table : List (List ℕ)) where
   none_any : (ws : List Word) → length ws ≤ position_or_len (is_unknown table) ws → list_any (is_unknown table) ws ≡ false

@@ -1,18 +1,16 @@
 //! Reads a text that is one term.
-ghost use Rattle.std.specs.Prelude.{◌≡◌, ◌<◌, ◌^◌, false, not, map, Ok, Err, length, MatchResult, OnOk, position};
+ghost use Rattle.std.specs.Prelude.{◌≡◌, ◌<◌, ◌^◌, false, not, map, length, MatchResult, IfOk, OnOk, position};
 ghost use Rattle.std.specs.List.{list_any};
 ghost use Rattle.std.specs.Str.{bytes_eq};
 ghost use Rattle.cls_lexer.specs.Words.{words};
 ghost use Rattle.cls_lexer.specs.Words.{word_of, words_of};
 ghost use Rattle.cls_lexer.specs.Tokens.{tokens_of, located};
 ghost use Rattle.cls_lexer.specs.Names.{number_of};
-ghost use Rattle.cls_syntax.specs.Forms.{followed, a_term, nothing};
-ghost use Rattle.cls_syntax.specs.LineReading.{line_read};
-ghost use Rattle.cls_syntax.specs.Stops.{stop_of};
-ghost use Rattle.cls_syntax.specs.TermTexts.{TermText};
+ghost use Rattle.cls_syntax.specs.Forms.{a_term, nothing, ◌⨾◌};
+ghost use Rattle.cls_syntax.specs.Readings.{Reads};
 ghost use Rattle.cls_syntax.specs.SpelledTerms.{term_text};
 ghost use Rattle.cls_term.specs.TermReadings.{term_of};
-ghost use Rattle.cls_term.specs.TokenFaults.{IsWholeTerm, is_unknown, IsNoTerm};
+ghost use Rattle.cls_term.specs.TokenFaults.{IsWholeTerm, IsTermIn, is_unknown, IsNoTerm};
 
 use crate::term::Term;
 use crate::term_builder::build;
@@ -26,7 +24,7 @@ use std::alloc::Global;
 /// The term that the whole text spells, over the components of the table.
 pub fn read_token(alloc: Global, components: &Names, text: &str) -> Result<Term, TokenFault>
     requires { length text.now < 2 ^ 32 }
-    ensures exact { MatchResult result (λ e. (t : TermText) × IsWholeTerm text.now t × (e ≡ term_of (number_of components.now) t)) (λ fault. IsNoTerm components.now text.now fault) }
+    ensures exact { MatchResult result (IsTermIn components.now text.now) (IsNoTerm components.now text.now) }
     ensures known { OnOk result (list_any (is_unknown components.now) (words_of text.now) ≡ false) }
 {
     let tokens = tokens(alloc, text)?;
@@ -44,7 +42,7 @@ pub fn spelled_term(
     components: &Names,
     spelled: &SpelledTerm,
 ) -> Result<Term, OutOfMemory>
-    ensures { MatchResult result (λ e. e ≡ term_of (number_of components.now) (term_text spelled.now)) (λ _. Unit {0}) }
+    ensures { IfOk result (λ e. e ≡ term_of (number_of components.now) (term_text spelled.now)) }
 {
     match build(alloc, components, spelled.as_slice())? {
         Some(term) => Ok(term),
@@ -60,7 +58,8 @@ fn whole_term<'t, 'a>(
     requires few { length text.now < 2 ^ 32 }
     requires tokens { map located tokens.now ≡ tokens_of text.now }
     requires words { words tokens.now ≡ words_of text.now }
-    ensures { MatchResult result (λ spelled. IsWholeTerm text.now (term_text spelled)) (λ fault. (table : _) → IsNoTerm table text.now fault) }
+    ensures { MatchResult result (λ spelled. IsWholeTerm text.now (term_text spelled))
+        (λ fault. (table : _) → IsNoTerm table text.now fault) }
 {
     if deepest(tokens) as u64 > MAX_TYPE_DEPTH {
         return Err(TokenFault::TooDeep);
@@ -76,7 +75,7 @@ fn whole_term<'t, 'a>(
 
 /// A term and nothing after it.
 fn term_line<'t, 'a>(tokens: &'t [Token<'a>]) -> Result<SpelledTerm<'t, 'a>, Stop<'t, 'a>>
-    ensures { MatchResult result (λ x. line_read (followed a_term nothing) (words tokens.now) ≡ Ok (term_text x, tt)) (λ s. line_read (followed a_term nothing) (words tokens.now) ≡ Err (stop_of s)) }
+    ensures { Reads (a_term ⨾ nothing) tokens.now result (λ x. (term_text x, tt)) }
 {
     let (spelled, rest) = term_at(tokens)?;
     end_at(rest)?;
