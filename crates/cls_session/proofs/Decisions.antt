@@ -1,6 +1,6 @@
 -- What a line is can be told.
 use Rattle.std.proofs.Common.{◌≡◌, ℕ, zero, suc, ◌≤◌, List, [], ◌∷◌, length, refl, sym, ap, ◌∙◌, inl, inr, arith, Bool, true, false}
-use Rattle.std.specs.Prelude.{◌⊎◌, Contains, codes, bytes_eq, IsTrue, IsUtf8}
+use Rattle.std.specs.Prelude.{◌⊎◌, Contains, bytes_eq, IsTrue, IsUtf8}
 use Rattle.std.proofs.lemmas.Slice.Eq.{bytes_eq-Decides}
 use Rattle.std.specs.Str.{is_utf8}
 use Rattle.std.proofs.lemmas.Str.{IsUtf8-from_is_utf8, is_utf8-from_IsUtf8}
@@ -120,11 +120,11 @@ is_listing_decided line =
             | inl g ↦ elim (both_decided (both_decided (at_most_decided 1 max) (at_most_decided max max_term_size)) (both_decided (at_most_decided 1 take) (at_most_decided take max_page_terms))) [
               | inl b ↦ inl (max, take, record { max_digits = max_in s.0; take_digits = take_in s.0; is_line = record { text = s.1.text; unskipped = s.1.unskipped; says = asking (words_of line) s.0 s.1.says g }; max_value = refl; take_value = refl; max_within = b.0; take_within = b.1 })
               | inr n ↦ inr (λ p.
-                let e = same p.0 p.1 p.2 in
-                let a : max ≡ p.0 = ap number_value e.max_digits ∙ p.2.max_value in
-                let b : take ≡ p.1 = ap number_value e.take_digits ∙ p.2.take_value in
-                let c = p.2.max_within in let d = p.2.take_within in
-                n ((omega arith, omega arith), (omega arith, omega arith)))
+                  let e = same p.0 p.1 p.2 in
+                  let a : max ≡ p.0 = ap number_value e.max_digits ∙ p.2.max_value in
+                  let b : take ≡ p.1 = ap number_value e.take_digits ∙ p.2.take_value in
+                  let c = p.2.max_within in let d = p.2.take_within in
+                  n ((omega arith, omega arith), (omega arith, omega arith)))
             ]
           ]
     ]

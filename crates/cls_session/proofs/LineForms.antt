@@ -1,6 +1,6 @@
 -- What is read of a line's words is what the line says.
-use Rattle.std.proofs.Common.{◌≡◌, ◌≢◌, ℕ, ◌≤◌, List, refl, sym, ap, ◌∙◌, subst, arith, rules, inl, inr, true, false}
-use Rattle.std.specs.Prelude.{◌⊎◌, ◌↔◌, Result, Ok, Err, is_ok}
+use Rattle.std.proofs.Common.{◌≡◌, ℕ, List, refl, sym, ap, ◌∙◌, subst, arith, rules, inl, inr, true, false}
+use Rattle.std.specs.Prelude.{◌⊎◌, Result, Ok, Err, is_ok}
 use Rattle.cls_lexer.specs.Numerals.{number_value}
 use Rattle.cls_lexer.specs.Skipped.{IsText, IsSkipped}
 use Rattle.cls_lexer.specs.Words.{Word, words_of}
@@ -9,13 +9,12 @@ use Rattle.cls_syntax.specs.LineGrammars.{Row, LineOf, row_words, RowStands, gra
 use Rattle.cls_syntax.specs.Spans.{omega_text}
 use Rattle.cls_syntax.specs.TypeTexts.{TypeText}
 use Rattle.cls_syntax.proofs.GrammarFronts.{grammar_exactly, grammar_reads}
-use Rattle.cls_session.specs.declared.forms.RepositoryForm.{RepositoryForm}
 use Rattle.cls_session.specs.declared.forms.ListingForm.{ListingForm}
 use Rattle.cls_session.specs.declared.forms.QueryLine.{QueryLine}
 use Rattle.cls_session.specs.declared.forms.QueryLine.TheVariants as query
 use Rattle.cls_session.specs.Declarations.{Declaration}
 use Rattle.cls_session.specs.Forms.{repository_rows, query_rows, declaration_line, end_line, listing_line, IsLine, IsDeclaration, IsEnd, IsListing}
-use Rattle.cls_session.specs.LineAnswers.{repository_says, listing_says, IsListed, IsQueryLine}
+use Rattle.cls_session.specs.LineAnswers.{listing_says, IsListed, IsQueryLine}
 
 pub repository_good : IsGoodGrammar repository_rows
 repository_good = search rules
@@ -124,11 +123,11 @@ module _ (line : List ℕ) (ws : List Word) (is : ws ≡ words_of line) (text : 
   listing_read form query.Unbuilt e n = (
     unskipped,
     λ max take q.
-      let s = asked ws (listing_says form) q.max_digits q.take_digits (read_says query_rows query_good ws (listing_says form) e) (words_say query_rows (listing_line q.max_digits q.take_digits) q.is_line) in
-      let a : number_value form.max.text.now ≡ max = ap number_value s.max_digits ∙ q.max_value in
-      let b : number_value form.take.text.now ≡ take = ap number_value s.take_digits ∙ q.take_value in
-      let c = q.max_within in let d = q.take_within in
-      n s.goal ((omega arith, omega arith), (omega arith, omega arith)),
+        let s = asked ws (listing_says form) q.max_digits q.take_digits (read_says query_rows query_good ws (listing_says form) e) (words_say query_rows (listing_line q.max_digits q.take_digits) q.is_line) in
+        let a : number_value form.max.text.now ≡ max = ap number_value s.max_digits ∙ q.max_value in
+        let b : number_value form.take.text.now ≡ take = ap number_value s.take_digits ∙ q.take_value in
+        let c = q.max_within in let d = q.take_within in
+        n s.goal ((omega arith, omega arith), (omega arith, omega arith)),
   )
 
   pub no_listing : (s : Stop) → grammar_read query_rows ws ≡ Err s → (IsSkipped line → ⊥) × ((max take : ℕ) → IsListing line max take → ⊥)
