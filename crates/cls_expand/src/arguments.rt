@@ -31,7 +31,8 @@ fn put_source(
     place: usize,
     all: &mut Vec<Path>,
 ) -> Result<(), OutOfMemory>
-    ensures { OnOk result (listed all.new.items ≡ append (listed all.old.items) (slice_index_or arrow.now.sources place none)) }
+    ensures { OnOk result
+        (listed all.new.items ≡ append (listed all.old.items) (slice_index_or arrow.now.sources place none)) }
 {
     match arrow.source(place) {
         Some(source) => copy_onto(alloc, source.paths(), all),
@@ -56,8 +57,8 @@ fn gather(
     Ok(paths)
 }
 
-/// The arguments of the rule that the component makes by the cover of its arrows with `count` sources: for each place the
-/// normal form of the intersection of the sources there.
+/// The arguments of the rule that the component makes by the cover of its arrows with `count` sources: for each place
+/// the normal form of the intersection of the sources there.
 pub(crate) fn arguments(
     alloc: Global,
     lib: &Library,

@@ -1,5 +1,5 @@
-//! The rules of a goal: for each component and each number of arguments the minimal covers of the goal by its arrows, and for
-//! each cover one rule.
+//! The rules of a goal: for each component and each number of arguments the minimal covers of the goal by its arrows,
+//! and for each cover one rule.
 ghost use Rattle.std.specs.Prelude.{◌≡◌, ℕ, ◌+◌, ◌<◌, ◌≤◌, Contains, IfOk, MatchBool, List, [], length, map};
 ghost use Rattle.cls_path.specs.Paths.{TypePath, Paths, more, listed};
 ghost use Rattle.cls_library.specs.Arrows.{arity_of};
@@ -52,8 +52,8 @@ impl<'a> Expander<'a> {
         Ok(Answer::Rules(head_rules(alloc, spines)?))
     }
 
-    /// The rules that one component makes for the goal, even if another one makes it wide, or that this one does. The only error
-    /// is out of memory.
+    /// The rules that one component makes for the goal, even if another one makes it wide, or that this one does. The
+    /// only error is out of memory.
     pub fn rules_by(&self, alloc: Global, goal: &Nf, x: u32) -> Result<Answer<Nf>, OutOfMemory>
         requires ready { IsReady self.now.lib.now goal.now }
         requires declared { x < length self.now.lib.now.components }
@@ -152,7 +152,8 @@ fn add_covers(
 ) -> Result<bool, OutOfMemory>
     requires declared { x < length lib.now.components }
     requires within { n ≤ arity_of (paths_at lib.now x) }
-    requires below { (s : List ℕ) → Contains covers.now s → (i : ℕ) → Contains s i → i < length (arrows_at lib.now x n) }
+    requires below { (s : List ℕ) → Contains covers.now s
+        → (i : ℕ) → Contains s i → i < length (arrows_at lib.now x n) }
     ensures { IfOk result (λ narrow. (q : TypePath) (rest : Paths) (from : ℕ) → from ≤ x
         → ((s : List ℕ) → Contains covers.now s → IsChoice lib.now (more q rest) (choice_at x n s))
         → AreBegun lib.now (more q rest) from x n [] spines.old.keys
