@@ -1,0 +1,84 @@
+-- Lists of paths and of pairs, by positions.
+use Rattle.std.proofs.Common.{ℕ, zero, suc, ◌≡◌, ◌+◌, ◌<◌, ◌≤◌, ◌↔◌, refl, sym, subst, ap, ◌⊎◌, inl, inr, List, [], ◌∷◌, ◌++◌, length, get_or, take, arith, add-one, Contains, Bool, true, false, Option, None, Some}
+use Rattle.std.specs.Prelude.{map, slice_get}
+use Rattle.std.specs.List.{AllZip}
+use Rattle.std.proofs.Math.Seq.{take-suc}
+use Rattle.std.proofs.lemmas.List.Elements.{Contains-append_left, Contains-append_right, Contains-append_cases}
+use Rattle.cls_base.proofs.Lists.{Contains-nil, Contains-here, Contains-later, Contains-cases}
+use Rattle.cls_path.specs.Paths.{TypePath, InPaths, first_in, later_in, listed}
+
+pub take_next : {A : Type 0} (xs : List A) (n : ℕ) (d : A) → n < length xs → take (n + 1) xs ≡ take n xs ++ get_or xs n d ∷ []
+take_next xs n d l = rw add-one (take-suc xs n d l)
+
+pub take_whole : {A : Type 0} (xs : List A) (n : ℕ) → length xs ≤ n → take n xs ≡ xs
+take_whole [] zero l = refl
+take_whole [] (suc n) l = refl
+take_whole (x ∷ xs) zero l = absurd (let k : suc (length xs) ≤ 0 = l in omega arith)
+take_whole (x ∷ xs) (suc n) l = ap (λ ys. x ∷ ys) (take_whole xs n (let k : suc (length xs) ≤ suc n = l in omega arith))
+
+pub Contains-last : {A : Type 0} (xs : List A) (x y : A) → Contains (xs ++ x ∷ []) y → Contains xs y ⊎ (y ≡ x)
+Contains-last xs x y m = elim (Contains-append_cases xs (x ∷ []) y m) [
+  | inl k ↦ inl k
+  | inr k ↦ elim (Contains-cases x [] y k) [ inl e ↦ inr e | inr n ↦ absurd (Contains-nil y n) ]
+]
+
+pub Contains-put : {A : Type 0} (xs : List A) (x y : A) → Contains xs y ⊎ (y ≡ x) → Contains (xs ++ x ∷ []) y
+Contains-put xs x y (inl k) = Contains-append_left xs (x ∷ []) y k
+Contains-put xs x y (inr e) = subst (λ z. Contains (xs ++ x ∷ []) z) (sym e) (Contains-append_right xs (x ∷ []) x (Contains-here x []))
+
+pub map_last : {A B : Type 0} (f : A → B) (xs : List A) (x : A) → map f (xs ++ x ∷ []) ≡ map f xs ++ f x ∷ []
+map_last f [] x = refl
+map_last f (y ∷ xs) x = ap (λ l. f y ∷ l) (map_last f xs x)
+
+-- two lists, place by place
+pub pair_at : {A B : Type 0} (R : A → B → Type 0) (xs : List A) (ys : List B) (k : ℕ) (d : A) (e : B) → AllZip R xs ys → k < length xs → R (get_or xs k d) (get_or ys k e)
+pair_at R [] ys k d e a l = absurd (omega arith)
+pair_at R (x ∷ xs) [] k d e a l = absurd a
+pair_at R (x ∷ xs) (y ∷ ys) zero d e a l = a.0
+pair_at R (x ∷ xs) (y ∷ ys) (suc k) d e a l = pair_at R xs ys k d e a.1 (omega arith)
+
+pub all_pairs : {A B : Type 0} (R : A → B → Type 0) (xs : List A) (ys : List B) (d : A) (e : B) → length ys ≡ length xs → ((k : ℕ) → k < length xs → R (get_or xs k d) (get_or ys k e)) → AllZip R xs ys
+all_pairs R [] [] d e h f = tt
+all_pairs R [] (y ∷ ys) d e h f = absurd (let n : suc (length ys) ≡ 0 = h in omega arith)
+all_pairs R (x ∷ xs) [] d e h f = absurd (let n : 0 ≡ suc (length xs) = h in omega arith)
+all_pairs R (x ∷ xs) (y ∷ ys) d e h f = (f 0 (omega arith), all_pairs R xs ys d e (let n : suc (length ys) ≡ suc (length xs) = h in omega arith) (λ k l. f (suc k) (omega arith)))
+
+-- the paths that a function gives of numbers
+pub in_listed : (f : ℕ → TypePath) (s : List ℕ) (p : TypePath) → InPaths (listed (map f s)) p → (i : ℕ) × Contains s i × (f i ≡ p)
+in_listed f [] p h = elim h [ ]
+in_listed f (i ∷ s) _ first_in = (i, Contains-here i s, refl)
+in_listed f (i ∷ s) p (later_in h) = let r = in_listed f s p h in (r.0, Contains-later r.0 i s r.1, r.2)
+
+pub listed_in : (f : ℕ → TypePath) (s : List ℕ) (i : ℕ) → Contains s i → InPaths (listed (map f s)) (f i)
+listed_in f [] i h = absurd (Contains-nil i h)
+listed_in f (j ∷ s) i h = elim (Contains-cases j s i h) [
+  | inl e ↦ subst (λ (k : ℕ). InPaths (listed (map f (j ∷ s))) (f k)) (sym e) first_in
+  | inr k ↦ later_in (listed_in f s i k)
+]
+
+-- a path of a list by its position
+pub in_position : (ps : List TypePath) (q : TypePath) → InPaths (listed ps) q → (k : ℕ) × (k < length ps) × ((d : TypePath) → get_or ps k d ≡ q)
+in_position [] q h = elim h [ ]
+in_position (p ∷ ps) _ first_in = (0, omega arith, (λ d. refl))
+in_position (p ∷ ps) q (later_in h) = let r = in_position ps q h in let l : r.0 < length ps = r.1 in (suc r.0, omega arith, r.2)
+
+pub position_in : (ps : List TypePath) (k : ℕ) (d : TypePath) → k < length ps → InPaths (listed ps) (get_or ps k d)
+position_in [] k d l = absurd (omega arith)
+position_in (p ∷ ps) zero d l = first_in
+position_in (p ∷ ps) (suc k) d l = later_in (position_in ps k d (omega arith))
+
+-- what a slice gives within and past its end
+pub got : {A : Type 0} (xs : List A) (k : ℕ) (x d : A) → Some x ≡ slice_get xs k → get_or xs k d ≡ x
+got [] k x d e = absurd (let f : ◌≡◌ {A = Option _} (Some x) None = e in cc)
+got (y ∷ xs) zero x d e = let f : x ≡ y = cc in sym f
+got (y ∷ xs) (suc k) x d e = got xs k x d e
+
+pub not_got : {A : Type 0} (xs : List A) (k : ℕ) (d : A) → None ≡ slice_get xs k → get_or xs k d ≡ d
+not_got [] k d e = refl
+not_got (y ∷ xs) zero d e = absurd (let f : ◌≡◌ {A = Option _} None (Some y) = e in cc)
+not_got (y ∷ xs) (suc k) d e = not_got xs k d e
+
+-- answers
+pub yes_no : (b : Bool) (P : Type 0) → (b ≡ true → P) → (b ≡ false → P → ⊥) → (b ≡ true) ↔ P
+yes_no true P f g = ((λ _. f refl), (λ _. refl))
+yes_no false P f g = ((λ e. absurd (let h : false ≡ true = e in cc)), (λ p. absurd (g refl p)))

@@ -1,0 +1,135 @@
+//! Arrows of a component by their positions.
+ghost use Rattle.std.specs.Prelude.{◌≡◌, ℕ, ◌<◌, ◌≤◌, ◌↔◌, Contains, IfOk, IsTrue, length, map};
+ghost use Rattle.cls_path.specs.Paths.{TypePath, Paths, listed, InPaths};
+ghost use Rattle.cls_library.specs.Reaching.{PathLeIn, PathsLeIn};
+ghost use Rattle.cls_library.specs.Splits.{paths_of_form};
+ghost use Rattle.cls_check.specs.Deciding.{AreSuited, IsLeading, IsWanted, SuitIn, AllSuitIn, arrow_of, source_of};
+
+use cls_base::OutOfMemory;
+use cls_library::{Arrows, Library, MultiArrow};
+use cls_path::{Nf, Path};
+use std::alloc::Global;
+
+/// Whether the path is below some path of the goal.
+fn leads_to(lib: &Library, target: &Path, goal: &Nf) -> bool
+    requires target { SuitIn lib.now target.now }
+    requires goal { AllSuitIn lib.now (listed goal.now) }
+    ensures { IsTrue result ↔ ((q : TypePath) × InPaths (listed goal.now) q × PathLeIn lib.now target.now q) }
+{
+    for path in goal.paths() {
+        if target.le(lib.taxonomy(), path) {
+            return true;
+        }
+    }
+    false
+}
+
+/// Whether the arrow leads to a path of one of the goals.
+fn leads_to_some(lib: &Library, arrow: &MultiArrow<'_>, goals: &[&Nf]) -> bool
+    requires target { SuitIn lib.now arrow.now.target }
+    requires goals { (n : Paths) → Contains (map paths_of_form goals.now) n → AllSuitIn lib.now n }
+    ensures { IsTrue result ↔ IsLeading lib.now (map paths_of_form goals.now) arrow.now }
+{
+    for goal in goals {
+        if leads_to(lib, arrow.target(), goal) {
+            return true;
+        }
+    }
+    false
+}
+
+/// The positions of the arrows that lead to a path of one of the goals.
+pub(crate) fn leading(
+    alloc: Global,
+    lib: &Library,
+    arrows: &Arrows<'_>,
+    goals: &[&Nf],
+) -> Result<Vec<usize>, OutOfMemory>
+    requires arrows { AreSuited lib.now arrows.now }
+    requires goals { (n : Paths) → Contains (map paths_of_form goals.now) n → AllSuitIn lib.now n }
+    ensures { IfOk result (λ good. (i : ℕ) → Contains good.items i
+        ↔ ((i < length arrows.now) × IsLeading lib.now (map paths_of_form goals.now) (arrow_of arrows.now i))) }
+{
+    let mut good = Vec::new(alloc);
+    for i in 0..arrows.len() {
+        if leads_to_some(lib, &arrows.get(i), goals) {
+            good.push(i)?;
+        }
+    }
+    Ok(good)
+}
+
+/// What the arrows at these positions take at one place.
+pub(crate) fn asked_at<'a>(
+    alloc: Global,
+    arrows: &Arrows<'a>,
+    good: &[usize],
+    place: usize,
+) -> Result<Vec<&'a Nf>, OutOfMemory>
+    requires { (i : ℕ) → Contains good.now i → i < length arrows.now }
+    ensures each { IfOk result (λ asked. (i : ℕ) → Contains good.now i → (q : TypePath)
+        → InPaths (source_of (arrow_of arrows.now i) place) q → IsWanted (map paths_of_form asked.items) q) }
+    ensures only { IfOk result (λ asked. (n : Paths) → Contains (map paths_of_form asked.items) n
+        → (i : ℕ) × Contains good.now i × (n ≡ source_of (arrow_of arrows.now i) place)) }
+{
+    let mut asked = Vec::new(alloc);
+    for i in good {
+        match arrows.get(*i).source(place) {
+            Some(source) => asked.push(source)?,
+            None => continue,
+        }
+    }
+    Ok(asked)
+}
+
+/// Whether what the arrow takes at this place is above the paths.
+fn has_source(lib: &Library, arrow: &MultiArrow<'_>, place: usize, had: &Nf) -> bool
+    requires source { AllSuitIn lib.now (source_of arrow.now place) }
+    requires had { AllSuitIn lib.now (listed had.now) }
+    ensures { IsTrue result ↔ PathsLeIn lib.now (listed had.now) (source_of arrow.now place) }
+{
+    match arrow.source(place) {
+        Some(source) => had.le(lib.taxonomy(), source),
+        None => true,
+    }
+}
+
+/// Those of the positions whose arrow takes something above the paths at this place.
+pub(crate) fn with_source(
+    alloc: Global,
+    lib: &Library,
+    arrows: &Arrows<'_>,
+    good: &[usize],
+    place: usize,
+    had: &Nf,
+) -> Result<Vec<usize>, OutOfMemory>
+    requires below { (i : ℕ) → Contains good.now i → i < length arrows.now }
+    requires arrows { AreSuited lib.now arrows.now }
+    requires had { AllSuitIn lib.now (listed had.now) }
+    ensures { IfOk result (λ kept. (i : ℕ) → Contains kept.items i
+        ↔ (Contains good.now i × PathsLeIn lib.now (listed had.now) (source_of (arrow_of arrows.now i) place))) }
+{
+    let mut kept = Vec::new(alloc);
+    for i in good {
+        if has_source(lib, &arrows.get(*i), place, had) {
+            kept.push(*i)?;
+        }
+    }
+    Ok(kept)
+}
+
+/// The targets of the arrows at these positions.
+pub(crate) fn targets(
+    alloc: Global,
+    arrows: &Arrows<'_>,
+    good: &[usize],
+) -> Result<Vec<Path>, OutOfMemory>
+    requires { (i : ℕ) → Contains good.now i → i < length arrows.now }
+    ensures { IfOk result (λ paths. paths.items ≡ map (λ i. (arrow_of arrows.now i).target) good.now) }
+{
+    let mut paths = Vec::new(alloc);
+    for i in good {
+        paths.push(arrows.get(*i).target().copy(alloc)?)?;
+    }
+    Ok(paths)
+}

@@ -1,0 +1,9 @@
+pub mod Covering
+pub mod FamilyCovers
+pub mod Keys
+pub mod LanguageTyping
+pub mod Making
+pub mod Places
+pub mod RuleTyping
+pub mod RulesTyping
+pub mod Sources

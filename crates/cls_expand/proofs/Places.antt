@@ -1,0 +1,173 @@
+-- Steps of the expander.
+use Rattle.std.proofs.Common.{ℕ, zero, suc, ◌≡◌, ◌+◌, ◌<◌, ◌≤◌, refl, sym, ◌∙◌, subst, ap, List, [], ◌∷◌, ◌++◌, length, get_or, take, arith, rules, Bool, true, false, Result, Ok, Err, All, Contains}
+use Rattle.std.specs.Prelude.{map, MatchBool, IfOk, OnOk, slice_get, IsSomeAnd, if◌then◌else◌}
+use Rattle.std.specs.Bool.{◌==◌}
+use Rattle.std.specs.List.{list_any}
+use Rattle.cls_base.specs.declared.rule.Rule.{Rule}
+use Rattle.cls_base.specs.declared.rule.Rule.TheVariants.{Head, Any}
+use Rattle.cls_path.specs.Paths.{TypePath, Paths, none, more, listed}
+use Rattle.cls_cover.specs.Lists.{IsAscending}
+use Rattle.cls_cover.specs.Covers.{IsMinimal, AreMinimal, HasMore, MeetsEach}
+use Rattle.cls_cover.specs.MemberCovers.{IsMinimalSet, SharesEach}
+use Rattle.cls_cover.proofs.Ascending.{ascending}
+use Rattle.cls_cover.proofs.Growth.{own}
+use Rattle.cls_cover.proofs.Lists.{contains_member, member_contains}
+use Rattle.cls_cover.proofs.Public.{ascending_members}
+use Rattle.cls_library.specs.Arrows.{MultiArrow, arity_of}
+use Rattle.cls_library.specs.Libraries.{Library, paths_at, arrows_at}
+use Rattle.cls_library.specs.Reaching.{CoversGoal}
+use Rattle.cls_library.specs.Rules.{IsChoice, IsWide, IsWideBy, IsRules, IsRulesBy, heads, numbers_from, omega_rules}
+use Rattle.cls_expand.specs.Answers.{rule_of}
+use Rattle.cls_expand.specs.declared.spine.Spine.{Spine}
+use Rattle.cls_expand.specs.contracts.spine.SpinePartialEq.TheImpl.{eq-value}
+use Rattle.cls_expand.specs.Making.{AreFamilies, AreBegun, choice_at, rule_of_spine}
+use Rattle.cls_expand.specs.Listing.{map_last, append_nothing}
+use Rattle.cls_expand.proofs.Making.{begun_place, begun_rules, begun_by}
+use Rattle.cls_expand.proofs.FamilyCovers.{covers_goal, many_to}
+
+pub if_ok_map : {T E : Type 0} (r : Result T E) (P Q : T → Type 0) → ((t : T) → P t → Q t) → IfOk r P → IfOk r Q
+if_ok_map (Ok t) P Q f h = f t h
+if_ok_map (Err e) P Q f h = tt
+
+pub on_ok_map : {T E : Type 0} (r : Result T E) {P Q : Type 0} → (P → Q) → OnOk r P → OnOk r Q
+on_ok_map (Ok t) f h = f h
+on_ok_map (Err e) f h = tt
+
+pub bool_map : (b : Bool) {A B C D : Type 0} → (A → C) → (B → D) → MatchBool b A B → MatchBool b C D
+bool_map true f g h = f h
+bool_map false f g h = g h
+
+pub when_false : {b : Bool} (A : Type 0) {B : Type 0} → b ≡ false → MatchBool b A B → B
+when_false {b} A {B} e h = subst (λ c. MatchBool c A B) e h
+
+pub when_true : {b : Bool} {A : Type 0} (B : Type 0) → b ≡ true → MatchBool b A B → A
+when_true {b} {A} B e h = subst (λ c. MatchBool c A B) e h
+
+not_none : (n : ℕ) → (suc n == 0) ≡ false
+not_none n = search rules
+
+pub parts : (goal ps : List TypePath) (b : Bool) → ps ≡ goal → b ≡ (length ps == 0) → b ≡ false → (q : TypePath) × (rest : Paths) × (listed goal ≡ more q rest)
+parts [] ps b e f g = absurd (let k : (length ps == 0) ≡ true = ap (λ (xs : List TypePath). length xs == 0) e in let m : true ≡ false = sym k ∙ (sym f ∙ g) in cc)
+parts (q ∷ goal) ps b e f g = (q, listed goal, refl)
+
+pub no_parts : (goal ps : List TypePath) (b : Bool) → ps ≡ goal → b ≡ (length ps == 0) → b ≡ true → listed goal ≡ none
+no_parts [] ps b e f g = refl
+no_parts (q ∷ goal) ps b e f g = absurd (let k : (length ps == 0) ≡ false = ap (λ (xs : List TypePath). length xs == 0) e ∙ not_none (length goal) in let m : false ≡ true = sym k ∙ (sym f ∙ g) in cc)
+
+-- the rules of omega
+from_last : (x k : ℕ) → numbers_from x (suc k) ≡ numbers_from x k ++ (x + k) ∷ []
+from_last x zero = ap (λ n. n ∷ []) (let e : x ≡ x + 0 = omega arith in e)
+from_last x (suc k) = ap (λ ns. x ∷ ns) (from_last (suc x) k ∙ ap (λ n. numbers_from (suc x) k ++ n ∷ []) (let e : suc x + k ≡ x + suc k = omega arith in e))
+
+heads_last : (ns : List ℕ) (n : ℕ) → heads (ns ++ n ∷ []) ≡ heads ns ++ Head n [] ∷ []
+heads_last [] n = refl
+heads_last (x ∷ ns) n = ap (λ rs. Head x [] ∷ rs) (heads_last ns n)
+
+pub omega_step : (old new : List (Rule (List TypePath))) (r : Rule (List TypePath)) (k : ℕ) → new ≡ old ++ r ∷ [] → rule_of r ≡ Head k [] → map rule_of old ≡ heads (numbers_from 0 k) → map rule_of new ≡ heads (numbers_from 0 (k + 1))
+omega_step old new r k e f h =
+    ap (map rule_of) e
+    ∙ (map_last rule_of old r
+    ∙ (ap (λ (rs : List (Rule Paths)). rs ++ rule_of r ∷ []) h
+    ∙ (ap (λ (q : Rule Paths). heads (numbers_from 0 k) ++ q ∷ []) f
+    ∙ (sym (heads_last (numbers_from 0 k) k)
+    ∙ (ap (λ (n : ℕ). heads (numbers_from 0 k ++ n ∷ [])) (let e : k ≡ 0 + k = omega arith in e)
+    ∙ ap heads (sym (from_last 0 k) ∙ ap (numbers_from 0) (let e : suc k ≡ k + 1 = omega arith in e)))))))
+
+pub omega_last : (old new : List (Rule (List TypePath))) (r : Rule (List TypePath)) (k count : ℕ) → new ≡ old ++ r ∷ [] → rule_of r ≡ Any none none → k ≡ count → map rule_of old ≡ heads (numbers_from 0 k) → map rule_of new ≡ omega_rules count
+omega_last old new r k count e f c h =
+    ap (map rule_of) e
+    ∙ (map_last rule_of old r
+    ∙ (ap (λ (rs : List (Rule Paths)). rs ++ rule_of r ∷ []) h
+    ∙ (ap (λ (q : Rule Paths). heads (numbers_from 0 k) ++ q ∷ []) f
+    ∙ ap (λ (n : ℕ). heads (numbers_from 0 n) ++ Any none none ∷ []) c)))
+
+module _ (l : Library) (arrows : List MultiArrow) where
+  pub families_ascend : (goal : List TypePath) (fs : List (List ℕ)) → AreFamilies l arrows goal fs → All IsAscending fs
+  families_ascend [] [] h k d m = absurd (let j : k < 0 = m in omega arith)
+  families_ascend [] (f ∷ fs) h k d m = absurd h
+  families_ascend (q ∷ goal) [] h k d m = absurd h
+  families_ascend (q ∷ goal) (f ∷ fs) h zero d m = ascending f h.0.ascends
+  families_ascend (q ∷ goal) (f ∷ fs) h (suc k) d m = families_ascend goal fs h.1 k d (let j : suc k < suc (length fs) = m in omega arith)
+
+  some_within : (P : MultiArrow → Type 0) (xs : List MultiArrow) (i : ℕ) → IsSomeAnd (slice_get xs i) P → i < length xs
+  some_within P [] i h = absurd h
+  some_within P (x ∷ xs) zero h = omega arith
+  some_within P (x ∷ xs) (suc i) h = let j : i < length xs = some_within P xs i h in omega arith
+
+  family_below : (goal : List TypePath) (fs : List (List ℕ)) → AreFamilies l arrows goal fs → (k : ℕ) → k < length fs → (i : ℕ) → Contains (get_or fs k []) i → i < length arrows
+  family_below [] [] h k m i n = absurd (let j : k < 0 = m in omega arith)
+  family_below [] (f ∷ fs) h k m i n = absurd h
+  family_below (q ∷ goal) [] h k m i n = absurd h
+  family_below (q ∷ goal) (f ∷ fs) h zero m i n = some_within _ arrows i ((h.0.exactly i).0 n)
+  family_below (q ∷ goal) (f ∷ fs) h (suc k) m i n = family_below goal fs h.1 k (let j : suc k < suc (length fs) = m in omega arith) i n
+
+  by_members : (fs : List (List ℕ)) (s : List ℕ) → IsMinimal (MeetsEach fs) s → IsMinimalSet (SharesEach fs) s
+  by_members fs s m = record {
+    ascending = ascending_members s m.ascending;
+    covers = (λ f k. let r = m.covers f (member_contains k) in (r.0, contains_member f r.0 r.1, contains_member s r.0 r.2));
+    minimal = (λ t u c. m.minimal t u (λ f k. let r = c f (contains_member fs f k) in (r.0, member_contains r.1, member_contains r.2)));
+  }
+
+  -- the positions of a minimal cover
+  pub cover_below : (goal : List TypePath) (fs : List (List ℕ)) → AreFamilies l arrows goal fs → (s : List ℕ) → IsMinimal (MeetsEach fs) s → (i : ℕ) → Contains s i → i < length arrows
+  cover_below goal fs h s m i k = let o = own fs s (by_members fs s m) i (contains_member s i k) in family_below goal fs h o.place o.within i (member_contains o.met)
+
+module _ (l : Library) (x n : ℕ) (goal : List TypePath) (fs list : List (List ℕ)) where
+  pub place_done : x < length l.components → n ≤ arity_of (paths_at l x) → AreFamilies l (arrows_at l x n) goal fs → AreMinimal (MeetsEach fs) list → ((j : ℕ) → j ≤ length fs → HasMore (MeetsEach (take j fs)) 1024 → ⊥)
+      → (narrow : Bool) (old new : List Spine) (q : TypePath) (rest : Paths) (from : ℕ) → listed goal ≡ more q rest → from ≤ x → AreBegun l (listed goal) from x n [] old
+      → (((s : List ℕ) → Contains list s → IsChoice l (more q rest) (choice_at x n s)) → AreBegun l (more q rest) from x n [] old → MatchBool narrow (AreBegun l (more q rest) from x n list new) (IsWideBy l x (more q rest)))
+      → MatchBool narrow (AreBegun l (listed goal) from x (n + 1) [] new) (IsWideBy l x (listed goal))
+  place_done d w h m t narrow old new q rest from e le b f =
+      let covers = covers_goal l (arrows_at l x n) goal fs list h m in
+      let choice : (s : List ℕ) → Contains list s → IsChoice l (more q rest) (choice_at x n s) = λ s k. record { declared = d; within = w; minimal = subst (λ (p : Paths). IsMinimal (CoversGoal l (arrows_at l x n) p) s) e ((covers.exactly s).0 k) } in
+      bool_map narrow
+      (λ k. begun_place l (listed goal) from x n list new le d w covers (many_to l x n goal fs h w t) (subst (λ (p : Paths). AreBegun l p from x n list new) (sym e) k))
+      (λ k. subst (λ (p : Paths). IsWideBy l x p) (sym e) k)
+      (f choice (subst (λ (p : Paths). AreBegun l p from x n [] old) e b))
+
+-- the rules of the spines
+pub heads_init : (rs : List (Rule (List TypePath))) (iterator keys : List Spine) → rs ≡ [] → iterator ≡ keys → map rule_of rs ++ map rule_of_spine iterator ≡ map rule_of_spine keys
+heads_init rs iterator keys e f = ap (λ (qs : List (Rule (List TypePath))). map rule_of qs ++ map rule_of_spine iterator) e ∙ ap (map rule_of_spine) f
+
+last_apart : {A : Type 0} (xs ys : List A) (x : A) → (xs ++ x ∷ []) ++ ys ≡ xs ++ x ∷ ys
+last_apart [] ys x = refl
+last_apart (z ∷ xs) ys x = ap (λ l. z ∷ l) (last_apart xs ys x)
+
+pub heads_step : (old new : List (Rule (List TypePath))) (r : Rule (List TypePath)) (before after keys : List Spine) (s : Spine) → new ≡ old ++ r ∷ [] → rule_of r ≡ rule_of_spine s → before ≡ s ∷ after → map rule_of old ++ map rule_of_spine before ≡ map rule_of_spine keys → map rule_of new ++ map rule_of_spine after ≡ map rule_of_spine keys
+heads_step old new r before after keys s e f g h =
+    ap (λ (qs : List (Rule (List TypePath))). map rule_of qs ++ map rule_of_spine after) e
+    ∙ (ap (λ (qs : List (Rule Paths)). qs ++ map rule_of_spine after) (map_last rule_of old r)
+    ∙ (last_apart (map rule_of old) (map rule_of_spine after) (rule_of r)
+    ∙ (ap (λ (q : Rule Paths). map rule_of old ++ q ∷ map rule_of_spine after) f
+    ∙ (ap (λ (ss : List Spine). map rule_of old ++ map rule_of_spine ss) (sym g) ∙ h))))
+
+pub heads_done : (rs : List (Rule (List TypePath))) (iterator keys : List Spine) → iterator ≡ [] → map rule_of rs ++ map rule_of_spine iterator ≡ map rule_of_spine keys → map rule_of rs ≡ map rule_of_spine keys
+heads_done rs iterator keys e h = sym (append_nothing (map rule_of rs)) ∙ (ap (λ (ss : List Spine). map rule_of rs ++ map rule_of_spine ss) (sym e) ∙ h)
+
+-- the answer, once all components are done
+pub rules_all : (l : Library) (goal : Paths) (q : TypePath) (rest : Paths) (x : ℕ) (spines : List Spine) (rs : List (Rule Paths)) → goal ≡ more q rest → x ≡ length l.components → AreBegun l goal 0 x 0 [] spines → rs ≡ map rule_of_spine spines → (IsWide l goal → ⊥) × IsRules l goal rs
+rules_all l goal q rest x spines rs e f b g =
+    let k : AreBegun l (more q rest) 0 (length l.components) 0 [] spines = subst (λ (y : ℕ). AreBegun l (more q rest) 0 y 0 [] spines) f (subst (λ (p : Paths). AreBegun l p 0 x 0 [] spines) e b) in
+    let r = begun_rules l q rest spines k in
+    subst (λ (p : Paths). (IsWide l p → ⊥) × IsRules l p rs) (sym e) (r.0, subst (λ (ss : List (Rule Paths)). IsRules l (more q rest) ss) (sym g) r.1)
+
+pub rules_by_all : (l : Library) (goal : Paths) (q : TypePath) (rest : Paths) (x : ℕ) (spines : List Spine) (rs : List (Rule Paths)) → goal ≡ more q rest → AreBegun l goal x (x + 1) 0 [] spines → rs ≡ map rule_of_spine spines → (IsWideBy l x goal → ⊥) × IsRulesBy l x goal rs
+rules_by_all l goal q rest x spines rs e b g =
+    let r = begun_by l q rest x spines (subst (λ (p : Paths). AreBegun l p x (x + 1) 0 [] spines) e b) in
+    subst (λ (p : Paths). (IsWideBy l x p → ⊥) × IsRulesBy l x p rs) (sym e) (r.0, subst (λ (ss : List (Rule Paths)). IsRulesBy l x (more q rest) ss) (sym g) r.1)
+
+pub rules_by_none : (l : Library) (x : ℕ) (goal : Paths) (spines : List Spine) (s : Spine) (rs : List (Rule Paths)) → goal ≡ none → spines ≡ s ∷ [] → rule_of_spine s ≡ Head x [] → rs ≡ map rule_of_spine spines → (IsWideBy l x goal → ⊥) × IsRulesBy l x goal rs
+rules_by_none l x goal spines s rs e f g h =
+    subst (λ (p : Paths). (IsWideBy l x p → ⊥) × IsRulesBy l x p rs) (sym e)
+    (not_wide, h ∙ (ap (map rule_of_spine) f ∙ ap (λ (r : Rule Paths). r ∷ []) g))
+  where
+    not_wide : IsWideBy l x none → ⊥
+    not_wide w = elim w [ ]
+
+-- keys that are put behind others where they aren't among them
+abbrev pub spine_same : Spine → Spine → Bool
+spine_same = eq-value.it
+
+pub alone : (eq : Spine → Spine → Bool) (keys : List Spine) (s : Spine) → keys ≡ [] → (if list_any (eq s) keys then keys else keys ++ s ∷ []) ≡ s ∷ []
+alone eq [] s e = refl
+alone eq (k ∷ keys) s e = absurd (let n : suc (length keys) ≡ 0 = ap (λ (ks : List Spine). length ks) e in omega arith)

@@ -1,0 +1,33 @@
+use Rattle.std.proofs.Common.{ℕ, List, sym, subst, Contains}
+use Rattle.cls_path.specs.Paths.{Paths}
+use Rattle.cls_cover.specs.declared.minimal.CoverFault.{CoverFault}
+use Rattle.cls_cover.specs.Faults.{AreTooMany, HasCause}
+use Rattle.cls_cover.specs.Covers.{MeetsEach, AreMinimal}
+use Rattle.cls_library.specs.Libraries.{arrows_at}
+use Rattle.cls_library.specs.Rules.{HasManyCovers, IsWideBy, by_covers}
+use Rattle.cls_expand.specs.Making.{AreFamilies}
+use Rattle.cls_expand.proofs.FamilyCovers.{many_from}
+use Rattle.cls_expand.proofs.Places.{if_ok_map, families_ascend, cover_below, place_done}
+use Rattle.cls_expand.proofs.expander.add_places.Goals as goal
+
+pub covers-requires : goal.covers-requires
+covers-requires c = record { ascending = families_ascend c.args.lib.now (arrows_at c.args.lib.now c.args.x c.args.n) c.args.goal.now c.as_slice.result.now (subst (λ (fs : List (List ℕ)). AreFamilies c.args.lib.now (arrows_at c.args.lib.now c.args.x c.args.n) c.args.goal.now fs) (sym c.as_slice.ensures.value) c.in_ok-families.ensures) }
+
+pub add_covers-requires-clause-below : goal.add_covers-requires-clause-below
+add_covers-requires-clause-below c = λ s m i k.
+    let h = subst (λ (fs : List (List ℕ)). AreFamilies c.args.lib.now (arrows_at c.args.lib.now c.args.x c.args.n) c.args.goal.now fs) (sym c.as_slice.ensures.value) c.in_ok-families.ensures in
+    cover_below c.args.lib.now (arrows_at c.args.lib.now c.args.x c.args.n) c.args.goal.now c.as_slice.result.now h s ((c.in-Ok.ensures.covers.exactly s).0 (subst (λ (list : List (List ℕ)). Contains list s) c.as_slice-in-Ok.ensures m)) i k
+
+pub returns-in-Ok : goal.returns-in-Ok
+returns-in-Ok c =
+    let h = subst (λ (fs : List (List ℕ)). AreFamilies c.args.lib.now (arrows_at c.args.lib.now c.args.x c.args.n) c.args.goal.now fs) (sym c.as_slice.ensures.value) c.in_ok-families.ensures in
+    let m = subst (λ (list : List (List ℕ)). AreMinimal (MeetsEach c.as_slice.result.now) list) (sym c.as_slice-in-Ok.ensures) c.in-Ok.ensures.covers in
+    if_ok_map c.add_covers.result _ _ (λ narrow f q rest from e le b. place_done c.args.lib.now c.args.x c.args.n c.args.goal.now c.as_slice.result.now c.as_slice-in-Ok.result.now c.requires.declared c.requires.within h m c.in-Ok.ensures.within narrow c.args.spines.now.keys c.add_covers.new.spines.keys q rest from e le b (λ choice k. f q rest from le choice k)) c.add_covers.ensures
+
+pub returns-in-Err-TooManyCovers : goal.returns-in-Err-TooManyCovers
+returns-in-Err-TooManyCovers c = λ q rest from e le b.
+    let h = subst (λ (fs : List (List ℕ)). AreFamilies c.args.lib.now (arrows_at c.args.lib.now c.args.x c.args.n) c.args.goal.now fs) (sym c.as_slice.ensures.value) c.in_ok-families.ensures in
+    let f : HasCause c.as_slice.result.now 1024 c.in-Err-TooManyCovers.field-0 = c.in-Err-TooManyCovers.ensures.fault in
+    let g : AreTooMany c.as_slice.result.now 1024 c.in-Err-TooManyCovers.field-0-0 = subst (λ (z : CoverFault). HasCause c.as_slice.result.now 1024 z) c.in-Err-TooManyCovers.field-0-is f in
+    let m = many_from c.args.lib.now c.args.x c.args.n c.args.goal.now c.as_slice.result.now h c.requires.within c.in-Err-TooManyCovers.field-0-0 g.over in
+    subst (λ (p : Paths). IsWideBy c.args.lib.now c.args.x p) (sym e) (by_covers c.args.n (subst (λ (p : Paths). HasManyCovers c.args.lib.now p c.args.x c.args.n) e m))

@@ -1,0 +1,5 @@
+use Rattle.cls_expand.proofs.RulesTyping.{omega_has_all_terms}
+use Rattle.cls_expand.proofs.laws.omega_has_all_terms.Goals as goal
+
+pub returns : goal.returns
+returns c = omega_has_all_terms

@@ -1,0 +1,30 @@
+-- The answer that a library means for a goal.
+use Rattle.std.specs.Prelude.{ℕ, List, map}
+use Rattle.cls_base.specs.declared.rule.Rule.{Rule}
+use Rattle.cls_path.specs.Paths.{TypePath, Paths, listed, type_of_paths}
+use Rattle.cls_path.specs.NormalForms.{IsNormal}
+use Rattle.cls_norm.specs.Fit.{IsFit}
+use Rattle.cls_core.specs.Arguments.{map_rule}
+use Rattle.cls_core.specs.declared.answer.Answer.{Answer}
+use Rattle.cls_core.specs.declared.answer.Answer.TheVariants.{Rules, Wide}
+use Rattle.cls_library.specs.Libraries.{Library, below_in, variances_in}
+use Rattle.cls_library.specs.Rules.{IsRules, IsRulesBy, IsWide, IsWideBy}
+
+-- a rule of the program as one of the definition
+abbrev pub rule_of : Rule (List TypePath) → Rule Paths
+rule_of r = map_rule listed r
+
+-- the rules of the goal, or that it is wide
+abbrev pub IsAnswer : Library → List TypePath → Answer (List TypePath) → Type 0
+IsAnswer l goal (Rules rs) = (IsWide l (listed goal) → ⊥) × IsRules l (listed goal) (map rule_of rs)
+IsAnswer l goal Wide = IsWide l (listed goal)
+
+-- the rules that one component makes for the goal, or that it makes the goal wide
+abbrev pub IsAnswerBy : Library → ℕ → List TypePath → Answer (List TypePath) → Type 0
+IsAnswerBy l x goal (Rules rs) = (IsWideBy l x (listed goal) → ⊥) × IsRulesBy l x (listed goal) (map rule_of rs)
+IsAnswerBy l x goal Wide = IsWideBy l x (listed goal)
+
+-- a goal that can be worked on
+pub record IsReady (l : Library) (goal : List TypePath) : Type 0 where
+  pub normal : IsNormal (below_in l.taxonomy) (variances_in l.taxonomy) (listed goal)
+  pub fit : IsFit (type_of_paths (listed goal))

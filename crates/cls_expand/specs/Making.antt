@@ -1,0 +1,56 @@
+-- internal: how the rules of a goal are made, component by component and cover by cover
+use Rattle.std.specs.Prelude.{ℕ, ◌≡◌, ◌≤◌, ◌<◌, ◌⊎◌, List, [], ◌∷◌, ◌++◌, map, Contains, slice_index_or}
+use Rattle.std.specs.List.{AllZip}
+use Rattle.cls_base.specs.declared.rule.Rule.{Rule}
+use Rattle.cls_base.specs.declared.rule.Rule.TheVariants.{Head}
+use Rattle.cls_path.specs.Paths.{TypePath, unit, Paths, none, append, listed}
+use Rattle.cls_library.specs.Arrows.{MultiArrow}
+use Rattle.cls_library.specs.Families.{IsFamilyIn}
+use Rattle.cls_library.specs.Libraries.{Library}
+use Rattle.cls_library.specs.Rules.{Choice, AreChoices, IsChoice, IsRuleFor, IsTooLarge, HasManyCovers, FirstOnes}
+use Rattle.cls_expand.specs.declared.spine.Spine.{Spine}
+
+-- the rule of a spine
+abbrev pub rule_of_spine : Spine → Rule Paths
+rule_of_spine s = Head s.component (map listed s.args.items)
+
+abbrev pub rules_of_spines : List Spine → List (Rule Paths)
+rules_of_spines spines = map rule_of_spine spines
+
+abbrev pub no_arrow : MultiArrow
+no_arrow = record { sources = []; target = unit }
+
+-- the arrows at the positions
+abbrev pub picked_of : List MultiArrow → List ℕ → List MultiArrow
+picked_of arrows [] = []
+picked_of arrows (i ∷ s) = slice_index_or arrows i no_arrow ∷ picked_of arrows s
+
+-- the sources that the arrows have at one place, one after another
+abbrev pub gathered : ℕ → List MultiArrow → Paths
+gathered place [] = none
+gathered place (a ∷ rest) = append (slice_index_or a.sources place none) (gathered place rest)
+
+-- one family for each path of the goal
+abbrev pub AreFamilies : Library → List MultiArrow → List TypePath → List (List ℕ) → Type 0
+AreFamilies l arrows goal families = AllZip (IsFamilyIn l.taxonomy arrows) goal families
+
+-- a choice of an earlier component, or of this one with fewer arguments
+abbrev pub IsEarlier : ℕ → ℕ → ℕ → ℕ → Type 0
+IsEarlier x n y k = (y < x) ⊎ ((y ≡ x) × (k < n))
+
+-- the choices from one component on, up to n arguments of component x
+abbrev pub IsChosen : Library → Paths → ℕ → ℕ → ℕ → Choice → Type 0
+IsChosen l goal from x n c = IsChoice l goal c × (from ≤ c.component) × IsEarlier x n c.component c.places
+
+abbrev pub choice_at : ℕ → ℕ → List ℕ → Choice
+choice_at x n s = record { component = x; places = n; cover = s }
+
+-- the spines are what the choices before component x and n arguments make, and covers of these
+pub record AreBegun (l : Library) (goal : Paths) (from x n : ℕ) (covers : List (List ℕ)) (spines : List Spine) : Type 0 where
+  pub choices : List Choice
+  pub chosen : AreChoices l (IsChosen l goal from x n) choices
+  pub candidates : List (Rule Paths)
+  pub made : AllZip (IsRuleFor l) (choices ++ map (choice_at x n) covers) candidates
+  pub first_ones : FirstOnes [] candidates (rules_of_spines spines)
+  pub fit : (c : Choice) → Contains (choices ++ map (choice_at x n) covers) c → IsTooLarge l goal c → ⊥
+  pub narrow : (y k : ℕ) → from ≤ y → IsEarlier x n y k → HasManyCovers l goal y k → ⊥

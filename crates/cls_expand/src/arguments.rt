@@ -1,0 +1,95 @@
+//! The arguments of the rule of a cover.
+ghost use Rattle.std.specs.Prelude.{◌≡◌, ℕ, ◌<◌, ◌≤◌, ◌++◌, Contains, IfOk, OnOk, MatchBool, length, map, slice_index_or};
+ghost use Rattle.cls_base.specs.declared.rule.Rule.TheVariants.{Head};
+ghost use Rattle.cls_path.specs.Paths.{Paths, none, append, listed, type_of_paths};
+ghost use Rattle.cls_norm.specs.Fit.{IsFit};
+ghost use Rattle.cls_library.specs.Arrows.{arity_of};
+ghost use Rattle.cls_library.specs.Libraries.{paths_at, arrows_at};
+ghost use Rattle.cls_library.specs.Rules.{IsRuleFor};
+ghost use Rattle.cls_expand.specs.Making.{picked_of, gathered, choice_at};
+
+use cls_base::OutOfMemory;
+use cls_library::{Arrows, Library, MultiArrow};
+use cls_norm::fit;
+use cls_path::{Nf, Path};
+use std::alloc::Global;
+
+/// Puts copies of the paths last.
+fn copy_onto(alloc: Global, paths: &[Path], all: &mut Vec<Path>) -> Result<(), OutOfMemory>
+    ensures { OnOk result (all.new.items ≡ all.old.items ++ paths.now) }
+{
+    for path in paths {
+        all.push(path.copy(alloc)?)?;
+    }
+    Ok(())
+}
+
+/// Puts copies of the paths of the arrow's source at this place last.
+fn put_source(
+    alloc: Global,
+    arrow: &MultiArrow<'_>,
+    place: usize,
+    all: &mut Vec<Path>,
+) -> Result<(), OutOfMemory>
+    ensures { OnOk result
+        (listed all.new.items ≡ append (listed all.old.items) (slice_index_or arrow.now.sources place none)) }
+{
+    match arrow.source(place) {
+        Some(source) => copy_onto(alloc, source.paths(), all),
+        None => Ok(()),
+    }
+}
+
+/// The paths of the sources that the arrows at the positions have at one place.
+fn gather(
+    alloc: Global,
+    arrows: &Arrows<'_>,
+    cover: &[u32],
+    place: usize,
+) -> Result<Vec<Path>, OutOfMemory>
+    requires { (i : ℕ) → Contains cover.now i → i < length arrows.now }
+    ensures { IfOk result (λ paths. listed paths.items ≡ gathered place (picked_of arrows.now cover.now)) }
+{
+    let mut paths = Vec::new(alloc);
+    for i in cover {
+        put_source(alloc, &arrows.get(*i as usize), place, &mut paths)?;
+    }
+    Ok(paths)
+}
+
+/// The arguments of the rule that the component makes by the cover of its arrows with `count` sources: for each place
+/// the normal form of the intersection of the sources there.
+pub(crate) fn arguments(
+    alloc: Global,
+    lib: &Library,
+    x: u32,
+    count: u32,
+    cover: &[u32],
+) -> Result<Vec<Nf>, OutOfMemory>
+    requires declared { x < length lib.now.components }
+    requires within { count ≤ arity_of (paths_at lib.now x) }
+    requires below { (i : ℕ) → Contains cover.now i → i < length (arrows_at lib.now x count) }
+    ensures { IfOk result (λ args. IsRuleFor lib.now (choice_at x count cover.now) (Head x (map listed args.items))) }
+{
+    let arrows = lib.arrows(x, count);
+    let mut args = Vec::with_capacity(alloc, count as usize)?;
+    for place in 0..count {
+        let paths = gather(alloc, &arrows, cover, place as usize)?;
+        args.push(Nf::from_paths(alloc, lib.taxonomy(), paths)?)?;
+    }
+    Ok(args)
+}
+
+/// Whether each of the arguments is fit; if not, one of them isn't.
+pub(crate) fn all_fit(alloc: Global, args: &[Nf]) -> Result<bool, OutOfMemory>
+    ensures { IfOk result (λ answer. MatchBool answer
+        ((n : Paths) → Contains (map listed args.now) n → IsFit (type_of_paths n))
+        ((n : Paths) × Contains (map listed args.now) n × (IsFit (type_of_paths n) → ⊥))) }
+{
+    for nf in args {
+        if !fit(alloc, nf)? {
+            return Ok(false);
+        }
+    }
+    Ok(true)
+}

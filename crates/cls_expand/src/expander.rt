@@ -1,0 +1,220 @@
+//! The rules of a goal: for each component and each number of arguments the minimal covers of the goal by its arrows,
+//! and for each cover one rule.
+ghost use Rattle.std.specs.Prelude.{◌≡◌, ℕ, ◌+◌, ◌<◌, ◌≤◌, Contains, IfOk, MatchBool, List, [], length, map};
+ghost use Rattle.cls_path.specs.Paths.{TypePath, Paths, more, listed};
+ghost use Rattle.cls_library.specs.Arrows.{arity_of};
+ghost use Rattle.cls_library.specs.Libraries.{paths_at, arrows_at};
+ghost use Rattle.cls_library.specs.Rules.{IsWideBy, IsChoice, omega_rules};
+ghost use Rattle.cls_expand.specs.Answers.{IsAnswer, IsAnswerBy, IsReady, rule_of};
+ghost use Rattle.cls_expand.specs.Making.{AreBegun, AreFamilies, rule_of_spine, choice_at};
+
+use crate::arguments::{all_fit, arguments};
+use crate::spine::Spine;
+use cls_base::{Goals, Numbers, OutOfMemory, Rule, Rules};
+use cls_core::{Answer, Expand};
+use cls_cover::{CoverFault, covers};
+use cls_library::Library;
+use cls_path::Nf;
+use indexmap::IndexSet;
+use std::alloc::Global;
+
+/// The greatest number of minimal covers.
+const MAX_COVERS: u32 = 1024;
+
+/// Gives the rules of goals by a library.
+#[derive(Drop)]
+pub struct Expander<'a> {
+    lib: &'a Library,
+}
+
+impl<'a> Expander<'a> {
+    /// The expander of the library. It takes no memory.
+    pub fn new(lib: &'a Library) -> Expander<'a>
+        ensures { result.lib.now ≡ lib.entry.now }
+    {
+        Expander { lib }
+    }
+
+    /// The rules of the goal, or that it is wide. The only error is out of memory.
+    pub fn rules_of(&self, alloc: Global, goal: &Nf) -> Result<Answer<Nf>, OutOfMemory>
+        requires { IsReady self.now.lib.now goal.now }
+        ensures { IfOk result (IsAnswer self.now.lib.now goal.now) }
+    {
+        if goal.paths().is_empty() {
+            return Ok(Answer::Rules(omega(alloc, self.lib.count())?));
+        }
+        let mut spines = IndexSet::new(alloc);
+        for x in 0..self.lib.count() {
+            if !add_component(alloc, self.lib, goal, x, &mut spines)? {
+                return Ok(Answer::Wide);
+            }
+        }
+        Ok(Answer::Rules(head_rules(alloc, spines)?))
+    }
+
+    /// The rules that one component makes for the goal, even if another one makes it wide, or that this one does. The
+    /// only error is out of memory.
+    pub fn rules_by(&self, alloc: Global, goal: &Nf, x: u32) -> Result<Answer<Nf>, OutOfMemory>
+        requires ready { IsReady self.now.lib.now goal.now }
+        requires declared { x < length self.now.lib.now.components }
+        ensures { IfOk result (IsAnswerBy self.now.lib.now x goal.now) }
+    {
+        let mut spines = IndexSet::new(alloc);
+        if goal.paths().is_empty() {
+            let args = Vec::new(alloc);
+            spines.insert(Spine { component: x, args })?;
+        } else if !add_component(alloc, self.lib, goal, x, &mut spines)? {
+            return Ok(Answer::Wide);
+        }
+        Ok(Answer::Rules(head_rules(alloc, spines)?))
+    }
+}
+
+impl Expand for Expander<'_> {
+    ghost use Rattle.cls_expand.specs.Answers.{IsAnswer, IsReady};
+    ghost use Rattle.cls_expand.specs.Determined.{one_answer};
+    ghost use Rattle.cls_expand.specs.Readiness.{arguments_are_ready};
+
+    type Goal = Nf;
+
+    type Tag = Library;
+
+    ghost tag = { λ e. e.lib.now };
+
+    ghost answers = { IsAnswer };
+
+    ghost ready = { IsReady };
+
+    fn expand(&self, alloc: Global, goal: &Nf) -> Result<Answer<Nf>, OutOfMemory> {
+        self.rules_of(alloc, goal)
+    }
+
+    ghost one_answer = { one_answer };
+
+    ghost arguments_ready = { arguments_are_ready };
+}
+
+/// The rules of omega: each component alone, and any term applied to any.
+fn omega(alloc: Global, count: u32) -> Result<Rules<Nf>, OutOfMemory>
+    ensures { IfOk result (λ rules. map rule_of rules ≡ omega_rules count) }
+{
+    let mut rules = Vec::new(alloc);
+    for component in 0..count {
+        let args = Goals::new(Vec::new(alloc));
+        rules.push(Rule::Head { component, args })?;
+    }
+    let (left, right) = (Nf::empty(alloc), Nf::empty(alloc));
+    rules.push(Rule::Any { left, right })?;
+    Ok(Rules::new(rules))
+}
+
+/// The rules of the spines.
+fn head_rules(alloc: Global, spines: IndexSet<Spine>) -> Result<Rules<Nf>, OutOfMemory>
+    ensures { IfOk result (λ rules. map rule_of rules ≡ map rule_of_spine spines.keys) }
+{
+    let mut rules = Vec::with_capacity(alloc, spines.len())?;
+    for spine in spines {
+        let Spine { component, args } = spine;
+        let args = Goals::new(args);
+        rules.push(Rule::Head { component, args })?;
+    }
+    Ok(Rules::new(rules))
+}
+
+/// For each path of the goal the positions of the arrows that lead to it.
+fn families_of(
+    alloc: Global,
+    lib: &Library,
+    goal: &Nf,
+    x: u32,
+    n: u32,
+) -> Result<Vec<Numbers>, OutOfMemory>
+    requires declared { x < length lib.now.components }
+    requires within { n ≤ arity_of (paths_at lib.now x) }
+    requires ready { IsReady lib.now goal.now }
+    ensures { IfOk result (λ families. AreFamilies lib.now (arrows_at lib.now x n) goal.now families.items) }
+{
+    let mut families = Vec::with_capacity(alloc, goal.paths().len())?;
+    for path in goal.paths() {
+        families.push(lib.family(alloc, x, n, path)?)?;
+    }
+    Ok(families)
+}
+
+/// Adds the rule of each cover, and answers whether all are fit.
+fn add_covers(
+    alloc: Global,
+    lib: &Library,
+    x: u32,
+    n: u32,
+    covers: &[Numbers],
+    spines: &mut IndexSet<Spine>,
+) -> Result<bool, OutOfMemory>
+    requires declared { x < length lib.now.components }
+    requires within { n ≤ arity_of (paths_at lib.now x) }
+    requires below { (s : List ℕ) → Contains covers.now s
+        → (i : ℕ) → Contains s i → i < length (arrows_at lib.now x n) }
+    ensures { IfOk result (λ narrow. (q : TypePath) (rest : Paths) (from : ℕ) → from ≤ x
+        → ((s : List ℕ) → Contains covers.now s → IsChoice lib.now (more q rest) (choice_at x n s))
+        → AreBegun lib.now (more q rest) from x n [] spines.old.keys
+        → MatchBool narrow (AreBegun lib.now (more q rest) from x n covers.now spines.new.keys)
+        (IsWideBy lib.now x (more q rest))) }
+{
+    for cover in covers {
+        let args = arguments(alloc, lib, x, n, cover.as_slice())?;
+        if !all_fit(alloc, args.as_slice())? {
+            return Ok(false);
+        }
+        spines.insert(Spine { component: x, args })?;
+    }
+    Ok(true)
+}
+
+/// Adds the rules of one number of arguments, and answers whether the goal isn't wide by them.
+fn add_places(
+    alloc: Global,
+    lib: &Library,
+    goal: &Nf,
+    x: u32,
+    n: u32,
+    spines: &mut IndexSet<Spine>,
+) -> Result<bool, OutOfMemory>
+    requires declared { x < length lib.now.components }
+    requires within { n ≤ arity_of (paths_at lib.now x) }
+    requires ready { IsReady lib.now goal.now }
+    ensures { IfOk result (λ narrow. (q : TypePath) (rest : Paths) (from : ℕ) → listed goal.now ≡ more q rest → from ≤ x
+        → AreBegun lib.now (listed goal.now) from x n [] spines.old.keys
+        → MatchBool narrow (AreBegun lib.now (listed goal.now) from x (n + 1) [] spines.new.keys)
+        (IsWideBy lib.now x (listed goal.now))) }
+{
+    let families = families_of(alloc, lib, goal, x, n)?;
+    match covers(alloc, families.as_slice(), MAX_COVERS) {
+        Ok(list) => add_covers(alloc, lib, x, n, list.as_slice(), spines),
+        Err(CoverFault::TooManyCovers(_)) => Ok(false),
+        Err(CoverFault::OutOfMemory) => Err(OutOfMemory),
+    }
+}
+
+/// Adds the rules of one component, and answers whether the goal isn't wide by it.
+fn add_component(
+    alloc: Global,
+    lib: &Library,
+    goal: &Nf,
+    x: u32,
+    spines: &mut IndexSet<Spine>,
+) -> Result<bool, OutOfMemory>
+    requires declared { x < length lib.now.components }
+    requires ready { IsReady lib.now goal.now }
+    ensures { IfOk result (λ narrow. (q : TypePath) (rest : Paths) (from : ℕ) → listed goal.now ≡ more q rest → from ≤ x
+        → AreBegun lib.now (listed goal.now) from x 0 [] spines.old.keys
+        → MatchBool narrow (AreBegun lib.now (listed goal.now) from (x + 1) 0 [] spines.new.keys)
+        (IsWideBy lib.now x (listed goal.now))) }
+{
+    let arity = lib.arity(x);
+    for n in 0..arity {
+        if !add_places(alloc, lib, goal, x, n, spines)? {
+            return Ok(false);
+        }
+    }
+    add_places(alloc, lib, goal, x, arity, spines)
+}

@@ -1,0 +1,13 @@
+//! The rules of a goal by a library.
+//!
+//! - [`Expander`] gives the rules of a goal, component by component and cover by cover: [`Expander::rules_of`] those of all
+//!   components, [`Expander::rules_by`] those of one. It is what the core machine works with.
+//! - [`laws`] ties rules to typing.
+#![tactic(auto)]
+
+mod arguments;
+mod expander;
+pub mod laws;
+mod spine;
+
+pub use expander::Expander;
