@@ -13,7 +13,7 @@ ghost use Rattle.cls_term.specs.Texts.{name_at};
 use cls_base::limits::MAX_POOL;
 use cls_base::{Numbers, OutOfMemory};
 use cls_enum::{Page, PageFault, page};
-use cls_grammar::OmegaBook;
+use cls_rulebook::OmegaBook;
 use cls_syntax::Names;
 use std::alloc::Global;
 
