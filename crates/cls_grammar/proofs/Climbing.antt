@@ -1,18 +1,18 @@
 -- How ranks become known: each step keeps what holds, and at the end it makes ranks.
-use Rattle.std.proofs.Common.{◌≡◌, ◌≢◌, ℕ, zero, suc, ◌+◌, ◌<◌, ◌≤◌, ◌==◌, Bool, true, false, List, [], ◌∷◌, ◌++◌, Option, None, Some, length, set, take, drop, get_or, slice_get, refl, sym, ap, subst, ◌∙◌, arith, ◌⊎◌, inl, inr, length-set, length-append, get_or-set_same, get_or-set_other, add-one, drop-cons, map, ◌^◌, ◌-◌}
+use Rattle.std.proofs.Common.{◌≡◌, ◌≢◌, ℕ, zero, suc, ◌+◌, ◌<◌, ◌≤◌, ◌==◌, Bool, true, false, List, [], ◌∷◌, ◌++◌, Option, None, Some, length, set, take, drop, get_or, slice_get, refl, sym, ap, subst, ◌∙◌, arith, ◌⊎◌, inl, inr, length-set, length-append, get_or-set_same, get_or-set_other, add-one, drop-cons, ◌^◌}
 use Rattle.std.specs.Prelude.{replicate, Contains}
 use Rattle.std.proofs.lemmas.Bool.Decides.{nat_tests}
 use Rattle.std.proofs.lemmas.List.{length-replicate, get_or-replicate}
-use Rattle.std.proofs.lemmas.Option.{slice_get_within, slice_get_read, get_or_from_slice_get}
+use Rattle.std.proofs.lemmas.Option.{slice_get_within, get_or_from_slice_get}
 use Rattle.std.proofs.lemmas.List.Elements.{Contains-append_left, Contains-append_right, Contains-append_cases}
 use Rattle.cls_base.specs.declared.rule.Rule.{Rule}
 use Rattle.cls_base.specs.declared.rule.Rule.TheVariants.{Head, Any}
 use Rattle.cls_base.specs.Languages.{NodeRule, rules_at}
 use Rattle.cls_base.specs.Lists.{AreBelow}
-use Rattle.cls_base.proofs.Lists.{Contains-nil, Contains-here, Contains-later, Contains-cases, Contains-head, Contains-at, Contains-place, AreBelow-at}
-use Rattle.cls_core.proofs.Columns.{get-set-same, get-set-other, get-front, get-some}
+use Rattle.cls_base.proofs.Lists.{Contains-nil, Contains-here, Contains-later, Contains-cases, Contains-head, Contains-at, Contains-place}
+use Rattle.cls_core.proofs.Columns.{get-set-same, get-set-other, get-some}
 use Rattle.cls_core.specs.Arguments.{arguments_of_rule}
-use Rattle.cls_grammar.specs.Ranks.{HasTree, HaveTrees, head_tree, any_tree, no_trees, more_trees, IsRank, IsRankIn, AreRanks}
+use Rattle.cls_grammar.specs.Ranks.{HasTree, HaveTrees, head_tree, any_tree, no_trees, more_trees, IsRankIn, AreRanks}
 use Rattle.cls_grammar.specs.declared.ranking.Waiting.{Waiting}
 use Rattle.cls_grammar.specs.Climbs.{State, begun, with_rank, waits_at, with_waiting, without_waiting, IsKnown, AllKnown, known_count, wait, node_waits, all_waits, Stands, Waits, IsReady, IsCovered, settled, waits, pending, IsKept}
 use Rattle.cls_grammar.proofs.Trees.{tree_up}

@@ -1,11 +1,11 @@
 -- Rows in a new numbering, breadth first.
-use Rattle.std.proofs.Common.{◌≡◌, ℕ, zero, suc, ◌+◌, ◌<◌, ◌≤◌, ◌^◌, Bool, true, false, List, [], ◌∷◌, ◌++◌, Option, None, Some, length, map, take, drop, get_or, slice_get, refl, sym, ap, subst, ◌∙◌, arith, ◌⊎◌, inl, inr, append_assoc, append-nil, length-append, add-one, drop-cons}
+use Rattle.std.proofs.Common.{◌≡◌, ℕ, zero, suc, ◌+◌, ◌<◌, ◌≤◌, true, List, [], ◌∷◌, ◌++◌, Option, None, Some, length, map, take, drop, get_or, slice_get, refl, sym, ap, subst, ◌∙◌, arith, ◌⊎◌, inl, inr, length-append, add-one, drop-cons}
 use Rattle.std.specs.Prelude.{nat_eq, option_map, Contains}
 use Rattle.std.specs.List.{position_or_len, filter_map, cons_option}
 use Rattle.std.proofs.lemmas.Bool.Decides.{nat_tests}
 use Rattle.std.proofs.lemmas.List.{length-map, map-append, take_more, take-append-drop, take_all}
 use Rattle.std.proofs.lemmas.List.Elements.{filter_map-append, Contains-append_left, Contains-append_right}
-use Rattle.std.proofs.lemmas.Option.{slice_get_within, slice_get_read}
+use Rattle.std.proofs.lemmas.Option.{slice_get_within}
 use Rattle.indexmap.specs.IndexSet.{insert_all}
 use Rattle.cls_base.specs.declared.rule.Rule.{Rule}
 use Rattle.cls_base.specs.declared.rule.Rule.TheVariants.{Head, Any}
@@ -18,13 +18,13 @@ use Rattle.cls_core.specs.Machine.{numbered}
 use Rattle.cls_core.specs.Rows.{Row}
 use Rattle.cls_core.specs.Canonical.{FirstOnes, no_more, fresh, again, IsNumbering}
 use Rattle.cls_core.specs.Renumbering.{worked_off, found, answer_in, row_answer, order, placed, renumbered}
-use Rattle.cls_core.specs.Grammar.{IsRowAnswer, IsGrammar}
+use Rattle.cls_core.specs.Grammar.{IsRowAnswer}
 use Rattle.cls_core.proofs.Columns.{get-some}
 use Rattle.cls_core.proofs.Canonical.{not-seen, closed-front}
 use Rattle.cls_core.proofs.Finding.{found-reached, found-numbering}
 use Rattle.cls_core.proofs.Renumbering.{place-is}
 use Rattle.cls_core.specs.Closure.{IsReached, at_start, at_argument, AllReached, goals_of}
-use Rattle.cls_grammar.specs.Grammars.{ruled_rows, book_of, wide_or, first_wide, IsKept, MakeGrammar, BookHasNodesBelow}
+use Rattle.cls_grammar.specs.Grammars.{ruled_rows, book_of, wide_or, first_wide, MakeGrammar, BookHasNodesBelow}
 use Rattle.cls_rulebook.specs.Books.{HasNodesBelow, HaveNodesBelow}
 
 pub nat-exact : (x y : ℕ) → nat_eq x y ≡ true → x ≡ y

@@ -1,5 +1,5 @@
 -- A grammar without its useless rules, and what it generates.
-use Rattle.std.proofs.Common.{◌≡◌, ℕ, zero, suc, ◌+◌, ◌<◌, ◌≤◌, Bool, true, false, cond, ◌&&◌, ◌↔◌, List, [], ◌∷◌, ◌++◌, Option, None, Some, length, map, take, get_or, slice_get, refl, sym, ap, subst, ◌∙◌, arith, ◌⊎◌, inl, inr, length-append, append-nil}
+use Rattle.std.proofs.Common.{◌≡◌, ℕ, zero, suc, ◌+◌, ◌<◌, ◌≤◌, Bool, true, false, cond, ◌&&◌, List, [], ◌∷◌, ◌++◌, Option, None, Some, length, map, take, get_or, slice_get, refl, sym, ap, subst, ◌∙◌, arith, ◌⊎◌, inl, inr, length-append, append-nil}
 use Rattle.std.specs.Prelude.{option_map, filter, Contains}
 use Rattle.std.specs.List.{list_all}
 use Rattle.std.proofs.lemmas.List.{map-append, take_more, take_all}
@@ -7,7 +7,7 @@ use Rattle.std.proofs.lemmas.Option.{slice_get_within, get_or_from_slice_get}
 use Rattle.cls_base.specs.Terms.{Applicative}
 use Rattle.cls_base.specs.declared.rule.Rule.{Rule}
 use Rattle.cls_base.specs.declared.rule.Rule.TheVariants.{Head, Any}
-use Rattle.cls_base.specs.Languages.{Generates, Applies, by_head, by_any, done, next, NodeRule, IsGenerated, rules_at}
+use Rattle.cls_base.specs.Languages.{Generates, Applies, by_head, by_any, done, next, NodeRule, rules_at}
 use Rattle.cls_base.proofs.Lists.{Contains-nil, Contains-here, Contains-later, Contains-cases, Contains-head}
 use Rattle.cls_core.specs.declared.answer.Answer.{Answer}
 use Rattle.cls_core.specs.declared.answer.Answer.TheVariants.{Rules, Wide}
@@ -20,7 +20,7 @@ use Rattle.cls_grammar.specs.Trimming.{is_flagged, is_useful, useful_answer, use
 use Rattle.cls_grammar.proofs.Places.{row-of, ruled-push, BookHasNodesBelow-push}
 use Rattle.cls_grammar.proofs.Trees.{makes_tree}
 use Rattle.cls_grammar.proofs.Climbing.{rules-none}
-use Rattle.cls_rulebook.specs.Books.{HasNodesBelow, HaveNodesBelow}
+use Rattle.cls_rulebook.specs.Books.{HaveNodesBelow}
 
 -- a rule relation within another one
 module _ (R S : ℕ → Rule ℕ → Type 0) (f : (i : ℕ) (r : Rule ℕ) → R i r → S i r) where

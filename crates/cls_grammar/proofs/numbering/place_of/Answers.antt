@@ -1,5 +1,4 @@
-use Rattle.std.proofs.Common.{sym, nat_eq, ◌∙◌}
-use Rattle.cls_core.proofs.Insertion.{place-found}
+use Rattle.std.proofs.Common.{nat_eq, ◌∙◌}
 use Rattle.cls_core.proofs.Members.{contains-any}
 use Rattle.cls_grammar.proofs.Places.{nat-exact, nat-reflexive}
 use Rattle.cls_grammar.proofs.numbering.place_of.Goals as goal

@@ -1,8 +1,7 @@
-use Rattle.std.proofs.Common.{ℕ, arith, ap, length, map, refl, subst, sym, ◌∙◌, ◌≡◌, ◌<◌, Some, slice_get, List}
+use Rattle.std.proofs.Common.{ℕ, arith, ap, length, refl, subst, sym, ◌∙◌, ◌≡◌, ◌<◌, Some, slice_get, List}
 use Rattle.std.specs.Prelude.{option_map}
 use Rattle.std.proofs.lemmas.Option.{slice_get_read}
 use Rattle.cls_path.specs.Paths.{TypePath}
-use Rattle.cls_base.specs.Languages.{rules_at}
 use Rattle.cls_core.specs.declared.answer.Answer.TheVariants.{Rules}
 use Rattle.cls_core.specs.Rows.{Row}
 use Rattle.cls_grammar.specs.Grammars.{ruled_rows, book_of}

@@ -1,4 +1,3 @@
-use Rattle.cls_grammar.specs.Trimming.{IsTrimmed}
 use Rattle.cls_grammar.proofs.Trims.{trimmed-languages}
 use Rattle.cls_grammar.proofs.grammar.Grammar.trim.Goals as goal
 

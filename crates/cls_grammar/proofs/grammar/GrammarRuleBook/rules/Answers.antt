@@ -1,5 +1,4 @@
-use Rattle.std.proofs.Common.{arith, ap, length, refl, subst, sym, ◌∙◌, ◌≡◌, ◌<◌, Some, slice_get, List, ℕ, map}
-use Rattle.std.specs.Prelude.{option_map}
+use Rattle.std.proofs.Common.{arith, ap, length, refl, subst, sym, ◌∙◌, ◌≡◌, ◌<◌, Some, List, ℕ}
 use Rattle.std.proofs.lemmas.Option.{slice_get_read}
 use Rattle.cls_base.specs.Languages.{rules_at}
 use Rattle.cls_core.specs.Rows.{Row}

@@ -1,4 +1,4 @@
-use Rattle.std.proofs.Common.{ℕ, ◌≡◌, ◌+◌, ◌<◌, ◌≤◌, ◌^◌, List, [], ◌∷◌, ◌++◌, Some, None, length, drop, slice_get, refl, sym, ap, subst, ◌∙◌, arith, get_or, inl, inr}
+use Rattle.std.proofs.Common.{◌<◌, length, refl, arith}
 use Rattle.cls_grammar.proofs.Advances.{rule-less, next-nodes, next-within, next-front, argument-less, kept-reached, kept-waits}
 use Rattle.cls_grammar.proofs.ranking.Climb.advance.Goals as goal
 use Rattle.cls_grammar.proofs.Climbing.{node-less, rank-small}

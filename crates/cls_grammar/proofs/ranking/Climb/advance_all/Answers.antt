@@ -1,4 +1,4 @@
-use Rattle.std.proofs.Common.{ℕ, ◌≡◌, ◌+◌, ◌-◌, ◌<◌, ◌≤◌, ◌^◌, List, [], ◌∷◌, ◌++◌, Some, None, length, map, drop, slice_get, refl, sym, ap, subst, ◌∙◌, arith, get_or}
+use Rattle.std.proofs.Common.{◌+◌, drop, subst}
 use Rattle.cls_grammar.specs.declared.ranking.Waiting.{Waiting}
 use Rattle.cls_grammar.specs.Climbs.{IsKept}
 use Rattle.cls_grammar.proofs.ranking.Climb.advance_all.Goals as goal

@@ -1,6 +1,6 @@
-use Rattle.std.proofs.Common.{ℕ, ◌≡◌, ◌+◌, ◌-◌, ◌<◌, ◌≤◌, ◌^◌, List, [], ◌∷◌, ◌++◌, Some, None, length, map, drop, slice_get, refl, sym, ap, subst, ◌∙◌, arith, get_or}
+use Rattle.std.proofs.Common.{◌+◌, Some, sym, subst, ◌∙◌, arith}
 use Rattle.std.proofs.lemmas.Option.{slice_get_within}
-use Rattle.cls_grammar.specs.Climbs.{IsKept, waits_at, without_waiting}
+use Rattle.cls_grammar.specs.Climbs.{IsKept, without_waiting}
 use Rattle.cls_grammar.proofs.ranking.Climb.rise.Goals as goal
 use Rattle.cls_grammar.proofs.Climbing.{kept-next}
 

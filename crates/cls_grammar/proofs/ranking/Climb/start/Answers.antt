@@ -1,4 +1,4 @@
-use Rattle.std.proofs.Common.{ℕ, ◌≡◌, ◌+◌, ◌-◌, ◌<◌, ◌≤◌, ◌^◌, List, [], ◌∷◌, ◌++◌, Some, None, length, map, drop, slice_get, refl, sym, ap, subst, ◌∙◌, arith, get_or}
+use Rattle.std.proofs.Common.{◌+◌, ◌<◌, ◌≤◌, length, drop, subst, arith}
 use Rattle.cls_grammar.specs.Climbs.{IsKept, all_waits}
 use Rattle.cls_grammar.proofs.ranking.Climb.start.Goals as goal
 use Rattle.cls_grammar.proofs.Climbing.{all-waits-next, all-waits-end}

@@ -1,5 +1,4 @@
-use Rattle.std.proofs.Common.{ℕ, ◌≡◌, ◌+◌, ◌-◌, ◌<◌, ◌≤◌, ◌^◌, List, [], ◌∷◌, ◌++◌, Some, None, length, map, drop, slice_get, refl, sym, ap, subst, ◌∙◌, arith, get_or}
-use Rattle.std.proofs.lemmas.List.{length-map}
+use Rattle.std.proofs.Common.{◌+◌, ◌<◌, ◌≤◌, ◌++◌, length, drop, ap, subst, arith}
 use Rattle.cls_base.specs.Languages.{rules_at}
 use Rattle.cls_grammar.specs.Climbs.{IsKept, node_waits}
 use Rattle.cls_grammar.proofs.ranking.Climb.start_node.Goals as goal
