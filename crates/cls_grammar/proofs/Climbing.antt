@@ -124,6 +124,9 @@ waits-same s z ws l = get_or-set_same s.waiting z ws [] l
 waits-other : (s : State) (z n : ℕ) (ws : List Waiting) → n ≢ z → get_or (set s.waiting z ws) n [] ≡ waits_at s n
 waits-other s z n ws d = get_or-set_other s.waiting z n ws [] d
 
+pub none-at : {A : Type 0} (n i : ℕ) (x y : A) → slice_get (replicate n x) i ≡ Some y → y ≡ x
+none-at n i x y e = let l = slice_get_within (replicate n x) i y e in sym (get_or_from_slice_get (replicate n x) i y y e) ∙ get_or-replicate n i x y (omega (arith, l, length-replicate n x))
+
 pub get-read : (ns : List ℕ) (p : ℕ) → p < length ns → slice_get ns p ≡ Some (get_or ns p 0)
 get-read [] p l = absurd (omega arith)
 get-read (n ∷ ns) zero l = refl
@@ -441,9 +444,6 @@ module _ (book : List (List (Rule ℕ))) where
         | inl e ↦ pending v p q (subst (λ x. Contains (waits_at s x) v) e m)
         | inr d ↦ waits n v p q (subst (λ l. Contains l v) (sym (waits-other s g n [] d)) m) (λ a l. turn a n d f l)
       ]
-
-  none-at : {A : Type 0} (n i : ℕ) (x y : A) → slice_get (replicate n x) i ≡ Some y → y ≡ x
-  none-at n i x y e = let l = slice_get_within (replicate n x) i y e in sym (get_or_from_slice_get (replicate n x) i y y e) ∙ get_or-replicate n i x y (omega (arith, l, length-replicate n x))
 
   no-waits : (n i : ℕ) (w : Waiting) → Contains (get_or (replicate n []) i []) w → ⊥
   no-waits zero i w h = Contains-nil w h

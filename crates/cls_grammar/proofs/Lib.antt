@@ -1,7 +1,9 @@
+pub mod Additions
 pub mod Advances
 pub mod Climbing
 pub mod Meaning
 pub mod Places
+pub mod PrintedRows
 pub mod RowColumns
 pub mod Trees
 pub mod Trims

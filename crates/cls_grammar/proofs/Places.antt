@@ -51,6 +51,10 @@ unfolding count_down
 count_down-has zero x h = absurd (omega arith)
 count_down-has (suc n) x h = elim (below-next x n h) [ inl e ↦ Contains-head x n (count_down n) e | inr l ↦ Contains-later x n (count_down n) (count_down-has n x l) ]
 
+-- distinct numbers below a bound are no more than it
+pub numbers-below : (gs : List ℕ) (n : ℕ) → AreDistinct gs → ((x : ℕ) → Contains gs x → x < n) → length gs ≤ n
+numbers-below gs n d h = omega (arith, length-within gs (count_down n) d (λ x m. count_down-has n x (h x m)), count_down-length n)
+
 first-ones-differ : {seen xs ys : List ℕ} → FirstOnes seen xs ys → AreDistinct ys
 first-ones-differ no_more = tt
 first-ones-differ (fresh {seen = seen} {x = x} n h) = (λ m. not-seen x h m (Contains-here x seen), first-ones-differ h)
@@ -70,6 +74,14 @@ module _ {G : Type 0} (rows : List (Row G)) where
       by : (o : Option (Row G)) → slice_get rows k ≡ o → option_map (λ (r : Row G). r.goal) o ≡ Some g → option_map (λ (r : Row G). r.answer) o ≡ Some a → (r : Row G) × (slice_get rows k ≡ Some r) × (r.goal ≡ g) × (r.answer ≡ a)
       by None e f h = cc
       by (Some r) e f h = (r, e, (let p : r.goal ≡ g = cc in p), (let p : r.answer ≡ a = cc in p))
+
+  -- the answer of a row that is there
+  pub row-answer : (k : ℕ) (a : Answer ℕ) → option_map (λ (r : Row G). r.answer) (slice_get rows k) ≡ Some a → IsRowAnswer rows k a
+  row-answer k a = by (slice_get rows k) refl
+    where
+      by : (o : Option (Row G)) → slice_get rows k ≡ o → option_map (λ (r : Row G). r.answer) o ≡ Some a → IsRowAnswer rows k a
+      by None e f = cc
+      by (Some r) e f = (r, e, (let p : r.answer ≡ a = cc in p))
 
   pub answer-of : (k : ℕ) (a : Answer ℕ) → option_map (λ (r : Row G). r.answer) (slice_get rows k) ≡ Some a → row_answer rows k ≡ a
   answer-of k a = by (slice_get rows k)
@@ -92,7 +104,7 @@ module _ {G : Type 0} (rows : List (Row G)) where
       rw add-one (e ∙ sym same)
 
 module _ {G : Type 0} (rows : List (Row G)) (made : MakeGrammar rows) where
-  within-answer : (k n : ℕ) (a : Answer ℕ) → IsRowAnswer rows k a → Contains (arguments_of a) n → n < length rows
+  pub within-answer : (k n : ℕ) (a : Answer ℕ) → IsRowAnswer rows k a → Contains (arguments_of a) n → n < length rows
   within-answer k n a (r, at, is) h = made.1.within k r at n (subst (λ x. Contains (arguments_of x) n) (sym is) h)
 
   pub some-row : 0 < length rows
@@ -110,7 +122,7 @@ module _ {G : Type 0} (rows : List (Row G)) (made : MakeGrammar rows) where
   one-answer n a b (r, at, is) (q, bt, are) = let same : r ≡ q = cc in sym is ∙ (ap (λ (x : Row G). x.answer) same ∙ are)
 
   numbers-few : (gs : List ℕ) → AreDistinct gs → AllReached (IsRowAnswer rows) 0 gs → length gs ≤ length rows
-  numbers-few gs d q = omega (arith, length-within gs (count_down (length rows)) d (λ x m. count_down-has (length rows) x (reached-within (q x m))), count_down-length (length rows))
+  numbers-few gs d q = numbers-below gs (length rows) d (λ x m. reached-within (q x m))
 
   numbering : IsNumbering (IsRowAnswer rows) 0 (order rows)
   numbering = found-numbering nat_eq nat-exact nat-reflexive (IsRowAnswer rows) 0 (row_answer rows) reached-answer (length rows) numbers-few

@@ -1,7 +1,10 @@
--- To be read and believed: Faults, Grammars, Meanings, Ranks, Trimming. Internal: Climbs, which is how the code finds ranks.
+-- To be read and believed: Faults, Grammars, GrammarTexts, Meanings, Ranks, Trimming. Internal: Climbs and Numberings, which
+-- are how the code finds ranks and numbers.
 pub mod Climbs
 pub mod Faults
 pub mod Grammars
+pub mod GrammarTexts
 pub mod Meanings
+pub mod Numberings
 pub mod Ranks
 pub mod Trimming

@@ -1,8 +1,10 @@
-ghost use Rattle.std.specs.Prelude.{◌≡◌, ◌<◌, ◌≤◌, Some, None, IfOk, IfErr, OnOk, length, map, is_some, slice_get, option_map};
+ghost use Rattle.std.specs.Prelude.{◌≡◌, ◌<◌, ◌≤◌, Some, None, IfOk, IfErr, OnOk, length, slice_get, option_map, string_bytes};
 ghost use Rattle.cls_core.specs.declared.answer.Answer.TheVariants as answers;
 ghost use Rattle.cls_core.specs.Renumbering.{renumbered};
 ghost use Rattle.cls_rulebook.specs.Books.{HaveNodesBelow};
 ghost use Rattle.cls_grammar.specs.Faults.{IfWide};
+ghost use Rattle.cls_syntax.specs.TypePrinting.{name_in};
+ghost use Rattle.cls_grammar.specs.GrammarTexts.{AreNamed, IsGrammarText};
 ghost use Rattle.cls_grammar.specs.Grammars.{MakeGrammar, book_of, first_wide};
 ghost use Rattle.cls_grammar.specs.Ranks.{AreRanks, AreProductive};
 ghost use Rattle.cls_grammar.specs.Trimming.{IsTrimmed, HaveSameLanguages};
@@ -10,10 +12,12 @@ ghost use Rattle.cls_grammar.specs.Trimming.{IsTrimmed, HaveSameLanguages};
 use crate::GrammarFault;
 use crate::columns::{Flags, Ranks};
 use crate::numbering::{breadth_first, placed_rows};
-use crate::ranking::ranks_of;
+use crate::printing::{Tables, write_grammar};
+use crate::ranking::{productive, ranks_of};
 use crate::trimming::useful_rows;
 use cls_base::{OutOfMemory, Rule, Rules};
 use cls_core::Rows;
+use cls_lexer::Names;
 use cls_path::Nf;
 use cls_rulebook::RuleBook;
 use std::alloc::Global;
@@ -74,8 +78,7 @@ impl Grammar {
     pub fn productive(&self, alloc: Global) -> Result<Flags, OutOfMemory>
         ensures { IfOk result (AreProductive (book_of self.now)) }
     {
-        let ranks = ranks_of(alloc, self)?;
-        Ok(Flags::new(flags_of(alloc, ranks.as_slice())?))
+        Ok(productive(alloc, self)?)
     }
 
     /// The grammar without the rules that have an unproductive argument: the same goals with the same numbers, each of which
@@ -86,6 +89,23 @@ impl Grammar {
     {
         let flags = self.productive(alloc)?;
         Ok(useful_rows(alloc, self, &flags)?)
+    }
+
+    /// The text of the grammar, with each goal's rank or that it has none. The only error is out of memory.
+    pub fn print(
+        &self,
+        alloc: Global,
+        names: &Names,
+        components: &Names,
+    ) -> Result<String, OutOfMemory>
+        requires { AreNamed (length names.now) (length components.now) self.now }
+        ensures { IfOk result (λ text. IsGrammarText (name_in names.now) (name_in components.now) self.now (string_bytes text)) }
+    {
+        let ranks = self.ranks(alloc)?;
+        let mut text = String::new(alloc);
+        let tables = Tables { names, components };
+        write_grammar(alloc, &tables, self, ranks.as_slice(), &mut text)?;
+        Ok(text)
     }
 
     /// The number of goals, at least 1.
@@ -112,14 +132,6 @@ impl Grammar {
     {
         self.rules[i as usize].as_slice()
     }
-}
-
-// Whether each rank is there.
-fn flags_of(alloc: Global, ranks: &[Option<u32>]) -> Result<Vec<bool>, OutOfMemory>
-    ensures { IfOk result (λ flags. flags.items ≡ map is_some ranks.now) }
-{
-    let flags = ranks.iter().map(|rank| rank.is_some()).collect(alloc)?;
-    Ok(flags)
 }
 
 impl RuleBook for Grammar {

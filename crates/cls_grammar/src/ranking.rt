@@ -2,13 +2,14 @@
 //!
 //! A rule waits for the first of its arguments_of_rule that isn't known yet. Where a node becomes known, each rule that waits for it
 //! goes on to its next such argument, and one that has none gives its own node a rank. So each argument is passed once.
-ghost use Rattle.std.specs.Prelude.{◌≡◌, ◌<◌, ◌≤◌, ◌+◌, ◌^◌, ◌↔◌, ℕ, List, [], ◌∷◌, ◌++◌, Option, Some, None, IsTrue, IfOk, OnOk, IfSome, IfNone, length, slice_get, take, option_copied};
+ghost use Rattle.std.specs.Prelude.{◌≡◌, ◌<◌, ◌≤◌, ◌+◌, ◌^◌, ◌↔◌, ℕ, List, [], ◌∷◌, ◌++◌, Option, Some, None, IsTrue, IfOk, OnOk, IfSome, IfNone, length, slice_get, take, map, is_some, option_copied};
 ghost use Rattle.cls_base.specs.Languages.{rules_at};
 ghost use Rattle.cls_base.specs.Lists.{AreBelow};
 ghost use Rattle.cls_core.specs.Arguments.{arguments_of_rule};
-ghost use Rattle.cls_grammar.specs.Ranks.{AreRanks};
+ghost use Rattle.cls_grammar.specs.Ranks.{AreRanks, AreProductive};
 ghost use Rattle.cls_grammar.specs.Climbs.{IsKnown, AllKnown};
 
+use crate::columns::Flags;
 use cls_base::{OutOfMemory, Rule};
 use cls_rulebook::RuleBook;
 use std::alloc::Global;
@@ -324,4 +325,20 @@ pub(crate) fn ranks_of<B: RuleBook>(
         place += 1;
     }
     Ok(climb.into_ranks())
+}
+
+// Whether each rank is there.
+fn flags_of(alloc: Global, ranks: &[Option<u32>]) -> Result<Vec<bool>, OutOfMemory>
+    ensures { IfOk result (λ flags. flags.items ≡ map is_some ranks.now) }
+{
+    let flags = ranks.iter().map(|rank| rank.is_some()).collect(alloc)?;
+    Ok(flags)
+}
+
+/// Whether each node of the rule book is productive: whether it has a derivation tree. The only error is out of memory.
+pub fn productive<B: RuleBook>(alloc: Global, book: &B) -> Result<Flags, OutOfMemory>
+    ensures { IfOk result (AreProductive (B.book book.now)) }
+{
+    let ranks = ranks_of(alloc, book)?;
+    Ok(Flags::new(flags_of(alloc, ranks.as_slice())?))
 }

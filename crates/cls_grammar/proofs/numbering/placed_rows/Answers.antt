@@ -13,46 +13,43 @@ pub goal-requires : goal.goal-requires
 goal-requires c =
     let items = c.as_slice-row-items.result.now in
     let i = c.loop-row.row-index in
-    let at = subst (λ l. slice_get l i ≡ Some (get_or items i 0)) c.as_slice-row-items.ensures.keys (get-read items i c.loop-row-test.true) in
-    found-row c.args.rows.now c.requires.grammar c.args.found.now.keys c.requires.order i (get_or items i 0) at
+    let at = subst (λ l. slice_get l i ≡ Some (get_or items i 0)) c.as_slice-row-items.ensures (get-read items i c.loop-row-test.true) in
+    found-row c.args.rows.now c.requires.grammar c.args.found.now.order c.requires.order i (get_or items i 0) at
 
 pub answer-requires : goal.answer-requires
 answer-requires c =
     let items = c.as_slice-row-items.result.now in
     let i = c.loop-row.row-index in
-    let at = subst (λ l. slice_get l i ≡ Some (get_or items i 0)) c.as_slice-row-items.ensures.keys (get-read items i c.loop-row-test.true) in
-    found-row c.args.rows.now c.requires.grammar c.args.found.now.keys c.requires.order i (get_or items i 0) at
+    let at = subst (λ l. slice_get l i ≡ Some (get_or items i 0)) c.as_slice-row-items.ensures (get-read items i c.loop-row-test.true) in
+    found-row c.args.rows.now c.requires.grammar c.args.found.now.order c.requires.order i (get_or items i 0) at
 
 pub returns-in_default-clause-wide : goal.returns-in_default-clause-wide
 returns-in_default-clause-wide c =
     let items = c.as_slice-row-items.result.now in
-    let keys = c.args.found.now.keys in
+    let keys = c.args.found.now.order in
     let rows = c.args.rows.now in
     let i = c.loop-row.row-index in
     let row = get_or items i 0 in
-    let at = subst (λ l. slice_get l i ≡ Some row) c.as_slice-row-items.ensures.keys (get-read items i c.loop-row-test.true) in
+    let at = subst (λ l. slice_get l i ≡ Some row) c.as_slice-row-items.ensures (get-read items i c.loop-row-test.true) in
     let g = c.in_ok-goal.goal in
     let wide = wide-next rows keys i row c.loop-row.goals.items c.loop-row.rules.items g (slice_get_within keys i row at) (sym (get_or_from_slice_get keys i row row at)) (c.goal.ensures ∙ ap Some (sym c.in_ok-goal.ensures)) (c.answer.ensures ∙ ap Some c.in_default.is) c.loop-row.invariant in
     subst (λ ks. first_wide (map (placed ks) (filter_map (slice_get rows) ks)) ≡ Some g) c.requires.order wide
 
-pub place_rules-requires-clause-there : goal.place_rules-requires-clause-there
-place_rules-requires-clause-there c = λ n h.
+pub place_rules-requires : goal.place_rules-requires
+place_rules-requires c = λ n h.
     let items = c.as_slice-row-items.result.now in
     let i = c.loop-row.row-index in
-    let at = subst (λ l. slice_get l i ≡ Some (get_or items i 0)) c.as_slice-row-items.ensures.keys (get-read items i c.loop-row-test.true) in
-    found-known c.args.rows.now c.requires.grammar c.args.found.now.keys c.requires.order i (get_or items i 0) c.in-Rules.old at (c.answer.ensures ∙ ap Some c.in-Rules.is) n (subst (λ l. Contains (arguments_in l) n) c.as_slice.ensures h)
-
-pub place_rules-requires-clause-few : goal.place_rules-requires-clause-few
-place_rules-requires-clause-few c = omega (arith, found-few c.args.rows.now c.requires.grammar c.args.found.now.keys c.requires.order, c.count-count.ensures, c.count-count.type_inv)
+    let at = subst (λ l. slice_get l i ≡ Some (get_or items i 0)) c.as_slice-row-items.ensures (get-read items i c.loop-row-test.true) in
+    found-known c.args.rows.now c.requires.grammar c.args.found.now.order c.requires.order i (get_or items i 0) c.in-Rules.old at (c.answer.ensures ∙ ap Some c.in-Rules.is) n (subst (λ l. Contains (arguments_in l) n) c.as_slice.ensures h)
 
 pub loop-row-preserved : goal.loop-row-preserved
 loop-row-preserved c =
     let items = c.as_slice-row-items.result.now in
-    let keys = c.args.found.now.keys in
+    let keys = c.args.found.now.order in
     let rows = c.args.rows.now in
     let i = c.loop-row.row-index in
     let row = get_or items i 0 in
-    let at = subst (λ l. slice_get l i ≡ Some row) c.as_slice-row-items.ensures.keys (get-read items i c.loop-row-test.true) in
+    let at = subst (λ l. slice_get l i ≡ Some row) c.as_slice-row-items.ensures (get-read items i c.loop-row-test.true) in
     let is = c.answer.ensures ∙ ap Some c.in-Rules.is in
     one-placed rows keys i row c.loop-row.goals.items c.push-in-loop-row.new.self.items c.loop-row.rules.items c.push.new.self.items c.in_ok-goal.goal c.in-Rules.old c.in_ok-new.new
     (slice_get_within keys i row at) (sym (get_or_from_slice_get keys i row row at))
@@ -65,10 +62,10 @@ pub invariant_of-result : goal.invariant_of-result
 invariant_of-result c =
     let items = c.as_slice-row-items.result.now in
     let p = c.loop-row.invariant in
-    let keys = c.args.found.now.keys in
+    let keys = c.args.found.now.order in
     let rows = c.args.rows.now in
     let within : c.loop-row.row-index ≤ length items = c.loop-row.auto.row-index-end in
-    let whole : length keys ≡ length c.loop-row.goals.items = omega (arith, within, c.loop-row-test.false, p.goals_are, ap length c.as_slice-row-items.ensures.keys) in
+    let whole : length keys ≡ length c.loop-row.goals.items = omega (arith, within, c.loop-row-test.false, p.goals_are, ap length c.as_slice-row-items.ensures) in
     record {
       paired = omega (arith, p.goals_are, p.lists_are);
       some = omega (arith, whole, found-some rows c.requires.grammar keys c.requires.order);
@@ -78,16 +75,16 @@ invariant_of-result c =
 
 pub returns-clause-ok : goal.returns-clause-ok
 returns-clause-ok c =
-    let keys = c.args.found.now.keys in
+    let keys = c.args.found.now.order in
     let rows = c.args.rows.now in
-    let over : length keys ≤ c.loop-row.row-index = omega (arith, c.loop-row-test.false, ap length c.as_slice-row-items.ensures.keys) in
+    let over : length keys ≤ c.loop-row.row-index = omega (arith, c.loop-row-test.false, ap length c.as_slice-row-items.ensures) in
     all-placed rows keys c.loop-row.goals.items c.loop-row.rules.items c.loop-row.row-index over c.loop-row.invariant
     ∙ ap (λ ks. map (placed ks) (filter_map (slice_get rows) ks)) c.requires.order
 
 pub returns-clause-none_wide : goal.returns-clause-none_wide
 returns-clause-none_wide c =
-    let keys = c.args.found.now.keys in
+    let keys = c.args.found.now.order in
     let rows = c.args.rows.now in
-    let over : length keys ≤ c.loop-row.row-index = omega (arith, c.loop-row-test.false, ap length c.as_slice-row-items.ensures.keys) in
+    let over : length keys ≤ c.loop-row.row-index = omega (arith, c.loop-row-test.false, ap length c.as_slice-row-items.ensures) in
     let same = all-placed rows keys c.loop-row.goals.items c.loop-row.rules.items c.loop-row.row-index over c.loop-row.invariant ∙ ap (λ ks. map (placed ks) (filter_map (slice_get rows) ks)) c.requires.order in
     none-wide rows c.requires.grammar (ap first_wide (sym same) ∙ none-first c.loop-row.goals.items c.loop-row.rules.items)
