@@ -1,38 +1,30 @@
 -- A round of the descent, as the code does it.
 use Rattle.std.proofs.Common.{◌≡◌, ℕ, ◌<◌, Bool, List, [], ◌∷◌, ◌++◌, Some, length, set, slice_get, sym, ap, subst, ◌∙◌, arith}
-use Rattle.std.specs.Prelude.{option_map, IsTrue}
+use Rattle.std.specs.Prelude.{IsTrue}
 use Rattle.cls_base.specs.declared.rule.Rule.{Rule}
 use Rattle.cls_base.specs.Languages.{IsGenerated, rules_at}
-use Rattle.cls_core.specs.declared.answer.Answer.TheVariants.{Rules}
 use Rattle.cls_core.specs.Arguments.{arguments_of_rule}
-use Rattle.cls_core.specs.Rows.{Row}
 use Rattle.cls_rulebook.specs.Books.{HaveNodesBelow}
-use Rattle.cls_grammar.specs.Grammars.{book_of}
 use Rattle.cls_grammar.specs.Ranks.{AreProductive}
 use Rattle.cls_grammar.specs.Trimming.{is_useful}
-use Rattle.cls_grammar.proofs.RowColumns.{book-count}
 use Rattle.cls_finite.specs.declared.descent.Mark.TheVariants.{Open, Done}
 use Rattle.cls_finite.specs.declared.walk.Step.{Step}
 use Rattle.cls_finite.specs.Descents.{State, opened, AreDone, greatest_by, IsCapped, IsPassed, IsNext, IsKept}
 use Rattle.cls_finite.specs.Finiteness.{HasPositiveCosts, IsUnbounded, IsGreatestOver}
 use Rattle.cls_finite.specs.Outcomes.{HasGone, HasComeRound}
 use Rattle.cls_finite.proofs.Descending as descending
-use Rattle.cls_finite.proofs.Stepping.{rules-in-book}
 
-module _ (cap : ℕ) (cost : ℕ → ℕ) {G : Type 0} (rows : List (Row G)) (flags : List Bool) (p : AreProductive (book_of rows) flags)
-    (s : State) (k : IsKept cap cost (book_of rows) flags s) where
-  abbrev book : List (List (Rule ℕ))
-  book = book_of rows
-
-  pub node-within : (node : ℕ) → node ≡ s.top.goal → node < length rows
-  node-within node n = omega (arith, n, descending.top-within cap cost book flags p s k, k.sized, book-count rows)
+module _ (cap : ℕ) (cost : ℕ → ℕ) (book : List (List (Rule ℕ))) (flags : List Bool) (p : AreProductive book flags)
+    (s : State) (k : IsKept cap cost book flags s) where
+  pub node-within : (node : ℕ) → node ≡ s.top.goal → node < length book
+  node-within node n = omega (arith, n, descending.top-within cap cost book flags p s k, k.sized)
 
   pub top-less : s.top.goal < length s.marks
   top-less = descending.top-within cap cost book flags p s k
 
-  module _ (node : ℕ) (n : node ≡ s.top.goal) (rs : List (Rule ℕ)) (at : option_map (λ (r : Row G). r.answer) (slice_get rows node) ≡ Some (Rules rs)) where
+  module _ (node : ℕ) (n : node ≡ s.top.goal) (rs : List (Rule ℕ)) (at : rs ≡ rules_at book node) where
     same : rs ≡ rules_at book s.top.goal
-    same = rules-in-book rows node rs at ∙ ap (rules_at book) n
+    same = at ∙ ap (rules_at book) n
 
     pub all-passed : IsPassed s.marks flags rs s.top.rule s.top.argument
     all-passed = subst (λ l. IsPassed s.marks flags l s.top.rule s.top.argument) (sym same) k.at
@@ -41,13 +33,13 @@ module _ (cap : ℕ) (cost : ℕ → ℕ) {G : Type 0} (rows : List (Row G)) (fl
       is-next : IsNext s.marks flags (rules_at book s.top.goal) step next
       is-next = subst (λ l. IsNext s.marks flags l step next) same is
 
-      below : HaveNodesBelow (length rows) rs → HaveNodesBelow (length book) (rules_at book s.top.goal)
-      below w = subst (λ l. HaveNodesBelow (length book) l) same (subst (λ m. HaveNodesBelow m rs) (sym (book-count rows)) w)
+      below : HaveNodesBelow (length book) (rules_at book node) → HaveNodesBelow (length book) (rules_at book s.top.goal)
+      below w = subst (λ i. HaveNodesBelow (length book) (rules_at book i)) n w
 
-      pub next-less : HaveNodesBelow (length rows) rs → next < length s.marks
+      pub next-less : HaveNodesBelow (length book) (rules_at book node) → next < length s.marks
       next-less w = descending.next-within cap cost book flags p s k step next goal is-next (below w)
 
-      pub goes : HaveNodesBelow (length rows) rs → (slice_get s.marks next ≡ Some Open → ⊥) → (new : State) → new ≡ opened s step next → HasGone cap cost book flags s new
+      pub goes : HaveNodesBelow (length book) (rules_at book node) → (slice_get s.marks next ≡ Some Open → ⊥) → (new : State) → new ≡ opened s step next → HasGone cap cost book flags s new
       goes w closed new e = subst (HasGone cap cost book flags s) (sym e) (descending.kept-open cap cost book flags p s k step next goal is-next (below w) closed)
 
       pub comes_round : HasPositiveCosts book cost → slice_get s.marks next ≡ Some Open → (new : State) → new ≡ record s { path = s.path ++ step ∷ [] } → HasComeRound cap cost book flags new

@@ -1,6 +1,6 @@
 -- Steps as the code takes them.
 use Rattle.std.proofs.Common.{◌≡◌, ℕ, zero, suc, ◌+◌, ◌<◌, ◌≤◌, ◌↔◌, ◌==◌, ◌||◌, Bool, true, false, List, [], ◌∷◌, ◌++◌, Option, None, Some, length, take, get_or, slice_get, refl, sym, ap, subst, ◌∙◌, arith, inl, inr}
-use Rattle.std.specs.Prelude.{option_map, IfSome, IfNone, IsTrue, Contains}
+use Rattle.std.specs.Prelude.{IfSome, IfNone, IsTrue, Contains}
 use Rattle.std.specs.List.{list_any}
 use Rattle.std.proofs.lemmas.Bool.Decides.{nat_tests}
 use Rattle.std.proofs.lemmas.List.{take_more}
@@ -8,26 +8,14 @@ use Rattle.std.proofs.lemmas.Option.{get_or_from_slice_get}
 use Rattle.cls_base.specs.declared.rule.Rule.{Rule}
 use Rattle.cls_base.specs.Languages.{rules_at}
 use Rattle.cls_base.proofs.Lists.{Contains-nil, Contains-here, Contains-later, Contains-cases}
-use Rattle.cls_core.specs.declared.answer.Answer.TheVariants.{Rules}
-use Rattle.cls_core.specs.Arguments.{arguments_of_rule, rules_of}
-use Rattle.cls_core.specs.Rows.{Row}
+use Rattle.cls_core.specs.Arguments.{arguments_of_rule}
 use Rattle.cls_core.proofs.Columns.{get-some}
-use Rattle.cls_grammar.specs.Grammars.{book_of}
 use Rattle.cls_grammar.specs.Ranks.{AreProductive}
 use Rattle.cls_grammar.specs.Trimming.{is_useful}
-use Rattle.cls_grammar.proofs.RowColumns.{rows-book}
 use Rattle.cls_grammar.proofs.Trims.{productive-useful, useful-productive}
 use Rattle.cls_grammar.proofs.Climbing.{rules-none}
 use Rattle.cls_finite.specs.declared.walk.Step.{Step}
 use Rattle.cls_finite.specs.Walks.{LeadsTo, Leads, stays, goes, IsRightWalk}
-
--- the rules of a goal of a grammar, in its book
-pub rules-in-book : {G : Type 0} (rows : List (Row G)) (i : ℕ) (l : List (Rule ℕ)) → option_map (λ (r : Row G). r.answer) (slice_get rows i) ≡ Some (Rules l) → l ≡ rules_at (book_of rows) i
-rules-in-book {G} rows i l e = rows-book rows i l (by (slice_get rows i) e)
-  where
-    by : (o : Option (Row G)) → option_map (λ (r : Row G). r.answer) o ≡ Some (Rules l) → option_map (λ (r : Row G). rules_of r.answer) o ≡ Some l
-    by None f = cc
-    by (Some r) f = let g : r.answer ≡ Rules l = cc in ap (λ a. Some (rules_of a)) g
 
 module _ (book : List (List (Rule ℕ))) (flags : List Bool) (p : AreProductive book flags) (step : Step) (l : List (Rule ℕ)) (e : l ≡ rules_at book step.goal) where
   -- if the rule isn't there

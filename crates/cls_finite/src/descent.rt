@@ -10,7 +10,6 @@ ghost use Rattle.cls_grammar.specs.Trimming.{is_useful};
 ghost use Rattle.cls_finite.specs.Descents.{first_step};
 ghost use Rattle.cls_base.specs.declared.rule.Rule as rule_type;
 ghost use Rattle.cls_term.specs.Costs.{cost_of};
-ghost use Rattle.cls_grammar.specs.Grammars.{book_of};
 ghost use Rattle.cls_grammar.specs.Ranks.{AreProductive};
 ghost use Rattle.cls_finite.specs.declared.answer.FiniteAnswer.TheVariants.{Over};
 ghost use Rattle.cls_finite.specs.Answers.{IfFinite, IfInfinite, IsInfinite};
@@ -21,7 +20,8 @@ use crate::sizes::{SIZE_CAP, greatest_by};
 use crate::steps::next_step;
 use crate::walk::{Step, Walk};
 use cls_base::{Numbers, OutOfMemory, Rule};
-use cls_grammar::{Flags, Grammar};
+use cls_grammar::{Flags, productive};
+use cls_rulebook::RuleBook;
 use std::alloc::Global;
 use std::marker::Model;
 
@@ -107,13 +107,13 @@ impl Descent {
     }
 
     // The next step, and the node that it leads to.
-    fn next(&self, productive: &Flags, rules: &[Rule<u32>]) -> Option<(Step, u32)>
-        requires { IsPassed self.now.marks productive.now rules.now self.now.top.rule self.now.top.argument }
-        ensures none { IfNone result ((j : ℕ) (r : rule_type.Rule ℕ) → slice_get rules.now j ≡ Some r → IsTrue (is_useful productive.now r) → AreDone self.now.marks (arguments_of_rule r)) }
+    fn next(&self, flags: &Flags, rules: &[Rule<u32>]) -> Option<(Step, u32)>
+        requires { IsPassed self.now.marks flags.now rules.now self.now.top.rule self.now.top.argument }
+        ensures none { IfNone result ((j : ℕ) (r : rule_type.Rule ℕ) → slice_get rules.now j ≡ Some r → IsTrue (is_useful flags.now r) → AreDone self.now.marks (arguments_of_rule r)) }
         ensures goal { IfSome result (λ m. m.0.goal ≡ self.now.top.goal) }
-        ensures next { IfSome result (λ m. IsNext self.now.marks productive.now rules.now m.0 m.1) }
+        ensures next { IfSome result (λ m. IsNext self.now.marks flags.now rules.now m.0 m.1) }
     {
-        next_step(self.marks.as_slice(), productive, rules, self.top)
+        next_step(self.marks.as_slice(), flags, rules, self.top)
     }
 
     // Whether a step was taken from the node.
@@ -160,27 +160,27 @@ impl Descent {
     }
 
     // The greatest size of a term that these rules of the node of the top make.
-    fn greatest(&self, productive: &Flags, costs: &[u32], rules: &[Rule<u32>]) -> u64
-        ensures { result ≡ greatest_by SIZE_CAP (cost_of costs.now) self.now.marks productive.now rules.now }
+    fn greatest(&self, flags: &Flags, costs: &[u32], rules: &[Rule<u32>]) -> u64
+        ensures { result ≡ greatest_by SIZE_CAP (cost_of costs.now) self.now.marks flags.now rules.now }
     {
-        greatest_by(self.marks.as_slice(), productive, costs, rules)
+        greatest_by(self.marks.as_slice(), flags, costs, rules)
     }
 
     // One node is opened or done, or the search ends.
-    fn advance(
+    fn advance<B: RuleBook>(
         &mut self,
-        grammar: &Grammar,
-        productive: &Flags,
+        book: &B,
+        flags: &Flags,
         costs: &[u32],
     ) -> Result<Outcome, OutOfMemory>
-        requires kept { IsKept SIZE_CAP (cost_of costs.now) (book_of grammar.now) productive.now self.old }
-        requires productive { AreProductive (book_of grammar.now) productive.now }
-        requires costs { HasPositiveCosts (book_of grammar.now) (cost_of costs.now) }
-        ensures { IfOk result (IsOutcome SIZE_CAP (cost_of costs.now) (book_of grammar.now) productive.now self.old self.new) }
+        requires kept { IsKept SIZE_CAP (cost_of costs.now) (B.book book.now) flags.now self.old }
+        requires productive { AreProductive (B.book book.now) flags.now }
+        requires costs { HasPositiveCosts (B.book book.now) (cost_of costs.now) }
+        ensures { IfOk result (IsOutcome SIZE_CAP (cost_of costs.now) (B.book book.now) flags.now self.old self.new) }
     {
-        let rules = grammar.rules(self.node());
-        let Some((step, node)) = self.next(productive, rules) else {
-            let size = self.greatest(productive, costs, rules);
+        let rules = book.rules(self.node());
+        let Some((step, node)) = self.next(flags, rules) else {
+            let size = self.greatest(flags, costs, rules);
             if self.close(size) {
                 return Ok(Outcome::Goes);
             }
@@ -220,26 +220,26 @@ fn answer_of(size: u64) -> FiniteAnswer
     }
 }
 
-/// How large the terms of goal 0 are. A component that has no cost in the list costs 1. The only error is out of memory.
+/// How large the terms of node 0 are. A component that has no cost in the list costs 1. The only error is out of memory.
 ///
 /// `Finite` tells the greatest size. `Over` comes if and only if it is over [`MAX_FINITE_SIZE`], and `Infinite` if and only if
-/// there is none. Its walk goes at each goal by the first rule that has only productive arguments and one whose terms have no
-/// bound, to the first such argument, until it comes to the goal of a step.
-pub fn finite(
+/// there is none. Its walk goes at each node by the first rule that has only productive arguments and one whose terms have no
+/// bound, to the first such argument, until it comes to the node of a step.
+pub fn finite<B: RuleBook>(
     alloc: Global,
-    grammar: &Grammar,
+    book: &B,
     costs: &Numbers,
 ) -> Result<FiniteAnswer, OutOfMemory>
-    requires { HasPositiveCosts (book_of grammar.now) (cost_of costs.now) }
-    ensures greatest { IfOk result (λ answer. IfFinite answer (IsGreatest (book_of grammar.now) (cost_of costs.now))) }
-    ensures over { IfOk result (λ answer. (answer ≡ Over) ↔ IsGreatestOver (book_of grammar.now) (cost_of costs.now) MAX_FINITE_SIZE) }
-    ensures infinite { IfOk result (λ answer. IsInfinite answer ↔ IsUnbounded (book_of grammar.now) (cost_of costs.now) 0) }
-    ensures walk { IfOk result (λ answer. IfInfinite answer (IsDetermined (book_of grammar.now) (cost_of costs.now) [] 0)) }
+    requires { HasPositiveCosts (B.book book.now) (cost_of costs.now) }
+    ensures greatest { IfOk result (λ answer. IfFinite answer (IsGreatest (B.book book.now) (cost_of costs.now))) }
+    ensures over { IfOk result (λ answer. (answer ≡ Over) ↔ IsGreatestOver (B.book book.now) (cost_of costs.now) MAX_FINITE_SIZE) }
+    ensures infinite { IfOk result (λ answer. IsInfinite answer ↔ IsUnbounded (B.book book.now) (cost_of costs.now) 0) }
+    ensures walk { IfOk result (λ answer. IfInfinite answer (IsDetermined (B.book book.now) (cost_of costs.now) [] 0)) }
 {
-    let productive = grammar.productive(alloc)?;
-    let mut descent = Descent::begin(alloc, grammar.count())?;
+    let flags = productive(alloc, book)?;
+    let mut descent = Descent::begin(alloc, book.count())?;
     loop {
-        match descent.advance(grammar, &productive, costs.as_slice())? {
+        match descent.advance(book, &flags, costs.as_slice())? {
             Outcome::Goes => {}
             Outcome::ComesRound => return Ok(FiniteAnswer::Infinite(descent.into_walk())),
             Outcome::Ends(size) => return Ok(answer_of(size)),

@@ -1,7 +1,6 @@
 //! Whether a walk comes round.
 ghost use Rattle.std.specs.Prelude.{◌≡◌, ◌==◌, ◌↔◌, ℕ, IsTrue, IfOk, IfSome, IfNone, option_copied, slice_get};
 ghost use Rattle.std.specs.List.{list_any};
-ghost use Rattle.cls_grammar.specs.Grammars.{book_of};
 ghost use Rattle.cls_grammar.specs.Ranks.{AreProductive};
 ghost use Rattle.cls_finite.specs.declared.walk.Step as step_type;
 ghost use Rattle.cls_finite.specs.Walks.{LeadsTo, Leads, IsRightWalk};
@@ -9,7 +8,8 @@ ghost use Rattle.cls_finite.specs.Walks.{LeadsTo, Leads, IsRightWalk};
 use crate::steps::argument;
 use crate::walk::{Step, Walk};
 use cls_base::{OutOfMemory, Rule};
-use cls_grammar::{Flags, Grammar};
+use cls_grammar::{Flags, productive};
+use cls_rulebook::RuleBook;
 use std::alloc::Global;
 
 // The rule at the place.
@@ -20,36 +20,36 @@ fn rule_at(rules: &[Rule<u32>], place: usize) -> Option<&Rule<u32>>
 }
 
 // Where the step leads to, None if there is no such step or its rule has an unproductive argument.
-fn next_goal(grammar: &Grammar, productive: &Flags, step: Step) -> Option<u32>
-    requires { AreProductive (book_of grammar.now) productive.now }
-    ensures some { IfSome result (λ n. LeadsTo (book_of grammar.now) step n) }
-    ensures none { IfNone result ((n : ℕ) → LeadsTo (book_of grammar.now) step n → ⊥) }
+fn next_goal<B: RuleBook>(book: &B, flags: &Flags, step: Step) -> Option<u32>
+    requires { AreProductive (B.book book.now) flags.now }
+    ensures some { IfSome result (λ n. LeadsTo (B.book book.now) step n) }
+    ensures none { IfNone result ((n : ℕ) → LeadsTo (B.book book.now) step n → ⊥) }
 {
-    if step.goal >= grammar.count() {
+    if step.goal >= book.count() {
         return None;
     }
-    let rules = grammar.rules(step.goal);
+    let rules = book.rules(step.goal);
     let Some(rule) = rule_at(rules, step.rule) else {
         return None;
     };
-    if !productive.is_useful(rule) {
+    if !flags.is_useful(rule) {
         return None;
     }
     argument(rule, step.argument)
 }
 
 // Where the steps lead to from goal 0, None if they don't follow each other.
-fn last_goal(grammar: &Grammar, productive: &Flags, steps: &[Step]) -> Option<u32>
-    requires { AreProductive (book_of grammar.now) productive.now }
-    ensures some { IfSome result (λ n. Leads (book_of grammar.now) 0 steps.now n) }
-    ensures none { IfNone result ((n : ℕ) → Leads (book_of grammar.now) 0 steps.now n → ⊥) }
+fn last_goal<B: RuleBook>(book: &B, flags: &Flags, steps: &[Step]) -> Option<u32>
+    requires { AreProductive (B.book book.now) flags.now }
+    ensures some { IfSome result (λ n. Leads (B.book book.now) 0 steps.now n) }
+    ensures none { IfNone result ((n : ℕ) → Leads (B.book book.now) 0 steps.now n → ⊥) }
 {
     let mut goal = 0;
     for step in steps {
         if step.goal != goal {
             return None;
         }
-        let Some(next) = next_goal(grammar, productive, *step) else {
+        let Some(next) = next_goal(book, flags, *step) else {
             return None;
         };
         goal = next;
@@ -66,11 +66,11 @@ fn passes(steps: &[Step], goal: u32) -> bool
 
 /// Whether the walk comes round: it leads from goal 0 to the goal of one of its steps, by rules with only productive
 /// arguments. The only error is out of memory.
-pub fn right_walk(alloc: Global, grammar: &Grammar, walk: &Walk) -> Result<bool, OutOfMemory>
-    ensures { IfOk result (λ right. IsTrue right ↔ IsRightWalk (book_of grammar.now) walk.now) }
+pub fn right_walk<B: RuleBook>(alloc: Global, book: &B, walk: &Walk) -> Result<bool, OutOfMemory>
+    ensures { IfOk result (λ right. IsTrue right ↔ IsRightWalk (B.book book.now) walk.now) }
 {
-    let productive = grammar.productive(alloc)?;
-    let Some(end) = last_goal(grammar, &productive, walk.as_slice()) else {
+    let flags = productive(alloc, book)?;
+    let Some(end) = last_goal(book, &flags, walk.as_slice()) else {
         return Ok(false);
     };
     let right = passes(walk.as_slice(), end);

@@ -61,18 +61,18 @@ fn undone_argument(marks: &[Mark], rule: &Rule<u32>, from: usize) -> Option<(usi
 // Where a rule of those that may be used leads, past the given argument.
 fn undone_useful(
     marks: &[Mark],
-    productive: &Flags,
+    flags: &Flags,
     rule: &Rule<u32>,
     from: usize,
 ) -> Option<(usize, u32)>
-    requires { IsTrue (is_useful productive.now rule.now) → AreDone marks.now (take from (arguments_of_rule rule.now)) }
-    ensures none { IfNone result (IsTrue (is_useful productive.now rule.now) → AreDone marks.now (arguments_of_rule rule.now)) }
-    ensures useful { IfSome result (λ _. IsTrue (is_useful productive.now rule.now)) }
+    requires { IsTrue (is_useful flags.now rule.now) → AreDone marks.now (take from (arguments_of_rule rule.now)) }
+    ensures none { IfNone result (IsTrue (is_useful flags.now rule.now) → AreDone marks.now (arguments_of_rule rule.now)) }
+    ensures useful { IfSome result (λ _. IsTrue (is_useful flags.now rule.now)) }
     ensures place { IfSome result (λ m. slice_get (arguments_of_rule rule.now) m.0 ≡ Some m.1) }
     ensures before { IfSome result (λ m. AreDone marks.now (take m.0 (arguments_of_rule rule.now))) }
     ensures undone { IfSome result (λ m. IsDone marks.now m.1 → ⊥) }
 {
-    if productive.is_useful(rule) {
+    if flags.is_useful(rule) {
         undone_argument(marks, rule, from)
     } else {
         None
@@ -83,18 +83,18 @@ fn undone_useful(
 /// are done.
 pub(crate) fn next_step(
     marks: &[Mark],
-    productive: &Flags,
+    flags: &Flags,
     rules: &[Rule<u32>],
     top: Step,
 ) -> Option<(Step, u32)>
-    requires { IsPassed marks.now productive.now rules.now top.rule top.argument }
-    ensures none { IfNone result ((j : ℕ) (r : rule_type.Rule ℕ) → slice_get rules.now j ≡ Some r → IsTrue (is_useful productive.now r) → AreDone marks.now (arguments_of_rule r)) }
+    requires { IsPassed marks.now flags.now rules.now top.rule top.argument }
+    ensures none { IfNone result ((j : ℕ) (r : rule_type.Rule ℕ) → slice_get rules.now j ≡ Some r → IsTrue (is_useful flags.now r) → AreDone marks.now (arguments_of_rule r)) }
     ensures goal { IfSome result (λ m. m.0.goal ≡ top.goal) }
-    ensures next { IfSome result (λ m. IsNext marks.now productive.now rules.now m.0 m.1) }
+    ensures next { IfSome result (λ m. IsNext marks.now flags.now rules.now m.0 m.1) }
 {
     let mut from = top.argument;
     for rule in top.rule..rules.len() {
-        if let Some((argument, next)) = undone_useful(marks, productive, &rules[rule], from) {
+        if let Some((argument, next)) = undone_useful(marks, flags, &rules[rule], from) {
             let step = Step {
                 goal: top.goal,
                 rule,

@@ -1,14 +1,13 @@
 -- Numbers with their places: one more number keeps what holds.
-use Rattle.std.proofs.Common.{◌≡◌, ◌≢◌, ℕ, zero, suc, ◌+◌, ◌<◌, ◌≤◌, ◌^◌, ◌==◌, Bool, true, false, List, [], ◌∷◌, ◌++◌, Option, None, Some, length, set, slice_get, refl, sym, ap, subst, ◌∙◌, arith, ◌⊎◌, inl, inr, length-set, if◌then◌else◌}
+use Rattle.std.proofs.Common.{◌≡◌, ◌≢◌, ℕ, ◌<◌, ◌≤◌, ◌^◌, ◌==◌, Bool, true, false, List, [], ◌∷◌, ◌++◌, Option, None, Some, length, set, slice_get, refl, sym, ap, subst, ◌∙◌, arith, ◌⊎◌, inl, inr, length-set, if◌then◌else◌}
 use Rattle.std.specs.Prelude.{nat_eq, replicate, Contains}
 use Rattle.std.specs.List.{list_any, position_or_len}
 use Rattle.std.proofs.lemmas.Bool.Decides.{nat_tests}
-use Rattle.std.proofs.lemmas.List.{length-replicate, get_or-replicate}
+use Rattle.std.proofs.lemmas.List.{length-replicate}
 use Rattle.std.proofs.lemmas.List.Elements.{Contains-push_cases}
-use Rattle.std.proofs.lemmas.Option.{slice_get_within, get_or_from_slice_get}
+use Rattle.std.proofs.lemmas.Option.{slice_get_within}
 use Rattle.indexmap.specs.IndexSet.{insert_key}
-use Rattle.cls_base.specs.Lists.{AreDistinct}
-use Rattle.cls_base.proofs.Lists.{Contains-nil, Contains-at, AreDistinct-push, AreDistinct-one_place, length-within}
+use Rattle.cls_base.proofs.Lists.{Contains-nil, Contains-at, AreDistinct-push, AreDistinct-one_place}
 use Rattle.cls_core.proofs.Columns.{get-set-same, get-set-other, get-front, get-some}
 use Rattle.cls_core.proofs.Members.{any-contains, contains-any}
 use Rattle.cls_core.proofs.Renumbering.{place-is}

@@ -1,4 +1,4 @@
-use Rattle.std.proofs.Common.{length, string_bytes}
+use Rattle.std.proofs.Common.{length}
 use Rattle.cls_syntax.specs.TypePrinting.{name_in}
 use Rattle.cls_grammar.proofs.PrintedRows.{goal-held, rules-held, row-written}
 use Rattle.cls_grammar.proofs.printing.write_row.Goals as goal

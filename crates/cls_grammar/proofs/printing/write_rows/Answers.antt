@@ -1,4 +1,4 @@
-use Rattle.std.proofs.Common.{ℕ, ◌≡◌, ◌<◌, ◌≤◌, ◌++◌, arith, length, string_bytes, sym, ap, ◌∙◌, subst}
+use Rattle.std.proofs.Common.{◌<◌, ◌≤◌, ◌++◌, arith, length, string_bytes, ◌∙◌}
 use Rattle.std.proofs.lemmas.List.{take_all}
 use Rattle.cls_core.proofs.Columns.{get-some}
 use Rattle.cls_syntax.specs.TypePrinting.{name_in}

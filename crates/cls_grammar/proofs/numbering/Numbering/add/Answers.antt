@@ -1,4 +1,4 @@
-use Rattle.std.proofs.Common.{arith, sym, ap, subst, ◌∙◌, ◌≡◌, ◌<◌, ◌++◌, ◌∷◌, [], length, set, slice_get, ℕ, List, Option, Some, None}
+use Rattle.std.proofs.Common.{arith, sym, ap, subst, ◌∙◌, ◌≡◌, ◌<◌, ◌++◌, ◌∷◌, [], length, set, slice_get, ℕ, Some, None}
 use Rattle.std.specs.Prelude.{nat_eq}
 use Rattle.indexmap.specs.IndexSet.{insert_key}
 use Rattle.cls_grammar.specs.Numberings.{Numbered, HasPlaces}

@@ -1,4 +1,4 @@
-use Rattle.std.proofs.Common.{sym, ap, subst, ◌<◌, ◌∷◌, [], ℕ, List}
+use Rattle.std.proofs.Common.{sym, subst, ℕ, List}
 use Rattle.std.specs.Prelude.{Contains}
 use Rattle.cls_base.specs.declared.rule.Rule.{Rule}
 use Rattle.cls_core.specs.Arguments.{arguments_of_rule}

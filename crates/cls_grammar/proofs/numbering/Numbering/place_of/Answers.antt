@@ -1,4 +1,4 @@
-use Rattle.std.proofs.Common.{sym, ap, subst, ◌∙◌, ◌≡◌, slice_get, ℕ, List, Option, Some, None}
+use Rattle.std.proofs.Common.{sym, ap, subst, ◌∙◌, ◌≡◌, slice_get, Some}
 use Rattle.std.specs.Prelude.{nat_eq, Contains}
 use Rattle.std.specs.List.{position_or_len}
 use Rattle.cls_grammar.specs.Numberings.{Numbered}
