@@ -13,7 +13,7 @@ use Rattle.cls_finite.specs.declared.walk.Step.{Step}
 use Rattle.cls_finite.specs.Finiteness.{IsGreatestSize}
 use Rattle.cls_finite.specs.Walks.{LeadsTo}
 
--- what is known of each node, the steps taken, and where the next one begins: its rules and arguments before are done with
+-- what is known of each node, the steps taken, and where the next one begins: all before it is done
 pub record State : Type 0 where
   pub marks : List Mark
   pub path : List Step
@@ -71,10 +71,17 @@ module _ (cap : ℕ) (cost : ℕ → ℕ) where
     pub greatest : IsGreatestSize cost P size
     pub capped : n ≡ min size cap
 
+-- Of these rules, those that may be used have only arguments that are done.
+abbrev pub AllAreDone : List Mark → List Bool → List (Rule ℕ) → Type 0
+AllAreDone marks flags rs =
+    (j : ℕ) (r : Rule ℕ) → slice_get rs j ≡ Some r → IsTrue (is_useful flags r) → AreDone marks (arguments_of_rule r)
+
 -- Of these rules, those that may be used have only arguments that are done, up to this argument of this rule.
 pub record IsPassed (marks : List Mark) (flags : List Bool) (rs : List (Rule ℕ)) (rule argument : ℕ) : Type 0 where
-  pub rules : (j : ℕ) (r : Rule ℕ) → j < rule → slice_get rs j ≡ Some r → IsTrue (is_useful flags r) → AreDone marks (arguments_of_rule r)
-  pub front : (r : Rule ℕ) → slice_get rs rule ≡ Some r → IsTrue (is_useful flags r) → AreDone marks (take argument (arguments_of_rule r))
+  pub rules : (j : ℕ) (r : Rule ℕ) → j < rule → slice_get rs j ≡ Some r → IsTrue (is_useful flags r)
+      → AreDone marks (arguments_of_rule r)
+  pub front : (r : Rule ℕ) → slice_get rs rule ≡ Some r → IsTrue (is_useful flags r)
+      → AreDone marks (take argument (arguments_of_rule r))
 
 -- The step goes by one of these rules, which may be used, to an argument that isn't done, and all before it is.
 pub record IsNext (marks : List Mark) (flags : List Bool) (rs : List (Rule ℕ)) (step : Step) (next : ℕ) : Type 0 where
@@ -90,12 +97,13 @@ module _ (cap : ℕ) (cost : ℕ → ℕ) (book : List (List (Rule ℕ))) (flags
   abbrev pub IsAt : List Mark → Step → Type 0
   IsAt marks s = IsPassed marks flags (rules_at book s.goal) s.rule s.argument
 
-  -- The steps lead from a node to another one, each to a node from which none was taken. The nodes seen are those from which
-  -- steps were taken, the last one first.
+  -- The steps lead from a node to another one, each to a node from which none was taken. The nodes seen are those from
+  -- which steps were taken, the last one first.
   pub data Descends (marks : List Mark) : List ℕ → ℕ → List Step → List ℕ → ℕ → Type 0 where
     here : {seen : List ℕ} {i : ℕ} → Descends marks seen i [] seen i
     down : {seen later : List ℕ} {i m n : ℕ} {s : Step} {ss : List Step}
-        → s.goal ≡ i → LeadsTo book s m → IsAt marks s → (Contains (i ∷ seen) m → ⊥) → Descends marks (i ∷ seen) m ss later n → Descends marks seen i (s ∷ ss) later n
+        → s.goal ≡ i → LeadsTo book s m → IsAt marks s → (Contains (i ∷ seen) m → ⊥)
+        → Descends marks (i ∷ seen) m ss later n → Descends marks seen i (s ∷ ss) later n
 
   -- The open nodes are those of the path and the one that it leads to.
   pub record IsKept (s : State) : Type 0 where

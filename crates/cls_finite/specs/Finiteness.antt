@@ -38,10 +38,14 @@ module _ (book : List (List (Rule ℕ))) (cost : ℕ → ℕ) where
   pub record IsFirstStep (s : Step) (next : ℕ) : Type 0 where
     pub goes_on : GoesOn s next
     pub first_rule : (t : Step) (n : ℕ) → t.goal ≡ s.goal → t.rule < s.rule → GoesOn t n → ⊥
-    pub first_argument : (t : Step) (n : ℕ) → t.goal ≡ s.goal → t.rule ≡ s.rule → t.argument < s.argument → GoesOn t n → ⊥
+    pub first_argument : (t : Step) (n : ℕ) → t.goal ≡ s.goal → t.rule ≡ s.rule → t.argument < s.argument → GoesOn t n
+        → ⊥
 
-  -- The walk from a node on, after steps from the nodes seen: it ends with the first step that leads to the node of a step.
+  -- The walk from a node on, after steps from the nodes seen: it ends with the first step that leads to the node of a
+  -- step.
   pub data IsDetermined : List ℕ → ℕ → List Step → Type 0 where
-    comes_round : {seen : List ℕ} {i next : ℕ} {s : Step} → s.goal ≡ i → IsFirstStep s next → Contains (i ∷ seen) next → IsDetermined seen i (s ∷ [])
+    comes_round : {seen : List ℕ} {i next : ℕ} {s : Step}
+        → s.goal ≡ i → IsFirstStep s next → Contains (i ∷ seen) next → IsDetermined seen i (s ∷ [])
     walks_on : {seen : List ℕ} {i next : ℕ} {s : Step} {ss : List Step}
-        → s.goal ≡ i → IsFirstStep s next → (Contains (i ∷ seen) next → ⊥) → IsDetermined (i ∷ seen) next ss → IsDetermined seen i (s ∷ ss)
+        → s.goal ≡ i → IsFirstStep s next → (Contains (i ∷ seen) next → ⊥) → IsDetermined (i ∷ seen) next ss
+        → IsDetermined seen i (s ∷ ss)

@@ -1,14 +1,11 @@
 //! The greatest size of a term, by a depth-first search of the nodes from node 0 on.
 //!
-//! The search goes down from a node to the first argument of the first rule whose size isn't known yet. Only rules are used that
-//! have productive arguments alone. A node all arguments of which are known is done: its greatest size is that of its rules. If
-//! a step leads to a node that a step was taken from, the steps are a walk that comes round.
+//! The search goes down from a node to the first argument of the first rule whose size isn't known yet. Only rules are
+//! used that have productive arguments alone. A node all arguments of which are known is done: its greatest size is that
+//! of its rules. If a step leads to a node that a step was taken from, the steps are a walk that comes round.
 ghost use Rattle.std.specs.Prelude.{◌≡◌, ◌<◌, ◌≤◌, ◌↔◌, ℕ, List, [], ◌∷◌, ◌++◌, Some, IfOk, OnOk, IfSome, IfNone, IsTrue, length, slice_get, slice_set};
 ghost use Rattle.std.specs.Bool.{OnTrue, OnFalse};
-ghost use Rattle.cls_core.specs.Arguments.{arguments_of_rule};
-ghost use Rattle.cls_grammar.specs.Trimming.{is_useful};
 ghost use Rattle.cls_finite.specs.Descents.{first_step};
-ghost use Rattle.cls_base.specs.declared.rule.Rule as rule_type;
 ghost use Rattle.cls_term.specs.Costs.{cost_of};
 ghost use Rattle.cls_grammar.specs.Ranks.{AreProductive};
 ghost use Rattle.cls_finite.specs.declared.answer.FiniteAnswer.TheVariants.{Over};
@@ -80,7 +77,7 @@ fn first_step(node: u32) -> Step
 impl Descent {
     ghost use Rattle.cls_finite.specs.declared.descent.Mark.TheVariants.{Open, Done};
     ghost use Rattle.cls_finite.specs.Outcomes.{IsOutcome};
-    ghost use Rattle.cls_finite.specs.Descents.{IsKept, IsNext, IsPassed, begun, opened, AreDone, greatest_by};
+    ghost use Rattle.cls_finite.specs.Descents.{IsKept, IsNext, IsPassed, begun, opened, AllAreDone, greatest_by};
 
     // The search begins at node 0.
     fn begin(alloc: Global, count: u32) -> Result<Descent, OutOfMemory>
@@ -109,7 +106,7 @@ impl Descent {
     // The next step, and the node that it leads to.
     fn next(&self, flags: &Flags, rules: &[Rule<u32>]) -> Option<(Step, u32)>
         requires { IsPassed self.now.marks flags.now rules.now self.now.top.rule self.now.top.argument }
-        ensures none { IfNone result ((j : ℕ) (r : rule_type.Rule ℕ) → slice_get rules.now j ≡ Some r → IsTrue (is_useful flags.now r) → AreDone self.now.marks (arguments_of_rule r)) }
+        ensures none { IfNone result (AllAreDone self.now.marks flags.now rules.now) }
         ensures goal { IfSome result (λ m. m.0.goal ≡ self.now.top.goal) }
         ensures next { IfSome result (λ m. IsNext self.now.marks flags.now rules.now m.0 m.1) }
     {
@@ -222,9 +219,9 @@ fn answer_of(size: u64) -> FiniteAnswer
 
 /// How large the terms of node 0 are. A component that has no cost in the list costs 1. The only error is out of memory.
 ///
-/// `Finite` tells the greatest size. `Over` comes if and only if it is over [`MAX_FINITE_SIZE`], and `Infinite` if and only if
-/// there is none. Its walk goes at each node by the first rule that has only productive arguments and one whose terms have no
-/// bound, to the first such argument, until it comes to the node of a step.
+/// `Finite` tells the greatest size. `Over` comes if and only if it is over [`MAX_FINITE_SIZE`], and `Infinite` if and only
+/// if there is none. Its walk goes at each node by the first rule that has only productive arguments and one whose terms
+/// have no bound, to the first such argument, until it comes to the node of a step.
 pub fn finite<B: RuleBook>(
     alloc: Global,
     book: &B,
@@ -232,7 +229,8 @@ pub fn finite<B: RuleBook>(
 ) -> Result<FiniteAnswer, OutOfMemory>
     requires { HasPositiveCosts (B.book book.now) (cost_of costs.now) }
     ensures greatest { IfOk result (λ answer. IfFinite answer (IsGreatest (B.book book.now) (cost_of costs.now))) }
-    ensures over { IfOk result (λ answer. (answer ≡ Over) ↔ IsGreatestOver (B.book book.now) (cost_of costs.now) MAX_FINITE_SIZE) }
+    ensures over { IfOk result (λ answer.
+        (answer ≡ Over) ↔ IsGreatestOver (B.book book.now) (cost_of costs.now) MAX_FINITE_SIZE) }
     ensures infinite { IfOk result (λ answer. IsInfinite answer ↔ IsUnbounded (B.book book.now) (cost_of costs.now) 0) }
     ensures walk { IfOk result (λ answer. IfInfinite answer (IsDetermined (B.book book.now) (cost_of costs.now) [] 0)) }
 {

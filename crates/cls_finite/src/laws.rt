@@ -12,15 +12,18 @@ pub fn right_walks_show_long_terms()
 
 /// If each of some nodes has a step to one of them, each of them generates terms of unbounded length.
 pub fn endless_steps_show_long_terms()
-    ensures { (book : List (List (Rule ℕ))) (nodes : List ℕ) → GoOn book nodes → (i : ℕ) → Contains nodes i → HasLongTerms book i }
+    ensures { (book : List (List (Rule ℕ))) (nodes : List ℕ) → GoOn book nodes
+        → (i : ℕ) → Contains nodes i → HasLongTerms book i }
 {}
 
 /// Terms of unbounded length have unbounded size, if each component costs at least 1.
 pub fn long_terms_are_large()
-    ensures { (book : List (List (Rule ℕ))) (cost : ℕ → ℕ) (i : ℕ) → HasPositiveCosts book cost → HasLongTerms book i → IsUnbounded book cost i }
+    ensures { (book : List (List (Rule ℕ))) (cost : ℕ → ℕ) (i : ℕ) → HasPositiveCosts book cost → HasLongTerms book i
+        → IsUnbounded book cost i }
 {}
 
 /// The determined walk comes round, whatever the components cost.
 pub fn determined_walks_are_right()
-    ensures { (book : List (List (Rule ℕ))) (cost : ℕ → ℕ) (walk : List Step) → IsDetermined book cost [] 0 walk → IsRightWalk book walk }
+    ensures { (book : List (List (Rule ℕ))) (cost : ℕ → ℕ) (walk : List Step) → IsDetermined book cost [] 0 walk
+        → IsRightWalk book walk }
 {}

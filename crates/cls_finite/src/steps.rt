@@ -1,9 +1,8 @@
 //! Where the next step of a descent leads.
 ghost use Rattle.std.specs.Prelude.{◌≡◌, ◌<◌, ◌↔◌, ℕ, IsTrue, IfSome, IfNone, Some, slice_get, take};
-ghost use Rattle.cls_base.specs.declared.rule.Rule as rule_type;
 ghost use Rattle.cls_core.specs.Arguments.{arguments_of_rule};
 ghost use Rattle.cls_grammar.specs.Trimming.{is_useful};
-ghost use Rattle.cls_finite.specs.Descents.{IsDone, AreDone, IsPassed, IsNext};
+ghost use Rattle.cls_finite.specs.Descents.{IsDone, AreDone, AllAreDone, IsPassed, IsNext};
 
 use crate::descent::Mark;
 use crate::walk::Step;
@@ -66,7 +65,8 @@ fn undone_useful(
     from: usize,
 ) -> Option<(usize, u32)>
     requires { IsTrue (is_useful flags.now rule.now) → AreDone marks.now (take from (arguments_of_rule rule.now)) }
-    ensures none { IfNone result (IsTrue (is_useful flags.now rule.now) → AreDone marks.now (arguments_of_rule rule.now)) }
+    ensures none { IfNone result
+        (IsTrue (is_useful flags.now rule.now) → AreDone marks.now (arguments_of_rule rule.now)) }
     ensures useful { IfSome result (λ _. IsTrue (is_useful flags.now rule.now)) }
     ensures place { IfSome result (λ m. slice_get (arguments_of_rule rule.now) m.0 ≡ Some m.1) }
     ensures before { IfSome result (λ m. AreDone marks.now (take m.0 (arguments_of_rule rule.now))) }
@@ -79,8 +79,8 @@ fn undone_useful(
     }
 }
 
-/// The next step of the rules that may be used to an argument that isn't done, and that argument. All before the given step
-/// are done.
+/// The next step of the rules that may be used to an argument that isn't done, and that argument. All before the given
+/// step are done.
 pub(crate) fn next_step(
     marks: &[Mark],
     flags: &Flags,
@@ -88,7 +88,7 @@ pub(crate) fn next_step(
     top: Step,
 ) -> Option<(Step, u32)>
     requires { IsPassed marks.now flags.now rules.now top.rule top.argument }
-    ensures none { IfNone result ((j : ℕ) (r : rule_type.Rule ℕ) → slice_get rules.now j ≡ Some r → IsTrue (is_useful flags.now r) → AreDone marks.now (arguments_of_rule r)) }
+    ensures none { IfNone result (AllAreDone marks.now flags.now rules.now) }
     ensures goal { IfSome result (λ m. m.0.goal ≡ top.goal) }
     ensures next { IfSome result (λ m. IsNext marks.now flags.now rules.now m.0 m.1) }
 {

@@ -1,4 +1,4 @@
--- What the rows of a closure generate, where their rules are those of a typing.
+-- What the rows of a closure generate, if their rules are those of a typing.
 use Rattle.std.proofs.Common.{◌≡◌, ◌≢◌, ℕ, zero, suc, ◌+◌, ◌<◌, ◌≤◌, ◌↔◌, Bool, true, List, [], ◌∷◌, Option, None, Some, length, map, slice_get, refl, sym, ap, subst, ◌∙◌, arith, ◌⊎◌, inl, inr}
 use Rattle.std.specs.Prelude.{All, Contains}
 use Rattle.std.specs.List.{position_or_len}
@@ -205,7 +205,7 @@ module _ {G : Type 0} (eq : G → G → Bool) (exact : (x y : G) → eq x y ≡ 
       goal-at (q ∷ rs) zero r e = let f : q ≡ r = cc in ap (λ (x : Row G). Some x.goal) f
       goal-at (q ∷ rs) (suc i) r e = goal-at rs i r e
 
-  -- A node is productive exactly where some term has its goal.
+  -- A node is productive if and only if some term has its goal.
   pub node-productive : (i : ℕ) (r : Row G) → slice_get rows i ≡ Some r → IsProductiveIn (book_of rows) i ↔ ((e : Applicative) × HasGoal e r.goal)
   node-productive i r at =
       let p = productive_exactly ℕ (NodeRule (book_of rows)) i in

@@ -36,6 +36,6 @@ module _ (N : Type 0) (IsRule : N → Rule N → Type 0) where
     makes_trees done = (0, no_trees)
     makes_trees (next g a) = let u = makes_tree g in let v = makes_trees a in (max u.0 v.0, more_trees (tree_up u.1 (max u.0 v.0) (omega arith)) (trees_up v.1 (max u.0 v.0) (omega arith)))
 
-  -- a node is productive exactly where it generates a term
+  -- a node is productive if and only if it generates a term
   pub productive_exactly : (i : N) → IsProductive N IsRule i ↔ ((e : Applicative) × Generates N IsRule i e)
   productive_exactly i = ((λ p. tree_makes p.1), (λ g. makes_tree g.1))

@@ -37,7 +37,7 @@ module _ (R : ℕ → Rule ℕ → Type 0) where
   abbrev AllProductive : List ℕ → Type 0
   AllProductive ns = (n : ℕ) → Contains ns n → IsProductive ℕ R n
 
-  -- a rule whose arguments_of_rule are productive
+  -- a rule whose arguments are productive
   abbrev Useful : ℕ → Rule ℕ → Type 0
   Useful i r = R i r × AllProductive (arguments_of_rule r)
 

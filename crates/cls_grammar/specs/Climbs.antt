@@ -6,7 +6,8 @@ use Rattle.cls_core.specs.Arguments.{arguments_of_rule}
 use Rattle.cls_grammar.specs.Ranks.{HasTree}
 use Rattle.cls_grammar.specs.declared.ranking.Waiting.{Waiting}
 
--- the rank of each node where it is known, the nodes in the order in which it became known, and the rules that wait for each node
+-- the rank of each node if it is known, the nodes in the order in which it became known, and the rules that wait for
+-- each node
 pub record State : Type 0 where
   pub ranks : List (Option ℕ)
   pub known : List ℕ
@@ -16,13 +17,15 @@ abbrev pub begun : ℕ → State
 begun n = record { ranks = replicate n None; known = []; waiting = replicate n [] }
 
 abbrev pub with_rank : State → ℕ → ℕ → State
-with_rank s node rank = record { ranks = slice_set s.ranks node (Some rank); known = s.known ++ node ∷ []; waiting = s.waiting }
+with_rank s node rank =
+    record { ranks = slice_set s.ranks node (Some rank); known = s.known ++ node ∷ []; waiting = s.waiting }
 
 abbrev pub waits_at : State → ℕ → List Waiting
 waits_at s node = slice_index_or s.waiting node []
 
 abbrev pub with_waiting : State → ℕ → Waiting → State
-with_waiting s node w = record { ranks = s.ranks; known = s.known; waiting = slice_set s.waiting node (waits_at s node ++ w ∷ []) }
+with_waiting s node w =
+    record { ranks = s.ranks; known = s.known; waiting = slice_set s.waiting node (waits_at s node ++ w ∷ []) }
 
 abbrev pub without_waiting : State → ℕ → State
 without_waiting s node = record { ranks = s.ranks; known = s.known; waiting = slice_set s.waiting node [] }
@@ -54,7 +57,7 @@ all_waits node [] = []
 all_waits node (rs ∷ book) = node_waits node 0 rs ++ all_waits (suc node) book
 
 module _ (book : List (List (Rule ℕ))) where
-  -- the rule stands there, and its arguments_of_rule before the place are known
+  -- the rule stands there, and its arguments before the place are known
   pub record Stands (ranks : List (Option ℕ)) (height : ℕ) (w : Waiting) : Type 0 where
     pub rule : Rule ℕ
     pub there : slice_get (rules_at book w.node) w.rule ≡ Some rule

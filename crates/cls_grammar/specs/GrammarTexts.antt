@@ -34,7 +34,13 @@ module _ (component : ℕ → List ℕ) where
 
 -- the names of constructors
 abbrev pub goal_text : (ℕ → List ℕ) → ℕ → List TypePath → Option ℕ → List ℕ
-goal_text name i goal rank = line (codes "goal " ++ decimal i ++ codes " " ++ rank_text rank ++ codes " " ++ printed name 0 (type_of_paths (listed goal)))
+goal_text name i goal rank =
+    line (codes "goal " ++ decimal i ++ codes " " ++ rank_text rank ++ codes " " ++ printed name 0 (type_of_paths (listed goal)))
+
+-- the numbers of goals and rules
+abbrev pub counts_text : List (Row (List TypePath)) → List ℕ
+counts_text rows =
+    line (codes "grammar " ++ decimal (length rows) ++ codes " " ++ decimal (sum_by (λ r. rule_count r.answer) rows))
 
 -- the names of constructors and of components
 module _ (name component : ℕ → List ℕ) where
@@ -47,8 +53,7 @@ module _ (name component : ℕ → List ℕ) where
   rows_text i (r ∷ rs) (rank ∷ ranks) = row_text i r rank ++ rows_text (i + 1) rs ranks
 
   abbrev pub grammar_text : List (Row (List TypePath)) → List (Option ℕ) → List ℕ
-  grammar_text rows ranks = line (codes "grammar " ++ decimal (length rows) ++ codes " " ++ decimal (sum_by (λ r. rule_count r.answer) rows))
-      ++ rows_text 0 rows ranks ++ line (codes "done")
+  grammar_text rows ranks = counts_text rows ++ rows_text 0 rows ranks ++ line (codes "done")
 
   -- the text of the grammar with the ranks of its goals
   abbrev pub IsGrammarText : List (Row (List TypePath)) → List ℕ → Type 0
@@ -65,5 +70,7 @@ HaveComponentsBelow n (r ∷ rs) = HasComponentBelow n r × HaveComponentsBelow 
 
 -- the names and the components that occur in the grammar have numbers below these
 pub record AreNamed (names components : ℕ) (rows : List (Row (List TypePath))) : Type 0 where
-  pub names_known : (i : ℕ) (r : Row (List TypePath)) → slice_get rows i ≡ Some r → HasNamesBelow names (type_of_paths (listed r.goal))
-  pub components_known : (i : ℕ) (r : Row (List TypePath)) → slice_get rows i ≡ Some r → HaveComponentsBelow components (rules_of r.answer)
+  pub names_known : (i : ℕ) (r : Row (List TypePath)) → slice_get rows i ≡ Some r
+      → HasNamesBelow names (type_of_paths (listed r.goal))
+  pub components_known : (i : ℕ) (r : Row (List TypePath)) → slice_get rows i ≡ Some r
+      → HaveComponentsBelow components (rules_of r.answer)

@@ -1,5 +1,5 @@
--- To be read and believed: Faults, Grammars, GrammarTexts, Meanings, Ranks, Trimming. Internal: Climbs and Numberings, which
--- are how the code finds ranks and numbers.
+-- To be read and believed: Faults, Grammars, GrammarTexts, Meanings, Ranks, Trimming. Internal: Climbs and Numberings,
+-- which are how the code finds ranks and numbers.
 pub mod Climbs
 pub mod Faults
 pub mod Grammars

@@ -6,7 +6,8 @@ ghost use Rattle.cls_grammar.specs.Trimming.{is_flagged as flag_at};
 use cls_base::Rule;
 use std::marker::Model;
 
-/// A yes or no for each goal, seen as that list. It is made from a `Vec` and gives it back, neither of which takes memory.
+/// A yes or no for each goal, seen as that list. It is made from a `Vec` and gives it back, neither of which takes
+/// memory.
 #[derive(Drop)]
 pub struct Flags {
     items: Vec<bool>,
@@ -37,7 +38,8 @@ impl Flags {
         self.items.as_slice()
     }
 
-    /// Whether each argument of the rule has its flag. If the flags are those of productive goals, the rule then makes terms.
+    /// Whether each argument of the rule has its flag. If the flags are those of productive goals, the rule then makes
+    /// terms.
     pub fn is_useful(&self, rule: &Rule<u32>) -> bool
         ensures { result ≡ is_useful self.now rule.now }
     {
@@ -62,8 +64,8 @@ impl Flags {
     }
 }
 
-/// A rank for each goal that has one, seen as that list. It is made from a `Vec` and gives it back, neither of which takes
-/// memory.
+/// A rank for each goal that has one, seen as that list. It is made from a `Vec` and gives it back, neither of which
+/// takes memory.
 #[derive(Drop)]
 pub struct Ranks {
     items: Vec<Option<u32>>,

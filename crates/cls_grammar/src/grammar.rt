@@ -23,8 +23,8 @@ use cls_rulebook::RuleBook;
 use std::alloc::Global;
 use std::marker::Model;
 
-/// The rules of the goals that a start goal leads to, seen as the list of the goals with their rules. The arguments of the
-/// rules are numbers of goals, and goal 0 is the start.
+/// The rules of the goals that a start goal leads to, seen as the list of the goals with their rules. The arguments of
+/// the rules are numbers of goals, and goal 0 is the start.
 #[derive(Drop)]
 pub struct Grammar {
     pub(crate) goals: Vec<Nf>,
@@ -55,7 +55,7 @@ impl Grammar {
     ghost use Rattle.cls_core.specs.Rows.{Row};
 
     /// The grammar of rows: their goals and rules, numbered breadth first from the first row in the order of rules and
-    /// arguments. A row that is wide has no rules, so where some row is, the answer is the goal of the first one in this
+    /// arguments. A row that is wide has no rules. If some row is, the answer is the goal of the first one in this
     /// numbering.
     pub fn of(alloc: Global, rows: Rows<Nf>) -> Result<Grammar, GrammarFault>
         requires { MakeGrammar rows }
@@ -81,8 +81,8 @@ impl Grammar {
         Ok(productive(alloc, self)?)
     }
 
-    /// The grammar without the rules that have an unproductive argument: the same goals with the same numbers, each of which
-    /// generates the same terms. The only error is out of memory.
+    /// The grammar without the rules that have an unproductive argument: the same goals with the same numbers, each of
+    /// which generates the same terms. The only error is out of memory.
     pub fn trim(&self, alloc: Global) -> Result<Grammar, OutOfMemory>
         ensures trimmed { IfOk result (IsTrimmed self.now) }
         ensures languages { IfOk result (λ g. HaveSameLanguages (book_of self.now) (book_of g)) }
@@ -99,7 +99,8 @@ impl Grammar {
         components: &Names,
     ) -> Result<String, OutOfMemory>
         requires { AreNamed (length names.now) (length components.now) self.now }
-        ensures { IfOk result (λ text. IsGrammarText (name_in names.now) (name_in components.now) self.now (string_bytes text)) }
+        ensures { IfOk result (λ text.
+            IsGrammarText (name_in names.now) (name_in components.now) self.now (string_bytes text)) }
     {
         let ranks = self.ranks(alloc)?;
         let mut text = String::new(alloc);

@@ -3,8 +3,8 @@ ghost use Rattle.cls_grammar.specs.Meanings.{LanguagesAreTypings, ProductiveGoal
 
 use crate::TypedExpand;
 
-/// If an expander's answers are the rules of a typing, and no goal of a closure is wide, then each goal of its canonical
-/// grammar generates exactly the terms that have it.
+/// If an expander's answers are the rules of a typing, and no goal of a closure is wide, then each goal of its
+/// canonical grammar generates exactly the terms that have it.
 pub fn languages_are_typings<E: TypedExpand>()
     ensures { (tag : E.Tag) → LanguagesAreTypings (E.has tag) E.Goal.eq (E.answers tag) (E.ready tag) }
 {}

@@ -1,7 +1,7 @@
 //! The tree grammar of a goal: the goals that it leads to, each with its rules, as a rule book.
 //!
-//! - [`Grammar`] is the grammar, and [`GrammarFault`] says why rows make none. [`Ranks`] and [`Flags`] are what it answers of
-//!   each goal.
+//! - [`Grammar`] is the grammar, and [`GrammarFault`] says why rows make none. [`Ranks`] and [`Flags`] are what it
+//!   answers of each goal.
 //! - [`productive`] says of each node of any rule book whether it has a derivation tree.
 //! - [`TypedExpand`] is an expander whose answers are the rules of a typing of terms.
 //! - [`laws`] says what the languages of a grammar's goals are.

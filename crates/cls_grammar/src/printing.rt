@@ -6,7 +6,7 @@ ghost use Rattle.cls_path.specs.Paths.{TypePath, listed, type_of_paths};
 ghost use Rattle.cls_core.specs.Arguments.{rule_count};
 ghost use Rattle.cls_core.specs.Rows.{Row};
 ghost use Rattle.cls_syntax.specs.TypePrinting.{name_in, HasNamesBelow};
-ghost use Rattle.cls_grammar.specs.GrammarTexts.{numbers_text, line, rank_text, rule_text, rules_text, goal_text, row_text, rows_text, grammar_text, HasComponentBelow, HaveComponentsBelow, AreNamed};
+ghost use Rattle.cls_grammar.specs.GrammarTexts.{counts_text, numbers_text, line, rank_text, rule_text, rules_text, goal_text, row_text, rows_text, grammar_text, HasComponentBelow, HaveComponentsBelow, AreNamed};
 
 use crate::grammar::Grammar;
 use cls_base::{Name, OutOfMemory, Rule};
@@ -47,7 +47,8 @@ fn write_numbers(numbers: &[u32], text: &mut String) -> Result<(), OutOfMemory>
 // Writes the line of a rule.
 fn write_rule(components: &Names, rule: &Rule<u32>, text: &mut String) -> Result<(), OutOfMemory>
     requires { HasComponentBelow (length components.now) rule.now }
-    ensures { OnOk result (string_bytes text.new ≡ string_bytes text.old ++ line (rule_text (name_in components.now) rule.now)) }
+    ensures { OnOk result (string_bytes text.new ≡ string_bytes text.old ++
+        line (rule_text (name_in components.now) rule.now)) }
 {
     match rule {
         Rule::Head { component, args } => {
@@ -75,7 +76,8 @@ fn write_rules(
     text: &mut String,
 ) -> Result<(), OutOfMemory>
     requires { HaveComponentsBelow (length components.now) rules.now }
-    ensures { OnOk result (string_bytes text.new ≡ string_bytes text.old ++ rules_text (name_in components.now) rules.now) }
+    ensures { OnOk result (string_bytes text.new ≡ string_bytes text.old ++
+        rules_text (name_in components.now) rules.now) }
 {
     for rule in rules {
         write_rule(components, rule, text)?;
@@ -110,7 +112,8 @@ fn write_goal(
     text: &mut String,
 ) -> Result<(), OutOfMemory>
     requires { HasNamesBelow (length names.now) (type_of_paths (listed goal.now)) }
-    ensures { OnOk result (string_bytes text.new ≡ string_bytes text.old ++ goal_text (name_in names.now) number goal.now rank) }
+    ensures { OnOk result (string_bytes text.new ≡ string_bytes text.old ++
+        goal_text (name_in names.now) number goal.now rank) }
 {
     let ty = type_of(alloc, goal)?;
     text.push_str("goal ")?;
@@ -134,7 +137,9 @@ fn write_row(
 ) -> Result<(), OutOfMemory>
     requires within { number < length grammar.now }
     requires named { AreNamed (length tables.now.names.now) (length tables.now.components.now) grammar.now }
-    ensures { OnOk result ((r : Row (List TypePath)) → slice_get grammar.now number ≡ Some r → string_bytes text.new ≡ string_bytes text.old ++ row_text (name_in tables.now.names.now) (name_in tables.now.components.now) number r rank) }
+    ensures { OnOk result ((r : Row (List TypePath)) → slice_get grammar.now number ≡ Some r
+        → string_bytes text.new ≡ string_bytes text.old ++
+        row_text (name_in tables.now.names.now) (name_in tables.now.components.now) number r rank) }
 {
     write_goal(
         alloc,
@@ -158,7 +163,8 @@ fn write_rows(
 ) -> Result<(), OutOfMemory>
     requires paired { length ranks.now ≡ length grammar.now }
     requires named { AreNamed (length tables.now.names.now) (length tables.now.components.now) grammar.now }
-    ensures { OnOk result (string_bytes text.new ≡ string_bytes text.old ++ rows_text (name_in tables.now.names.now) (name_in tables.now.components.now) 0 grammar.now ranks.now) }
+    ensures { OnOk result (string_bytes text.new ≡ string_bytes text.old ++
+        rows_text (name_in tables.now.names.now) (name_in tables.now.components.now) 0 grammar.now ranks.now) }
 {
     for number in 0..grammar.count() {
         let rank = ranks[number as usize];
@@ -180,7 +186,7 @@ fn rule_total(grammar: &Grammar) -> u128
 
 // Writes the line with the numbers of goals and rules.
 fn write_counts(grammar: &Grammar, text: &mut String) -> Result<(), OutOfMemory>
-    ensures { OnOk result (string_bytes text.new ≡ string_bytes text.old ++ line (codes "grammar " ++ decimal (length grammar.now) ++ codes " " ++ decimal (sum_by (λ (r : Row (List TypePath)). rule_count r.answer) grammar.now))) }
+    ensures { OnOk result (string_bytes text.new ≡ string_bytes text.old ++ counts_text grammar.now) }
 {
     text.push_str("grammar ")?;
     write_number(grammar.count(), text)?;
@@ -201,7 +207,8 @@ pub(crate) fn write_grammar(
 ) -> Result<(), OutOfMemory>
     requires paired { length ranks.now ≡ length grammar.now }
     requires named { AreNamed (length tables.now.names.now) (length tables.now.components.now) grammar.now }
-    ensures { OnOk result (string_bytes text.new ≡ string_bytes text.old ++ grammar_text (name_in tables.now.names.now) (name_in tables.now.components.now) grammar.now ranks.now) }
+    ensures { OnOk result (string_bytes text.new ≡ string_bytes text.old ++
+        grammar_text (name_in tables.now.names.now) (name_in tables.now.components.now) grammar.now ranks.now) }
 {
     write_counts(grammar, text)?;
     write_rows(alloc, tables, grammar, ranks, text)?;

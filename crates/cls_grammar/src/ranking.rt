@@ -1,7 +1,7 @@
 //! The ranks of the nodes of a rule book, found from the least on.
 //!
-//! A rule waits for the first of its arguments_of_rule that isn't known yet. Where a node becomes known, each rule that waits for it
-//! goes on to its next such argument, and one that has none gives its own node a rank. So each argument is passed once.
+//! A rule waits for the first of its arguments that isn't known yet. When a node becomes known, each rule that waits for
+//! it goes on to its next such argument, and one that has none gives its own node a rank. So each argument is passed once.
 ghost use Rattle.std.specs.Prelude.{◌≡◌, ◌<◌, ◌≤◌, ◌+◌, ◌^◌, ◌↔◌, ℕ, List, [], ◌∷◌, ◌++◌, Option, Some, None, IsTrue, IfOk, OnOk, IfSome, IfNone, length, slice_get, take, map, is_some, option_copied};
 ghost use Rattle.cls_base.specs.Languages.{rules_at};
 ghost use Rattle.cls_base.specs.Lists.{AreBelow};
@@ -65,7 +65,7 @@ impl Queue {
 /// How far the ranks are known.
 #[derive(Drop)]
 pub(crate) struct Climb {
-    // The rank of each node, where it is known.
+    // The rank of each node, if it is known.
     ranks: Vec<Option<u32>>,
     // The nodes whose rank is known, in the order in which it became known.
     known: Vec<u32>,
@@ -92,7 +92,7 @@ fn is_known(ranks: &[Option<u32>], node: u32, height: u32) -> bool
     }
 }
 
-// The first of the arguments_of_rule that isn't known, and its place. Those before the given place are known.
+// The first of the arguments that isn't known, and its place. Those before the given place are known.
 fn first_unknown(
     ranks: &[Option<u32>],
     nodes: &[u32],
@@ -196,7 +196,8 @@ impl Climb {
         requires within { node < length self.old.ranks }
         requires small { slice_get self.old.ranks node ≡ Some None → height + 1 < 2 ^ 32 }
         ensures known { (r : ℕ) → slice_get self.old.ranks node ≡ Some (Some r) → OnOk result (self.new ≡ self.old) }
-        ensures new { slice_get self.old.ranks node ≡ Some None → OnOk result (self.new ≡ with_rank self.old node (height + 1)) }
+        ensures new { slice_get self.old.ranks node ≡ Some None
+            → OnOk result (self.new ≡ with_rank self.old node (height + 1)) }
     {
         if self.ranks[node as usize].is_none() {
             self.known.push(node)?;
@@ -213,7 +214,9 @@ impl Climb {
         height: u32,
     ) -> Result<(), OutOfMemory>
         requires { (done : ℕ) × (todo : List Waiting) × IsKept (B.book book.now) done height (waiting ∷ todo) self.old }
-        ensures { OnOk result ((done : ℕ) (todo : List Waiting) → IsKept (B.book book.now) done height (waiting ∷ todo) self.old → IsKept (B.book book.now) done height todo self.new) }
+        ensures { OnOk result ((done : ℕ) (todo : List Waiting)
+            → IsKept (B.book book.now) done height (waiting ∷ todo) self.old
+            → IsKept (B.book book.now) done height todo self.new) }
     {
         let rule = rule_at(book.rules(waiting.node), waiting.rule);
         let Some((argument, node)) = self.next_unknown(rule, waiting.argument, height) else {
@@ -237,7 +240,9 @@ impl Climb {
         height: u32,
     ) -> Result<(), OutOfMemory>
         requires { (done : ℕ) × IsKept (B.book book.now) done height queue.now self.old }
-        ensures { OnOk result ((done : ℕ) → IsKept (B.book book.now) done height queue.now self.old → IsKept (B.book book.now) done height [] self.new) }
+        ensures { OnOk result ((done : ℕ)
+            → IsKept (B.book book.now) done height queue.now self.old
+            → IsKept (B.book book.now) done height [] self.new) }
     {
         for waiting in queue {
             self.advance(book, *waiting, height)?;
@@ -248,8 +253,11 @@ impl Climb {
     // Each rule of the node begins.
     fn start_node<B: RuleBook>(&mut self, book: &B, node: u32) -> Result<(), OutOfMemory>
         requires within { node < length (B.book book.now) }
-        requires kept { (todo : List Waiting) × IsKept (B.book book.now) 0 0 (node_waits node 0 (rules_at (B.book book.now) node) ++ todo) self.old }
-        ensures { OnOk result ((todo : List Waiting) → IsKept (B.book book.now) 0 0 (node_waits node 0 (rules_at (B.book book.now) node) ++ todo) self.old → IsKept (B.book book.now) 0 0 todo self.new) }
+        requires kept { (todo : List Waiting)
+            × IsKept (B.book book.now) 0 0 (node_waits node 0 (rules_at (B.book book.now) node) ++ todo) self.old }
+        ensures { OnOk result ((todo : List Waiting)
+            → IsKept (B.book book.now) 0 0 (node_waits node 0 (rules_at (B.book book.now) node) ++ todo) self.old
+            → IsKept (B.book book.now) 0 0 todo self.new) }
     {
         for rule in 0..book.rules(node).len() {
             let waiting = Waiting {
