@@ -5,7 +5,7 @@ use Rattle.std.proofs.lemmas.Bool.Decides.{nat_tests}
 use Rattle.cls_base.specs.Languages.{rules_at}
 use Rattle.cls_base.specs.declared.rule.Rule.{Rule}
 use Rattle.cls_base.specs.declared.rule.Rule.TheVariants.{Head, Any}
-use Rattle.cls_grammar.specs.Books.{HasNodesBelow, HaveNodesBelow}
+use Rattle.cls_rulebook.specs.Books.{HasNodesBelow, HaveNodesBelow}
 use Rattle.cls_base.specs.Lists.{AreBelow}
 use Rattle.cls_enum.specs.HandBooks.{are_nodes, is_within, are_within, all_within}
 

@@ -19,7 +19,7 @@ use crate::listed::Page;
 use crate::plan::{NodePlans, plans};
 use crate::shelf::{Shelf, make_node};
 use cls_base::{Numbers, OutOfMemory};
-use cls_grammar::RuleBook;
+use cls_rulebook::RuleBook;
 use cls_term::{Bank, Term};
 use std::alloc::Global;
 

@@ -5,7 +5,7 @@ ghost use Rattle.cls_enum.specs.Plans.{IsBarren, AllReady, AreReady, AreFree, Is
 
 use cls_base::limits::MAX_TERM_LENGTH;
 use cls_base::{Numbers, OutOfMemory, Rule};
-use cls_grammar::RuleBook;
+use cls_rulebook::RuleBook;
 use std::alloc::Global;
 use std::marker::Model;
 

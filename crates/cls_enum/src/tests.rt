@@ -8,7 +8,7 @@ mod pages;
 
 use super::*;
 use cls_base::Numbers;
-use cls_grammar::OmegaBook;
+use cls_rulebook::OmegaBook;
 use cls_term::{Term, Terms};
 use std::alloc::Global;
 use std::test::Fail;

@@ -1,1 +1,9 @@
-pub mod Books
+pub mod Additions
+pub mod Advances
+pub mod Climbing
+pub mod Meaning
+pub mod Places
+pub mod PrintedRows
+pub mod RowColumns
+pub mod Trees
+pub mod Trims

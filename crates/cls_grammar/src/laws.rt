@@ -1,10 +1,15 @@
-//! What holds of every rule book of a kind, as calls that do nothing and promise the law.
-ghost use Rattle.std.specs.Prelude.{ℕ, ◌↔◌};
-ghost use Rattle.cls_base.specs.Terms.{Applicative, IsTermOver};
-ghost use Rattle.cls_base.specs.Languages.{IsGenerated};
-ghost use Rattle.cls_grammar.specs.Books.{omega_book};
+//! What holds of the grammar of every goal, as calls that do nothing and promise the law.
+ghost use Rattle.cls_grammar.specs.Meanings.{LanguagesAreTypings, ProductiveGoalsHaveTerms};
 
-/// The rule book of omega generates exactly the terms over its components.
-pub fn omega_book_generates_all_terms()
-    ensures { (n : ℕ) (e : Applicative) → IsGenerated (omega_book n) 0 e ↔ IsTermOver n e }
+use crate::TypedExpand;
+
+/// If an expander's answers are the rules of a typing, and no goal of a closure is wide, then each goal of its
+/// canonical grammar generates exactly the terms that have it.
+pub fn languages_are_typings<E: TypedExpand>()
+    ensures { (tag : E.Tag) → LanguagesAreTypings (E.has tag) E.Goal.eq (E.answers tag) (E.ready tag) }
+{}
+
+/// There a goal is productive if and only if some term has it, so it is unproductive if and only if none does.
+pub fn productive_goals_have_terms<E: TypedExpand>()
+    ensures { (tag : E.Tag) → ProductiveGoalsHaveTerms (E.has tag) E.Goal.eq (E.answers tag) (E.ready tag) }
 {}

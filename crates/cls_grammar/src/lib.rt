@@ -1,15 +1,24 @@
-//! Rule books: the rules of each node, from which the terms of its language are made.
+//! The tree grammar of a goal: the goals that it leads to, each with its rules, as a rule book.
 //!
-//! - [`RuleBook`] is what a listing of terms asks of a rule book.
-//! - [`OmegaBook`] is the rule book of the goal omega, which every term meets.
-//! - [`laws`] says what its language is.
+//! - [`Grammar`] is the grammar, and [`GrammarFault`] says why rows make none. [`Ranks`] and [`Flags`] are what it
+//!   answers of each goal.
+//! - [`productive`] says of each node of any rule book whether it has a derivation tree.
+//! - [`TypedExpand`] is an expander whose answers are the rules of a typing of terms.
+//! - [`laws`] says what the languages of a grammar's goals are.
 #![tactic(auto)]
 
+mod columns;
+mod fault;
+mod grammar;
 pub mod laws;
-mod omega_book;
-mod rule_book;
-#[cfg(test)]
-mod tests;
+mod numbering;
+mod printing;
+mod ranking;
+mod trimming;
+mod typed_expand;
 
-pub use omega_book::OmegaBook;
-pub use rule_book::RuleBook;
+pub use columns::{Flags, Ranks};
+pub use fault::GrammarFault;
+pub use grammar::Grammar;
+pub use ranking::productive;
+pub use typed_expand::TypedExpand;

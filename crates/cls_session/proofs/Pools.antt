@@ -18,8 +18,8 @@ use Rattle.cls_enum.specs.declared.fault.PageFault.TheVariants.{OutOfMemory, Too
 use Rattle.cls_enum.specs.Faults.{IfTooMany}
 use Rattle.cls_enum.specs.States.{ExceedsPool, FitsPool}
 use Rattle.cls_enum.proofs.Existence.{each_page-decided}
-use Rattle.cls_grammar.specs.Books.{omega_book}
-use Rattle.cls_grammar.proofs.Books.{omega_book-language}
+use Rattle.cls_rulebook.specs.Books.{omega_book}
+use Rattle.cls_rulebook.proofs.Books.{omega_book-language}
 use Rattle.cls_session.specs.Listings.{omega_request, IsCounted, CountIs, IsPool, AreFew, AreMany}
 use Rattle.cls_session.proofs.Typing.{due_to, due_back, page_to}
 

@@ -4,7 +4,7 @@ use Rattle.std.specs.Prelude.{◌⊎◌}
 use Rattle.std.proofs.lemmas.Bool.{cases_lt}
 use Rattle.cls_base.specs.Limits.{max_components, max_pool}
 use Rattle.cls_base.specs.Terms.{IsTermOver}
-use Rattle.cls_grammar.specs.Books.{omega_book}
+use Rattle.cls_rulebook.specs.Books.{omega_book}
 use Rattle.cls_enum.proofs.Existence.{each_page-exists}
 use Rattle.cls_session.specs.declared.status.Status.{Status}
 use Rattle.cls_session.specs.declared.status.Status.TheVariants.{Done, Refused}

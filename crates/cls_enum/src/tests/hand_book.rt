@@ -3,7 +3,7 @@ ghost use Rattle.cls_base.specs.declared.rule.Rule.{Rule};
 ghost use Rattle.cls_enum.specs.HandBooks.{are_nodes, is_within, are_within, all_within};
 
 use cls_base::{Goals, OutOfMemory, Rule, Rules};
-use cls_grammar::RuleBook;
+use cls_rulebook::RuleBook;
 use std::alloc::Global;
 
 /// A rule book that a test makes: the rules of each node.

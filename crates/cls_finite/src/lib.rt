@@ -1,0 +1,21 @@
+//! Whether finitely many terms have a goal, and how large the largest is.
+//!
+//! - [`finite`] answers a [`FiniteAnswer`]: the greatest size of a term, or a walk that shows that there is none.
+//! - [`Walk`] is a list of [`Step`]s from goal to argument goal. [`right_walk`] says whether it comes round.
+//! - [`laws`] says what a walk that comes round shows.
+#![tactic(auto)]
+
+mod answer;
+mod descent;
+pub mod laws;
+mod right;
+mod sizes;
+mod steps;
+#[cfg(test)]
+mod tests;
+mod walk;
+
+pub use answer::{FiniteAnswer, MAX_FINITE_SIZE};
+pub use descent::finite;
+pub use right::right_walk;
+pub use walk::{Step, Walk};

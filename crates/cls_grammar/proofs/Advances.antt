@@ -1,0 +1,56 @@
+-- How a rule goes on, as the code does it.
+use Rattle.std.proofs.Common.{◌≡◌, ℕ, ◌+◌, ◌<◌, ◌≤◌, List, ◌∷◌, Option, None, Some, length, take, slice_get, sym, ap, subst, arith}
+use Rattle.std.proofs.lemmas.Option.{slice_get_within}
+use Rattle.cls_base.specs.declared.rule.Rule.{Rule}
+use Rattle.cls_base.specs.Languages.{rules_at}
+use Rattle.cls_base.specs.Lists.{AreBelow}
+use Rattle.cls_core.proofs.Columns.{get-some}
+use Rattle.cls_core.specs.Arguments.{arguments_of_rule}
+use Rattle.cls_grammar.specs.declared.ranking.Waiting.{Waiting}
+use Rattle.cls_grammar.specs.Climbs.{State, with_rank, with_waiting, IsKnown, AllKnown, IsReady, IsKept}
+use Rattle.cls_grammar.proofs.Climbing.{first, arguments-within, argument-within, kept-known, kept-rank-new, kept-waiting}
+use Rattle.cls_rulebook.specs.Books.{HaveNodesBelow}
+
+rule-equal : (rs all : List (Rule ℕ)) (j : ℕ) (q r : Rule ℕ) → rs ≡ all → slice_get rs j ≡ Some q → slice_get all j ≡ Some r → q ≡ r
+rule-equal rs all j q r e f g = let h = subst (λ l. slice_get l j ≡ Some q) e f in cc
+
+module _ (book : List (List (Rule ℕ))) (done height : ℕ) (w : Waiting) (todo : List Waiting) (s : State) (k : IsKept book done height (w ∷ todo) s) where
+  abbrev ready : IsReady book s.ranks height w
+  ready = first book done height w todo s k
+
+  pub rule-less : (rs : List (Rule ℕ)) → rs ≡ rules_at book w.node → w.rule < length rs
+  rule-less rs e = omega (arith, slice_get_within (rules_at book w.node) w.rule ready.stands.rule ready.stands.there, ap length e)
+
+  module _ (rs : List (Rule ℕ)) (q : Rule ℕ) (e : rs ≡ rules_at book w.node) (at : slice_get rs w.rule ≡ Some q) where
+    same : q ≡ ready.stands.rule
+    same = rule-equal rs (rules_at book w.node) w.rule q ready.stands.rule e at ready.stands.there
+
+    pub next-nodes : HaveNodesBelow (length book) (rules_at book w.node) → AreBelow (length s.ranks) (arguments_of_rule q)
+    next-nodes h = let P : ℕ → Rule ℕ → Type 0 = λ n r. AreBelow n (arguments_of_rule r) in subst (λ r. P (length s.ranks) r) (sym same) (subst (λ n. P n ready.stands.rule) (sym k.sized) (arguments-within book ready.stands.rule w.node w.rule h ready.stands.there))
+
+    pub next-within : w.argument ≤ length (arguments_of_rule q)
+    next-within = let P : Rule ℕ → Type 0 = λ r. w.argument ≤ length (arguments_of_rule r) in subst P (sym same) ready.within
+
+    pub next-front : AllKnown s.ranks height (take w.argument (arguments_of_rule q))
+    next-front = let P : Rule ℕ → Type 0 = λ r. AllKnown s.ranks height (take w.argument (arguments_of_rule r)) in subst P (sym same) ready.stands.before
+
+    pub argument-less : (p a : ℕ) → HaveNodesBelow (length book) (rules_at book w.node) → slice_get (arguments_of_rule q) p ≡ Some a → a < length s.waiting
+    argument-less p a h f =
+        let P : Rule ℕ → Type 0 = λ r. slice_get (arguments_of_rule r) p ≡ Some a in
+        let l = argument-within book ready.stands.rule w.node w.rule p a h ready.stands.there (subst P same f) in
+        omega (arith, k.queues)
+
+    pub kept-reached : AllKnown s.ranks height (arguments_of_rule q) → w.node < length s.ranks → (t : State) → ((r : ℕ) → slice_get s.ranks w.node ≡ Some (Some r) → t ≡ s) → (slice_get s.ranks w.node ≡ Some None → t ≡ with_rank s w.node (height + 1)) → IsKept book done height todo t
+    kept-reached all less t known new = let u = get-some s.ranks w.node less in by u.0 u.1
+      where
+        by : (o : Option ℕ) → slice_get s.ranks w.node ≡ Some o → IsKept book done height todo t
+        by (Some r) at = subst (IsKept book done height todo) (sym (known r at)) (kept-known book done height w todo s k r at)
+        by None at =
+            let P : Rule ℕ → Type 0 = λ r. AllKnown s.ranks height (arguments_of_rule r) in
+            subst (IsKept book done height todo) (sym (new at)) (kept-rank-new book done height w todo s k at (subst P same all))
+
+    pub kept-waits : (p a : ℕ) (v : Waiting) → v.node ≡ w.node → v.rule ≡ w.rule → v.argument ≡ p → slice_get (arguments_of_rule q) p ≡ Some a → AllKnown s.ranks height (take p (arguments_of_rule q)) → (IsKnown s.ranks height a → ⊥) → a < length s.waiting → (t : State) → t ≡ with_waiting s a v → IsKept book done height todo t
+    kept-waits p a v en er ep f before unknown less t e =
+        let P : Rule ℕ → Type 0 = λ r. slice_get (arguments_of_rule r) p ≡ Some a in
+        let Q : Rule ℕ → Type 0 = λ r. AllKnown s.ranks height (take p (arguments_of_rule r)) in
+        subst (IsKept book done height todo) (sym e) (kept-waiting book done height w todo s k p a v en er ep (subst P same f) (subst Q same before) unknown less)

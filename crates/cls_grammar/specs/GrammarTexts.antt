@@ -1,0 +1,76 @@
+-- The text of a grammar.
+use Rattle.std.specs.Prelude.{◌≡◌, ℕ, ◌+◌, ◌<◌, List, [], ◌∷◌, ◌++◌, length, codes, flat_map, slice_get, Option, Some, None}
+use Rattle.std.specs.Fmt.{decimal}
+use Rattle.std.specs.List.{sum_by}
+use Rattle.cls_path.specs.Paths.{TypePath, listed, type_of_paths}
+use Rattle.cls_syntax.specs.TypePrinting.{HasNamesBelow, printed}
+use Rattle.cls_core.specs.Arguments.{rules_of, rule_count}
+use Rattle.cls_core.specs.Rows.{Row}
+use Rattle.cls_base.specs.declared.rule.Rule.{Rule}
+use Rattle.cls_base.specs.declared.rule.Rule.TheVariants.{Head, Any}
+use Rattle.cls_grammar.specs.Grammars.{book_of}
+use Rattle.cls_grammar.specs.Ranks.{AreRanks}
+
+-- the numbers, each after a space
+abbrev pub numbers_text : List ℕ → List ℕ
+numbers_text ns = flat_map (λ n. codes " " ++ decimal n) ns
+
+abbrev pub line : List ℕ → List ℕ
+line text = text ++ 10 ∷ []
+
+abbrev pub rank_text : Option ℕ → List ℕ
+rank_text None = codes "empty"
+rank_text (Some h) = codes "rank " ++ decimal h
+
+-- the names of components
+module _ (component : ℕ → List ℕ) where
+  abbrev pub rule_text : Rule ℕ → List ℕ
+  rule_text (Head x ns) = codes "rule " ++ component x ++ numbers_text ns
+  rule_text (Any l m) = codes "any " ++ decimal l ++ codes " " ++ decimal m
+
+  -- a line for each rule
+  abbrev pub rules_text : List (Rule ℕ) → List ℕ
+  rules_text rs = flat_map (λ r. line (rule_text r)) rs
+
+-- the names of constructors
+abbrev pub goal_text : (ℕ → List ℕ) → ℕ → List TypePath → Option ℕ → List ℕ
+goal_text name i goal rank =
+    line (codes "goal " ++ decimal i ++ codes " " ++ rank_text rank ++ codes " " ++ printed name 0 (type_of_paths (listed goal)))
+
+-- the numbers of goals and rules
+abbrev pub counts_text : List (Row (List TypePath)) → List ℕ
+counts_text rows =
+    line (codes "grammar " ++ decimal (length rows) ++ codes " " ++ decimal (sum_by (λ r. rule_count r.answer) rows))
+
+-- the names of constructors and of components
+module _ (name component : ℕ → List ℕ) where
+  abbrev pub row_text : ℕ → Row (List TypePath) → Option ℕ → List ℕ
+  row_text i r rank = goal_text name i r.goal rank ++ rules_text component (rules_of r.answer)
+
+  abbrev pub rows_text : ℕ → List (Row (List TypePath)) → List (Option ℕ) → List ℕ
+  rows_text i [] ranks = []
+  rows_text i (r ∷ rs) [] = []
+  rows_text i (r ∷ rs) (rank ∷ ranks) = row_text i r rank ++ rows_text (i + 1) rs ranks
+
+  abbrev pub grammar_text : List (Row (List TypePath)) → List (Option ℕ) → List ℕ
+  grammar_text rows ranks = counts_text rows ++ rows_text 0 rows ranks ++ line (codes "done")
+
+  -- the text of the grammar with the ranks of its goals
+  abbrev pub IsGrammarText : List (Row (List TypePath)) → List ℕ → Type 0
+  IsGrammarText rows text = (ranks : List (Option ℕ)) × AreRanks (book_of rows) ranks × (text ≡ grammar_text rows ranks)
+
+-- the component of the rule has a number below n
+abbrev pub HasComponentBelow : ℕ → Rule ℕ → Type 0
+HasComponentBelow n (Head x ns) = x < n
+HasComponentBelow n (Any l m) = Unit {0}
+
+abbrev pub HaveComponentsBelow : ℕ → List (Rule ℕ) → Type 0
+HaveComponentsBelow n [] = Unit {0}
+HaveComponentsBelow n (r ∷ rs) = HasComponentBelow n r × HaveComponentsBelow n rs
+
+-- the names and the components that occur in the grammar have numbers below these
+pub record AreNamed (names components : ℕ) (rows : List (Row (List TypePath))) : Type 0 where
+  pub names_known : (i : ℕ) (r : Row (List TypePath)) → slice_get rows i ≡ Some r
+      → HasNamesBelow names (type_of_paths (listed r.goal))
+  pub components_known : (i : ℕ) (r : Row (List TypePath)) → slice_get rows i ≡ Some r
+      → HaveComponentsBelow components (rules_of r.answer)

@@ -1,0 +1,352 @@
+//! The ranks of the nodes of a rule book, found from the least on.
+//!
+//! A rule waits for the first of its arguments that isn't known yet. When a node becomes known, each rule that waits for
+//! it goes on to its next such argument, and one that has none gives its own node a rank. So each argument is passed once.
+ghost use Rattle.std.specs.Prelude.{◌≡◌, ◌<◌, ◌≤◌, ◌+◌, ◌^◌, ◌↔◌, ℕ, List, [], ◌∷◌, ◌++◌, Option, Some, None, IsTrue, IfOk, OnOk, IfSome, IfNone, length, slice_get, take, map, is_some, option_copied};
+ghost use Rattle.cls_base.specs.Languages.{rules_at};
+ghost use Rattle.cls_base.specs.Lists.{AreBelow};
+ghost use Rattle.cls_core.specs.Arguments.{arguments_of_rule};
+ghost use Rattle.cls_grammar.specs.Ranks.{AreRanks, AreProductive};
+ghost use Rattle.cls_grammar.specs.Climbs.{IsKnown, AllKnown};
+
+use crate::columns::Flags;
+use cls_base::{OutOfMemory, Rule};
+use cls_rulebook::RuleBook;
+use std::alloc::Global;
+use std::marker::Model;
+use std::mem;
+
+/// A rule of a node that waits for one of its arguments.
+#[derive(Clone, Copy, Drop)]
+pub(crate) struct Waiting {
+    pub(crate) node: u32,
+    pub(crate) rule: usize,
+    pub(crate) argument: usize,
+}
+
+/// Rules that wait, seen as the list of them.
+#[derive(Drop)]
+pub(crate) struct Queue {
+    items: Vec<Waiting>,
+}
+
+impl Model for Queue {
+    ghost use Rattle.std.specs.Prelude.{List};
+    ghost use Rattle.cls_grammar.specs.declared.ranking.Waiting.{Waiting};
+
+    ghost Value = { List Waiting };
+
+    ghost view = { λ q. q.items.items };
+}
+
+impl Queue {
+    fn new(alloc: Global) -> Queue
+        ensures { result ≡ [] }
+    {
+        Queue {
+            items: Vec::new(alloc),
+        }
+    }
+
+    fn push(&mut self, waiting: Waiting) -> Result<(), OutOfMemory>
+        ensures { OnOk result (self.new ≡ self.old ++ waiting ∷ []) }
+    {
+        self.items.push(waiting)?;
+        Ok(())
+    }
+
+    fn as_slice(&self) -> &[Waiting]
+        ensures { result.now ≡ self.now }
+    {
+        self.items.as_slice()
+    }
+}
+
+/// How far the ranks are known.
+#[derive(Drop)]
+pub(crate) struct Climb {
+    // The rank of each node, if it is known.
+    ranks: Vec<Option<u32>>,
+    // The nodes whose rank is known, in the order in which it became known.
+    known: Vec<u32>,
+    // The rules that wait for each node.
+    waiting: Vec<Queue>,
+}
+
+impl Model for Climb {
+    ghost use Rattle.cls_grammar.specs.Climbs.{State};
+
+    ghost Value = { State };
+
+    ghost view = { λ c. record { ranks = c.ranks.items; known = c.known.items; waiting = c.waiting.items } };
+}
+
+// Whether the rank of the node is known and no more than the height.
+fn is_known(ranks: &[Option<u32>], node: u32, height: u32) -> bool
+    requires { node < length ranks.now }
+    ensures { IsTrue result ↔ IsKnown ranks.now height node }
+{
+    match ranks[node as usize] {
+        Some(rank) => rank <= height,
+        None => false,
+    }
+}
+
+// The first of the arguments that isn't known, and its place. Those before the given place are known.
+fn first_unknown(
+    ranks: &[Option<u32>],
+    nodes: &[u32],
+    from: usize,
+    height: u32,
+) -> Option<(usize, u32)>
+    requires nodes { AreBelow (length ranks.now) nodes.now }
+    requires within { from ≤ length nodes.now }
+    requires front { AllKnown ranks.now height (take from nodes.now) }
+    ensures none { IfNone result (AllKnown ranks.now height nodes.now) }
+    ensures place { IfSome result (λ m. slice_get nodes.now m.0 ≡ Some m.1) }
+    ensures before { IfSome result (λ m. AllKnown ranks.now height (take m.0 nodes.now)) }
+    ensures unknown { IfSome result (λ m. IsKnown ranks.now height m.1 → ⊥) }
+{
+    for place in from..nodes.len() {
+        let node = nodes[place];
+        if !is_known(ranks, node, height) {
+            return Some((place, node));
+        }
+    }
+    None
+}
+
+// The rule at the place.
+fn rule_at(rules: &[Rule<u32>], place: usize) -> &Rule<u32>
+    requires { place < length rules.now }
+    ensures { slice_get rules.now place ≡ Some result.now }
+{
+    &rules[place]
+}
+
+impl Climb {
+    ghost use Rattle.cls_grammar.specs.declared.ranking.Waiting.{Waiting};
+    ghost use Rattle.cls_grammar.specs.Climbs.{State, IsKept, begun, with_rank, with_waiting, without_waiting, waits_at, node_waits, all_waits};
+
+    // Nothing is known.
+    fn begin(alloc: Global, count: u32) -> Result<Climb, OutOfMemory>
+        ensures { IfOk result (λ climb. climb ≡ begun count) }
+    {
+        let mut ranks = Vec::with_capacity(alloc, count as usize)?;
+        let mut waiting = Vec::with_capacity(alloc, count as usize)?;
+        for _ in 0..count {
+            ranks.push(None)?;
+            waiting.push(Queue::new(alloc))?;
+        }
+        Ok(Climb {
+            ranks,
+            known: Vec::new(alloc),
+            waiting,
+        })
+    }
+
+    // The first argument of the rule that isn't known, and its place. Those before the given place are known.
+    fn next_unknown(&self, rule: &Rule<u32>, from: usize, height: u32) -> Option<(usize, u32)>
+        requires nodes { AreBelow (length self.now.ranks) (arguments_of_rule rule.now) }
+        requires within { from ≤ length (arguments_of_rule rule.now) }
+        requires front { AllKnown self.now.ranks height (take from (arguments_of_rule rule.now)) }
+        ensures none { IfNone result (AllKnown self.now.ranks height (arguments_of_rule rule.now)) }
+        ensures place { IfSome result (λ m. slice_get (arguments_of_rule rule.now) m.0 ≡ Some m.1) }
+        ensures before { IfSome result (λ m. AllKnown self.now.ranks height (take m.0 (arguments_of_rule rule.now))) }
+        ensures unknown { IfSome result (λ m. IsKnown self.now.ranks height m.1 → ⊥) }
+    {
+        let ranks = self.ranks.as_slice();
+        match rule {
+            Rule::Head { component: _, args } => {
+                first_unknown(ranks, args.as_slice(), from, height)
+            }
+            Rule::Any { left, right } => first_unknown(ranks, &[*left, *right], from, height),
+        }
+    }
+
+    // The rank of the node, which is known.
+    fn rank(&self, node: u32) -> u32
+        requires { (rank : ℕ) × (slice_get self.now.ranks node ≡ Some (Some rank)) }
+        ensures { slice_get self.now.ranks node ≡ Some (Some result) }
+    {
+        self.ranks[node as usize].unwrap()
+    }
+
+    // The rule waits for the node.
+    fn wait(&mut self, node: u32, waiting: Waiting) -> Result<(), OutOfMemory>
+        requires { node < length self.old.waiting }
+        ensures { OnOk result (self.new ≡ with_waiting self.old node waiting) }
+    {
+        let queue = &mut self.waiting[node as usize];
+        queue.push(waiting)?;
+        Ok(())
+    }
+
+    // The rules that wait for the node, which no longer do.
+    fn take_waiting(&mut self, alloc: Global, node: u32) -> Queue
+        requires { node < length self.old.waiting }
+        ensures result { result ≡ waits_at self.old node }
+        ensures after { self.new ≡ without_waiting self.old node }
+    {
+        mem::replace(&mut self.waiting[node as usize], Queue::new(alloc))
+    }
+
+    // The node has a derivation tree that is one higher than the height. Where its rank isn't known, it is this.
+    fn reach(&mut self, node: u32, height: u32) -> Result<(), OutOfMemory>
+        requires within { node < length self.old.ranks }
+        requires small { slice_get self.old.ranks node ≡ Some None → height + 1 < 2 ^ 32 }
+        ensures known { (r : ℕ) → slice_get self.old.ranks node ≡ Some (Some r) → OnOk result (self.new ≡ self.old) }
+        ensures new { slice_get self.old.ranks node ≡ Some None
+            → OnOk result (self.new ≡ with_rank self.old node (height + 1)) }
+    {
+        if self.ranks[node as usize].is_none() {
+            self.known.push(node)?;
+            self.ranks[node as usize] = Some(height + 1);
+        }
+        Ok(())
+    }
+
+    // The rule goes on from the argument for which it waited.
+    fn advance<B: RuleBook>(
+        &mut self,
+        book: &B,
+        waiting: Waiting,
+        height: u32,
+    ) -> Result<(), OutOfMemory>
+        requires { (done : ℕ) × (todo : List Waiting) × IsKept (B.book book.now) done height (waiting ∷ todo) self.old }
+        ensures { OnOk result ((done : ℕ) (todo : List Waiting)
+            → IsKept (B.book book.now) done height (waiting ∷ todo) self.old
+            → IsKept (B.book book.now) done height todo self.new) }
+    {
+        let rule = rule_at(book.rules(waiting.node), waiting.rule);
+        let Some((argument, node)) = self.next_unknown(rule, waiting.argument, height) else {
+            self.reach(waiting.node, height)?;
+            return Ok(());
+        };
+        let next = Waiting {
+            node: waiting.node,
+            rule: waiting.rule,
+            argument,
+        };
+        self.wait(node, next)?;
+        Ok(())
+    }
+
+    // Rules go on, one after the other.
+    fn advance_all<B: RuleBook>(
+        &mut self,
+        book: &B,
+        queue: &[Waiting],
+        height: u32,
+    ) -> Result<(), OutOfMemory>
+        requires { (done : ℕ) × IsKept (B.book book.now) done height queue.now self.old }
+        ensures { OnOk result ((done : ℕ)
+            → IsKept (B.book book.now) done height queue.now self.old
+            → IsKept (B.book book.now) done height [] self.new) }
+    {
+        for waiting in queue {
+            self.advance(book, *waiting, height)?;
+        }
+        Ok(())
+    }
+
+    // Each rule of the node begins.
+    fn start_node<B: RuleBook>(&mut self, book: &B, node: u32) -> Result<(), OutOfMemory>
+        requires within { node < length (B.book book.now) }
+        requires kept { (todo : List Waiting)
+            × IsKept (B.book book.now) 0 0 (node_waits node 0 (rules_at (B.book book.now) node) ++ todo) self.old }
+        ensures { OnOk result ((todo : List Waiting)
+            → IsKept (B.book book.now) 0 0 (node_waits node 0 (rules_at (B.book book.now) node) ++ todo) self.old
+            → IsKept (B.book book.now) 0 0 todo self.new) }
+    {
+        for rule in 0..book.rules(node).len() {
+            let waiting = Waiting {
+                node,
+                rule,
+                argument: 0,
+            };
+            self.advance(book, waiting, 0)?;
+        }
+        Ok(())
+    }
+
+    // Each rule begins.
+    fn start<B: RuleBook>(&mut self, book: &B) -> Result<(), OutOfMemory>
+        requires { IsKept (B.book book.now) 0 0 (all_waits 0 (B.book book.now)) self.old }
+        ensures { OnOk result (IsKept (B.book book.now) 0 0 [] self.new) }
+    {
+        for node in 0..book.count() {
+            self.start_node(book, node)?;
+        }
+        Ok(())
+    }
+
+    // The node that became known at the place.
+    fn known_at(&self, place: usize) -> Option<u32>
+        ensures { result ≡ slice_get self.now.known place }
+    {
+        self.known.get(place).copied()
+    }
+
+    // The rules that wait for the node, which became known at the place, go on.
+    fn rise<B: RuleBook>(
+        &mut self,
+        alloc: Global,
+        book: &B,
+        place: usize,
+        node: u32,
+    ) -> Result<(), OutOfMemory>
+        requires node { slice_get self.old.known place ≡ Some node }
+        requires kept { (height : ℕ) × IsKept (B.book book.now) place height [] self.old }
+        ensures { OnOk result ((height : ℕ) × IsKept (B.book book.now) (place + 1) height [] self.new) }
+    {
+        let height = self.rank(node);
+        let queue = self.take_waiting(alloc, node);
+        self.advance_all(book, queue.as_slice(), height)?;
+        Ok(())
+    }
+
+    fn into_ranks(self) -> Vec<Option<u32>>
+        ensures { result.items ≡ self.ranks }
+    {
+        let Climb {
+            ranks,
+            known: _,
+            waiting: _,
+        } = self;
+        ranks
+    }
+}
+
+/// The rank of each node, None for one that isn't productive. The only error is out of memory.
+pub(crate) fn ranks_of<B: RuleBook>(
+    alloc: Global,
+    book: &B,
+) -> Result<Vec<Option<u32>>, OutOfMemory>
+    ensures { IfOk result (λ ranks. AreRanks (B.book book.now) ranks.items) }
+{
+    let mut climb = Climb::begin(alloc, book.count())?;
+    climb.start(book)?;
+    let mut place = 0;
+    while let Some(node) = climb.known_at(place) {
+        climb.rise(alloc, book, place, node)?;
+        place += 1;
+    }
+    Ok(climb.into_ranks())
+}
+
+// Whether each rank is there.
+fn flags_of(alloc: Global, ranks: &[Option<u32>]) -> Result<Vec<bool>, OutOfMemory>
+    ensures { IfOk result (λ flags. flags.items ≡ map is_some ranks.now) }
+{
+    let flags = ranks.iter().map(|rank| rank.is_some()).collect(alloc)?;
+    Ok(flags)
+}
+
+/// Whether each node of the rule book is productive: whether it has a derivation tree. The only error is out of memory.
+pub fn productive<B: RuleBook>(alloc: Global, book: &B) -> Result<Flags, OutOfMemory>
+    ensures { IfOk result (AreProductive (B.book book.now)) }
+{
+    let ranks = ranks_of(alloc, book)?;
+    Ok(Flags::new(flags_of(alloc, ranks.as_slice())?))
+}
