@@ -8,6 +8,7 @@
 
 mod below;
 mod feed;
+mod groups;
 mod key;
 mod label;
 pub mod laws;
