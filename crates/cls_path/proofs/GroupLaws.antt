@@ -309,6 +309,19 @@ module _ (test : ℕ → ℕ → Bool) (variance : ℕ → Variance) where
     canonical_distinct [] s h = distinct_none (comparable test variance)
     canonical_distinct (p ∷ n) s h = IsDistinct-cons (comparable test variance) p n (leads_apart p n s.0 s.1 h.1) (canonical_distinct n s.1 h.2)
 
+    -- one path is least
+    pub reduced_one : (paths : List TypePath) → length paths ≤ 1 → SuitsAll variance (listed paths) → IsReduced test variance paths paths
+    reduced_one paths l s = record {
+      within = λ p c. c;
+      apart = one_distinct paths l;
+      lower = covers_subset (Below test) variance reflexive transitive (listed paths) (listed paths) s (λ q i. i);
+    }
+      where
+        one_distinct : (n : List TypePath) → length n ≤ 1 → IsDistinct (comparable test variance) n
+        one_distinct [] l = distinct_none (comparable test variance)
+        one_distinct (p ∷ []) l = IsDistinct-cons (comparable test variance) p [] tt (distinct_none (comparable test variance))
+        one_distinct (p ∷ q ∷ n) l = absurd (omega arith)
+
     -- all paths are put into a normal list
     pub reduced_of :
         (paths out : List TypePath) → Remains (Below test) variance (listed paths) (listed out) none

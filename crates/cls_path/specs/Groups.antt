@@ -1,4 +1,4 @@
--- internal: paths in groups, such that no path is below one of another group. So each group is made less by itself.
+-- internal: paths in groups, such that no path is below one of another group. So the least paths of each group are those of all.
 use Rattle.std.specs.Prelude.{ℕ, ◌≡◌, ◌⊎◌, ◌↔◌, Bool, false, ◌||◌, List, [], ◌∷◌, Contains}
 use Rattle.std.specs.List.{IsDistinct}
 use Rattle.cls_base.specs.Taxonomies.{Variance}

@@ -1,5 +1,6 @@
-//! Least paths, found group by group. Paths that differ in the class of their head, or in the class of names where each
-//! path of a group has one there, are not below each other. So only paths of one group are compared.
+//! Least paths, found group by group: if one path is below another, their heads have one class. So have the names inside
+//! them and those of their sources, where each path of a group has names of one class there. Only paths of one group are
+//! compared.
 ghost use Rattle.std.specs.Prelude.{◌≡◌, ◌⊎◌, ◌↔◌, ◌++◌, Contains, IfOk, OnOk};
 ghost use Rattle.cls_base.specs.Taxa.{Below};
 ghost use Rattle.cls_path.specs.Paths.{TypePath, SuitsAll, listed};
@@ -15,7 +16,7 @@ use indexmap::IndexSet;
 use std::alloc::Global;
 use std::marker::Model;
 
-/// So many paths are compared at once.
+/// So many paths are compared pairwise at once.
 const FEW: usize = 16;
 
 /// Paths with one key, seen as the list of them.
@@ -37,8 +38,9 @@ impl Model for Group {
     ghost view = { λ g. g.paths.items };
 }
 
-/// The paths that no other one is below, each once, in no order. They are grouped `rounds` times: once by their heads alone,
-/// twice by the spans of their labels that are one number in each, too. The only error is out of memory.
+/// The paths that no other one is below, each once, in no order. With 2 `rounds` they are grouped by the classes of their
+/// heads, and each group then has one round: by the spans that are one number in the labels of all its paths. With none,
+/// as in groups of few paths, they are compared pairwise. The only error is out of memory.
 pub(crate) fn reduced<T: Taxa>(
     alloc: Global,
     taxa: &T,
@@ -51,6 +53,9 @@ pub(crate) fn reduced<T: Taxa>(
     ensures { IfOk result (λ least.
         IsReduced (T.is_below taxa.now) (T.variance_of_name taxa.now) paths.items least.items) }
 {
+    if paths.len() <= 1 {
+        return Ok(paths);
+    }
     if rounds == 0 || paths.len() <= FEW {
         return pairwise(alloc, taxa, paths);
     }

@@ -16,7 +16,5 @@ mod make;
 mod meet;
 mod order;
 mod path;
-#[cfg(test)]
-mod tests;
 
 pub use path::{Form, Nf, Path};

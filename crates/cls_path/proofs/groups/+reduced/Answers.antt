@@ -6,7 +6,7 @@ use Rattle.cls_path.specs.NormalForms.{EachCanonical}
 use Rattle.cls_path.specs.Groups.{IsReduced}
 use Rattle.cls_path.proofs.Ascending.{in_contained, contained_in}
 use Rattle.cls_path.proofs.Remains.{suits_within, canonical_within}
-use Rattle.cls_path.proofs.GroupLaws.{AreJoined, joined_first, joined_held, joined_more, joined_all}
+use Rattle.cls_path.proofs.GroupLaws.{AreJoined, joined_first, joined_held, joined_more, joined_all, reduced_one}
 use Rattle.cls_path.proofs.groups.+reduced.Goals as goal
 
 pub loop-group-init : goal.loop-group-init
@@ -50,3 +50,11 @@ returns g t c =
     let n = c.args.paths.items in
     let e : c.loop-group.groups.items ≡ [] = search rules in
     joined_all b v (met.reflexive x) (met.transitive x) (met.one_variance x) n c.loop-group.least.items (subst (λ y. AreJoined b v n y c.loop-group.least.items) e c.loop-group.invariant)
+
+pub returns-then-len-le1 : goal.returns-then-len-le1
+returns-then-len-le1 g t c =
+    let b = g.T.Taxa.is_below c.args.taxa.now in
+    let v = g.T.Taxa.variance_of_name c.args.taxa.now in
+    let met = g.met.T.Taxa in
+    let x = c.args.taxa.now in
+    reduced_one b v (met.reflexive x) (met.transitive x) (met.one_variance x) c.args.paths.items (omega (arith, c.len.ensures, c.if-len-le1.true)) c.requires.suits
