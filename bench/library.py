@@ -91,6 +91,8 @@ fn kinds(alloc: Global, width: u32) -> Result<Kinds, OutOfMemory> {
     put(&mut kinds, 1, wides(alloc, 0, 16, 1)?)?;
     put(&mut kinds, 2, wides(alloc, 100, 16, 1)?)?;
     put(&mut kinds, 3, wides(alloc, 200, 16, 1)?)?;
+    put(&mut kinds, 6, wides(alloc, 0, 64, 1)?)?;
+    put(&mut kinds, 7, wides(alloc, 100, 64, 1)?)?;
     put(&mut kinds, 4, wides(alloc, 0, width, 341)?)?;
     put(&mut kinds, 5, fans(alloc, 0, width, 170)?)?;
     Ok(kinds)
@@ -103,6 +105,17 @@ fn long(alloc: Global) -> Result<Schema, OutOfMemory> {
         schema = arrow(alloc, name(alloc, number)?, schema)?;
     }
     arrow(alloc, Schema::Var(Name(0)), schema)
+}
+
+/// Two arrows from the variables 6 and 7 to 36 names.
+fn many(alloc: Global) -> Result<Schema, OutOfMemory> {
+    let mut target = name(alloc, 8_000_000)?;
+    for number in 1..36 {
+        let left = Box::new(alloc, target)?;
+        target = Schema::Meet(left, Box::new(alloc, name(alloc, 8_000_000 + number)?)?);
+    }
+    let inner = arrow(alloc, Schema::Var(Name(7)), target)?;
+    arrow(alloc, Schema::Var(Name(6)), inner)
 }
 
 fn three(alloc: Global) -> Result<Schema, OutOfMemory> {
@@ -133,7 +146,14 @@ fn schema(alloc: Global, case: u32) -> Result<Schema, OutOfMemory> {
         4 => Ok(Schema::Var(Name(4))),
         5 => Ok(Schema::Var(Name(5))),
         6 => long(alloc),
-        _ => tower(alloc),
+        7 => tower(alloc),
+        8 => many(alloc),
+        _ => {
+            let pair = Box::new(alloc, name(alloc, 0)?)?;
+            let pair = Schema::Meet(pair, Box::new(alloc, name(alloc, 1)?)?);
+            let one = Box::new(alloc, arrow(alloc, pair, name(alloc, 8_000_000)?)?)?;
+            Ok(Schema::Meet(one, Box::new(alloc, many(alloc)?)?))
+        }
     }
 }
 
@@ -196,6 +216,9 @@ CASES = [
     ("27 instances of 341 names", 4, 27, 0, 1, 1),
     ("55 instances of 170 arrows to one name", 5, 55, 0, 1, 1),
     ("32 arguments, the first of 4,096 names", 6, 1, 0, 1, 1),
+    ("two arrows from 64 names each to 36 names", 8, 1, 0, 1, 1),
+    ("the same, 32 pairs of names", 8, 1, 32, 1, 1),
+    ("the same beside an arrow from two names", 9, 1, 0, 1, 1),
     ("a tower of seven arrows", 7, 1, 0, 1, 1),
     ("77 of them, of which 76 fit", 7, 1, 0, 77, 76),
 ]

@@ -15,7 +15,7 @@ use cls_base::limits::MAX_LIBRARY_WEIGHT;
 use cls_base::{OutOfMemory, Schema, Ty};
 use cls_kind::{Kinds, instances};
 use cls_norm::normal;
-use cls_path::{Nf, Path};
+use cls_path::Path;
 use cls_taxon::Taxonomy;
 use std::alloc::Global;
 
@@ -72,16 +72,16 @@ fn put_instance(
     if weight > MAX_LIBRARY_WEIGHT {
         return Err(LibraryKind::LibraryTooLarge);
     }
-    put_paths(paths, &nf, alloc)?;
+    put_paths(paths, nf.into_paths())?;
     Ok(weight)
 }
 
-/// Puts copies of the paths behind the others.
-fn put_paths(paths: &mut Vec<Path>, nf: &Nf, alloc: Global) -> Result<(), OutOfMemory>
-    ensures { OnOk result (paths.new.items ≡ paths.old.items ++ nf.now) }
+/// Puts the paths behind the others.
+fn put_paths(paths: &mut Vec<Path>, more: Vec<Path>) -> Result<(), OutOfMemory>
+    ensures { OnOk result (paths.new.items ≡ paths.old.items ++ more.items) }
 {
-    for path in nf.paths() {
-        paths.push(path.copy(alloc)?)?;
+    for path in more {
+        paths.push(path)?;
     }
     Ok(())
 }

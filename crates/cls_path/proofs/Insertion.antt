@@ -47,7 +47,7 @@ in_placed p (q ∷ n) r i = elim (is_lt (path_order p q)) as (λ v. In r (listed
     past _ first_in f = first_in
     past r (later_in j) f = later_in (f r j)
 
-placed_in : (p : TypePath) (n : List TypePath) (r : TypePath) → In r (listed (place p n)) → (r ≡ p) ⊎ In r (listed n)
+pub placed_in : (p : TypePath) (n : List TypePath) (r : TypePath) → In r (listed (place p n)) → (r ≡ p) ⊎ In r (listed n)
 placed_in p [] r i = only r i
   where
     only : (r : TypePath) → In r (more p none) → (r ≡ p) ⊎ In r none
@@ -73,7 +73,7 @@ placed_in p (q ∷ n) r i = step (is_lt (path_order p q)) i (λ x j. placed_in p
     step true j f = at_head r j
     step false j f = past r j f
 
-filtered_in : (f : TypePath → Bool) (n : List TypePath) (r : TypePath) → In r (listed (filter f n)) → In r (listed n)
+pub filtered_in : (f : TypePath → Bool) (n : List TypePath) (r : TypePath) → In r (listed (filter f n)) → In r (listed n)
 filtered_in f [] r i = i
 filtered_in f (q ∷ n) r i = step (f q) i (λ x j. filtered_in f n x j)
   where

@@ -1,13 +1,19 @@
 -- Paths that are below each other have labels that admit it.
-use Rattle.std.proofs.Common.{◌≡◌, refl, sym, ◌∙◌, ap, subst, ℕ, ◌≤◌, Bool, true, false, List, [], ◌∷◌, map, insert, arith, rules}
-use Rattle.std.specs.Prelude.{nat_le}
+use Rattle.std.proofs.Common.{◌≡◌, refl, sym, ◌∙◌, ap, subst, ℕ, ◌≤◌, Bool, true, false, List, [], ◌∷◌, map, insert, inl, inr, eqb-true, arith, rules}
+use Rattle.std.specs.Prelude.{nat_le, ◌&&◌, ◌==◌, Contains}
 use Rattle.std.proofs.lemmas.Bool.{and_from, false≢true}
 use Rattle.std.proofs.lemmas.Bool.Decides.{nat_tests}
 use Rattle.cls_base.specs.Taxonomies.{Variance}
 use Rattle.cls_base.specs.Taxa.{Below}
+use Rattle.cls_base.proofs.Lists.{Contains-nil, Contains-cases}
+use Rattle.cls_path.specs.declared.label.Label.{Label}
+use Rattle.cls_path.specs.declared.label.Mask.{Mask}
 use Rattle.cls_path.specs.declared.label.Span.{Span}
+use Rattle.cls_path.specs.contracts.label.SpanPartialEq.TheImpl as spans
+use Rattle.cls_path.specs.contracts.label.LabelPartialEq.TheImpl.{eq-value}
+use Rattle.std.specs.Cmp.Rules.{comparing}
 use Rattle.cls_path.specs.Paths.{TypePath, atom, inside, unit, left, right, function, sealed, Paths, none, more, PathLe, atoms, inside_atom, insides, units, left_unit, right_unit, lefts, rights, functions, contravariants, invariants, SomeLe, here, there, PathsLe, empty, each, Suits}
-use Rattle.cls_path.specs.Labels.{no_span, one_span, join, plus, within, names_of, head_of, inner_of, join_all, all_names_of, sources_of, first_of, later_of, label_of, admits}
+use Rattle.cls_path.specs.Labels.{no_span, one_span, join, plus, within, names_of, head_of, inner_of, join_all, all_names_of, sources_of, first_of, later_of, label_of, admits, when, narrowed, masked, key_of, mask_from, Fits}
 use Rattle.cls_path.specs.Tests.{path_below}
 use Rattle.std.proofs.lemmas.List.{drop-map, take-map, map-append}
 use Rattle.cls_path.specs.Insertion.{some_above, without_above}
@@ -44,6 +50,44 @@ within_in s t h = and_from _ _ (passes t.low s.low h.0) (passes s.high t.high h.
   where
     passes : (a b : ℕ) → a ≤ b → nat_le a b ≡ true
     passes a b h = grind (arith, nat_tests)
+
+single_same : {s t : Span} → IsIn s t → s.low ≡ s.high → t.low ≡ t.high → s ≡ t
+single_same {s} {t} h e f =
+    let low : s.low ≡ t.low = omega (arith, h.0, h.1) in
+    let high : s.high ≡ t.high = omega (arith, h.0, h.1) in
+    λ i. record { low = low i; high = high i }
+
+when_same : (kept : Bool) {s t : Span} → (kept ≡ true → s ≡ t) → when s kept ≡ when t kept
+when_same true h = h refl
+when_same false h = refl
+
+-- each span of the first mask is one of the second
+abbrev IsLess : Mask → Mask → Type 0
+IsLess m k = (m.inner ≡ true → k.inner ≡ true) × (m.first ≡ true → k.first ≡ true) × (m.later ≡ true → k.later ≡ true)
+
+less_trans : {m k l : Mask} → IsLess m k → IsLess k l → IsLess m l
+less_trans h g = (λ e. g.0 (h.0 e), λ e. g.1 (h.1 e), λ e. g.2 (h.2 e))
+
+less_fits : {m k : Mask} (l : Label) → IsLess m k → Fits k l → Fits m l
+less_fits l h f = (λ e. f.0 (h.0 e), λ e. f.1 (h.1 e), λ e. f.2 (h.2 e))
+
+left_true : (a b : Bool) → (a && b) ≡ true → a ≡ true
+left_true true b e = refl
+left_true false b e = cc
+
+right_true : (a b : Bool) → (a && b) ≡ true → b ≡ true
+right_true true b e = e
+right_true false b e = cc
+
+narrowed_less : (m : Mask) (l : Label) → IsLess (narrowed m l) m
+narrowed_less m l = (left_true m.inner _, left_true m.first _, left_true m.later _)
+
+narrowed_fits : (m : Mask) (l : Label) → Fits (narrowed m l) l
+narrowed_fits m l = (
+  λ e. eqb-true _ _ (right_true m.inner _ e),
+  λ e. eqb-true _ _ (right_true m.first _ e),
+  λ e. eqb-true _ _ (right_true m.later _ e),
+)
 
 module _ (class : ℕ → ℕ) where
   names_low : (p : TypePath) → (names_of class p).low ≤ 18446744073709551615
@@ -126,18 +170,18 @@ module _ (class : ℕ → ℕ) where
     later_below (contravariants v w b k) = same_in refl
     later_below (invariants v w b h k) = same_in refl
 
-    head_above : {p q : TypePath} → PathLe below variance p q → IsIn (head_of class q) (head_of class p)
-    head_above (atoms {c = c} {d = d} b) = one_in c d b
-    head_above (inside_atom {c = c} {d = d} b) = one_in c d b
-    head_above (insides {c = c} {d = d} b h) = one_in c d b
-    head_above units = same_in refl
-    head_above left_unit = same_in refl
-    head_above right_unit = same_in refl
-    head_above (lefts h) = same_in refl
-    head_above (rights h) = same_in refl
-    head_above (functions k h) = head_above h
-    head_above (contravariants {c = c} {d = d} v w b k) = one_in c d b
-    head_above (invariants {c = c} {d = d} v w b h k) = one_in c d b
+    head_same : {p q : TypePath} → PathLe below variance p q → head_of class p ≡ head_of class q
+    head_same (atoms {c = c} {d = d} b) = ap one_span (one_class c d b)
+    head_same (inside_atom {c = c} {d = d} b) = ap one_span (one_class c d b)
+    head_same (insides {c = c} {d = d} b h) = ap one_span (one_class c d b)
+    head_same units = refl
+    head_same left_unit = refl
+    head_same right_unit = refl
+    head_same (lefts h) = refl
+    head_same (rights h) = refl
+    head_same (functions k h) = head_same h
+    head_same (contravariants {c = c} {d = d} v w b k) = ap one_span (one_class c d b)
+    head_same (invariants {c = c} {d = d} v w b h k) = ap one_span (one_class c d b)
 
     inner_above : {p q : TypePath} → PathLe below variance p q → IsIn (inner_of class q) (inner_of class p)
     inner_above (atoms b) = same_in refl
@@ -154,7 +198,30 @@ module _ (class : ℕ → ℕ) where
 
     pub le_admitted : {p q : TypePath} → PathLe below variance p q → admits (label_of class p) (label_of class q) ≡ true
     le_admitted {p} {q} h =
-        and_from _ _ (within_in _ _ (head_above h)) (and_from _ _ (within_in _ _ (inner_above h)) (and_from _ _ (within_in _ _ (first_below h)) (within_in _ _ (later_below h))))
+        and_from _ _ (within_in _ _ (same_in (sym (head_same h)))) (and_from _ _ (within_in _ _ (inner_above h)) (and_from _ _ (within_in _ _ (first_below h)) (within_in _ _ (later_below h))))
+
+    -- paths have one key if one is below the other and the spans of the mask are one number in both
+    pub key_same :
+        (m : Mask) {p q : TypePath} → PathLe below variance p q → Fits m (label_of class p) → Fits m (label_of class q)
+        → key_of class m p ≡ key_of class m q
+    key_same m {p} {q} h f g =
+        let heads = head_same h in
+        let inners = when_same m.inner (λ e. sym (single_same (inner_above h) (g.0 e) (f.0 e))) in
+        let firsts = when_same m.first (λ e. single_same (first_below h) (f.1 e) (g.1 e)) in
+        let laters = when_same m.later (λ e. single_same (later_below h) (f.2 e) (g.2 e)) in
+        λ i. record { head = heads i; inner = inners i; first = firsts i; later = laters i }
+
+  -- what is one number in all labels is so in each
+  pub mask_fits : (m : Mask) (n : List TypePath) (p : TypePath) → Contains n p → Fits (mask_from class m n) (label_of class p)
+  mask_fits m [] p c = absurd (Contains-nil p c)
+  mask_fits m (q ∷ n) p c = elim (Contains-cases q n p c) [
+    | inl e ↦ less_fits (label_of class p) (mask_less (narrowed m (label_of class q)) n) (subst (λ x. Fits (narrowed m (label_of class q)) (label_of class x)) (sym e) (narrowed_fits m (label_of class q)))
+    | inr k ↦ mask_fits (narrowed m (label_of class q)) n p k
+  ]
+    where
+      mask_less : (m : Mask) (n : List TypePath) → IsLess (mask_from class m n) m
+      mask_less m [] = (λ e. e, λ e. e, λ e. e)
+      mask_less m (r ∷ n) = less_trans (mask_less (narrowed m (label_of class r)) n) (narrowed_less m (label_of class r))
 
 -- a pair that labels don't admit is told apart by the test
 module _ (class : ℕ → ℕ) (test : ℕ → ℕ → Bool) (variance : ℕ → Variance) (reflexive : (c : ℕ) → Below test c c) (transitive : (c d e : ℕ) → Below test c d → Below test d e → Below test c e) (one_variance : (c d : ℕ) → Below test c d → variance c ≡ variance d) (one_class : (c d : ℕ) → Below test c d → class c ≡ class d) where
@@ -176,3 +243,27 @@ module _ (test : ℕ → ℕ → Bool) (variance : ℕ → Variance) where
 
 pub map-insert : {X Y : Type 0} (f : X → Y) (i : ℕ) (x : X) (xs : List X) → insert (map f xs) i (f x) ≡ map f (insert xs i x)
 map-insert f i x xs = Prim.search (drop-map, take-map, map-append, rules)
+
+same_span : (s t : Span) → spans.eq-value.it s t ≡ true → s ≡ t
+same_span s t h =
+    let low = eqb-true s.low t.low (left_true (s.low == t.low) _ h) in
+    let high = eqb-true s.high t.high (right_true (s.low == t.low) _ h) in
+    λ i. record { low = low i; high = high i }
+
+span_self : (s : Span) → spans.eq-value.it s s ≡ true
+span_self s = search (comparing, rules)
+
+-- equality of labels as the code tests it
+pub same_label : (l m : Label) → eq-value.it l m ≡ true → l ≡ m
+same_label l m h =
+    let heads = same_span l.head m.head (left_true _ _ h) in
+    let rest = right_true (spans.eq-value.it l.head m.head) _ h in
+    let inners = same_span l.inner m.inner (left_true _ _ rest) in
+    let rest' = right_true (spans.eq-value.it l.inner m.inner) _ rest in
+    let firsts = same_span l.first m.first (left_true _ _ rest') in
+    let laters = same_span l.later m.later (right_true (spans.eq-value.it l.first m.first) _ rest') in
+    λ i. record { head = heads i; inner = inners i; first = firsts i; later = laters i }
+
+pub label_self : (l : Label) → eq-value.it l l ≡ true
+label_self l =
+    and_from _ _ (span_self l.head) (and_from _ _ (span_self l.inner) (and_from _ _ (span_self l.first) (span_self l.later)))

@@ -5,6 +5,7 @@ pub mod Derivations
 pub mod Equivalence
 pub mod Existence
 pub mod Insertion
+pub mod GroupLaws
 pub mod LabelLaws
 pub mod Orders
 pub mod PathLaws

@@ -1,9 +1,10 @@
 -- internal: labels of paths, made of spans of the classes of their names. If a path is below another one, the span of its
 -- end has that of the other's end, and the spans of its sources lie in those of the other's. So labels tell most pairs apart.
-use Rattle.std.specs.Prelude.{ℕ, ◌+◌, min, max, Bool, ◌&&◌, nat_le}
+use Rattle.std.specs.Prelude.{ℕ, ◌+◌, ◌≡◌, ◌==◌, min, max, cond, Bool, true, ◌&&◌, nat_le, List, [], ◌∷◌}
 use Rattle.cls_path.specs.Paths.{TypePath, atom, inside, unit, left, right, function, sealed, Paths, none, more}
 use Rattle.cls_path.specs.declared.label.Span.{Span}
 use Rattle.cls_path.specs.declared.label.Label.{Label}
+use Rattle.cls_path.specs.declared.label.Mask.{Mask}
 
 -- the greatest number of 64 bits
 abbrev pub greatest : ℕ
@@ -81,25 +82,25 @@ module _ (class : ℕ → ℕ) where
   sources_of (function n p) = plus (all_names_of n) (sources_of p)
   sources_of (sealed c n) = zero_span
 
-  -- those of the first source, or of the list under the name
+  -- those of the first source, or of the list under the name, else 0
   abbrev pub first_of : TypePath → Span
-  first_of (atom c) = no_span
-  first_of (inside c p) = no_span
-  first_of unit = no_span
-  first_of (left p) = no_span
-  first_of (right p) = no_span
+  first_of (atom c) = zero_span
+  first_of (inside c p) = zero_span
+  first_of unit = zero_span
+  first_of (left p) = zero_span
+  first_of (right p) = zero_span
   first_of (function n p) = all_names_of n
   first_of (sealed c n) = all_names_of n
 
-  -- the sums over the later sources
+  -- the sums over the later sources, else 0
   abbrev pub later_of : TypePath → Span
-  later_of (atom c) = no_span
-  later_of (inside c p) = no_span
-  later_of unit = no_span
-  later_of (left p) = no_span
-  later_of (right p) = no_span
+  later_of (atom c) = zero_span
+  later_of (inside c p) = zero_span
+  later_of unit = zero_span
+  later_of (left p) = zero_span
+  later_of (right p) = zero_span
   later_of (function n p) = sources_of p
-  later_of (sealed c n) = no_span
+  later_of (sealed c n) = zero_span
 
   abbrev pub label_of : TypePath → Label
   label_of p = record { head = head_of p; inner = inner_of p; first = first_of p; later = later_of p }
@@ -107,3 +108,45 @@ module _ (class : ℕ → ℕ) where
 -- whether a path with the first label may be below one with the second
 abbrev pub admits : Label → Label → Bool
 admits l m = within m.head l.head && (within m.inner l.inner && (within l.first m.first && within l.later m.later))
+
+-- the span is one number
+abbrev pub is_single : Span → Bool
+is_single s = s.low == s.high
+
+-- the span, or no number
+abbrev pub when : Span → Bool → Span
+when s kept = cond kept s no_span
+
+-- the spans of the mask that are one number in the label
+abbrev pub narrowed : Mask → Label → Mask
+narrowed m l = record {
+  inner = m.inner && is_single l.inner;
+  first = m.first && is_single l.first;
+  later = m.later && is_single l.later;
+}
+
+-- the spans of the mask are one number each in the label
+abbrev pub Fits : Mask → Label → Type 0
+Fits m l =
+    (m.inner ≡ true → l.inner.low ≡ l.inner.high)
+    × (m.first ≡ true → l.first.low ≡ l.first.high)
+    × (m.later ≡ true → l.later.low ≡ l.later.high)
+
+-- the head and the spans of the mask
+abbrev pub masked : Mask → Label → Label
+masked m l = record {
+  head = l.head;
+  inner = when l.inner m.inner;
+  first = when l.first m.first;
+  later = when l.later m.later;
+}
+
+module _ (class : ℕ → ℕ) where
+  -- what paths share if one is below the other and the spans of the mask are one number in both
+  abbrev pub key_of : Mask → TypePath → Label
+  key_of m p = masked m (label_of class p)
+
+  -- the spans of the mask that are one number in the labels of all paths
+  abbrev pub mask_from : Mask → List TypePath → Mask
+  mask_from m [] = m
+  mask_from m (p ∷ n) = mask_from (narrowed m (label_of class p)) n

@@ -2,6 +2,7 @@
 -- proved of them ties them to these three.
 pub mod Falls
 pub mod Feed
+pub mod Groups
 pub mod Insertion
 pub mod Labels
 pub mod Laws

@@ -1,13 +1,13 @@
 //! Labels of paths, by which most pairs are told apart.
-ghost use Rattle.std.specs.Prelude.{◌≡◌};
-ghost use Rattle.cls_path.specs.Paths.{listed};
-ghost use Rattle.cls_path.specs.Labels.{one_span, join, plus, within, names_of, head_of, inner_of, join_all, all_names_of, sources_of, first_of, later_of, label_of, admits};
+ghost use Rattle.std.specs.Prelude.{◌≡◌, Contains};
+ghost use Rattle.cls_path.specs.Paths.{TypePath, listed};
+ghost use Rattle.cls_path.specs.Labels.{one_span, join, plus, within, names_of, head_of, inner_of, join_all, all_names_of, sources_of, first_of, later_of, label_of, admits, is_single, when, narrowed, masked, key_of, mask_from, Fits};
 
 use crate::path::{Form, Nf, Path};
 use cls_base::Taxa;
 
 /// The numbers from the low to the high one, none if the low one is the greater.
-#[derive(Clone, Copy, Debug, PartialEq, Eq)]
+#[derive(Clone, Copy, Debug, PartialEq, Eq, Hash)]
 pub(crate) struct Span {
     low: u64,
     high: u64,
@@ -23,14 +23,36 @@ const NONE: Span = Span {
 const ZERO: Span = Span { low: 0, high: 0 };
 
 /// Spans of the classes of names: of the head of a path, inside it, and of its first source. The last span has the sums
-/// over the later sources, so that it tells apart paths that differ in one of them.
-#[derive(Clone, Copy, Debug, PartialEq, Eq)]
+/// over the later sources, so that it tells apart paths that differ in one of them. A path without a source has 0 there.
+#[derive(Clone, Copy, Debug, PartialEq, Eq, Hash)]
 pub(crate) struct Label {
     head: Span,
     inner: Span,
     first: Span,
     later: Span,
 }
+
+/// The spans that are one number each in all paths that are compared. Of two such paths, one below the other, they are equal.
+#[derive(Clone, Copy, Debug, PartialEq, Eq)]
+pub(crate) struct Mask {
+    inner: bool,
+    first: bool,
+    later: bool,
+}
+
+/// None of them.
+pub(crate) const HEADS: Mask = Mask {
+    inner: false,
+    first: false,
+    later: false,
+};
+
+/// All of them.
+const ALL: Mask = Mask {
+    inner: true,
+    first: true,
+    later: true,
+};
 
 impl Span {
     /// The number alone.
@@ -69,6 +91,44 @@ impl Span {
     {
         other.low <= self.low && self.high <= other.high
     }
+
+    /// Whether it is one number.
+    fn is_single(self) -> bool
+        ensures { result ≡ is_single self }
+    {
+        self.low == self.high
+    }
+
+    /// The span, or no number if it isn't kept.
+    fn when(self, kept: bool) -> Span
+        ensures { result ≡ when self kept }
+    {
+        if kept { self } else { NONE }
+    }
+}
+
+impl Mask {
+    /// The spans of the mask that are one number in the label.
+    fn narrowed(self, label: Label) -> Mask
+        ensures { result ≡ narrowed self label }
+    {
+        Mask {
+            inner: self.inner && label.inner.is_single(),
+            first: self.first && label.first.is_single(),
+            later: self.later && label.later.is_single(),
+        }
+    }
+
+    /// The spans that are one number in the labels of all paths.
+    pub fn of<T: Taxa>(taxa: &T, paths: &[Path]) -> Mask
+        ensures { (p : TypePath) → Contains paths.now p → Fits result (label_of (T.class taxa.now) p) }
+    {
+        let mut mask = ALL;
+        for path in paths {
+            mask = mask.narrowed(Label::of(taxa, path));
+        }
+        mask
+    }
 }
 
 impl Label {
@@ -81,6 +141,18 @@ impl Label {
             inner: inner(taxa, path),
             first: first(taxa, path),
             later: later(taxa, path),
+        }
+    }
+
+    /// The head and the spans of the mask.
+    pub fn masked(self, mask: Mask) -> Label
+        ensures { result ≡ masked mask self }
+    {
+        Label {
+            head: self.head,
+            inner: self.inner.when(mask.inner),
+            first: self.first.when(mask.first),
+            later: self.later.when(mask.later),
         }
     }
 
@@ -151,7 +223,7 @@ fn first<T: Taxa>(taxa: &T, path: &Path) -> Span
 {
     match &path.form {
         Form::Arrow(list, _) | Form::Sealed(_, list) => all_names(taxa, list),
-        _ => NONE,
+        _ => ZERO,
     }
 }
 
@@ -160,6 +232,6 @@ fn later<T: Taxa>(taxa: &T, path: &Path) -> Span
 {
     match &path.form {
         Form::Arrow(_, rest) => sources(taxa, rest),
-        _ => NONE,
+        _ => ZERO,
     }
 }

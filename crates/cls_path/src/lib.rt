@@ -8,6 +8,7 @@
 
 mod below;
 mod feed;
+mod groups;
 mod key;
 mod label;
 pub mod laws;
@@ -15,7 +16,5 @@ mod make;
 mod meet;
 mod order;
 mod path;
-#[cfg(test)]
-mod tests;
 
 pub use path::{Form, Nf, Path};

@@ -129,6 +129,13 @@ impl Nf {
         self.paths.as_slice()
     }
 
+    /// The paths in order, as a vector. It takes no memory.
+    pub fn into_paths(self) -> Vec<Path>
+        ensures { result.items ≡ self }
+    {
+        self.paths
+    }
+
     /// An intersection equal to this one. The only error is out of memory.
     #[cycle(copy)]
     pub fn copy(&self, alloc: Global) -> Result<Nf, OutOfMemory>

@@ -1,13 +1,13 @@
 -- internal: the answer for two names is right, and the laws of an order hold whatever was declared. Kept here since the laws
 -- of an `impl` are cited from specs/.
 use Rattle.std.proofs.Common.{◌≡◌, ℕ, ◌⊎◌, inl, inr, List, [], ◌∷◌, Bool, true, false, cond, IsTrue, refl, sym, subst, ap, ◌∙◌, arith, ◌&&◌, ◌||◌}
-use Rattle.std.specs.Prelude.{Contains, ◌==◌, not, ◌↔◌}
+use Rattle.std.specs.Prelude.{Contains, ◌==◌, not, ◌↔◌, ◌+◌, if◌then◌else◌}
 use Rattle.std.specs.List.{list_all}
 use Rattle.std.proofs.lemmas.Bool.{cases_eq, cases_Bool, and_parts, and_from, or_cases}
 use Rattle.std.proofs.lemmas.Bool.Decides.{nat_tests}
 use Rattle.cls_base.specs.Taxonomies.{Variance, covariant, contravariant, invariant, Chain, stay, step}
 use Rattle.cls_base.proofs.Lists.{Contains-nil, Contains-here, Contains-later, Contains-cases}
-use Rattle.cls_taxon.specs.Orders.{Declared, variance_in, class_by, IsOnCycle, KeepsVariance, IsOrder}
+use Rattle.cls_taxon.specs.Orders.{Declared, variance_in, stands_in, class_by, IsOnCycle, KeepsVariance, IsOrder}
 use Rattle.cls_taxon.specs.Decisions.{leads, same_variance, fits_order, is_order, is_below}
 use Rattle.cls_taxon.specs.Laws.{LookupsAreChains}
 
@@ -17,10 +17,10 @@ same_name a b e = grind (arith, nat_tests)
 pub name_same : (a b : ℕ) → a ≡ b → (a == b) ≡ true
 name_same a b e = grind (arith, nat_tests)
 
-or_left : (x y : Bool) → x ≡ true → (x || y) ≡ true
+pub or_left : (x y : Bool) → x ≡ true → (x || y) ≡ true
 or_left x y e = subst (λ z. (z || y) ≡ true) (sym e) refl
 
-or_right : (x y : Bool) → y ≡ true → (x || y) ≡ true
+pub or_right : (x y : Bool) → y ≡ true → (x || y) ≡ true
 or_right true y e = refl
 or_right false y e = e
 
@@ -232,9 +232,27 @@ is_below-one_variance d a b p = elim (answer d a b p) [
 ]
 
 -- names of a chain have one class
+pub stands-lower : (pairs : List (ℕ × ℕ)) (p : ℕ × ℕ) → Contains pairs p → stands_in pairs p.0 ≡ true
+stands-lower [] p c = absurd (Contains-nil p c)
+stands-lower (q ∷ pairs) p c = elim (Contains-cases q pairs p c) [
+  | inl e ↦ or_left _ _ (name_same p.0 q.0 (ap (λ (x : ℕ × ℕ). x.0) e))
+  | inr k ↦ or_right (p.0 == q.0) _ (or_right (p.0 == q.1) _ (stands-lower pairs p k))
+]
+
+pub stands-upper : (pairs : List (ℕ × ℕ)) (p : ℕ × ℕ) → Contains pairs p → stands_in pairs p.1 ≡ true
+stands-upper [] p c = absurd (Contains-nil p c)
+stands-upper (q ∷ pairs) p c = elim (Contains-cases q pairs p c) [
+  | inl e ↦ or_right (p.1 == q.0) _ (or_left _ _ (name_same p.1 q.1 (ap (λ (x : ℕ × ℕ). x.1) e)))
+  | inr k ↦ or_right (p.1 == q.0) _ (or_right (p.1 == q.1) _ (stands-upper pairs p k))
+]
+
+pub class-standing : (pairs : List (ℕ × ℕ)) (a : ℕ) → stands_in pairs a ≡ true → class_by pairs a ≡ 0
+class-standing pairs a e = ap (λ b. if b then 0 else a + 1) e
+
 Chain-class : (pairs : List (ℕ × ℕ)) (a b : ℕ) → Chain pairs a b → class_by pairs a ≡ class_by pairs b
-Chain-class [] a b h = ap (class_by []) (Chain-none a b h)
-Chain-class (p ∷ pairs) a b h = refl
+Chain-class pairs a b stay = refl
+Chain-class pairs a b (step {d = d} p h) =
+    class-standing pairs a (stands-lower pairs (a, d) p) ∙ (sym (class-standing pairs d (stands-upper pairs (a, d) p)) ∙ Chain-class pairs d b h)
 
 pub is_below-one_class : (d : Declared) (a b : ℕ) → IsTrue (is_below d a b) → class_by d.pairs a ≡ class_by d.pairs b
 is_below-one_class d a b p = elim (answer d a b p) [

@@ -1,10 +1,10 @@
 //! The order of names that declared pairs make.
-ghost use Rattle.std.specs.Prelude.{◌≡◌, ◌<◌, ◌↔◌, map, IsTrue, IfOk, OnOk, IfErr, length};
+ghost use Rattle.std.specs.Prelude.{◌≡◌, ℕ, true, Contains, ◌<◌, ◌↔◌, map, IsTrue, IfOk, OnOk, IfErr, length};
 ghost use Rattle.cls_base.specs.Lists.{AreDistinct};
 ghost use Rattle.cls_base.specs.Taxonomies.{Chain};
 ghost use Rattle.cls_taxon.specs.Closures.{spans_at};
 ghost use Rattle.cls_taxon.specs.Faults.{IsFaultOf};
-ghost use Rattle.cls_taxon.specs.Orders.{IsOrder};
+ghost use Rattle.cls_taxon.specs.Orders.{IsOrder, stands_in};
 ghost use Rattle.cls_taxon.specs.PairGraphs.{pair_of, AreHeld};
 ghost use Rattle.cls_taxon.specs.Spans.{InSpans};
 ghost use Rattle.cls_taxon.specs.Variances.{declaration};
@@ -133,10 +133,10 @@ impl Taxa for Taxonomy {
     }
 
     fn class(&self, name: Name) -> u64 {
-        if self.pairs.is_empty() {
-            u64::from(name.0) + 1
-        } else {
+        if self.places.place(name.0) < self.places.len() {
             0
+        } else {
+            u64::from(name.0) + 1
         }
     }
 
@@ -183,7 +183,9 @@ fn copy_sets(alloc: Global, sets: &[Spans]) -> Result<Vec<Spans>, OutOfMemory>
 
 /// The names of the pairs, in the order in which a walk down from the uppermost ones leaves them.
 fn places_of(alloc: Global, pairs: &[(Name, Name)]) -> Result<Places, OutOfMemory>
-    ensures { IfOk result (AreHeld (map pair_of pairs.now)) }
+    ensures held { IfOk result (AreHeld (map pair_of pairs.now)) }
+    ensures standing { IfOk result (λ places.
+        (a : ℕ) → Contains places a → stands_in (map pair_of pairs.now) a ≡ true) }
 {
     let mut first = Places::new(alloc);
     hold_names(&mut first, pairs)?;

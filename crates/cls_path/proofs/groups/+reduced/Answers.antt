@@ -1,0 +1,60 @@
+use Rattle.std.proofs.Common.{rules, arith, ◌≡◌, sym, ap, ◌∙◌, subst, List, [], ◌∷◌, ◌++◌}
+use Rattle.std.specs.Prelude.{Contains}
+use Rattle.cls_base.specs.Taxa.{Below}
+use Rattle.cls_path.specs.Paths.{TypePath, listed, SuitsAll, InPaths}
+use Rattle.cls_path.specs.NormalForms.{EachCanonical}
+use Rattle.cls_path.specs.Groups.{IsReduced}
+use Rattle.cls_path.proofs.Ascending.{in_contained, contained_in}
+use Rattle.cls_path.proofs.Remains.{suits_within, canonical_within}
+use Rattle.cls_path.proofs.GroupLaws.{AreJoined, joined_first, joined_held, joined_more, joined_all, reduced_one}
+use Rattle.cls_path.proofs.groups.+reduced.Goals as goal
+
+pub loop-group-init : goal.loop-group-init
+loop-group-init g t c =
+    let b = g.T.Taxa.is_below c.args.taxa.now in
+    let v = g.T.Taxa.variance_of_name c.args.taxa.now in
+    subst (λ n. AreJoined b v c.args.paths.items c.in_ok-groups.groups.items n) (sym c.new-least.ensures.items) (joined_first b v c.args.paths.items c.in_ok-groups.groups.items c.in_ok-groups.ensures)
+
+pub reduced-requires : goal.reduced-requires
+reduced-requires g t c =
+    let b = g.T.Taxa.is_below c.args.taxa.now in
+    let v = g.T.Taxa.variance_of_name c.args.taxa.now in
+    let n = c.args.paths.items in
+    let gs = c.pop.new.self.items in
+    let h = subst (λ x. AreJoined b v n x c.loop-group.least.items) c.in-Some.ensures.items c.loop-group.invariant in
+    let into : (p : TypePath) → InPaths (listed c.in-Some.group) p → InPaths (listed n) p =
+    (λ p i. contained_in n p (joined_held b v n c.loop-group.least.items gs c.in-Some.group h p (in_contained c.in-Some.group p i))) in
+    let suits = subst (λ m. SuitsAll v (listed m)) (sym c.group.view_is) (suits_within (Below b) v (listed c.in-Some.group) (listed n) c.requires.suits into) in
+    let canonical = subst (λ m. EachCanonical (Below b) v (listed m)) (sym c.group.view_is) (canonical_within (Below b) v (listed c.in-Some.group) (listed n) c.requires.canonical into) in
+    λ κs sub. (omega (arith, c.decreases, c.if-rounds-eq0.false), (sub, (suits, canonical)))
+
+pub loop-group-preserved : goal.loop-group-preserved
+loop-group-preserved g t c =
+    let b = g.T.Taxa.is_below c.args.taxa.now in
+    let v = g.T.Taxa.variance_of_name c.args.taxa.now in
+    let met = g.met.T.Taxa in
+    let x = c.args.taxa.now in
+    let n = c.args.paths.items in
+    let gs = c.pop.new.self.items in
+    let out = c.loop-group.least.items in
+    let h = subst (λ x. AreJoined b v n x out) c.in-Some.ensures.items c.loop-group.invariant in
+    let r = subst (λ m. IsReduced b v m c.in_ok-few.few.items) c.group.view_is c.in_ok-few.ensures in
+    subst (λ m. AreJoined b v n gs m) (sym c.in_ok-put_all.ensures) (joined_more b v (met.reflexive x) (met.transitive x) (met.one_variance x) n gs c.in-Some.group out c.in_ok-few.few.items h r)
+
+pub returns : goal.returns
+returns g t c =
+    let b = g.T.Taxa.is_below c.args.taxa.now in
+    let v = g.T.Taxa.variance_of_name c.args.taxa.now in
+    let met = g.met.T.Taxa in
+    let x = c.args.taxa.now in
+    let n = c.args.paths.items in
+    let e : c.loop-group.groups.items ≡ [] = search rules in
+    joined_all b v (met.reflexive x) (met.transitive x) (met.one_variance x) n c.loop-group.least.items (subst (λ y. AreJoined b v n y c.loop-group.least.items) e c.loop-group.invariant)
+
+pub returns-then-len-le1 : goal.returns-then-len-le1
+returns-then-len-le1 g t c =
+    let b = g.T.Taxa.is_below c.args.taxa.now in
+    let v = g.T.Taxa.variance_of_name c.args.taxa.now in
+    let met = g.met.T.Taxa in
+    let x = c.args.taxa.now in
+    reduced_one b v (met.reflexive x) (met.transitive x) (met.one_variance x) c.args.paths.items (omega (arith, c.len.ensures, c.if-len-le1.true)) c.requires.suits

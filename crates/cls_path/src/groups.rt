@@ -1,0 +1,130 @@
+//! Least paths, found group by group: if one path is below another, their heads have one class. So have the names inside
+//! them and those of their sources, where each path of a group has names of one class there. Only paths of one group are
+//! compared.
+ghost use Rattle.std.specs.Prelude.{◌≡◌, ◌⊎◌, ◌↔◌, ◌++◌, Contains, IfOk, OnOk};
+ghost use Rattle.cls_base.specs.Taxa.{Below};
+ghost use Rattle.cls_path.specs.Paths.{TypePath, SuitsAll, listed};
+ghost use Rattle.cls_path.specs.NormalForms.{EachCanonical};
+ghost use Rattle.cls_path.specs.Groups.{Holds, AreKeyed, AreGroups, IsReduced};
+ghost use Rattle.cls_path.specs.Labels.{Fits, key_of, label_of};
+
+use crate::label::{HEADS, Label, Mask};
+use crate::meet::pairwise;
+use crate::path::Path;
+use cls_base::{OutOfMemory, Taxa};
+use indexmap::IndexSet;
+use std::alloc::Global;
+use std::marker::Model;
+
+/// So many paths are compared pairwise at once.
+const FEW: usize = 16;
+
+/// Paths with one key, seen as the list of them.
+#[derive(Drop)]
+struct Group {
+    paths: Vec<Path>,
+}
+
+impl Model for Group {
+    ghost use Rattle.std.specs.Prelude.{List};
+    ghost use Rattle.std.specs.Coded.{coded_list};
+    ghost use Rattle.cls_path.specs.Paths.{TypePath};
+    ghost use Rattle.cls_path.specs.Stored.{coded_path};
+
+    ghost Value = { List TypePath };
+
+    ghost coded = { coded_list coded_path };
+
+    ghost view = { λ g. g.paths.items };
+}
+
+/// The paths that no other one is below, each once, in no order. With 2 `rounds` they are grouped by the classes of their
+/// heads, and each group then has one round: by the spans that are one number in the labels of all its paths. With none,
+/// as in groups of few paths, they are compared pairwise. The only error is out of memory.
+pub(crate) fn reduced<T: Taxa>(
+    alloc: Global,
+    taxa: &T,
+    paths: Vec<Path>,
+    rounds: u8,
+) -> Result<Vec<Path>, OutOfMemory>
+    requires suits { SuitsAll (T.variance_of_name taxa.now) (listed paths.items) }
+    requires canonical { EachCanonical (Below (T.is_below taxa.now)) (T.variance_of_name taxa.now)
+        (listed paths.items) }
+    ensures { IfOk result (λ least.
+        IsReduced (T.is_below taxa.now) (T.variance_of_name taxa.now) paths.items least.items) }
+{
+    if paths.len() <= 1 {
+        return Ok(paths);
+    }
+    if rounds == 0 || paths.len() <= FEW {
+        return pairwise(alloc, taxa, paths);
+    }
+    let mask = if rounds == 1 {
+        Mask::of(taxa, &paths)
+    } else {
+        HEADS
+    };
+    let mut groups = grouped(alloc, taxa, paths, mask)?;
+    let mut least = Vec::new(alloc);
+    while let Some(group) = groups.pop() {
+        let few = reduced(alloc, taxa, group.paths, rounds - 1)?;
+        put_all(&mut least, few)?;
+    }
+    Ok(least)
+}
+
+/// The paths in groups by their heads and by the spans of the mask.
+fn grouped<T: Taxa>(
+    alloc: Global,
+    taxa: &T,
+    mut paths: Vec<Path>,
+    mask: Mask,
+) -> Result<Vec<Group>, OutOfMemory>
+    requires suits { SuitsAll (T.variance_of_name taxa.now) (listed paths.items) }
+    requires fits { (p : TypePath) → Contains paths.items p → Fits mask (label_of (T.class taxa.now) p) }
+    ensures { IfOk result (λ groups.
+        AreGroups (T.is_below taxa.now) (T.variance_of_name taxa.now) paths.items groups.items) }
+{
+    let mut keys = IndexSet::new(alloc);
+    let mut groups = Vec::new(alloc);
+    while let Some(path) = paths.pop() {
+        put_in_group(alloc, taxa, mask, &mut keys, &mut groups, path)?;
+    }
+    Ok(groups)
+}
+
+/// Puts the path into the group of its key.
+fn put_in_group<T: Taxa>(
+    alloc: Global,
+    taxa: &T,
+    mask: Mask,
+    keys: &mut IndexSet<Label>,
+    groups: &mut Vec<Group>,
+    path: Path,
+) -> Result<(), OutOfMemory>
+    requires { AreKeyed (key_of (T.class taxa.now) mask) keys.old.keys groups.old.items }
+    ensures keyed { OnOk result (AreKeyed (key_of (T.class taxa.now) mask) keys.new.keys groups.new.items) }
+    ensures held { OnOk result ((p : TypePath) → Holds groups.new.items p ↔ (Holds groups.old.items p ⊎ (p ≡ path))) }
+{
+    let key = Label::of(taxa, &path).masked(mask);
+    match keys.get_index_of(&key) {
+        Some(place) => groups[place].paths.push(path)?,
+        None => {
+            keys.insert(key)?;
+            let mut paths = Vec::new(alloc);
+            paths.push(path)?;
+            groups.push(Group { paths })?;
+        }
+    }
+    Ok(())
+}
+
+/// Puts the paths behind the others.
+fn put_all(least: &mut Vec<Path>, paths: Vec<Path>) -> Result<(), OutOfMemory>
+    ensures { OnOk result (least.new.items ≡ least.old.items ++ paths.items) }
+{
+    for path in paths {
+        least.push(path)?;
+    }
+    Ok(())
+}
