@@ -1,12 +1,15 @@
 -- What holds of all libraries.
 use Rattle.std.specs.Prelude.{ℕ, ◌≡◌, ◌↔◌, List, [], ◌∷◌, ◌++◌}
-use Rattle.cls_base.specs.Types.{ClosedType}
+use Rattle.cls_base.specs.Types.{ClosedType, arrow, meet}
 use Rattle.cls_base.specs.Schemas.{OpenType}
-use Rattle.cls_base.specs.Terms.{Applicative}
+use Rattle.cls_base.specs.Terms.{Applicative, component, apply}
+use Rattle.cls_base.specs.Spines.{spine}
+use Rattle.cls_path.specs.Paths.{TypePath, type_of_path, Suits}
 use Rattle.cls_taxon.specs.Orders.{Declared}
 use Rattle.cls_library.specs.declared.fault.LibraryFault.{LibraryFault}
 use Rattle.cls_library.specs.declared.fault.LibraryKind.TheVariants.{OutOfMemory}
-use Rattle.cls_library.specs.Libraries.{Library}
+use Rattle.cls_library.specs.Libraries.{Library, IsLibrary, variances_in}
+use Rattle.cls_library.specs.Reaching.{IsReachedBy}
 use Rattle.cls_library.specs.Refusals.{Adds, IsLibraryOf, RefusesAt}
 use Rattle.cls_library.specs.Typing.{HasTypeIn, HasTypeByInstances}
 
@@ -34,3 +37,22 @@ ReadingsAgree =
     (d : Declared) (kinds : List (ℕ × List ClosedType)) (schemas : List OpenType) (l : Library)
     → IsLibraryOf d kinds schemas l → (e : Applicative) (t : ClosedType)
     → HasTypeByInstances d kinds schemas e t ↔ HasTypeIn l e t
+
+-- an application has a type if and only if the function takes a type that the argument has to it
+abbrev pub ApplicationsAreGenerated : Type 0
+ApplicationsAreGenerated =
+    (l : Library) (f a : Applicative) (t : ClosedType)
+    → HasTypeIn l (apply f a) t ↔ ((s : ClosedType) × HasTypeIn l f (arrow s t) × HasTypeIn l a s)
+
+-- a term has an intersection if and only if it has both parts
+abbrev pub IntersectionsAreBoth : Type 0
+IntersectionsAreBoth =
+    (l : Library) (e : Applicative) (s t : ClosedType)
+    → HasTypeIn l e (meet s t) ↔ (HasTypeIn l e s × HasTypeIn l e t)
+
+-- The path lemma: a component, applied to terms, has a path if and only if one of its arrows with so many sources leads to
+-- the path and each term has its source.
+abbrev pub PathsAreReached : Type 0
+PathsAreReached =
+    (l : Library) → IsLibrary l → (x : ℕ) (es : List Applicative) (q : TypePath) → Suits (variances_in l.taxonomy) q
+    → HasTypeIn l (spine (component x) es) (type_of_path q) ↔ IsReachedBy l x es q

@@ -1,5 +1,5 @@
 //! What holds of all libraries, as calls that do nothing and promise the law.
-ghost use Rattle.cls_library.specs.Laws.{AddingMakesLibraries, LibrariesAreUnique, RefusalsAreExact, ReadingsAgree};
+ghost use Rattle.cls_library.specs.Laws.{AddingMakesLibraries, LibrariesAreUnique, RefusalsAreExact, ReadingsAgree, ApplicationsAreGenerated, IntersectionsAreBoth, PathsAreReached};
 
 /// The library of a list of schemas, with a schema added, is that of the longer list.
 pub fn adding_makes_libraries()
@@ -19,4 +19,20 @@ pub fn refusals_are_exact()
 /// Typing by the instances of the schemas is typing by the one type of each component.
 pub fn readings_agree()
     ensures { ReadingsAgree }
+{}
+
+/// An application has a type if and only if the function takes some type of the argument to it.
+pub fn applications_are_generated()
+    ensures { ApplicationsAreGenerated }
+{}
+
+/// A term has an intersection if and only if it has both parts.
+pub fn intersections_are_both()
+    ensures { IntersectionsAreBoth }
+{}
+
+/// The path lemma: a component, applied to terms, has a path if and only if one of its arrows leads to the path and each term
+/// has its source.
+pub fn paths_are_reached()
+    ensures { PathsAreReached }
 {}

@@ -1,9 +1,7 @@
-use Rattle.std.proofs.Common.{◌≡◌, List, Some, sym, subst, ◌∙◌, ap}
+use Rattle.std.proofs.Common.{◌≡◌, List, Some, sym, ◌∙◌, ap}
 use Rattle.std.specs.Prelude.{slice_get}
-use Rattle.cls_path.specs.Paths.{TypePath, Suits}
-use Rattle.cls_taxon.specs.Orders.{Declared}
 use Rattle.cls_library.specs.Arrows.{MultiArrow}
-use Rattle.cls_library.specs.Libraries.{arrows_at, variances_in}
+use Rattle.cls_library.specs.Libraries.{arrows_at}
 use Rattle.cls_library.proofs.Suits.{library-suits}
 use Rattle.cls_library.proofs.tests.agrees.Goals as goal
 
