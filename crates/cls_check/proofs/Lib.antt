@@ -1,0 +1,16 @@
+pub mod Arguments
+pub mod Arrows
+pub mod BlockLaws
+pub mod Firsts
+pub mod GoalLaws
+pub mod Keys
+pub mod Loops
+pub mod MemberLaws
+pub mod Order
+pub mod Rising
+pub mod RowLaws
+pub mod Sets
+pub mod Sound
+pub mod Stepping
+pub mod Typing
+pub mod Verdicts

@@ -1,0 +1,11 @@
+-- To be read and believed: Checking, which says when a certificate is accepted, Firsts, Verdicts and Laws. The other modules
+-- say the same of the code's tables, or serve the prover.
+pub mod Arguments
+pub mod Checking
+pub mod Firsts
+pub mod Goals
+pub mod Laws
+pub mod Layers
+pub mod Places
+pub mod Tests
+pub mod Verdicts
