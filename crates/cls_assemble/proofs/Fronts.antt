@@ -6,9 +6,9 @@ use Rattle.std.proofs.lemmas.Bool.{and_parts}
 use Rattle.std.proofs.lemmas.List.{take_more, get_or-drop}
 use Rattle.std.proofs.Math.Seq.{take-append_seam, drop-append_seam}
 use Rattle.std.proofs.lemmas.List.Folds.{length-prefix_len}
-use Rattle.cls_syntax.specs.Characters.{is_digit}
-use Rattle.cls_syntax.specs.Numerals.{is_numeral, number_value}
-use Rattle.cls_syntax.proofs.Runs.{list_all-prefix}
+use Rattle.cls_lexer.specs.Characters.{is_digit}
+use Rattle.cls_lexer.specs.Numerals.{is_numeral, number_value}
+use Rattle.cls_lexer.proofs.Runs.{list_all-prefix}
 use Rattle.cls_assemble.specs.declared.piece.Piece.{Piece}
 use Rattle.cls_assemble.specs.declared.piece.Piece.TheVariants.{Byte, Hole}
 use Rattle.cls_assemble.specs.Spelling.{is_plain, Spells, plain, opening, closing, line_feed, backslash, hole}

@@ -1,14 +1,14 @@
 -- The number of a hole, read digit by digit.
 use Rattle.std.proofs.Common.{◌≡◌, ℕ, ◌+◌, ◌-◌, ◌*◌, ◌<◌, ◌≤◌, true, List, [], ◌∷◌, ◌++◌, length, take, get_or, refl, sym, ap, ◌∙◌, arith}
 use Rattle.std.specs.List.{prefix_len, list_all}
-use Rattle.cls_syntax.proofs.Runs.{list_all-prefix, prefix_len-list_all-nil}
+use Rattle.cls_lexer.proofs.Runs.{list_all-prefix, prefix_len-list_all-nil}
 use Rattle.std.specs.Char.{digit_value}
 use Rattle.std.specs.Str.Parse.{digits_value_after}
 use Rattle.std.proofs.lemmas.List.Sums.{prefix_len_passes}
 use Rattle.std.proofs.lemmas.List.{take_more}
 use Rattle.std.proofs.Math.Seq.{take-length}
-use Rattle.cls_syntax.specs.Characters.{is_digit}
-use Rattle.cls_syntax.specs.Numerals.{number_value}
+use Rattle.cls_lexer.specs.Characters.{is_digit}
+use Rattle.cls_lexer.specs.Numerals.{number_value}
 
 value_after-push : (n : ℕ) (ds : List ℕ) (d : ℕ) → digits_value_after 10 n (ds ++ d ∷ []) ≡ digits_value_after 10 n ds * 10 + digit_value d
 value_after-push n [] d = refl

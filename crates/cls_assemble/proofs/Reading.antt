@@ -9,7 +9,7 @@ use Rattle.std.proofs.lemmas.List.Sums.{prefix_len-le-length, prefix_len_stops}
 use Rattle.std.proofs.lemmas.Str.{IsCharBoundary-after_ascii, IsCharBoundary-before_ascii, IsCharBoundary-end, IsCharBoundary-start}
 use Rattle.std.proofs.Math.Seq.{take-add}
 use Rattle.cls_base.specs.Limits.{max_hole}
-use Rattle.cls_syntax.proofs.Runs.{list_all-prefix}
+use Rattle.cls_lexer.proofs.Runs.{list_all-prefix}
 use Rattle.cls_assemble.specs.declared.piece.Piece.{Piece}
 use Rattle.cls_assemble.specs.declared.piece.Piece.TheVariants.{Byte, Hole}
 use Rattle.cls_assemble.specs.Spelling.{is_plain, Spells, plain, AreSpelled, IsNumbered, IsTemplate}

@@ -2,8 +2,8 @@
 use Rattle.std.specs.Prelude.{ℕ, ◌+◌, Bool, false, ◌&&◌, ◌==◌, min, nat_lt, List, [], ◌∷◌, Option, None, Some, take, drop, if◌then◌else◌}
 use Rattle.std.specs.List.{prefix_len}
 use Rattle.cls_base.specs.Limits.{max_hole}
-use Rattle.cls_syntax.specs.Characters.{is_digit}
-use Rattle.cls_syntax.specs.Numerals.{number_value}
+use Rattle.cls_lexer.specs.Characters.{is_digit}
+use Rattle.cls_lexer.specs.Numerals.{number_value}
 use Rattle.cls_assemble.specs.declared.piece.Piece.{Piece}
 use Rattle.cls_assemble.specs.declared.piece.Piece.TheVariants.{Byte, Hole}
 

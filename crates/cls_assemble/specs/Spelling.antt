@@ -2,7 +2,7 @@
 use Rattle.std.specs.Prelude.{ℕ, ◌≡◌, ◌≤◌, Bool, not, ◌&&◌, ◌==◌, List, [], ◌∷◌, ◌++◌, IsTrue}
 use Rattle.std.specs.List.{AllByRecursion}
 use Rattle.cls_base.specs.Limits.{max_hole}
-use Rattle.cls_syntax.specs.Numerals.{is_numeral, number_value}
+use Rattle.cls_lexer.specs.Numerals.{is_numeral, number_value}
 use Rattle.cls_assemble.specs.declared.piece.Piece.{Piece}
 use Rattle.cls_assemble.specs.declared.piece.Piece.TheVariants.{Byte, Hole}
 

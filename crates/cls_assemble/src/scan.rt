@@ -1,8 +1,8 @@
 ghost use Rattle.std.specs.Prelude.{◌≡◌, ◌+◌, ◌≤◌, min, length, map, option_map};
 ghost use Rattle.std.specs.List.{prefix_len};
 ghost use Rattle.cls_base.specs.Limits.{max_hole};
-ghost use Rattle.cls_syntax.specs.Characters.{is_digit};
-ghost use Rattle.cls_syntax.specs.Numerals.{number_value};
+ghost use Rattle.cls_lexer.specs.Characters.{is_digit};
+ghost use Rattle.cls_lexer.specs.Numerals.{number_value};
 ghost use Rattle.cls_assemble.specs.Spelling.{is_plain};
 ghost use Rattle.cls_assemble.specs.Fronts.{digit_count, after_opening, first_piece, capped};
 

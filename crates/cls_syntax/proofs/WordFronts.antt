@@ -5,18 +5,19 @@ use Rattle.std.specs.Option.{option_map_or}
 use Rattle.std.specs.Str.{bytes_eq}
 use Rattle.std.proofs.lemmas.Slice.Eq.{bytes_eq-Decides}
 use Rattle.std.proofs.lemmas.Bool.{false_from_ne_true, eqb-true, eq-eqb}
-use Rattle.cls_syntax.specs.declared.token.TokenKind.{TokenKind}
-use Rattle.cls_syntax.specs.declared.token.TokenKind.TheVariants.{Name, Number, To, And, Times, Open, Close, Comma, Dollar, Colon, Equals, Bar, AtMost, Bad}
-use Rattle.cls_syntax.specs.Words.{Word, name, number, sign}
+use Rattle.cls_lexer.specs.declared.token.TokenKind.{TokenKind}
+use Rattle.cls_lexer.specs.declared.token.TokenKind.TheVariants.{Name, Number, To, And, Times, Open, Close, Comma, Dollar, Colon, Equals, Bar, AtMost, Bad}
+use Rattle.cls_lexer.specs.Words.{Word, omega, name, number, sign}
 use Rattle.cls_syntax.specs.Fronts.{first_name, first_number, after_word, after_sign, kind_place, FrontsAreExact}
 
 -- the parts of a pair that is there
-some_pair : {A B : Type 0} (a a' : A) (b b' : B) → Path (Option (A × B)) (Some (a, b)) (Some (a', b')) → (a ≡ a') × (b ≡ b')
+pub some_pair : {A B : Type 0} (a a' : A) (b b' : B) → Path (Option (A × B)) (Some (a, b)) (Some (a', b')) → (a ≡ a') × (b ≡ b')
 some_pair {A} {B} a a' b b' h = (ap (λ (o : Option (A × B)). option_map_or (λ p. p.0) o a) h, ap (λ (o : Option (A × B)). option_map_or (λ p. p.1) o b) h)
 
 -- a name that is the word
 pub after_word-same : (ws rest : List Word) (text word : List ℕ) → first_name ws ≡ Some (text, rest) → text ≡ word → after_word word ws ≡ Some rest
 after_word-same [] rest text word h e = cc
+after_word-same (omega ∷ ws) rest text word h e = cc
 after_word-same (name x ∷ ws) rest text word h e =
     let parts = some_pair {A = List ℕ} {B = List Word} x text ws rest h in
     let same = parts.0 in
@@ -29,6 +30,7 @@ after_word-same (sign k ∷ ws) rest text word h e = cc
 -- a name that is another
 pub after_word-other : (ws rest : List Word) (text word : List ℕ) → first_name ws ≡ Some (text, rest) → (text ≡ word → ⊥) → after_word word ws ≡ None
 after_word-other [] rest text word h e = refl
+after_word-other (omega ∷ ws) rest text word h e = refl
 after_word-other (name x ∷ ws) rest text word h e =
     let same = (some_pair {A = List ℕ} {B = List Word} x text ws rest h).0 in
     let test : bytes_eq word x ≡ false = false_from_ne_true _ (λ t. e (sym same ∙ sym ((bytes_eq-Decides word x).0 t))) in
@@ -39,6 +41,7 @@ after_word-other (sign k ∷ ws) rest text word h e = refl
 -- no name
 pub after_word-none : (ws : List Word) (word : List ℕ) → first_name ws ≡ None → after_word word ws ≡ None
 after_word-none [] word h = refl
+after_word-none (omega ∷ ws) word h = refl
 after_word-none (name x ∷ ws) word h = cc
 after_word-none (number x ∷ ws) word h = refl
 after_word-none (sign k ∷ ws) word h = refl
@@ -47,6 +50,7 @@ pub ruleset fronts = (after_word-same, after_word-other, after_word-none)
 
 first_name-exact : (ws rest : List Word) (text : List ℕ) → (first_name ws ≡ Some (text, rest)) ↔ (ws ≡ name text ∷ rest)
 first_name-exact [] rest text = (λ h. cc, λ h. cc)
+first_name-exact (omega ∷ ws) rest text = (λ h. cc, λ h. cc)
 first_name-exact (name x ∷ ws) rest text = (
   λ h. let parts = some_pair {A = List ℕ} {B = List Word} x text ws rest h in let same = parts.0 in let left = parts.1 in cc,
   λ h. let same : x ≡ text = cc in let left : ws ≡ rest = cc in λ i. Some (same i, left i),
@@ -56,6 +60,7 @@ first_name-exact (sign k ∷ ws) rest text = (λ h. cc, λ h. cc)
 
 first_number-exact : (ws rest : List Word) (digits : List ℕ) → (first_number ws ≡ Some (digits, rest)) ↔ (ws ≡ number digits ∷ rest)
 first_number-exact [] rest text = (λ h. cc, λ h. cc)
+first_number-exact (omega ∷ ws) rest text = (λ h. cc, λ h. cc)
 first_number-exact (name x ∷ ws) rest text = (λ h. cc, λ h. cc)
 first_number-exact (number x ∷ ws) rest text = (
   λ h. let parts = some_pair {A = List ℕ} {B = List Word} x text ws rest h in let same = parts.0 in let left = parts.1 in cc,
@@ -70,6 +75,7 @@ chosen false ws rest fact h = cc
 
 after_word-exact : (ws rest : List Word) (text : List ℕ) → (after_word text ws ≡ Some rest) ↔ (ws ≡ name text ∷ rest)
 after_word-exact [] rest text = (λ h. cc, λ h. cc)
+after_word-exact (omega ∷ ws) rest text = (λ h. cc, λ h. cc)
 after_word-exact (name x ∷ ws) rest text = (
   λ h. let r = chosen (bytes_eq text x) ws rest (bytes_eq-Decides text x).0 h in let same = r.0 in let left = r.1 in cc,
   λ h. let same : text ≡ x = cc in let left : ws ≡ rest = cc in ap (λ (b : Bool). if b then Some ws else None) ((bytes_eq-Decides text x).1 same) ∙ ap (λ (r : List Word). Some r) left,
@@ -111,11 +117,12 @@ kind_from-place Bar = refl
 kind_from-place AtMost = refl
 kind_from-place Bad = refl
 
-kind_place-same : (k l : TokenKind) → kind_place k ≡ kind_place l → k ≡ l
+pub kind_place-same : (k l : TokenKind) → kind_place k ≡ kind_place l → k ≡ l
 kind_place-same k l h = sym (kind_from-place k) ∙ (ap kind_from h ∙ kind_from-place l)
 
 after_sign-exact : (ws rest : List Word) (kind : TokenKind) → (after_sign kind ws ≡ Some rest) ↔ (ws ≡ sign kind ∷ rest)
 after_sign-exact [] rest kind = (λ h. cc, λ h. cc)
+after_sign-exact (omega ∷ ws) rest kind = (λ h. cc, λ h. cc)
 after_sign-exact (name x ∷ ws) rest kind = (λ h. cc, λ h. cc)
 after_sign-exact (number x ∷ ws) rest kind = (λ h. cc, λ h. cc)
 after_sign-exact (sign k ∷ ws) rest kind = (
@@ -123,6 +130,6 @@ after_sign-exact (sign k ∷ ws) rest kind = (
   λ h. let same : k ≡ kind = cc in let left : ws ≡ rest = cc in ap (λ (b : Bool). if b then Some ws else None) (eq-eqb _ _ (ap kind_place (sym same))) ∙ ap (λ (r : List Word). Some r) left,
 )
 
--- each front says what stands there, and nothing else
+-- each front says exactly what stands there
 pub fronts_exact : FrontsAreExact
 fronts_exact = record { names = first_name-exact; numbers = first_number-exact; this_name = after_word-exact; signs = after_sign-exact }

@@ -1,29 +1,44 @@
-//! From bytes to what a line says: lines, tokens, lexemes, and the numbers of names.
+//! What lines and texts say: types, terms, and forms of lines, with the exact place of each fault.
 //!
-//! - [`LineReader`] cuts a text that comes in pieces into its [`Line`]s, the same however it was cut.
-//! - [`tokens`] gives the [`Tokens`] of a line.
-//! - [`lexemes`] cuts their texts from it. A line form is read from the left of a slice of [`Lexeme`]s by [`word_at`],
-//!   [`name_at`], [`number_at`], [`sign_at`] and [`end_at`].
-//! - [`Names`] numbers texts in the order in which they first came.
-//! - [`laws`] holds what is true of every text, line and token.
+//! - From a slice of tokens a line form is read from the left by [`word_at`], [`name_at`], [`number_at`], [`numbers_at`],
+//!   [`sign_at`], [`type_at`], [`types_at`], [`term_at`] and [`end_at`]. Each answers what stands there and what follows, or the
+//!   [`Stop`]: the first token that can't follow.
+//! - What spells a type is recognised with no memory, as [`SpelledType`]; [`SpelledType::schema`] and [`SpelledType::ty`] build
+//!   it, with a stack of their own.
+//! - [`read_schema`] and [`read_type`] read a text that is one type, and [`print_type`] prints a type.
+//! - [`laws`] holds what is true of every form of line and of every type.
 #![tactic(auto)]
 
-mod characters;
+mod closing;
 mod cursor;
-mod cut;
+mod depth;
+mod interning;
 pub mod laws;
-mod lexeme;
-mod line;
-mod line_reader;
-mod names;
-mod scan;
-mod token;
+mod numeral_list;
+mod print;
+mod read;
+mod role;
+mod schema_builder;
+mod sort;
+mod spelled_term;
+mod spelled_type;
+mod spelled_types;
+mod stop;
+mod syntax_fault;
+mod term_shape;
+mod type_shape;
+mod word_list;
 
-pub use cursor::{end_at, name_at, number_at, sign_at, word_at};
-pub use cut::lexemes;
-pub use lexeme::Lexeme;
-pub use line::{Line, TextFault};
-pub use line_reader::LineReader;
-pub use names::Names;
-pub use scan::tokens;
-pub use token::{Token, TokenKind, Tokens};
+pub use cursor::{end_at, name_at, number_at, sign_at, term_at, type_at, types_at, word_at};
+pub use depth::deepest;
+pub use numeral_list::NumeralList;
+pub use print::print_type;
+pub use read::{first_variable, read_schema, read_type};
+pub use role::Role;
+pub use sort::is_name;
+pub use spelled_term::SpelledTerm;
+pub use spelled_type::SpelledType;
+pub use spelled_types::SpelledTypes;
+pub use stop::Stop;
+pub use syntax_fault::{SyntaxFault, begins_reserved};
+pub use word_list::{names_at, numbers_at};

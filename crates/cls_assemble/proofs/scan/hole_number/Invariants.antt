@@ -1,6 +1,6 @@
 use Rattle.std.proofs.Common.{◌≡◌, ◌+◌, min, take}
 use Rattle.cls_base.specs.Limits.{max_hole}
-use Rattle.cls_syntax.specs.Numerals.{number_value}
+use Rattle.cls_lexer.specs.Numerals.{number_value}
 use Rattle.cls_assemble.proofs.scan.hole_number.Given as goal
 
 abbrev pub invariant-loop-digit : goal.invariant-loop-digit

@@ -1,0 +1,12 @@
+pub mod Feeds
+pub mod LineEndings
+pub mod LinePieces
+pub mod Numerals
+pub mod Positions
+pub mod Runs
+pub mod TextTables
+pub mod TokenCuts
+pub mod TokenPlaces
+pub mod TokenSpelling
+pub mod TokenSteps
+pub mod TokenTexts

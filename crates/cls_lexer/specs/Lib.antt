@@ -1,0 +1,9 @@
+pub mod Characters
+pub mod LineLaws
+pub mod Lines
+pub mod Names
+pub mod Numerals
+pub mod Skipped
+pub mod Spelling
+pub mod Tokens
+pub mod Words

@@ -1,0 +1,23 @@
+//! From bytes to lines and tokens, and the numbers of names.
+//!
+//! - [`LineReader`] cuts a text that comes in pieces into its [`Line`]s, the same however it was cut.
+//! - [`tokens`] gives the [`Token`]s of a line, each with its text and its place. [`Numeral`] is a number as it is written.
+//! - [`Names`] numbers texts in the order in which they first came.
+//! - [`laws`] holds what is true of every text, line and token.
+#![tactic(auto)]
+
+mod characters;
+pub mod laws;
+mod line;
+mod line_reader;
+mod names;
+mod numeral;
+mod scan;
+mod token;
+
+pub use line::{Line, TextFault};
+pub use line_reader::LineReader;
+pub use names::Names;
+pub use numeral::Numeral;
+pub use scan::{byte_at, tokens};
+pub use token::{Token, TokenKind};

@@ -1,0 +1,123 @@
+ghost use Rattle.std.specs.Prelude.{◌≡◌, ℕ, ◌<◌, ◌≤◌, ◌↔◌, List, length, Ok, Err, IsTrue, IsOk, IfOk, IsUtf8, find, not};
+ghost use Rattle.cls_base.specs.Limits.{max_line_bytes};
+ghost use Rattle.cls_lexer.specs.Characters.{is_blank};
+ghost use Rattle.cls_lexer.specs.Lines.{without_return};
+ghost use Rattle.cls_lexer.specs.Skipped.{says_nothing, IsText, IsSkipped};
+
+use crate::characters::is_blank;
+use cls_base::OutOfMemory;
+use cls_base::limits::MAX_LINE_BYTES;
+use std::alloc::Global;
+use std::marker::Model;
+use thiserror::Error;
+
+/// Why a line can't be read as a text.
+#[derive(Clone, Copy, Debug, PartialEq, Eq, Error)]
+pub enum TextFault {
+    /// The line has more than [`MAX_LINE_BYTES`] bytes.
+    #[error("the line is longer than 65,536 bytes")]
+    TooLong,
+    /// The line isn't too long, and its bytes aren't UTF-8.
+    #[error("the line is not UTF-8")]
+    NotUtf8,
+}
+
+/// One line of a text, whatever its bytes. It is seen as these bytes, without the line's ending.
+///
+/// A line ends with a line feed, or with the text if at least one byte stands after the last line feed. One
+/// carriage return directly before the line feed, or before the end of the text, belongs to the ending.
+#[derive(Drop)]
+pub struct Line {
+    bytes: Vec<u8>,
+}
+
+impl Model for Line {
+    ghost Value = { List ℕ };
+
+    ghost view = { λ l. l.bytes.items };
+}
+
+impl Line {
+    /// The line of these bytes.
+    pub fn new(alloc: Global, bytes: &[u8]) -> Result<Line, OutOfMemory>
+        ensures { IfOk result (λ line. line ≡ bytes.now) }
+    {
+        Ok(Line {
+            bytes: Vec::from_slice(alloc, bytes)?,
+        })
+    }
+
+    /// The line that these bytes are, of which one carriage return at the end belongs to the ending.
+    pub(crate) fn ended(mut bytes: Vec<u8>) -> Line
+        ensures { result ≡ without_return bytes.items }
+    {
+        let count = bytes.len();
+        if count > 0 && bytes[count - 1] == b'\r' {
+            bytes.truncate(count - 1);
+        }
+        Line { bytes }
+    }
+
+    /// The bytes of the line.
+    pub fn as_bytes(&self) -> &[u8]
+        ensures { result.now ≡ self.now }
+    {
+        self.bytes.as_slice()
+    }
+
+    /// The line as a text.
+    ///
+    /// The error is `TooLong` for a line of more than [`MAX_LINE_BYTES`] bytes, otherwise `NotUtf8` for one that isn't
+    /// UTF-8.
+    pub fn text(&self) -> Result<&str, TextFault>
+        ensures same { IfOk result (λ text. text.now ≡ self.now) }
+        ensures ok { IsOk result ↔ IsText self.now }
+        ensures too_long { (result ≡ Err TextFault.TooLong) ↔ (max_line_bytes < length self.now) }
+        ensures not_utf8 { (result ≡ Err TextFault.NotUtf8)
+            ↔ ((length self.now ≤ max_line_bytes) × ¬ IsUtf8 self.now) }
+    {
+        if self.bytes.len() > MAX_LINE_BYTES {
+            return Err(TextFault::TooLong);
+        }
+        match str::from_utf8(self.bytes.as_slice()) {
+            Ok(text) => Ok(text),
+            Err(_) => Err(TextFault::NotUtf8),
+        }
+    }
+
+    /// Whether the line is skipped: it can be read, and has only blanks, or its first byte that isn't blank is `#`.
+    pub fn is_skipped(&self) -> bool
+        ensures { IsTrue result ↔ IsSkipped self.now }
+    {
+        self.text().is_ok() && says_nothing(self.as_bytes())
+    }
+}
+
+fn says_nothing(bytes: &[u8]) -> bool
+    ensures { result ≡ says_nothing bytes.now }
+{
+    match first_not_blank(bytes) {
+        Some(first) => first == b'#',
+        None => true,
+    }
+}
+
+fn first_not_blank(bytes: &[u8]) -> Option<u8>
+    ensures { result ≡ find (λ b. not (is_blank b)) bytes.now }
+{
+    bytes.iter().copied().find(|byte| !is_blank(*byte))
+}
+
+#[cfg(test)]
+mod tests {
+    use super::*;
+    use std::test::Fail;
+
+    #[test]
+    fn a_comment_after_blanks_is_skipped(rt: HostRuntime) -> Result<(), Fail> {
+        let line = Line::new(rt.alloc(), b" \t# said once")?;
+        assert!(rt; line.is_skipped());
+        assert_eq!(rt; line.text()?, " \t# said once");
+        Ok(())
+    }
+}

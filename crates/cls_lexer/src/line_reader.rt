@@ -1,0 +1,103 @@
+ghost use Rattle.std.specs.Prelude.{◌≡◌, ℕ, ◌↔◌, List, [], ◌++◌, IsNone, IfNone, IfSome, OnSome, IfOk, OnErr, ◌==◌, position, option_to_list};
+ghost use Rattle.cls_lexer.specs.Lines.{lines_of, without_return, HasNoFeed, CutsLine};
+
+use crate::line::Line;
+use cls_base::OutOfMemory;
+use std::alloc::Global;
+use std::marker::Model;
+
+/// Cuts a text that comes in pieces into its lines. It is seen as the bytes that came since the last line feed.
+#[derive(Drop)]
+pub struct LineReader {
+    bytes: Vec<u8>,
+}
+
+impl Model for LineReader {
+    ghost Value = { List ℕ };
+
+    ghost view = { λ r. r.bytes.items };
+
+    ghost invariant = { λ r. HasNoFeed r.bytes.items };
+}
+
+impl LineReader {
+    /// The reader at the beginning of a text. It takes no memory.
+    pub fn new(alloc: Global) -> LineReader
+        ensures { result ≡ [] }
+    {
+        LineReader {
+            bytes: Vec::new(alloc),
+        }
+    }
+
+    /// Takes the bytes of the piece up to and with its first line feed, and gives the line that this ends beside the
+    /// rest of the piece.
+    ///
+    /// If the piece has no line feed, all of it is taken and no line is given. After an error the reader is as before.
+    pub fn take<'a>(
+        &mut self,
+        alloc: Global,
+        piece: &'a [u8],
+    ) -> Result<(Option<Line>, &'a [u8]), OutOfMemory>
+        ensures line { IfOk result (λ r. IfSome r.0 (λ line. CutsLine (self.old ++ piece.now) line r.1.now)) }
+        ensures fresh { IfOk result (λ r. OnSome r.0 (self.new ≡ [])) }
+
+        // Without a line feed the piece is held.
+        ensures none { IfOk result (λ r. IfNone r.0 (HasNoFeed piece.now)) }
+        ensures held { IfOk result (λ r. IfNone r.0 (self.new ≡ self.old ++ piece.now)) }
+        ensures nothing_left { IfOk result (λ r. IfNone r.0 (r.1.now ≡ [])) }
+
+        ensures no_feed { HasNoFeed self.new }
+        ensures err { OnErr result (self.new ≡ self.old) }
+    {
+        match first_feed(piece) {
+            None => {
+                self.bytes.extend_from_slice(piece)?;
+                Ok((None, &piece[piece.len()..]))
+            }
+            Some(place) => {
+                self.bytes.extend_from_slice(&piece[..place])?;
+                let bytes = std::mem::replace(&mut self.bytes, Vec::new(alloc));
+                Ok((Some(Line::ended(bytes)), &piece[place + 1..]))
+            }
+        }
+    }
+
+    /// Ends the text, and gives the last line if a byte stands after the last line feed. It takes no memory.
+    pub fn finish(self) -> Option<Line>
+        ensures none { IsNone result ↔ (self ≡ []) }
+        ensures line { IfSome result (λ line. line ≡ without_return self) }
+        ensures lines { option_to_list result ≡ lines_of self }
+    {
+        let LineReader { bytes } = self;
+        if bytes.is_empty() {
+            None
+        } else {
+            Some(Line::ended(bytes))
+        }
+    }
+}
+
+fn first_feed(bytes: &[u8]) -> Option<usize>
+    ensures { result ≡ position (λ b. b == 10) bytes.now }
+{
+    bytes.iter().position(|byte| *byte == b'\n')
+}
+
+#[cfg(test)]
+mod tests {
+    use super::*;
+    use std::test::Fail;
+
+    #[test]
+    fn a_line_ends_in_a_later_piece(rt: HostRuntime) -> Result<(), Fail> {
+        let mut reader = LineReader::new(rt.alloc());
+        let (none, rest) = reader.take(rt.alloc(), b"comp f")?;
+        assert!(rt; none.is_none());
+        assert_eq!(rt; rest.len(), 0);
+        let (line, rest) = reader.take(rt.alloc(), b" : a\r\nend")?;
+        assert_eq!(rt; line.ok_or("no line")?.as_bytes(), b"comp f : a".as_slice());
+        assert_eq!(rt; rest, b"end".as_slice());
+        Ok(())
+    }
+}

@@ -1,0 +1,135 @@
+ghost use Rattle.std.specs.Prelude.{◌≡◌, ℕ, ◌-◌, ◌^◌, ◌<◌, ◌↔◌, List, [], Some, None, length, take, map, Contains, IsTrue, IsNone, IfSome, IfOk, OnOk, OnErr, slice_get, slice_index_or};
+ghost use Rattle.std.specs.List.{IsDistinct, remove};
+ghost use Rattle.std.specs.Str.{bytes_eq};
+ghost use Rattle.cls_lexer.specs.Names.{number_of, with_text};
+
+use cls_base::{Name, OutOfMemory};
+use indexmap::IndexSet;
+use std::alloc::Global;
+use std::marker::Model;
+
+/// A table of texts, each of which has a number: 0 for the first, and so on in the order in which they first came.
+///
+/// It is seen as the list of the texts. None stands twice, and there are fewer than 2^32.
+#[derive(Drop)]
+pub struct Names {
+    texts: IndexSet<String>,
+}
+
+impl Model for Names {
+    ghost use Rattle.std.specs.Prelude.{ℕ, List, map, string_bytes};
+    ghost use Rattle.cls_lexer.specs.Names.{IsTable};
+
+    ghost Value = { List (List ℕ) };
+
+    ghost view = { λ n. map string_bytes n.texts.keys };
+
+    ghost invariant = { λ n. IsTable (map string_bytes n.texts.keys) };
+}
+
+impl Names {
+    /// The table with no text. It takes no memory.
+    pub fn new(alloc: Global) -> Names
+        ensures { result ≡ [] }
+    {
+        Names {
+            texts: IndexSet::new(alloc),
+        }
+    }
+
+    /// How many texts there are.
+    pub fn len(&self) -> u32
+        ensures count { result ≡ length self.now }
+        ensures distinct { IsDistinct bytes_eq self.now }
+    {
+        self.texts.len() as u32
+    }
+
+    /// Whether there is no text.
+    pub fn is_empty(&self) -> bool
+        ensures { IsTrue result ↔ (length self.now ≡ 0) }
+    {
+        self.texts.is_empty()
+    }
+
+    /// The number of the text. A text that is known keeps its number, and a new one goes last.
+    ///
+    /// The caller sees to it that there is a number left. After an error the table is as before.
+    pub fn intern(&mut self, alloc: Global, text: &str) -> Result<Name, OutOfMemory>
+        requires { length self.old < 2 ^ 32 - 1 }
+        ensures number { IfOk result (λ name. name.0 ≡ number_of self.old text.now) }
+        ensures table { OnOk result (self.new ≡ with_text self.old text.now) }
+        ensures stands { IfOk result (λ name. slice_get self.new name.0 ≡ Some text.now) }
+        ensures distinct { IsDistinct bytes_eq self.new }
+        ensures err { OnErr result (self.new ≡ self.old) }
+    {
+        if let Some(name) = self.find(text) {
+            return Ok(name);
+        }
+        let (place, _) = self.texts.insert_full(String::from_str(alloc, text)?)?;
+        Ok(Name(place as u32))
+    }
+
+    /// The number of the text, or None if it isn't held.
+    pub fn find(&self, text: &str) -> Option<Name>
+        ensures absent { IsNone result ↔ ¬ Contains self.now text.now }
+        ensures number { IfSome result (λ name. name.0 ≡ number_of self.now text.now) }
+        ensures stands { IfSome result (λ name. slice_get self.now name.0 ≡ Some text.now) }
+    {
+        let place = self.texts.get_index_of(text)?;
+        Some(Name(place as u32))
+    }
+
+    /// The number of the text, or the number of texts if it isn't held.
+    #[tactic(auto, using(crate::proofs::TextTables::number_absent))]
+    pub fn number(&self, text: &str) -> Name
+        ensures { result.0 ≡ number_of self.now text.now }
+    {
+        match self.find(text) {
+            Some(name) => name,
+            None => Name(self.len()),
+        }
+    }
+
+    /// Keeps the texts of the first `len` numbers. It takes no memory.
+    pub fn cut(&mut self, len: u32)
+        ensures kept { self.new ≡ take len self.old }
+        ensures distinct { IsDistinct bytes_eq self.new }
+    {
+        self.texts.truncate(len as usize);
+    }
+
+    /// Takes the text of the number out: the texts behind it move down by one number. If no text has the number, nothing
+    /// changes. It takes no memory.
+    pub fn remove(&mut self, name: Name)
+        ensures removed { self.new ≡ remove self.old name.0 }
+        ensures distinct { IsDistinct bytes_eq self.new }
+    {
+        self.texts.shift_remove_index(name.0 as usize);
+    }
+
+    /// The text of the number.
+    pub fn text(&self, name: Name) -> &str
+        requires { name.0 < length self.now }
+        ensures { result.now ≡ slice_index_or self.now name.0 [] }
+    {
+        self.texts.as_slice()[name.0 as usize].as_str()
+    }
+}
+
+#[cfg(test)]
+mod tests {
+    use super::*;
+    use std::test::Fail;
+
+    #[test]
+    fn a_known_text_keeps_its_number(rt: HostRuntime) -> Result<(), Fail> {
+        let mut names = Names::new(rt.alloc());
+        let first = names.intern(rt.alloc(), "List")?;
+        let second = names.intern(rt.alloc(), "Int")?;
+        let again = names.intern(rt.alloc(), "List")?;
+        assert_eq!(rt; (first.0, second.0, again.0), (0, 1, 0));
+        assert_eq!(rt; names.len(), 2);
+        Ok(())
+    }
+}

@@ -1,0 +1,112 @@
+ghost use Rattle.std.specs.Prelude.{◌≡◌, ◌+◌, ◌<◌, ◌≤◌, ◌^◌, length, map, IfOk, nat_le, if◌then◌else◌};
+ghost use Rattle.std.specs.List.{prefix_len};
+ghost use Rattle.cls_base.specs.Limits.{max_name_bytes};
+ghost use Rattle.cls_lexer.specs.Characters.{is_digit, is_name_byte, is_continuation};
+ghost use Rattle.cls_lexer.specs.Tokens.{token_at, tokens_of, located, byte_at};
+ghost use Rattle.cls_lexer.specs.Words.{words, words_of};
+
+use crate::characters::{is_blank, is_continuation, is_digit, is_name_byte, is_name_start};
+use crate::token::{Token, TokenKind};
+use cls_base::OutOfMemory;
+use cls_base::limits::MAX_NAME_BYTES;
+use std::alloc::Global;
+
+/// The tokens of the line, which has fewer than 2^32 bytes, in one pass.
+///
+/// From the left: a blank (space, tab or carriage return) is skipped, otherwise the longest token is taken. So each byte that
+/// isn't blank lies in one token alone.
+pub fn tokens<'a>(alloc: Global, line: &'a str) -> Result<Vec<Token<'a>>, OutOfMemory>
+    requires { length line.now < 2 ^ 32 }
+    ensures tokens { IfOk result (λ v. map located v.items ≡ tokens_of line.now) }
+    ensures words { IfOk result (λ v. words v.items ≡ words_of line.now) }
+{
+    let bytes = line.as_bytes();
+    let mut out = Vec::new(alloc);
+    let mut at = 0;
+    while at < bytes.len() {
+        let first = bytes[at];
+        if is_blank(first) {
+            at += 1;
+        } else {
+            let (kind, len) = token_at(first, &bytes[at + 1..]);
+            out.push(Token {
+                kind,
+                text: &line[at..at + len],
+                start: at as u32,
+            })?;
+            at += len;
+        }
+    }
+    Ok(out)
+}
+
+/// The byte at which the token of this number begins, or the length of the line if it has no such token.
+pub fn byte_at(line: &str, tokens: &[Token], place: usize) -> u32
+    requires few { length line.now < 2 ^ 32 }
+    requires tokens { map located tokens.now ≡ tokens_of line.now }
+    ensures { result ≡ byte_at line.now place }
+{
+    match tokens.get(place) {
+        Some(token) => token.start,
+        None => line.len() as u32,
+    }
+}
+
+/// The kind and the length of the token that the bytes begin with.
+#[tactic(auto, using(crate::proofs::TokenSteps::runs), unfolding(crate::specs::Tokens::token_at))]
+fn token_at(first: u8, rest: &[u8]) -> (TokenKind, usize)
+    requires { length rest.now < 2 ^ 32 }
+    ensures value { result ≡ token_at first rest.now }
+    ensures not_empty { 1 ≤ result.1 }
+    ensures within { result.1 ≤ 1 + length rest.now }
+{
+    if is_name_start(first) {
+        let len = 1 + name_bytes(rest);
+        return (name_or_bad(len), len);
+    }
+    if is_digit(first) {
+        return (TokenKind::Number, 1 + digits(rest));
+    }
+    match (first, rest.first()) {
+        (b'-', Some(b'>')) => (TokenKind::To, 2),
+        (b'<', Some(b'=')) => (TokenKind::AtMost, 2),
+        (b'&', _) => (TokenKind::And, 1),
+        (b'*', _) => (TokenKind::Times, 1),
+        (b'(', _) => (TokenKind::Open, 1),
+        (b')', _) => (TokenKind::Close, 1),
+        (b',', _) => (TokenKind::Comma, 1),
+        (b'$', _) => (TokenKind::Dollar, 1),
+        (b':', _) => (TokenKind::Colon, 1),
+        (b'=', _) => (TokenKind::Equals, 1),
+        (b'|', _) => (TokenKind::Bar, 1),
+        _ => (TokenKind::Bad, 1 + continuations(rest)),
+    }
+}
+
+fn name_or_bad(len: usize) -> TokenKind
+    ensures { result ≡ (if nat_le len max_name_bytes then TokenKind.Name else TokenKind.Bad) }
+{
+    if len <= MAX_NAME_BYTES {
+        TokenKind::Name
+    } else {
+        TokenKind::Bad
+    }
+}
+
+fn digits(bytes: &[u8]) -> usize
+    ensures { result ≡ prefix_len is_digit bytes.now }
+{
+    bytes.iter().take_while(|b| is_digit(**b)).count()
+}
+
+fn name_bytes(bytes: &[u8]) -> usize
+    ensures { result ≡ prefix_len is_name_byte bytes.now }
+{
+    bytes.iter().take_while(|b| is_name_byte(**b)).count()
+}
+
+fn continuations(bytes: &[u8]) -> usize
+    ensures { result ≡ prefix_len is_continuation bytes.now }
+{
+    bytes.iter().take_while(|b| is_continuation(**b)).count()
+}

@@ -1,0 +1,34 @@
+use Rattle.std.proofs.Common.{◌≡◌, ◌-◌, List, sym, ap, ◌∙◌, subst, arith, length}
+use Rattle.std.specs.Prelude.{◌&&◌}
+use Rattle.std.proofs.lemmas.List.{length-map}
+use Rattle.cls_lexer.specs.declared.token.Token.{Token}
+use Rattle.cls_lexer.specs.Tokens.{located}
+use Rattle.cls_lexer.specs.Words.{word_of}
+use Rattle.cls_syntax.specs.Sorts.{begins_reserved}
+use Rattle.cls_syntax.specs.Depths.{most_open}
+use Rattle.cls_syntax.specs.declared.syntax_fault.SyntaxFault.{SyntaxFault}
+use Rattle.cls_lexer.specs.Tokens.{located}
+use Rattle.cls_lexer.specs.Words.{words}
+use Rattle.cls_syntax.specs.SyntaxFaults.{IsFlat, IsNoType, fault_from}
+use Rattle.cls_syntax.proofs.TypeFaults.{type_stop_within, type_stop_refused}
+use Rattle.cls_syntax.proofs.read.whole_type.Goals as goal
+
+many : (ls : List Token) → length (words ls) ≡ length ls
+many ls = length-map ls word_of
+
+pub fault_at-requires-clause-within : goal.fault_at-requires-clause-within
+fault_at-requires-clause-within c =
+    let within = type_stop_within c.args.text.now (words c.args.tokens.now) c.requires.words (words c.in-Err.stop.rest.now) c.in-Err.stop.wants_name (length c.args.tokens.now) (sym (length-map c.args.tokens.now located) ∙ ap length c.requires.tokens) c.in-Err.ensures in
+    let as_many = many c.in-Err.stop.rest.now in
+    omega (arith, within, as_many)
+
+pub returns-in-Err : goal.returns-in-Err
+returns-in-Err c =
+    let line = c.args.text.now in
+    let rest = c.in-Err.stop.rest.now in
+    let most = c.deepest.ensures ∙ ap (most_open 0 0) c.requires.words in
+    let few = c.if-deepest-gt-MAX_TYPE_DEPTH.false in
+    let flat : IsFlat line = omega (arith, most, few) in
+    let refused = type_stop_refused line (words c.args.tokens.now) c.requires.words (words rest) c.in-Err.stop.wants_name (length c.args.tokens.now) (sym (length-map c.args.tokens.now located) ∙ ap length c.requires.tokens) flat c.in-Err.ensures in
+    let place = ap (λ n. fault_from line (length c.args.tokens.now - n) (c.in-Err.stop.wants_name && begins_reserved (words rest))) (many rest) in
+    subst (λ (f : SyntaxFault). IsNoType line f) (place ∙ sym c.fault_at.ensures) refused

@@ -1,0 +1,77 @@
+//! Prints a type.
+ghost use Rattle.std.specs.Prelude.{◌≡◌, ◌<◌, ◌++◌, length, IfOk, OnOk, string_bytes};
+ghost use Rattle.cls_base.specs.Ty.{type_of};
+ghost use Rattle.cls_syntax.specs.TypePrinting.{name_in, HasNamesBelow, text_if, is_omega_type, printed};
+
+use cls_base::{OutOfMemory, Ty};
+use cls_lexer::Names;
+use std::alloc::Global;
+
+/// The text of the type: ` -> `, ` & ` and ` * ` between parts, and parentheses only where they are needed. A name over
+/// omega is the bare name. The only error is out of memory.
+pub fn print_type(alloc: Global, names: &Names, ty: &Ty) -> Result<String, OutOfMemory>
+    requires { HasNamesBelow (length names.now) (type_of ty.now) }
+    ensures { IfOk result (λ text. string_bytes text ≡ printed (name_in names.now) 0 (type_of ty.now)) }
+{
+    let mut text = String::new(alloc);
+    push_type(&mut text, names, ty, 0)?;
+    Ok(text)
+}
+
+/// Writes the type at the end, in parentheses where it is weaker than is wanted there: 0 any form, 1 no arrow, 2 no
+/// intersection, 3 an atom.
+#[tactic(auto, using(crate::proofs::Regrouping::regroup), unfolding(crate::specs::TypePrinting::printed))]
+fn push_type(text: &mut String, names: &Names, ty: &Ty, strength: u8) -> Result<(), OutOfMemory>
+    requires { HasNamesBelow (length names.now) (type_of ty.now) }
+    ensures { OnOk result (string_bytes text.new
+        ≡ string_bytes text.old ++ printed (name_in names.now) strength (type_of ty.now)) }
+{
+    match ty {
+        Ty::Omega => text.push_str("omega")?,
+        Ty::Con(name, argument) => {
+            text.push_str(names.text(*name))?;
+            if !is_omega(argument) {
+                text.push_str("(")?;
+                push_type(text, names, argument, 0)?;
+                text.push_str(")")?;
+            }
+        }
+        Ty::Arrow(source, target) => {
+            push_if(text, strength > 0, "(")?;
+            push_type(text, names, source, 1)?;
+            text.push_str(" -> ")?;
+            push_type(text, names, target, 0)?;
+            push_if(text, strength > 0, ")")?;
+        }
+        Ty::Meet(left, right) => {
+            push_if(text, strength > 1, "(")?;
+            push_type(text, names, left, 1)?;
+            text.push_str(" & ")?;
+            push_type(text, names, right, 2)?;
+            push_if(text, strength > 1, ")")?;
+        }
+        Ty::Prod(left, right) => {
+            push_if(text, strength > 2, "(")?;
+            push_type(text, names, left, 2)?;
+            text.push_str(" * ")?;
+            push_type(text, names, right, 3)?;
+            push_if(text, strength > 2, ")")?;
+        }
+    }
+    Ok(())
+}
+
+fn push_if(text: &mut String, wanted: bool, part: &str) -> Result<(), OutOfMemory>
+    ensures { OnOk result (string_bytes text.new ≡ string_bytes text.old ++ text_if wanted part.now) }
+{
+    if wanted {
+        text.push_str(part)?;
+    }
+    Ok(())
+}
+
+fn is_omega(ty: &Ty) -> bool
+    ensures { result ≡ is_omega_type (type_of ty.now) }
+{
+    matches!(ty, Ty::Omega)
+}
