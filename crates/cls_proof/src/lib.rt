@@ -2,17 +2,20 @@
 //!
 //! - [`Certificate`] is a list of [`ProofRow`]s or a list of [`Member`]s. A row says of its goal that some term has it, by
 //!   the goals of rows before it. A member says of its goal that no term has it, and its [`Block`]s show why.
-//! - `specs/` defines certificates. What one must meet is defined where it is checked.
+//! - [`print_certificate`] gives the lines of a certificate.
+//! - `specs/` defines certificates and their lines. What one must meet is defined where it is checked.
 #![tactic(auto)]
 
 mod block;
 mod certificate;
 mod layer;
 mod member;
+mod print;
 mod row;
 
 pub use block::{Block, Blocks};
 pub use certificate::Certificate;
 pub use layer::{Layer, Layers};
 pub use member::{Member, Members};
+pub use print::print_certificate;
 pub use row::{ProofRow, ProofRows};

@@ -5,7 +5,7 @@
 //!   [`Stop`]: the first token that can't follow.
 //! - What spells a type is recognised with no memory, as [`SpelledType`]; [`SpelledType::schema`] and [`SpelledType::ty`] build
 //!   it, with a stack of their own.
-//! - [`read_schema`] and [`read_type`] read a text that is one type, and [`print_type`] prints a type.
+//! - [`read_schema`] and [`read_type`] read a text that is one type, and [`print_type`] and [`write_type`] print a type.
 //! - [`laws`] holds what is true of every form of line and of every type.
 #![tactic(auto)]
 
@@ -32,7 +32,7 @@ mod word_list;
 pub use cursor::{end_at, name_at, number_at, sign_at, term_at, type_at, types_at, word_at};
 pub use depth::deepest;
 pub use numeral_list::NumeralList;
-pub use print::print_type;
+pub use print::{print_type, write_type};
 pub use read::{first_variable, read_schema, read_type};
 pub use role::Role;
 pub use sort::is_name;
