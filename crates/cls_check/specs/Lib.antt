@@ -1,2 +1,12 @@
--- What the check of a type says is in its contract. These follow the code.
+-- To be read and believed: Checking, which says when a certificate is accepted, Firsts, Verdicts and Laws. The other modules
+-- say the same of the code's tables, or serve the prover.
+pub mod Arguments
+pub mod Checking
 pub mod Deciding
+pub mod Firsts
+pub mod Goals
+pub mod Laws
+pub mod Layers
+pub mod Places
+pub mod Tests
+pub mod Verdicts

@@ -18,14 +18,13 @@ pub fn print_type(alloc: Global, names: &Names, ty: &Ty) -> Result<String, OutOf
     Ok(text)
 }
 
-/// Writes the text of the type at the end, as [`print_type`] prints it. The only error is out of memory; then a part of the
-/// text may stand there.
+/// Writes that text at the end. The only error is out of memory.
 pub fn write_type(text: &mut String, names: &Names, ty: &Ty) -> Result<(), OutOfMemory>
     requires { HasNamesBelow (length names.now) (type_of ty.now) }
-    ensures { OnOk result (string_bytes text.new ≡ string_bytes text.old ++ printed (name_in names.now) 0 (type_of ty.now)) }
+    ensures { OnOk result (string_bytes text.new
+        ≡ string_bytes text.old ++ printed (name_in names.now) 0 (type_of ty.now)) }
 {
-    push_type(text, names, ty, 0)?;
-    Ok(())
+    push_type(text, names, ty, 0)
 }
 
 /// Writes the type at the end, in parentheses where it is weaker than is wanted there: 0 any form, 1 no arrow, 2 no

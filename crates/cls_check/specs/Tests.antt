@@ -1,0 +1,49 @@
+-- internal: what the tests of a certificate tell, by a table of the normal forms of goals
+use Rattle.std.specs.Prelude.{ℕ, zero, suc, ◌⊎◌, List, [], ◌∷◌, All, Option, None, Some, slice_index_or}
+use Rattle.cls_path.specs.Paths.{TypePath, Paths}
+use Rattle.cls_library.specs.Libraries.{Library, arrows_at}
+use Rattle.cls_proof.specs.Certificates.{ProofRow, Block}
+use Rattle.cls_check.specs.declared.fault.Reason.{Reason}
+use Rattle.cls_check.specs.declared.fault.Reason.TheVariants.{Layers, Unblocked}
+use Rattle.cls_check.specs.declared.place.Place.{Place}
+use Rattle.cls_check.specs.Firsts.{First}
+use Rattle.cls_check.specs.Checking.{path_total, layers_for, row_causes, PassesRow, PassesLayers, PassesUnblocked, IsBlocked, BlockedFrom, Steps}
+use Rattle.cls_check.specs.Goals.{IsAboveGoal, IsBelowGoal}
+use Rattle.cls_check.specs.Places.{arrows_in}
+
+module _ (l : Library) (goals : List (List TypePath)) where
+  -- a row passes, or the reason is its first test that fails
+  abbrev pub TellsRow : ProofRow → Option Reason → Type 0
+  TellsRow r None = PassesRow l (IsAboveGoal l goals) r
+  TellsRow r (Some reason) = First (row_causes l (IsAboveGoal l goals) r) reason
+
+  -- the set is blocked over the arrows of the place
+  abbrev pub IsStopped : Place → List ℕ → Type 0
+  IsStopped p s = IsBlocked l (IsBelowGoal l goals) (arrows_in l p) p.n s
+
+  -- each set of the layer is blocked, or leads to the next layer
+  abbrev pub AllStep : Place → TypePath → List (List ℕ) → List (List ℕ) → Type 0
+  AllStep p q sets layer = All (λ s. IsStopped p s ⊎ Steps l (arrows_in l p) layer q s) sets
+
+  -- the layers lead from the empty set to sets that are all blocked
+  abbrev pub IsWalked : Place → Paths → List (List (List ℕ)) → Type 0
+  IsWalked p form layers = BlockedFrom l (IsBelowGoal l goals) (arrows_in l p) p.n form ([] ∷ []) layers
+
+  -- the same for the layers of the blocks
+  abbrev pub IsWalkedAt : List Block → Paths → ℕ → ℕ → Type 0
+  IsWalkedAt blocks form x n =
+      BlockedFrom l (IsBelowGoal l goals) (arrows_at l x n) n form ([] ∷ []) (layers_for blocks (path_total form) x n)
+
+  -- the two tests of a member with these blocks whose goal has this normal form
+  abbrev pub TellsMember : List Block → Paths → Option Reason → Type 0
+  TellsMember blocks form None =
+      PassesLayers l blocks (path_total form) × PassesUnblocked l (IsBelowGoal l goals) blocks form
+  TellsMember blocks form (Some Layers) = PassesLayers l blocks (path_total form) → ⊥
+  TellsMember blocks form (Some Unblocked) =
+      PassesLayers l blocks (path_total form) × (PassesUnblocked l (IsBelowGoal l goals) blocks form → ⊥)
+  TellsMember blocks form (Some _) = ⊥
+
+-- the sets from which the step of this number goes
+abbrev pub sets_at : List (List ℕ) → List (List (List ℕ)) → ℕ → List (List ℕ)
+sets_at start layers zero = start
+sets_at start layers (suc i) = slice_index_or layers i []

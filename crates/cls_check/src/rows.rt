@@ -1,0 +1,132 @@
+//! The rows of a certificate.
+ghost use Rattle.std.specs.Prelude.{ℕ, ◌<◌, ◌↔◌, ◌^◌, length, map, IfOk, OnOk, IfErr, IsTrue};
+ghost use Rattle.cls_base.specs.Lists.{AreBelow};
+ghost use Rattle.cls_base.specs.Ty.{type_of};
+ghost use Rattle.cls_path.specs.Paths.{listed, type_of_paths, SuitsAll};
+ghost use Rattle.cls_library.specs.Libraries.{variances_in};
+ghost use Rattle.cls_proof.specs.Certificates.{inhabited};
+ghost use Rattle.cls_proof.specs.Rows.{row_of};
+ghost use Rattle.cls_check.specs.Arguments.{argument_type};
+ghost use Rattle.cls_check.specs.Checking.{Accepts, EndsBelow, IsForm};
+ghost use Rattle.cls_check.specs.Goals.{IsAboveGoal, AllSuit};
+ghost use Rattle.cls_check.specs.Places.{Stands, arrows_in};
+ghost use Rattle.cls_check.specs.Tests.{TellsRow};
+ghost use Rattle.cls_check.specs.Verdicts.{IsRefusedAs};
+
+use crate::argument::arguments;
+use crate::fault::{CheckFault, Reason};
+use crate::goals::Goals;
+use crate::place::Place;
+use crate::positions::are_positions;
+use crate::targets::cover_goal;
+use cls_base::OutOfMemory;
+use cls_library::Library;
+use cls_norm::normal;
+use cls_path::Nf;
+use cls_proof::ProofRow;
+use std::alloc::Global;
+
+/// Tests the rows in order, and then that the goal of the last one is below the asked one.
+pub(crate) fn check_rows(
+    alloc: Global,
+    lib: &Library,
+    asked: &Nf,
+    rows: &[ProofRow],
+) -> Result<(), CheckFault>
+    requires suits { SuitsAll (variances_in lib.now.taxonomy) (listed asked.now) }
+    requires few { length rows.now < 2 ^ 32 }
+    ensures accepted { OnOk result (Accepts lib.now (type_of_paths (listed asked.now)) (inhabited (map row_of rows.now))) }
+    ensures refused { IfErr result
+        (IsRefusedAs lib.now (type_of_paths (listed asked.now)) (inhabited (map row_of rows.now))) }
+{
+    let mut goals = Goals::new(alloc);
+    for (i, row) in rows.iter().enumerate() {
+        let goal = normal(alloc, lib.taxonomy(), &row.goal)?;
+        match row_fault(alloc, lib, &goals, row, &goal)? {
+            Some(reason) => {
+                return Err(CheckFault::Refused {
+                    row: i as u32 + 1,
+                    reason,
+                });
+            }
+            None => goals.put(goal)?,
+        }
+    }
+    if !ends_below(alloc, lib, asked, rows)? {
+        return Err(CheckFault::Refused {
+            row: rows.len() as u32,
+            reason: Reason::Goal,
+        });
+    }
+    Ok(())
+}
+
+/// The first test that the row fails after rows with these goals. The row's own goal has this normal form.
+fn row_fault(
+    alloc: Global,
+    lib: &Library,
+    goals: &Goals,
+    row: &ProofRow,
+    goal: &Nf,
+) -> Result<Option<Reason>, OutOfMemory>
+    requires goals { AllSuit lib.now goals.now }
+    requires form { IsForm lib.now (type_of row.now.goal) (listed goal.now) }
+    ensures { IfOk result (TellsRow lib.now goals.now (row_of row.now)) }
+{
+    let place = Place {
+        component: row.component,
+        n: row.n,
+    };
+    let positions = row.cover.as_slice();
+    if !place.stands(lib) || !are_positions(positions, place.arrows(lib).len()) {
+        return Ok(Some(Reason::Arrow));
+    }
+    if !cover_goal(lib, place, positions, goal) {
+        return Ok(Some(Reason::Target));
+    }
+    if !meets_arguments(alloc, lib, goals, place, positions)? {
+        return Ok(Some(Reason::Argument));
+    }
+    Ok(None)
+}
+
+/// Whether for each argument the intersection of what the arrows at the positions take is above a goal.
+fn meets_arguments(
+    alloc: Global,
+    lib: &Library,
+    goals: &Goals,
+    place: Place,
+    positions: &[u32],
+) -> Result<bool, OutOfMemory>
+    requires place { Stands lib.now place }
+    requires goals { AllSuit lib.now goals.now }
+    requires within { AreBelow (length (arrows_in lib.now place)) positions.now }
+    ensures { IfOk result (λ meets. IsTrue meets ↔ ((i : ℕ) → i < place.n
+        → IsAboveGoal lib.now goals.now (argument_type (arrows_in lib.now place) positions.now i))) }
+{
+    let arguments = arguments(alloc, lib, place, positions)?;
+    for argument in &arguments {
+        if !goals.any_below(lib, argument) {
+            return Ok(false);
+        }
+    }
+    Ok(true)
+}
+
+/// Whether there is a row, and the goal of the last one is below the asked one.
+fn ends_below(
+    alloc: Global,
+    lib: &Library,
+    asked: &Nf,
+    rows: &[ProofRow],
+) -> Result<bool, OutOfMemory>
+    requires { SuitsAll (variances_in lib.now.taxonomy) (listed asked.now) }
+    ensures { IfOk result (λ ends. IsTrue ends
+        ↔ EndsBelow lib.now (map row_of rows.now) (type_of_paths (listed asked.now))) }
+{
+    let Some(row) = rows.last() else {
+        return Ok(false);
+    };
+    let goal = normal(alloc, lib.taxonomy(), &row.goal)?;
+    Ok(goal.le(lib.taxonomy(), asked))
+}

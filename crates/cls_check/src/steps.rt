@@ -1,0 +1,183 @@
+//! The way from one layer of sets to the next.
+ghost use Rattle.std.specs.Prelude.{◌+◌, ◌<◌, ◌≡◌, ◌↔◌, ◌⊎◌, All, length, [], ◌∷◌, IfOk, IsTrue};
+ghost use Rattle.cls_base.specs.Lists.{AreBelow};
+ghost use Rattle.cls_path.specs.Paths.{listed, Suits, SuitsAll};
+ghost use Rattle.cls_library.specs.Families.{IsFamilyIn};
+ghost use Rattle.cls_library.specs.Libraries.{variances_in};
+ghost use Rattle.cls_check.specs.Checking.{path_total};
+ghost use Rattle.cls_check.specs.Goals.{AllSuit};
+ghost use Rattle.cls_check.specs.Layers.{AllBelow, AllMet};
+ghost use Rattle.cls_check.specs.Places.{Stands, arrows_in};
+ghost use Rattle.cls_check.specs.Tests.{AllStep, IsStopped, IsWalked, sets_at};
+
+use crate::argument::arguments;
+use crate::goals::Goals;
+use crate::lack::all_met;
+use crate::place::Place;
+use cls_base::{Numbers, OutOfMemory};
+use cls_library::Library;
+use cls_path::{Nf, Path};
+use cls_proof::Layer;
+use std::alloc::Global;
+
+/// Whether the layers lead from the empty set to sets that are all blocked. There is a layer for each path of the goal.
+pub(crate) fn is_walked(
+    alloc: Global,
+    lib: &Library,
+    goals: &Goals,
+    place: Place,
+    goal: &Nf,
+    layers: &[Layer],
+) -> Result<bool, OutOfMemory>
+    requires place { Stands lib.now place }
+    requires goals { AllSuit lib.now goals.now }
+    requires suits { SuitsAll (variances_in lib.now.taxonomy) (listed goal.now) }
+    requires as_many { length layers.now ≡ path_total (listed goal.now) }
+    requires within { All (AllBelow (length (arrows_in lib.now place))) layers.now }
+    ensures { IfOk result (λ walked. IsTrue walked ↔ IsWalked lib.now goals.now place (listed goal.now) layers.now) }
+{
+    let start = only_empty(alloc)?;
+    for (step, path) in goal.paths().iter().enumerate() {
+        let sets = sets_at(start.as_slice(), layers, step);
+        let layer = layers[step].as_slice();
+        if !all_step(alloc, lib, goals, place, path, sets, layer)? {
+            return Ok(false);
+        }
+    }
+    let last = sets_at(start.as_slice(), layers, layers.len());
+    Ok(all_blocked(alloc, lib, goals, place, last)?)
+}
+
+/// The empty set alone.
+fn only_empty(alloc: Global) -> Result<Layer, OutOfMemory>
+    ensures { IfOk result (λ layer. layer ≡ [] ∷ []) }
+{
+    let mut sets = Vec::with_capacity(alloc, 1)?;
+    sets.push(Numbers::new(Vec::new(alloc)))?;
+    Ok(Layer::new(sets))
+}
+
+/// The sets from which the step of this number goes.
+fn sets_at<'a>(start: &'a [Numbers], layers: &'a [Layer], step: usize) -> &'a [Numbers]
+    requires { step < length layers.now + 1 }
+    ensures { result.now ≡ sets_at start.now layers.now step }
+{
+    if step == 0 {
+        start
+    } else {
+        layers[step - 1].as_slice()
+    }
+}
+
+/// Whether each of the sets leads to the next layer, or is blocked.
+fn all_step(
+    alloc: Global,
+    lib: &Library,
+    goals: &Goals,
+    place: Place,
+    path: &Path,
+    sets: &[Numbers],
+    layer: &[Numbers],
+) -> Result<bool, OutOfMemory>
+    requires place { Stands lib.now place }
+    requires goals { AllSuit lib.now goals.now }
+    requires suits { Suits (variances_in lib.now.taxonomy) path.now }
+    requires within { AllBelow (length (arrows_in lib.now place)) sets.now }
+    requires layer { AllBelow (length (arrows_in lib.now place)) layer.now }
+    ensures { IfOk result (λ step. IsTrue step ↔ AllStep lib.now goals.now place path.now sets.now layer.now) }
+{
+    if sets.is_empty() {
+        return Ok(true);
+    }
+    let family = lib.family(alloc, place.component, place.n, path)?;
+    for set in sets {
+        if !is_settled(
+            alloc,
+            lib,
+            goals,
+            place,
+            path,
+            family.as_slice(),
+            layer,
+            set.as_slice(),
+        )? {
+            return Ok(false);
+        }
+    }
+    Ok(true)
+}
+
+/// Whether the set with each number of the family contains a set of the layer, or is blocked. The latter costs more.
+fn is_settled(
+    alloc: Global,
+    lib: &Library,
+    goals: &Goals,
+    place: Place,
+    path: &Path,
+    family: &[u32],
+    layer: &[Numbers],
+    set: &[u32],
+) -> Result<bool, OutOfMemory>
+    requires place { Stands lib.now place }
+    requires goals { AllSuit lib.now goals.now }
+    requires family { IsFamilyIn lib.now.taxonomy (arrows_in lib.now place) path.now family.now }
+    requires layer { AllBelow (length (arrows_in lib.now place)) layer.now }
+    requires set { AreBelow (length (arrows_in lib.now place)) set.now }
+    ensures { IfOk result (λ settled. IsTrue settled
+        ↔ (IsStopped lib.now goals.now place set.now ⊎ AllMet family.now layer.now set.now)) }
+{
+    let count = place.arrows(lib).len();
+    if all_met(alloc, family, layer, set, count)? {
+        return Ok(true);
+    }
+    is_blocked(alloc, lib, goals, place, set)
+}
+
+/// Whether each of the sets is blocked.
+fn all_blocked(
+    alloc: Global,
+    lib: &Library,
+    goals: &Goals,
+    place: Place,
+    sets: &[Numbers],
+) -> Result<bool, OutOfMemory>
+    requires place { Stands lib.now place }
+    requires goals { AllSuit lib.now goals.now }
+    requires within { AllBelow (length (arrows_in lib.now place)) sets.now }
+    ensures { IfOk result (λ blocked. IsTrue blocked ↔ All (IsStopped lib.now goals.now place) sets.now) }
+{
+    for set in sets {
+        if !is_blocked(alloc, lib, goals, place, set.as_slice())? {
+            return Ok(false);
+        }
+    }
+    Ok(true)
+}
+
+/// Whether for some argument the intersection of what the arrows take is below a goal. The goals themselves are looked for
+/// first.
+fn is_blocked(
+    alloc: Global,
+    lib: &Library,
+    goals: &Goals,
+    place: Place,
+    set: &[u32],
+) -> Result<bool, OutOfMemory>
+    requires place { Stands lib.now place }
+    requires goals { AllSuit lib.now goals.now }
+    requires within { AreBelow (length (arrows_in lib.now place)) set.now }
+    ensures { IfOk result (λ blocked. IsTrue blocked ↔ IsStopped lib.now goals.now place set.now) }
+{
+    let arguments = arguments(alloc, lib, place, set)?;
+    for argument in &arguments {
+        if goals.has(argument) {
+            return Ok(true);
+        }
+    }
+    for argument in &arguments {
+        if goals.any_above(lib, argument) {
+            return Ok(true);
+        }
+    }
+    Ok(false)
+}

@@ -1,0 +1,173 @@
+//! The text of a certificate.
+ghost use Rattle.std.specs.Prelude.{◌≡◌, ◌++◌, ◌<◌, length, decimal, map, string_bytes, IfOk, OnOk};
+ghost use Rattle.std.specs.List.{flat_map, AllByRecursion};
+ghost use Rattle.cls_proof.specs.Blocks.{block_of};
+ghost use Rattle.cls_proof.specs.Members.{member_of};
+ghost use Rattle.cls_proof.specs.Rows.{row_of};
+ghost use Rattle.cls_proof.specs.Seen.{certificate_of};
+ghost use Rattle.cls_proof.specs.Texts.{certificate_text, row_text, member_text, block_text, layer_text, set_text, numbers_text, IsHeld, IsRowHeld, IsMemberHeld, IsBlockHeld};
+
+use crate::block::Block;
+use crate::certificate::Certificate;
+use crate::layer::Layer;
+use crate::member::Member;
+use crate::row::ProofRow;
+use cls_base::{Name, Numbers, OutOfMemory};
+use cls_lexer::Names;
+use cls_syntax::write_type;
+use itoa::Buffer;
+use std::alloc::Global;
+
+/// The lines of the certificate, the last one `qed`. The names and components of the certificate are held. The only error
+/// is out of memory.
+pub fn print_certificate(
+    alloc: Global,
+    names: &Names,
+    components: &Names,
+    certificate: &Certificate,
+) -> Result<String, OutOfMemory>
+    requires { IsHeld (length names.now) (length components.now) (certificate_of certificate.now) }
+    ensures { IfOk result (λ text.
+        string_bytes text ≡ certificate_text names.now components.now (certificate_of certificate.now)) }
+{
+    let mut text = String::new(alloc);
+    match certificate {
+        Certificate::Inhabited(rows) => {
+            text.push_str("inhabited\n")?;
+            write_rows(names, components, rows.as_slice(), &mut text)?;
+        }
+        Certificate::Empty(members) => {
+            text.push_str("empty\n")?;
+            write_members(names, components, members.as_slice(), &mut text)?;
+        }
+    }
+    text.push_str("qed\n")?;
+    Ok(text)
+}
+
+/// Writes the lines of the rows at the end.
+#[tactic(auto, using(crate::proofs::Writing::texts))]
+fn write_rows(
+    names: &Names,
+    components: &Names,
+    rows: &[ProofRow],
+    text: &mut String,
+) -> Result<(), OutOfMemory>
+    requires { AllByRecursion (IsRowHeld (length names.now) (length components.now)) (map row_of rows.now) }
+    ensures { OnOk result (string_bytes text.new
+        ≡ string_bytes text.old ++ flat_map (row_text names.now components.now) (map row_of rows.now)) }
+{
+    for row in rows {
+        write_row(names, components, row, text)?;
+    }
+    Ok(())
+}
+
+/// Writes the line of a row at the end.
+#[tactic(auto, using(crate::proofs::Writing::texts))]
+fn write_row(
+    names: &Names,
+    components: &Names,
+    row: &ProofRow,
+    text: &mut String,
+) -> Result<(), OutOfMemory>
+    requires { IsRowHeld (length names.now) (length components.now) (row_of row.now) }
+    ensures { OnOk result (string_bytes text.new
+        ≡ string_bytes text.old ++ row_text names.now components.now (row_of row.now)) }
+{
+    text.push_str("row ")?;
+    write_type(text, names, &row.goal)?;
+    text.push_str(" by ")?;
+    text.push_str(components.text(Name(row.component)))?;
+    text.push_str(" ")?;
+    write_number(text, row.n)?;
+    text.push_str(" :")?;
+    write_numbers(text, row.cover.as_slice())?;
+    text.push_str("\n")?;
+    Ok(())
+}
+
+/// Writes the lines of the members at the end.
+#[tactic(auto, using(crate::proofs::Writing::texts))]
+fn write_members(
+    names: &Names,
+    components: &Names,
+    members: &[Member],
+    text: &mut String,
+) -> Result<(), OutOfMemory>
+    requires { AllByRecursion (IsMemberHeld (length names.now) (length components.now)) (map member_of members.now) }
+    ensures { OnOk result (string_bytes text.new
+        ≡ string_bytes text.old ++ flat_map (member_text names.now components.now) (map member_of members.now)) }
+{
+    for member in members {
+        text.push_str("member ")?;
+        write_type(text, names, &member.goal)?;
+        text.push_str("\n")?;
+        write_blocks(components, member.blocks.as_slice(), text)?;
+    }
+    Ok(())
+}
+
+/// Writes the lines of the blocks at the end.
+#[tactic(auto, using(crate::proofs::Writing::texts))]
+fn write_blocks(components: &Names, blocks: &[Block], text: &mut String) -> Result<(), OutOfMemory>
+    requires { AllByRecursion (IsBlockHeld (length components.now)) (map block_of blocks.now) }
+    ensures { OnOk result (string_bytes text.new
+        ≡ string_bytes text.old ++ flat_map (block_text components.now) (map block_of blocks.now)) }
+{
+    for block in blocks {
+        text.push_str("block ")?;
+        text.push_str(components.text(Name(block.component)))?;
+        text.push_str(" ")?;
+        write_number(text, block.n)?;
+        text.push_str("\n")?;
+        write_layers(block.layers.as_slice(), text)?;
+    }
+    Ok(())
+}
+
+/// Writes the lines of the layers at the end.
+#[tactic(auto, using(crate::proofs::Writing::texts))]
+fn write_layers(layers: &[Layer], text: &mut String) -> Result<(), OutOfMemory>
+    ensures { OnOk result (string_bytes text.new ≡ string_bytes text.old ++ flat_map layer_text layers.now) }
+{
+    for layer in layers {
+        text.push_str("layer\n")?;
+        write_sets(layer.as_slice(), text)?;
+    }
+    Ok(())
+}
+
+/// Writes the lines of the sets at the end.
+#[tactic(auto, using(crate::proofs::Writing::texts))]
+fn write_sets(sets: &[Numbers], text: &mut String) -> Result<(), OutOfMemory>
+    ensures { OnOk result (string_bytes text.new ≡ string_bytes text.old ++ flat_map set_text sets.now) }
+{
+    for set in sets {
+        text.push_str("set")?;
+        write_numbers(text, set.as_slice())?;
+        text.push_str("\n")?;
+    }
+    Ok(())
+}
+
+/// Writes the numbers at the end, each after a space.
+#[tactic(auto, using(crate::proofs::Writing::texts))]
+fn write_numbers(text: &mut String, numbers: &[u32]) -> Result<(), OutOfMemory>
+    ensures { OnOk result (string_bytes text.new ≡ string_bytes text.old ++ numbers_text numbers.now) }
+{
+    for number in numbers {
+        text.push_str(" ")?;
+        write_number(text, *number)?;
+    }
+    Ok(())
+}
+
+/// Writes the number at the end.
+fn write_number(text: &mut String, number: u32) -> Result<(), OutOfMemory>
+    ensures { OnOk result (string_bytes text.new ≡ string_bytes text.old ++ decimal number) }
+{
+    let mut buffer = Buffer::new();
+    text.push_str(buffer.format(number))?;
+    Ok(())
+}
