@@ -17,7 +17,7 @@ import tempfile
 
 from proved import TOP, build
 
-CRATES = ["cls_base", "cls_syntax", "cls_term", "cls_grammar", "cls_enum"]
+CRATES = ["cls_base", "cls_lexer", "cls_syntax", "cls_term", "cls_rulebook", "cls_enum"]
 NAME = "bench_pages"
 
 PROGRAM = '''// Lists a page of the rule book that the line on standard input names, where so many terms may be held as stands behind the
@@ -29,7 +29,7 @@ mod hand_book;
 use crate::hand_book::{HandBook, node};
 use cls_base::{Numbers, OutOfMemory, Rules};
 use cls_enum::{PageFault, page};
-use cls_grammar::{OmegaBook, RuleBook};
+use cls_rulebook::{OmegaBook, RuleBook};
 use std::alloc::Global;
 use std::io;
 use std::time::Instant;
