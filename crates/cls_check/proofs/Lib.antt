@@ -4,6 +4,7 @@ pub mod BlockLaws
 pub mod Firsts
 pub mod GoalLaws
 pub mod Keys
+pub mod Indexing
 pub mod Loops
 pub mod MemberLaws
 pub mod Order
