@@ -5,6 +5,7 @@ pub mod Deciding
 pub mod DecidingSteps
 pub mod Firsts
 pub mod GoalLaws
+pub mod Indexing
 pub mod Keys
 pub mod Lists
 pub mod Loops

@@ -7,6 +7,7 @@ pub mod Firsts
 pub mod Goals
 pub mod Laws
 pub mod Layers
+pub mod Near
 pub mod Places
 pub mod Tests
 pub mod Verdicts

@@ -1,8 +1,10 @@
 //! What one set of positions lacks of another.
 ghost use Rattle.std.specs.Prelude.{ℕ, ◌≡◌, ◌↔◌, length, Contains, IfOk, IsTrue};
 ghost use Rattle.cls_base.specs.Lists.{AreBelow};
+ghost use Rattle.cls_check.specs.Near.{AreIndexed};
 ghost use Rattle.cls_check.specs.Layers.{AllBelow, AllMet, AreFlagged, IsLack, flag};
 
+use crate::near::{Index, near};
 use cls_base::{Numbers, OutOfMemory};
 use std::alloc::Global;
 
@@ -14,23 +16,27 @@ pub(crate) enum Lack {
     More,
 }
 
-/// Whether with each number of the family the set contains a set of the layer. The only error is out of memory.
+/// Whether with each number of the family the set contains a set of the layer. Only those are looked at that the index finds
+/// near the set. The only error is out of memory.
 pub(crate) fn all_met(
     alloc: Global,
     family: &[u32],
     layer: &[Numbers],
+    index: &Index,
     set: &[u32],
     count: usize,
 ) -> Result<bool, OutOfMemory>
     requires family { AreBelow count family.now }
     requires layer { AllBelow count layer.now }
+    requires index { AreIndexed count layer.now (length layer.now) index.now.under.items index.now.small }
     requires set { AreBelow count set.now }
     ensures { IfOk result (λ met. IsTrue met ↔ AllMet family.now layer.now set.now) }
 {
     let flags = flags_of(alloc, set, count)?;
     let mut met = vec![in alloc; false; count]?;
-    for other in layer {
-        match lack_of(other.as_slice(), &flags) {
+    let near = near(alloc, index, set)?;
+    for number in &near {
+        match lack_of(layer[*number].as_slice(), &flags) {
             Lack::Nothing => return Ok(true),
             Lack::One(position) => met[position as usize] = true,
             Lack::More => {}

@@ -14,6 +14,7 @@ mod lack;
 pub mod laws;
 mod layers;
 mod members;
+mod near;
 mod place;
 mod positions;
 mod reaching;

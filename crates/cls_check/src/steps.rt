@@ -7,12 +7,14 @@ ghost use Rattle.cls_library.specs.Libraries.{variances_in};
 ghost use Rattle.cls_check.specs.Checking.{path_total};
 ghost use Rattle.cls_check.specs.Goals.{AllSuit};
 ghost use Rattle.cls_check.specs.Layers.{AllBelow, AllMet};
+ghost use Rattle.cls_check.specs.Near.{AreIndexed};
 ghost use Rattle.cls_check.specs.Places.{Stands, arrows_in};
 ghost use Rattle.cls_check.specs.Tests.{AllStep, IsStopped, IsWalked, sets_at};
 
 use crate::argument::arguments;
 use crate::goals::Goals;
 use crate::lack::all_met;
+use crate::near::{Index, index_of};
 use crate::place::Place;
 use cls_base::{Numbers, OutOfMemory};
 use cls_library::Library;
@@ -90,6 +92,7 @@ fn all_step(
         return Ok(true);
     }
     let family = lib.family(alloc, place.component, place.n, path)?;
+    let index = index_of(alloc, layer, place.arrows(lib).len())?;
     for set in sets {
         if !is_settled(
             alloc,
@@ -99,6 +102,7 @@ fn all_step(
             path,
             family.as_slice(),
             layer,
+            &index,
             set.as_slice(),
         )? {
             return Ok(false);
@@ -116,18 +120,21 @@ fn is_settled(
     path: &Path,
     family: &[u32],
     layer: &[Numbers],
+    index: &Index,
     set: &[u32],
 ) -> Result<bool, OutOfMemory>
     requires place { Stands lib.now place }
     requires goals { AllSuit lib.now goals.now }
     requires family { IsFamilyIn lib.now.taxonomy (arrows_in lib.now place) path.now family.now }
     requires layer { AllBelow (length (arrows_in lib.now place)) layer.now }
+    requires index { AreIndexed (length (arrows_in lib.now place)) layer.now (length layer.now)
+        index.now.under.items index.now.small }
     requires set { AreBelow (length (arrows_in lib.now place)) set.now }
     ensures { IfOk result (λ settled. IsTrue settled
         ↔ (IsStopped lib.now goals.now place set.now ⊎ AllMet family.now layer.now set.now)) }
 {
     let count = place.arrows(lib).len();
-    if all_met(alloc, family, layer, set, count)? {
+    if all_met(alloc, family, layer, index, set, count)? {
         return Ok(true);
     }
     is_blocked(alloc, lib, goals, place, set)
