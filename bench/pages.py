@@ -17,7 +17,7 @@ import tempfile
 
 from proved import TOP, build
 
-CRATES = ["cls_base", "cls_syntax", "cls_term", "cls_grammar", "cls_enum"]
+CRATES = ["cls_base", "cls_lexer", "cls_syntax", "cls_term", "cls_grammar", "cls_enum"]
 NAME = "bench_pages"
 
 PROGRAM = '''// Lists a page of the rule book that the line on standard input names, where so many terms may be held as stands behind the
