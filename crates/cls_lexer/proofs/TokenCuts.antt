@@ -10,7 +10,7 @@ use Rattle.std.proofs.lemmas.List.Sums.{prefix_len_stops, prefix_len_passes}
 use Rattle.std.proofs.lemmas.Bool.{and_parts}
 use Rattle.cls_lexer.specs.declared.token.TokenKind.{TokenKind}
 use Rattle.cls_lexer.specs.Characters.{is_digit, is_name_start, is_name_byte, is_continuation, is_blank}
-use Rattle.cls_lexer.specs.Tokens.{begins_with, token_at, located_at, tokens_from, tokens_of, end_of, IsCut}
+use Rattle.cls_lexer.specs.Tokens.{begins_with, token_at, located_at, tokens_from, tokens_of, IsCut}
 use Rattle.cls_lexer.proofs.TokenSteps.{token_at-within, token_end}
 
 -- a byte that doesn't go on with a character

@@ -1,5 +1,5 @@
 -- What reads each line again, and stops where it must, is exact.
-use Rattle.std.proofs.Common.{◌≡◌, ℕ, Bool, true, false, List, [], ◌∷◌, ◌++◌, refl, ap, sym, ◌∙◌, append_assoc, append-nil}
+use Rattle.std.proofs.Common.{◌≡◌, Bool, true, false, List, [], ◌∷◌, ◌++◌, refl, ap, sym, ◌∙◌, append_assoc, append-nil}
 use Rattle.std.specs.Prelude.{Result, Ok, Err}
 use Rattle.cls_lexer.specs.Words.{Word, name}
 use Rattle.cls_syntax.specs.Faults.{Stop, stop, CanGoOn, Refuses, WantsName, IsFault, Says, Exactly}

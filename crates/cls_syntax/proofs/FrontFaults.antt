@@ -1,5 +1,5 @@
 -- Faults of what stands in front of a line, in the form in which they are put together.
-use Rattle.std.proofs.Common.{◌≡◌, ℕ, Bool, true, false, List, [], ◌∷◌, ◌++◌}
+use Rattle.std.proofs.Common.{◌≡◌, ℕ, Bool, true, false, List, ◌∷◌, ◌++◌}
 use Rattle.std.specs.Prelude.{Result, Err}
 use Rattle.cls_lexer.specs.Words.{Word, name}
 use Rattle.cls_syntax.specs.Roles.{is_set_aside}

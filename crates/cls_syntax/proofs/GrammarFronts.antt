@@ -7,7 +7,6 @@ use Rattle.std.proofs.lemmas.Slice.Eq.{bytes_eq-Decides}
 use Rattle.std.proofs.lemmas.Bool.{false_from_ne_true}
 use Rattle.cls_lexer.specs.Words as word
 use Rattle.cls_lexer.specs.Words.{Word, name, number, sign}
-use Rattle.cls_syntax.specs.Roles.{is_set_aside}
 use Rattle.cls_syntax.specs.Faults.{Stop, stop, CanGoOn, Says, Exactly}
 use Rattle.cls_syntax.specs.Forms.{Form, Values}
 use Rattle.cls_syntax.specs.GoodForms.{IsGood}

@@ -1,11 +1,10 @@
 -- A whole line of a form.
-use Rattle.std.proofs.Common.{◌≡◌, ℕ, Bool, true, false, List, [], ◌∷◌, ◌++◌, map, refl, ap, sym, ◌∙◌, append_assoc, append-nil, subst}
+use Rattle.std.proofs.Common.{◌≡◌, ℕ, Bool, false, List, [], ◌∷◌, ◌++◌, map, refl, ap, sym, ◌∙◌, append_assoc, append-nil, subst}
 use Rattle.std.specs.Prelude.{Option, Some, None, Result, Ok, Err}
-use Rattle.cls_lexer.specs.declared.token.TokenKind.{TokenKind}
 use Rattle.cls_lexer.specs.declared.token.TokenKind.TheVariants.{Bar}
 use Rattle.cls_lexer.specs.Words.{Word, name, number}
-use Rattle.cls_syntax.specs.Roles.{is_set_aside, takes_names, MayStand}
-use Rattle.cls_syntax.specs.Faults.{Stop, stop, Always, CanGoOn, WantsName, Says, Exactly}
+use Rattle.cls_syntax.specs.Roles.{takes_names, MayStand}
+use Rattle.cls_syntax.specs.Faults.{Stop, stop, Always, CanGoOn, Says, Exactly}
 use Rattle.cls_syntax.specs.TypeTexts.{TypeList, last, only_meet, only_product, only_atom}
 use Rattle.cls_syntax.specs.TypeTexts as grammar
 use Rattle.cls_syntax.specs.Forms.{Item, the_word, the_sign, a_name, a_number, a_type, a_term, Form, nothing, ◌⨾◌, perhaps, names, numbers, types, anything, Values}

@@ -1,18 +1,17 @@
 -- The words of a line are those of its parts.
-use Rattle.std.proofs.Common.{◌≡◌, ℕ, List, [], ◌∷◌, ◌++◌, map, refl, ap, sym, ◌∙◌, subst}
-use Rattle.std.specs.Prelude.{Some, None, Result, Ok}
+use Rattle.std.proofs.Common.{◌≡◌, ℕ, List, [], ◌∷◌, ◌++◌, map, refl, ap, sym, ◌∙◌}
+use Rattle.std.specs.Prelude.{Some, None, Ok}
 use Rattle.std.proofs.lemmas.List.{map-append}
 use Rattle.cls_lexer.specs.declared.token.TokenKind.TheVariants.{To, And, Times, Open, Close, Comma, Bar}
-use Rattle.cls_lexer.specs.Words as word
 use Rattle.cls_lexer.specs.Words.{Word, name, number, sign}
 use Rattle.cls_syntax.specs.declared.role.Role.{Role}
 use Rattle.cls_syntax.specs.Roles.{MayStand}
-use Rattle.cls_syntax.specs.Faults.{Stop, Exactly}
+use Rattle.cls_syntax.specs.Faults.{Exactly}
 use Rattle.cls_syntax.specs.TypeTexts.{TypeText, MeetText, ProductText, AtomText, only_meet, arrow, only_product, meet, only_atom, product, omega, named, applied, variable, inside, TypeList, last, more, type_words, meet_words, product_words, atom_words}
 use Rattle.cls_syntax.specs.TermTexts as term
 use Rattle.cls_syntax.specs.TermTexts.{TermText, TermList, term_words, terms_words}
 use Rattle.cls_syntax.specs.TypeLists.{types_words}
-use Rattle.cls_syntax.specs.Forms.{Item, the_word, the_sign, a_name, a_number, a_type, a_term, Form, nothing, ◌⨾◌, perhaps, names, numbers, types, anything, Values, Part, fixed, naming, numeral, part_word, type_parts, meet_parts, product_parts, atom_parts, term_parts, terms_parts, types_parts, line_parts, line_words, MayAllStand, LineStands}
+use Rattle.cls_syntax.specs.Forms.{the_word, the_sign, a_name, a_number, a_type, a_term, Form, nothing, ◌⨾◌, perhaps, names, numbers, types, anything, Values, Part, fixed, naming, numeral, part_word, type_parts, meet_parts, product_parts, atom_parts, term_parts, terms_parts, types_parts, line_parts, line_words, MayAllStand, LineStands}
 use Rattle.cls_syntax.specs.GoodForms.{IsGood}
 use Rattle.cls_syntax.specs.LineReading.{line_read}
 use Rattle.cls_syntax.proofs.WordLists.{AllMay}

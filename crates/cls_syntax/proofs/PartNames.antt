@@ -4,7 +4,6 @@ use Rattle.cls_lexer.specs.declared.token.TokenKind.{TokenKind}
 use Rattle.cls_lexer.specs.declared.token.TokenKind.TheVariants.{To, And, Times, Open, Close, Dollar}
 use Rattle.cls_lexer.specs.Words.{Word, name, number, sign}
 use Rattle.cls_lexer.specs.Words as word
-use Rattle.cls_syntax.specs.declared.role.Role.{Role}
 use Rattle.cls_syntax.specs.declared.role.Role.TheVariants.{Constructor, Variable, NewVariable}
 use Rattle.cls_syntax.specs.TypeTexts.{TypeText, MeetText, ProductText, AtomText, only_meet, arrow, only_product, meet, only_atom, product, omega, named, applied, variable, inside, type_words, meet_words, product_words, atom_words}
 use Rattle.cls_syntax.specs.TypeSchemas.{is_dollar, name_text, constructors_in, variables_in}

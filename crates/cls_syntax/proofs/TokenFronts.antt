@@ -13,7 +13,7 @@ use Rattle.cls_syntax.specs.declared.role.Role.{Role}
 use Rattle.cls_syntax.specs.Roles.{may_stand, takes_names}
 use Rattle.cls_syntax.specs.Sorts.{is_name}
 use Rattle.cls_syntax.specs.Fronts.{first_name, after_word, is_word}
-use Rattle.cls_syntax.specs.Faults.{Stop, stop}
+use Rattle.cls_syntax.specs.Faults.{stop}
 use Rattle.cls_syntax.specs.Forms.{the_word, a_name}
 use Rattle.cls_syntax.specs.LineReading.{item_front, after_or_stop, or_stop, in_role}
 

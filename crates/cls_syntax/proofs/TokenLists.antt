@@ -1,5 +1,5 @@
 -- Tokens of one sort up to the end of a line.
-use Rattle.std.proofs.Common.{◌≡◌, ℕ, suc, ◌+◌, ◌<◌, Bool, true, false, cond, List, [], ◌∷◌, refl, ap, sym, ◌∙◌, subst, take, drop, length, arith}
+use Rattle.std.proofs.Common.{◌≡◌, ℕ, suc, ◌+◌, ◌<◌, Bool, true, false, cond, List, [], ◌∷◌, refl, ap, sym, ◌∙◌, take, drop, length, arith}
 use Rattle.std.specs.Prelude.{Option, Some, None, Result, IsTrue, Ok, Err, if◌then◌else◌, ◌&&◌}
 use Rattle.std.specs.List.{prefix_len, list_all}
 use Rattle.std.specs.Str.{bytes_eq}
@@ -10,11 +10,10 @@ use Rattle.cls_lexer.specs.declared.token.Token.{Token}
 use Rattle.cls_lexer.specs.Words as word
 use Rattle.cls_lexer.specs.Words.{Word, name, number, sign, words, word_from, word_of, reserved_name}
 use Rattle.cls_syntax.specs.declared.role.Role.{Role}
-use Rattle.cls_syntax.specs.Roles.{may_stand, takes_names}
+use Rattle.cls_syntax.specs.Roles.{may_stand}
 use Rattle.cls_syntax.specs.Sorts.{is_name, is_number}
 use Rattle.cls_syntax.specs.Faults.{Stop, stop}
-use Rattle.cls_syntax.specs.Forms.{Form, names, numbers}
-use Rattle.cls_syntax.specs.LineReading.{name_text, number_text, in_front, taken, all_read, line_read}
+use Rattle.cls_syntax.specs.LineReading.{name_text, number_text, in_front, taken, all_read}
 use Rattle.cls_syntax.specs.TokenTexts.{texts}
 
 next_count : (n : ℕ) → 1 + n ≡ suc n

@@ -68,23 +68,14 @@ unfolding words_of
 many_words line = length-map (tokens_of line) said
 
 -- a line that stops has its fault there
-pub stops_at : {A : Type 0} (words : A → List Word) (line : List ℕ) (rest : List Word) (b : Bool) → IsFault words Always (words_of line) rest b → LeavesAt words Always line (byte_at line (length (tokens_of line) - length rest)) (b && begins_reserved rest)
-stops_at words line rest b f =
+pub stops_at : {A : Type 0} (words : A → List Word) (Stands : A → Type 0) (line : List ℕ) (rest : List Word) (b : Bool) → IsFault words Stands (words_of line) rest b → LeavesAt words Stands line (byte_at line (length (tokens_of line) - length rest)) (b && begins_reserved rest)
+stops_at words Stands line rest b f =
     let split = ap length f.split ∙ length-append f.front rest in
     let many = many_words line in
     let place : length (tokens_of line) - length rest ≡ length f.front = omega (arith, split, many) in
     record { rest = rest; wants_name = b; fault = f; byte_is = ap (byte_at line) place; reserved_is = refl }
 
-pub rest_within : {A : Type 0} (words : A → List Word) (line : List ℕ) (rest : List Word) (b : Bool) → IsFault words Always (words_of line) rest b → length rest ≤ length (tokens_of line)
-rest_within words line rest b f =
-    let split = ap length f.split ∙ length-append f.front rest in
-    let many = many_words line in
-    omega (arith, split, many)
-
 module _ (line : List ℕ) (ws : List Word) (said : ws ≡ words_of line) where
-  pub type_stop_within : (rest : List Word) (b : Bool) (count : ℕ) → count ≡ length (tokens_of line) → line_read (a_type ⨾ nothing) ws ≡ Err (stop rest b) → length rest ≤ count
-  type_stop_within rest b count e h = let r = rest_within type_words line rest b (item_refused a_type (λ t. tt) (words_of line) rest b (ap (line_read (a_type ⨾ nothing)) (sym said) ∙ h)) in omega (arith, r, e)
-
   leaves : (b : Bool) (byte : ℕ) → IsFlat line → LeavesAt type_words Always line byte b → IsNoType line (if b then ReservedName byte else Unexpected byte)
   leaves true byte flat l = (flat, l)
   leaves false byte flat l = (flat, l)
@@ -92,7 +83,7 @@ module _ (line : List ℕ) (ws : List Word) (said : ws ≡ words_of line) where
   pub type_stop_refused : (rest : List Word) (b : Bool) (count : ℕ) → count ≡ length (tokens_of line) → IsFlat line → line_read (a_type ⨾ nothing) ws ≡ Err (stop rest b) → IsNoType line (fault_from line (count - length rest) (b && begins_reserved rest))
   type_stop_refused rest b count e flat h =
       let f = item_refused a_type (λ t. tt) (words_of line) rest b (ap (line_read (a_type ⨾ nothing)) (sym said) ∙ h) in
-      let at = subst (λ n. LeavesAt type_words Always line (byte_at line (n - length rest)) (b && begins_reserved rest)) (sym e) (stops_at type_words line rest b f) in
+      let at = subst (λ n. LeavesAt type_words Always line (byte_at line (n - length rest)) (b && begins_reserved rest)) (sym e) (stops_at type_words Always line rest b f) in
       leaves (b && begins_reserved rest) (byte_at line (count - length rest)) flat at
 
   pub type_spelled : (t : TypeText) → line_read (a_type ⨾ nothing) ws ≡ Ok (t, tt) → type_words t ≡ words_of line

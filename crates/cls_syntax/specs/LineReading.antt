@@ -1,12 +1,12 @@
 -- How a line of a form is read from the left: the reading of its items, one after another.
-use Rattle.std.specs.Prelude.{ℕ, Bool, true, false, if◌then◌else◌, List, [], ◌∷◌, Option, Some, None, Result, Ok, Err}
+use Rattle.std.specs.Prelude.{ℕ, Bool, false, if◌then◌else◌, List, [], ◌∷◌, Option, Some, None, Result, Ok, Err}
 use Rattle.cls_lexer.specs.declared.token.TokenKind.TheVariants.{Bar}
 use Rattle.cls_lexer.specs.Words.{Word, omega, name, number, sign}
 use Rattle.cls_syntax.specs.declared.role.Role.{Role}
 use Rattle.cls_syntax.specs.Roles.{may_stand, takes_names}
 use Rattle.cls_syntax.specs.Faults.{Stop, stop}
 use Rattle.cls_syntax.specs.Fronts.{first_name, first_number, after_word, after_sign}
-use Rattle.cls_syntax.specs.TypeTexts.{TypeText, TypeList}
+use Rattle.cls_syntax.specs.TypeTexts.{TypeText}
 use Rattle.cls_syntax.specs.TermTexts.{TermText}
 use Rattle.cls_syntax.specs.TypeReading.{type_front}
 use Rattle.cls_syntax.specs.TermReading.{term_front}

@@ -1,4 +1,4 @@
--- A schema as it is built: the machine of types with schemas in place of texts.
+-- internal: a schema as it is built: the machine of types with schemas in place of texts
 use Rattle.std.specs.Prelude.{ℕ, List, [], ◌∷◌, ◌++◌, map, Option, Some, None}
 use Rattle.std.specs.Option.{option_map}
 use Rattle.cls_base.specs.Schemas as schema

@@ -1,5 +1,5 @@
--- What words are to types and terms.
-use Rattle.std.specs.Prelude.{ℕ, Bool, true, false, List, [], ◌∷◌}
+-- internal: what words are to the machines of types and terms
+use Rattle.std.specs.Prelude.{Bool, true, false, List, [], ◌∷◌}
 use Rattle.cls_lexer.specs.declared.token.TokenKind.TheVariants as kinds
 use Rattle.cls_syntax.specs.declared.sort.Sort.{Sort}
 use Rattle.cls_syntax.specs.declared.sort.Sort.TheVariants.{Omega, Name, To, And, Times, Open, Close, Comma, Dollar, Other}

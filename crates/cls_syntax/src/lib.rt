@@ -27,6 +27,8 @@ mod spelled_types;
 mod stop;
 mod syntax_fault;
 mod term_shape;
+#[cfg(test)]
+mod tests;
 mod type_shape;
 mod word_list;
 
@@ -41,5 +43,5 @@ pub use spelled_term::SpelledTerm;
 pub use spelled_type::SpelledType;
 pub use spelled_types::SpelledTypes;
 pub use stop::Stop;
-pub use syntax_fault::{SyntaxFault, begins_reserved};
+pub use syntax_fault::SyntaxFault;
 pub use word_list::{names_at, numbers_at};

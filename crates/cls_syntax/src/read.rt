@@ -17,7 +17,7 @@ use crate::cursor::{end_at, type_at};
 use crate::depth::deepest;
 use crate::spelled_type::SpelledType;
 use crate::stop::Stop;
-use crate::syntax_fault::{SyntaxFault, begins_reserved};
+use crate::syntax_fault::SyntaxFault;
 use cls_base::limits::MAX_TYPE_DEPTH;
 use cls_base::{Schema, Ty};
 use cls_lexer::{Names, Token, TokenKind, byte_at, tokens};
@@ -125,12 +125,11 @@ fn type_line<'t, 'a>(tokens: &'t [Token<'a>]) -> Result<SpelledType<'t, 'a>, Sto
 fn fault_at(text: &str, tokens: &[Token], stop: Stop) -> SyntaxFault
     requires few { length text.now < 2 ^ 32 }
     requires tokens { map located tokens.now ≡ tokens_of text.now }
-    requires within { length stop.rest.now ≤ length tokens.now }
     ensures { result ≡ fault_from text.now (length tokens.now - length stop.entry.rest.now)
         (stop.entry.wants_name && begins_reserved (words stop.entry.rest.now)) }
 {
-    let byte = byte_at(text, tokens, tokens.len() - stop.rest.len());
-    if stop.wants_name && begins_reserved(stop.rest) {
+    let byte = stop.byte(text, tokens);
+    if stop.is_reserved() {
         SyntaxFault::ReservedName(byte)
     } else {
         SyntaxFault::Unexpected(byte)

@@ -1,10 +1,7 @@
 //! Why a text isn't a type.
 ghost use Rattle.std.specs.Prelude.{◌≡◌};
 ghost use Rattle.cls_syntax.specs.declared.syntax_fault.SyntaxFault.TheVariants as faults;
-ghost use Rattle.cls_lexer.specs.Words.{words};
-ghost use Rattle.cls_syntax.specs.Sorts.{begins_reserved};
 
-use crate::sort::{Sort, sort_of};
 use cls_base::OutOfMemory;
 use cls_lexer::Token;
 use thiserror::Error;
@@ -37,15 +34,5 @@ impl From<OutOfMemory> for SyntaxFault {
 
     fn from(_: OutOfMemory) -> SyntaxFault {
         SyntaxFault::OutOfMemory
-    }
-}
-
-/// Whether the tokens begin with the reserved name.
-pub fn begins_reserved(tokens: &[Token]) -> bool
-    ensures { result ≡ begins_reserved (words tokens.now) }
-{
-    match tokens {
-        [first, ..] => matches!(sort_of(first), Sort::Omega),
-        [] => false,
     }
 }

@@ -23,22 +23,19 @@ use Rattle.cls_syntax.specs.Forms.{a_term, nothing, ◌⨾◌}
 use Rattle.cls_syntax.specs.LineReading.{line_read}
 use Rattle.cls_syntax.specs.SyntaxFaults.{IsFlat, LeavesAt}
 use Rattle.cls_syntax.proofs.LineFronts.{line_ok}
-use Rattle.cls_syntax.proofs.TypeFaults.{item_refused, rest_within, stops_at}
+use Rattle.cls_syntax.proofs.TypeFaults.{item_refused, stops_at}
 use Rattle.cls_lexer.proofs.Positions.{position-none}
 use Rattle.cls_lexer.proofs.TextTables.{position-map}
 use Rattle.cls_term.specs.TokenFaults.{IsWholeTerm, is_unknown, IsBadAt}
 
 module _ (line : List ℕ) (ws : List Word) (said : ws ≡ words_of line) where
-  pub term_stop_within : (rest : List Word) (b : Bool) (count : ℕ) → count ≡ length (tokens_of line) → line_read (a_term ⨾ nothing) ws ≡ Err (stop rest b) → length rest ≤ count
-  term_stop_within rest b count e h = let r = rest_within term_words line rest b (item_refused a_term (λ e. tt) (words_of line) rest b (ap (line_read (a_term ⨾ nothing)) (sym said) ∙ h)) in omega (arith, r, e)
-
   pub term_stop_refused : (rest : List Word) (b : Bool) (count : ℕ) → count ≡ length (tokens_of line) → IsFlat line → line_read (a_term ⨾ nothing) ws ≡ Err (stop rest b) → IsBadAt line (byte_at line (count - length rest))
   term_stop_refused rest b count e flat h =
       let f = item_refused a_term (λ e. tt) (words_of line) rest b (ap (line_read (a_term ⨾ nothing)) (sym said) ∙ h) in
       record {
         flat = flat;
         reserved = b && begins_reserved rest;
-        leaves = subst (λ n. LeavesAt term_words Always line (byte_at line (n - length rest)) (b && begins_reserved rest)) (sym e) (stops_at term_words line rest b f);
+        leaves = subst (λ n. LeavesAt term_words Always line (byte_at line (n - length rest)) (b && begins_reserved rest)) (sym e) (stops_at term_words Always line rest b f);
       }
 
   pub term_whole : (e : TermText) → line_read (a_term ⨾ nothing) ws ≡ Ok (e, tt) → IsFlat line → IsWholeTerm line e

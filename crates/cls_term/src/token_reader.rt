@@ -66,10 +66,7 @@ fn whole_term<'t, 'a>(
     }
     match term_line(tokens) {
         Ok(spelled) => Ok(spelled),
-        Err(stop) => {
-            let place = tokens.len() - stop.rest.len();
-            Err(TokenFault::BadToken(byte_at(text, tokens, place)))
-        }
+        Err(stop) => Err(TokenFault::BadToken(stop.byte(text, tokens))),
     }
 }
 

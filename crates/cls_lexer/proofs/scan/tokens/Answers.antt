@@ -1,7 +1,7 @@
-use Rattle.std.proofs.Common.{◌≡◌, ℕ, ◌+◌, ◌-◌, ◌++◌, ◌∷◌, [], List, length, arith, sym, ap, ◌∙◌, get_or, take, drop, map, refl}
+use Rattle.std.proofs.Common.{ℕ, ◌+◌, ◌++◌, ◌∷◌, [], List, length, arith, sym, ap, ◌∙◌, get_or, take, drop, map, refl}
 use Rattle.std.proofs.lemmas.List.{take_rest, map-append}
 use Rattle.std.proofs.lemmas.Str.{IsCharBoundary-start}
-use Rattle.cls_lexer.specs.Tokens.{Located, token_at, located}
+use Rattle.cls_lexer.specs.Tokens.{token_at, located}
 use Rattle.cls_lexer.proofs.TokenCuts.{loop_cut, loop_blank_cut}
 use Rattle.cls_lexer.proofs.TokenSteps.{loop_blank, loop_token, loop_end}
 use Rattle.cls_lexer.proofs.TokenTexts.{loop_numeral, words_of-tokens}

@@ -10,17 +10,11 @@ use Rattle.cls_syntax.specs.declared.syntax_fault.SyntaxFault.{SyntaxFault}
 use Rattle.cls_lexer.specs.Tokens.{located}
 use Rattle.cls_lexer.specs.Words.{words}
 use Rattle.cls_syntax.specs.SyntaxFaults.{IsFlat, IsNoType, fault_from}
-use Rattle.cls_syntax.proofs.TypeFaults.{type_stop_within, type_stop_refused}
+use Rattle.cls_syntax.proofs.TypeFaults.{type_stop_refused}
 use Rattle.cls_syntax.proofs.read.whole_type.Goals as goal
 
 many : (ls : List Token) → length (words ls) ≡ length ls
 many ls = length-map ls word_of
-
-pub fault_at-requires-clause-within : goal.fault_at-requires-clause-within
-fault_at-requires-clause-within c =
-    let within = type_stop_within c.args.text.now (words c.args.tokens.now) c.requires.words (words c.in-Err.stop.rest.now) c.in-Err.stop.wants_name (length c.args.tokens.now) (sym (length-map c.args.tokens.now located) ∙ ap length c.requires.tokens) c.in-Err.ensures in
-    let as_many = many c.in-Err.stop.rest.now in
-    omega (arith, within, as_many)
 
 pub returns-in-Err : goal.returns-in-Err
 returns-in-Err c =

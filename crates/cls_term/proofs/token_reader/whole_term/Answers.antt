@@ -8,17 +8,11 @@ use Rattle.cls_syntax.specs.Depths.{most_open}
 use Rattle.cls_syntax.specs.SyntaxFaults.{IsFlat}
 use Rattle.cls_syntax.specs.SpelledTerms.{term_text}
 use Rattle.cls_term.specs.TokenFaults.{IsBadAt}
-use Rattle.cls_term.proofs.TermFaults.{term_stop_within, term_stop_refused, term_whole}
+use Rattle.cls_term.proofs.TermFaults.{term_stop_refused, term_whole}
 use Rattle.cls_term.proofs.token_reader.whole_term.Goals as goal
 
 many : (ls : List Token) → length (words ls) ≡ length ls
 many ls = length-map ls word_of
-
-pub overflow_sub-place : goal.overflow_sub-place
-overflow_sub-place c =
-    let within = term_stop_within c.args.text.now (words c.args.tokens.now) c.requires.words (words c.in-Err.stop.rest.now) c.in-Err.stop.wants_name (length c.args.tokens.now) (sym (length-map c.args.tokens.now located) ∙ ap length c.requires.tokens) c.in-Err.ensures in
-    let as_many = many c.in-Err.stop.rest.now in
-    omega (arith, within, as_many)
 
 pub returns-in-Ok : goal.returns-in-Ok
 returns-in-Ok c =
@@ -36,4 +30,4 @@ returns-in-Err c = λ table.
     let flat : IsFlat line = omega (arith, most, few) in
     let refused = term_stop_refused line (words c.args.tokens.now) c.requires.words (words rest) c.in-Err.stop.wants_name (length c.args.tokens.now) (sym (length-map c.args.tokens.now located) ∙ ap length c.requires.tokens) flat c.in-Err.ensures in
     let place : byte_at line (length c.args.tokens.now - length (words rest)) ≡ byte_at line (length c.args.tokens.now - length rest) = λ i. byte_at line (length c.args.tokens.now - many rest i) in
-    subst (λ (byte : ℕ). IsBadAt line byte) (place ∙ sym c.byte_at.ensures) refused
+    subst (λ (byte : ℕ). IsBadAt line byte) (place ∙ sym c.byte.ensures) refused
