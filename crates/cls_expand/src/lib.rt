@@ -9,5 +9,7 @@ mod arguments;
 mod expander;
 pub mod laws;
 mod spine;
+#[cfg(test)]
+mod tests;
 
 pub use expander::Expander;
