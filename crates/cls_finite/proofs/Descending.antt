@@ -1,8 +1,7 @@
 -- The descent from node 0: each step keeps what holds, and at its end it shows a bound or a walk.
-use Rattle.std.proofs.Common.{◌≡◌, ◌≢◌, ℕ, zero, suc, ◌+◌, ◌<◌, ◌≤◌, ◌==◌, Bool, true, false, List, [], ◌∷◌, ◌++◌, Some, length, set, take, get_or, slice_get, refl, sym, ap, subst, ◌∙◌, arith, ◌⊎◌, inl, inr, length-set}
+use Rattle.std.proofs.Common.{◌≡◌, ◌≢◌, ℕ, zero, suc, ◌+◌, ◌<◌, ◌≤◌, Bool, List, [], ◌∷◌, ◌++◌, Some, length, set, take, get_or, slice_get, refl, sym, ap, subst, ◌∙◌, arith, ◌⊎◌, inl, inr, length-set}
 use Rattle.std.specs.Prelude.{replicate, Contains, IsTrue}
-use Rattle.std.proofs.lemmas.Bool.Decides.{nat_tests}
-use Rattle.std.proofs.lemmas.List.{length-replicate, get_or-replicate}
+use Rattle.std.proofs.lemmas.List.{length-replicate}
 use Rattle.std.proofs.lemmas.List.Sums.{sum_by-set}
 use Rattle.std.proofs.lemmas.Option.{slice_get_within, get_or_from_slice_get}
 use Rattle.cls_base.specs.declared.rule.Rule.{Rule}
@@ -13,7 +12,7 @@ use Rattle.cls_core.proofs.Columns.{get-set-same, get-set-other, get-some}
 use Rattle.cls_rulebook.specs.Books.{HaveNodesBelow}
 use Rattle.cls_grammar.specs.Ranks.{AreProductive}
 use Rattle.cls_grammar.specs.Trimming.{is_useful}
-use Rattle.cls_grammar.proofs.Climbing.{argument-within}
+use Rattle.cls_grammar.proofs.Climbing.{equal-or-not, none-at, argument-within}
 use Rattle.cls_grammar.proofs.Trims.{productive-useful, useful-productive}
 use Rattle.cls_finite.specs.declared.descent.Mark.{Mark}
 use Rattle.cls_finite.specs.declared.descent.Mark.TheVariants.{Unseen, Open, Done}
@@ -24,13 +23,6 @@ use Rattle.cls_finite.specs.Outcomes.{HasGone, HasComeRound}
 use Rattle.cls_finite.specs.Walks.{LeadsTo, GoesOnTo, GoOn}
 use Rattle.cls_finite.proofs.Greatest.{node-capped, capped-bounded}
 use Rattle.cls_finite.proofs.Walking.{endless-long, long-large}
-
-equal-or-not : (a z : ℕ) → (a ≡ z) ⊎ (a ≢ z)
-equal-or-not a z = by (a == z) refl
-  where
-    by : (b : Bool) → (a == z) ≡ b → (a ≡ z) ⊎ (a ≢ z)
-    by true e = inl (grind (arith, nat_tests))
-    by false e = inr (grind (arith, nat_tests))
 
 -- one mark is written
 module _ (marks : List Mark) (z : ℕ) (new : Mark) where
@@ -296,9 +288,6 @@ module _ (cap : ℕ) (cost : ℕ → ℕ) (book : List (List (Rule ℕ))) (flags
                 done_if n m (inl v) = let same : m ≡ size = (let f : Done m ≡ Done size = v.1 in cc) in subst (λ x. IsCapped cap cost (IsGenerated book x) m) (sym v.0) (subst (IsCapped cap cost (IsGenerated book s.top.goal)) (sym same) capped)
                 done_if n m (inr v) = k.done n m v.1
 
-  none-at : (n i : ℕ) (m : Mark) → slice_get (replicate n Unseen) i ≡ Some m → m ≡ Unseen
-  none-at n i m e = let l = slice_get_within (replicate n Unseen) i m e in sym (get_or_from_slice_get (replicate n Unseen) i m m e) ∙ get_or-replicate n i Unseen m (omega (arith, l, length-replicate n Unseen))
-
   -- at the beginning node 0 is open
   pub kept-begun : 1 ≤ length book → Kept (begun (length book))
   kept-begun some = record {
@@ -306,9 +295,9 @@ module _ (cap : ℕ) (cost : ℕ → ℕ) (book : List (List (Rule ℕ))) (flags
     sized = length-set (replicate (length book) Unseen) 0 Open ∙ length-replicate (length book) Unseen;
     descends = here;
     at = nothing-passed (set (replicate (length book) Unseen) 0 Open) flags (rules_at book 0);
-    open_seen = λ n e. elim (set-cases none 0 Open n Open e) [ inl u ↦ subst (Contains (0 ∷ [])) (sym u.0) (Contains-here 0 []) | inr u ↦ absurd (let f : Open ≡ Unseen = none-at (length book) n Open u.1 in cc) ];
+    open_seen = λ n e. elim (set-cases none 0 Open n Open e) [ inl u ↦ subst (Contains (0 ∷ [])) (sym u.0) (Contains-here 0 []) | inr u ↦ absurd (let f : Open ≡ Unseen = none-at (length book) n Unseen Open u.1 in cc) ];
     seen_open = λ n c. elim (Contains-cases 0 [] n c) [ inl e ↦ subst (λ x. slice_get (set none 0 Open) x ≡ Some Open) (sym e) (get-set-same none 0 Open (omega (arith, length-replicate (length book) Unseen))) | inr z ↦ absurd (Contains-nil n z) ];
-    done = λ n size e. elim (set-cases none 0 Open n (Done size) e) [ inl u ↦ absurd (let f : Done size ≡ Open = u.1 in cc) | inr u ↦ absurd (let f : Done size ≡ Unseen = none-at (length book) n (Done size) u.1 in cc) ];
+    done = λ n size e. elim (set-cases none 0 Open n (Done size) e) [ inl u ↦ absurd (let f : Done size ≡ Open = u.1 in cc) | inr u ↦ absurd (let f : Done size ≡ Unseen = none-at (length book) n Unseen (Done size) u.1 in cc) ];
   }
     where
       none : List Mark

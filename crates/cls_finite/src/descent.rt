@@ -1,8 +1,8 @@
 //! The greatest size of a term, by a depth-first search of the nodes from node 0 on.
 //!
 //! The search goes down from a node to the first argument of the first rule whose size isn't known yet. Only rules are
-//! used that have productive arguments alone. A node all arguments of which are known is done: its greatest size is that
-//! of its rules. If a step leads to a node that a step was taken from, the steps are a walk that comes round.
+//! used that have productive arguments alone. A node all arguments of which are known is done: its greatest size is
+//! that of its rules. If a step leads to a node that a step was taken from, the steps are a walk that comes round.
 ghost use Rattle.std.specs.Prelude.{◌≡◌, ◌<◌, ◌≤◌, ◌↔◌, ℕ, List, [], ◌∷◌, ◌++◌, Some, IfOk, OnOk, IfSome, IfNone, IsTrue, length, slice_get, slice_set};
 ghost use Rattle.std.specs.Bool.{OnTrue, OnFalse};
 ghost use Rattle.cls_finite.specs.Descents.{first_step};
@@ -217,11 +217,12 @@ fn answer_of(size: u64) -> FiniteAnswer
     }
 }
 
-/// How large the terms of node 0 are. A component that has no cost in the list costs 1. The only error is out of memory.
+/// How large the terms of node 0 are. A component that has no cost in the list costs 1. The only error is out of
+/// memory.
 ///
-/// `Finite` tells the greatest size. `Over` comes if and only if it is over [`MAX_FINITE_SIZE`], and `Infinite` if and only
-/// if there is none. Its walk goes at each node by the first rule that has only productive arguments and one whose terms
-/// have no bound, to the first such argument, until it comes to the node of a step.
+/// `Finite` tells the greatest size. `Over` comes if and only if it is over [`MAX_FINITE_SIZE`], and `Infinite` if and
+/// only if there is none. Its walk goes at each node by the first rule that has only productive arguments and one whose
+/// terms have no bound, to the first such argument, until it comes to the node of a step.
 pub fn finite<B: RuleBook>(
     alloc: Global,
     book: &B,

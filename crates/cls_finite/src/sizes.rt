@@ -59,8 +59,8 @@ fn size_by(marks: &[Mark], costs: &[u32], rule: &Rule<u32>) -> u64
     }
 }
 
-/// The greatest size of a term that the rules make, if the arguments of those that may be used are done. It is 0 if there
-/// is no such rule.
+/// The greatest size of a term that the rules make, if the arguments of those that may be used are done. It is 0 if
+/// there is no such rule.
 pub(crate) fn greatest_by(marks: &[Mark], flags: &Flags, costs: &[u32], rules: &[Rule<u32>]) -> u64
     ensures { result ≡ greatest_by SIZE_CAP (cost_of costs.now) marks.now flags.now rules.now }
 {

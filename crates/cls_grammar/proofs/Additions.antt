@@ -1,8 +1,7 @@
 -- Numbers with their places: one more number keeps what holds.
-use Rattle.std.proofs.Common.{◌≡◌, ◌≢◌, ℕ, ◌<◌, ◌≤◌, ◌^◌, ◌==◌, Bool, true, false, List, [], ◌∷◌, ◌++◌, Option, None, Some, length, set, slice_get, refl, sym, ap, subst, ◌∙◌, arith, ◌⊎◌, inl, inr, length-set, if◌then◌else◌}
+use Rattle.std.proofs.Common.{◌≡◌, ◌≢◌, ℕ, ◌<◌, ◌≤◌, ◌^◌, Bool, true, false, List, [], ◌∷◌, ◌++◌, Option, None, Some, length, set, slice_get, refl, sym, ap, subst, ◌∙◌, arith, ◌⊎◌, inl, inr, length-set, if◌then◌else◌}
 use Rattle.std.specs.Prelude.{nat_eq, replicate, Contains}
 use Rattle.std.specs.List.{list_any, position_or_len}
-use Rattle.std.proofs.lemmas.Bool.Decides.{nat_tests}
 use Rattle.std.proofs.lemmas.List.{length-replicate}
 use Rattle.std.proofs.lemmas.List.Elements.{Contains-push_cases}
 use Rattle.std.proofs.lemmas.Option.{slice_get_within}
@@ -12,19 +11,8 @@ use Rattle.cls_core.proofs.Columns.{get-set-same, get-set-other, get-front, get-
 use Rattle.cls_core.proofs.Members.{any-contains, contains-any}
 use Rattle.cls_core.proofs.Renumbering.{place-is}
 use Rattle.cls_grammar.specs.Numberings.{HasPlaces}
-use Rattle.cls_grammar.proofs.Climbing.{none-at}
+use Rattle.cls_grammar.proofs.Climbing.{equal-or-not, push-last, none-at}
 use Rattle.cls_grammar.proofs.Places.{nat-exact, nat-reflexive, numbers-below}
-
-equal-or-not : (a z : ℕ) → (a ≡ z) ⊎ (a ≢ z)
-equal-or-not a z = by (a == z) refl
-  where
-    by : (b : Bool) → (a == z) ≡ b → (a ≡ z) ⊎ (a ≢ z)
-    by true e = inl (grind (arith, nat_tests))
-    by false e = inr (grind (arith, nat_tests))
-
-push-last : (ks : List ℕ) (z : ℕ) → slice_get (ks ++ z ∷ []) (length ks) ≡ Some z
-push-last [] z = refl
-push-last (k ∷ ks) z = push-last ks z
 
 pub no-places : (count : ℕ) → count < 2 ^ 32 → HasPlaces [] (replicate count None)
 no-places count few = record {

@@ -19,7 +19,7 @@ use Rattle.cls_grammar.proofs.Trees.{tree_up}
 use Rattle.cls_grammar.specs.Grammars.{BookHasNodesBelow}
 use Rattle.cls_rulebook.specs.Books.{HasNodesBelow, HaveNodesBelow}
 
-equal-or-not : (a z : ℕ) → (a ≡ z) ⊎ (a ≢ z)
+pub equal-or-not : (a z : ℕ) → (a ≡ z) ⊎ (a ≢ z)
 equal-or-not a z = by (a == z) refl
   where
     by : (b : Bool) → (a == z) ≡ b → (a ≡ z) ⊎ (a ≢ z)
@@ -94,7 +94,7 @@ push-cases [] z (suc p) x e = cc
 push-cases (k ∷ ks) z zero x e = inl e
 push-cases (k ∷ ks) z (suc p) x e = elim (push-cases ks z p x e) [ inl f ↦ inl f | inr f ↦ inr (ap suc f.0, f.1) ]
 
-push-last : (ks : List ℕ) (z : ℕ) → slice_get (ks ++ z ∷ []) (length ks) ≡ Some z
+pub push-last : (ks : List ℕ) (z : ℕ) → slice_get (ks ++ z ∷ []) (length ks) ≡ Some z
 push-last [] z = refl
 push-last (k ∷ ks) z = push-last ks z
 

@@ -74,11 +74,13 @@ module _ (book : List (List (Rule ℕ))) where
     pub within : w.argument ≤ length (arguments_of_rule stands.rule)
     pub high : (h : ℕ) → AllKnown ranks h (arguments_of_rule stands.rule) → height ≤ h
 
-  -- what became of a rule: its node has a rank that is no more than the rule gives it; or it waits for a node whose turn is
-  -- to come, at the place or later; or it is to go on
+  -- what became of a rule: its node has a rank that is no more than the rule gives it; or it waits for a node whose turn
+  -- is to come, at the place or later; or it is to go on
   pub data IsCovered (done : ℕ) (todo : List Waiting) (s : State) (node rule : ℕ) (r : Rule ℕ) : Type 0 where
-    settled : (rank : ℕ) → slice_get s.ranks node ≡ Some (Some rank) → ((h : ℕ) → AllKnown s.ranks h (arguments_of_rule r) → rank ≤ suc h) → IsCovered done todo s node rule r
-    waits : (n : ℕ) (w : Waiting) → w.node ≡ node → w.rule ≡ rule → Contains (waits_at s n) w → ((p : ℕ) → p < done → slice_get s.known p ≢ Some n) → IsCovered done todo s node rule r
+    settled : (rank : ℕ) → slice_get s.ranks node ≡ Some (Some rank)
+        → ((h : ℕ) → AllKnown s.ranks h (arguments_of_rule r) → rank ≤ suc h) → IsCovered done todo s node rule r
+    waits : (n : ℕ) (w : Waiting) → w.node ≡ node → w.rule ≡ rule → Contains (waits_at s n) w
+        → ((p : ℕ) → p < done → slice_get s.known p ≢ Some n) → IsCovered done todo s node rule r
     pending : (w : Waiting) → w.node ≡ node → w.rule ≡ rule → Contains todo w → IsCovered done todo s node rule r
 
   -- The nodes at the places before done had their turn, the last of which has this height as its rank.
@@ -91,11 +93,13 @@ module _ (book : List (List (Rule ℕ))) where
     pub deep : height ≤ done
     pub listed : (p x : ℕ) → slice_get s.known p ≡ Some x → IsKnown s.ranks (p + 1) x
     pub placed : (x rank : ℕ) → slice_get s.ranks x ≡ Some (Some rank) → Contains s.known x
-    pub rising : (p q x y r t : ℕ) → p ≤ q → slice_get s.known p ≡ Some x → slice_get s.known q ≡ Some y → slice_get s.ranks x ≡ Some (Some r) → slice_get s.ranks y ≡ Some (Some t) → r ≤ t
+    pub rising : (p q x y r t : ℕ) → p ≤ q → slice_get s.known p ≡ Some x → slice_get s.known q ≡ Some y
+        → slice_get s.ranks x ≡ Some (Some r) → slice_get s.ranks y ≡ Some (Some t) → r ≤ t
     pub low : (p x r : ℕ) → p < done → slice_get s.known p ≡ Some x → slice_get s.ranks x ≡ Some (Some r) → r ≤ height
     pub high : (p x r : ℕ) → done ≤ p → slice_get s.known p ≡ Some x → slice_get s.ranks x ≡ Some (Some r) → height ≤ r
     pub top : (x r : ℕ) → slice_get s.ranks x ≡ Some (Some r) → r ≤ height + 1
     pub sound : (x r : ℕ) → slice_get s.ranks x ≡ Some (Some r) → HasTree ℕ (NodeRule book) r x
     pub waiting : (n : ℕ) (w : Waiting) → Contains (waits_at s n) w → Waits s.ranks height w n
     pub ready : (w : Waiting) → Contains todo w → IsReady s.ranks height w
-    pub covered : (node rule : ℕ) (r : Rule ℕ) → slice_get (rules_at book node) rule ≡ Some r → IsCovered done todo s node rule r
+    pub covered : (node rule : ℕ) (r : Rule ℕ) → slice_get (rules_at book node) rule ≡ Some r
+        → IsCovered done todo s node rule r

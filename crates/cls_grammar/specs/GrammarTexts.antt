@@ -35,7 +35,8 @@ module _ (component : ℕ → List ℕ) where
 -- the names of constructors
 abbrev pub goal_text : (ℕ → List ℕ) → ℕ → List TypePath → Option ℕ → List ℕ
 goal_text name i goal rank =
-    line (codes "goal " ++ decimal i ++ codes " " ++ rank_text rank ++ codes " " ++ printed name 0 (type_of_paths (listed goal)))
+    let type = printed name 0 (type_of_paths (listed goal)) in
+    line (codes "goal " ++ decimal i ++ codes " " ++ rank_text rank ++ codes " " ++ type)
 
 -- the numbers of goals and rules
 abbrev pub counts_text : List (Row (List TypePath)) → List ℕ

@@ -128,7 +128,8 @@ impl Grammar {
     /// The rules of the goal with this number.
     pub fn rules(&self, i: u32) -> &[Rule<u32>]
         requires { i < length self.now }
-        ensures rules { option_map (λ (r : Row (List TypePath)). r.answer) (slice_get self.now i) ≡ Some (answers.Rules result.now) }
+        ensures rules { option_map (λ (r : Row (List TypePath)). r.answer) (slice_get self.now i)
+            ≡ Some (answers.Rules result.now) }
         ensures within { HaveNodesBelow (length self.now) (result.now) }
     {
         self.rules[i as usize].as_slice()

@@ -1,7 +1,8 @@
 //! The ranks of the nodes of a rule book, found from the least on.
 //!
-//! A rule waits for the first of its arguments that isn't known yet. When a node becomes known, each rule that waits for
-//! it goes on to its next such argument, and one that has none gives its own node a rank. So each argument is passed once.
+//! A rule waits for the first of its arguments that isn't known yet. When a node becomes known, each rule that waits
+//! for it goes on to its next such argument, and one that has none gives its own node a rank. So each argument is passed
+//! once.
 ghost use Rattle.std.specs.Prelude.{◌≡◌, ◌<◌, ◌≤◌, ◌+◌, ◌^◌, ◌↔◌, ℕ, List, [], ◌∷◌, ◌++◌, Option, Some, None, IsTrue, IfOk, OnOk, IfSome, IfNone, length, slice_get, take, map, is_some, option_copied};
 ghost use Rattle.cls_base.specs.Languages.{rules_at};
 ghost use Rattle.cls_base.specs.Lists.{AreBelow};
