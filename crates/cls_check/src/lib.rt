@@ -1,8 +1,9 @@
 //! The check of certificates.
 //!
-//! - [`check`] accepts a certificate for a goal, or names the first row or member that fails a test, with the [`Reason`].
-//! - `specs/` defines when a certificate is accepted and when it is refused. [`laws`] says that an accepted one is true by
-//!   the typing rules, whoever made it.
+//! - [`check`] accepts a certificate for a goal, or names the first row or member that fails a test, with the
+//!   [`Reason`].
+//! - `specs/` defines when a certificate is accepted and when it is refused. [`laws`] says that an accepted one is true
+//!   by the typing rules, whoever made it.
 #![tactic(auto)]
 
 mod argument;

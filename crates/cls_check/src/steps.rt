@@ -161,8 +161,8 @@ fn all_blocked(
     Ok(true)
 }
 
-/// Whether for some argument the intersection of what the arrows take is below a goal. The goals themselves are looked for
-/// first.
+/// Whether for some argument the intersection of what the arrows take is below a goal. The goals themselves are looked
+/// for first.
 fn is_blocked(
     alloc: Global,
     lib: &Library,
