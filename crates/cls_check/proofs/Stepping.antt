@@ -7,6 +7,7 @@ use Rattle.std.proofs.Math.Seq.{drop-cons}
 use native.Mathlib.Decide.{dec_lt}
 use Rattle.cls_base.specs.Types.{ClosedType}
 use Rattle.cls_base.specs.Lists.{AreBelow}
+use Rattle.cls_base.proofs.Lists.{Contains-nil}
 use Rattle.cls_path.specs.Paths.{TypePath, listed}
 use Rattle.cls_library.specs.Arrows.{MultiArrow}
 use Rattle.cls_library.specs.Libraries.{Library}
@@ -19,6 +20,10 @@ use Rattle.cls_check.proofs.Loops.{drop-one}
 -- the steps by the family of the path
 pub steps_exactly : (l : Library) (arrows : List MultiArrow) (q : TypePath) (family : List ℕ) (layer : List (List ℕ)) → IsFamilyIn l.taxonomy arrows q family → (s : List ℕ) → AllMet family layer s ↔ Steps l arrows layer q s
 steps_exactly l arrows q family layer is s = ((λ h i leads. h i ((is.exactly i).1 leads)), (λ h i c. h i ((is.exactly i).0 c)))
+
+-- where no arrow leads to the path, each set steps to any layer
+pub steps_nowhere : (l : Library) (arrows : List MultiArrow) (q : TypePath) (family : List ℕ) (layer : List (List ℕ)) → IsFamilyIn l.taxonomy arrows q family → family ≡ [] → (s : List ℕ) → Steps l arrows layer q s
+steps_nowhere l arrows q family layer is e s = λ i leads. absurd (Contains-nil i (subst (λ (f : List ℕ). Contains f i) e ((is.exactly i).1 leads)))
 
 -- a family has positions of the arrows
 pub family_below : (l : Library) (arrows : List MultiArrow) (q : TypePath) (family : List ℕ) → IsFamilyIn l.taxonomy arrows q family → AreBelow (length arrows) family

@@ -1,4 +1,5 @@
--- When a certificate is accepted, and otherwise the first row or member that fails a test, with the first test that it fails.
+-- When a certificate is accepted, and otherwise the first row or member that fails a test, with the first test that it
+-- fails.
 use Rattle.std.specs.Prelude.{ℕ, zero, suc, ◌+◌, ◌≡◌, ◌==◌, ◌&&◌, ◌≤◌, ◌<◌, ◌⊎◌, if◌then◌else◌, List, [], ◌∷◌, ◌++◌, length, map, All, Contains, IsSomeAnd, slice_get}
 use Rattle.std.specs.List.Sorted.{IsStrictlyIncreasing}
 use Rattle.cls_base.specs.Lists.{AreBelow, AreDistinct}
@@ -114,7 +115,8 @@ module _ (l : Library) where
       (i : ℕ) → LeadsTo arrows q i → (t : List ℕ) × Contains layer t × IsPartOf t (i ∷ s)
 
   -- Each set is blocked, or steps to the next layer, path after path. Each set of the last layer is blocked.
-  abbrev pub BlockedFrom : (ClosedType → Type 0) → List MultiArrow → ℕ → Paths → List (List ℕ) → List (List (List ℕ)) → Type 0
+  abbrev pub BlockedFrom :
+      (ClosedType → Type 0) → List MultiArrow → ℕ → Paths → List (List ℕ) → List (List (List ℕ)) → Type 0
   BlockedFrom IsBelow arrows n none sets layers = All (IsBlocked IsBelow arrows n) sets
   BlockedFrom IsBelow arrows n (more q rest) sets [] = ⊥
   BlockedFrom IsBelow arrows n (more q rest) sets (layer ∷ layers) =

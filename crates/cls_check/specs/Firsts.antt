@@ -16,7 +16,8 @@ First (says ∷ causes) t = says t ⊎ (IsSilent says × First causes t)
 -- what is said of an element may depend on those before it
 abbrev pub FirstAfter : {A T : Type 0} → (List A → A → Cause T) → List A → List A → Cause T
 FirstAfter says before [] t = ⊥
-FirstAfter says before (x ∷ xs) t = says before x t ⊎ (IsSilent (says before x) × FirstAfter says (before ++ x ∷ []) xs t)
+FirstAfter says before (x ∷ xs) t =
+    says before x t ⊎ (IsSilent (says before x) × FirstAfter says (before ++ x ∷ []) xs t)
 
 -- this is said of the first element of the list of which anything is said
 abbrev pub FirstAlong : {A T : Type 0} → (List A → A → Cause T) → List A → Cause T

@@ -21,5 +21,7 @@ AcceptedAreTrue =
 
 -- no certificate is both accepted and refused, and none is refused at two rows or for two reasons
 pub record VerdictsAreExact : Type 0 where
-  pub one : (l : Library) (asked : ClosedType) (c : Certificate) (p : ℕ × Reason) → Accepts l asked c → Refuses l asked c p → ⊥
+  pub one :
+      (l : Library) (asked : ClosedType) (c : Certificate) (p : ℕ × Reason)
+      → Accepts l asked c → Refuses l asked c p → ⊥
   pub determined : (l : Library) (asked : ClosedType) (c : Certificate) → IsDetermined (Refuses l asked c)

@@ -1,5 +1,5 @@
--- To be read and believed: Checking, which says when a certificate is accepted, Firsts, Verdicts and Laws. The other modules
--- say the same of the code's tables, or serve the prover.
+-- To be read and believed: Checking, which says when a certificate is accepted, Arguments, Firsts, Verdicts and Laws. The
+-- other modules say the same of the code's tables, or serve the prover.
 pub mod Arguments
 pub mod Checking
 pub mod Deciding

@@ -7,10 +7,13 @@ at lists i = slice_index_or lists i []
 
 -- the set with this number stands among the small ones, or under two different numbers that it has
 abbrev pub IsPut : List (List ℕ) → List ℕ → List ℕ → ℕ → Type 0
-IsPut under small t k = Contains small k ⊎ ((a b : ℕ) × Contains t a × Contains t b × (a ≡ b → ⊥) × Contains (at under a) k × Contains (at under b) k)
+IsPut under small t k =
+    Contains small k
+    ⊎ ((a b : ℕ) × Contains t a × Contains t b × (a ≡ b → ⊥) × Contains (at under a) k × Contains (at under b) k)
 
 -- so it is for the first i sets of the layer
-pub record AreIndexed (count : ℕ) (layer : List (List ℕ)) (i : ℕ) (under : List (List ℕ)) (small : List ℕ) : Type 0 where
+pub record AreIndexed (count : ℕ) (layer : List (List ℕ)) (i : ℕ) (under : List (List ℕ)) (small : List ℕ)
+    : Type 0 where
   pub counted : length under ≡ count
   pub put : (k : ℕ) → k < i → IsPut under small (slice_index_or layer k []) k
   pub under_below : All (AreBelow (length layer)) under

@@ -12,8 +12,8 @@ use cls_library::Library;
 use cls_path::{Nf, Path};
 use std::alloc::Global;
 
-/// For each argument the normal form of the intersection of what the arrows at the positions take. The only error is out of
-/// memory.
+/// For each argument the normal form of the intersection of what the arrows at the positions take. The only error is out
+/// of memory.
 pub(crate) fn arguments(
     alloc: Global,
     lib: &Library,
@@ -23,8 +23,9 @@ pub(crate) fn arguments(
     requires place { Stands lib.now place }
     requires within { AreBelow (length (arrows_in lib.now place)) positions.now }
     ensures count { IfOk result (λ arguments. length arguments.items ≡ place.n) }
-    ensures each { IfOk result (λ arguments. (i : ℕ) → i < place.n →
-        IsForm lib.now (argument_type (arrows_in lib.now place) positions.now i) (listed (slice_index_or arguments.items i []))) }
+    ensures each { IfOk result (λ arguments. (i : ℕ) → i < place.n
+        → IsForm lib.now (argument_type (arrows_in lib.now place) positions.now i)
+        (listed (slice_index_or arguments.items i []))) }
 {
     let mut arguments = Vec::with_capacity(alloc, place.n as usize)?;
     for number in 0..place.n {

@@ -14,8 +14,8 @@ use cls_path::Nf;
 use cls_proof::Certificate;
 use std::alloc::Global;
 
-/// Accepts the certificate for the goal, or names the first row or member that fails a test, with its first such test. There
-/// are less than 2^32 rows or members.
+/// Accepts the certificate for the goal, or names the first row or member that fails a test, with its first such test.
+/// There are less than 2^32 rows or members.
 ///
 /// The cost of the certificate's types is bounded by their spread, which callers keep at 16,384 or below.
 pub fn check(alloc: Global, lib: &Library, goal: &Nf, cert: &Certificate) -> Result<(), CheckFault>

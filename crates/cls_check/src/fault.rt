@@ -27,8 +27,8 @@ pub enum Reason {
 /// Why a certificate isn't accepted.
 #[derive(Clone, Copy, Debug, Error, PartialEq, Eq)]
 pub enum CheckFault {
-    /// The first row or member that fails, counted from 1, and its first test that does. The test of the asked goal comes
-    /// last: it has the number of rows, or 0 if there are members.
+    /// The first row or member that fails, counted from 1, and its first test that does. The test of the asked goal
+    /// comes last: it has the number of rows, or 0 if there are members.
     #[error("the certificate is refused")]
     Refused {
         /// The number of the row or member.

@@ -16,8 +16,8 @@ pub(crate) enum Lack {
     More,
 }
 
-/// Whether with each number of the family the set contains a set of the layer. Only those are looked at that the index finds
-/// near the set. The only error is out of memory.
+/// Whether with each number of the family the set contains a set of the layer. Only those are looked at that the index
+/// finds near the set. The only error is out of memory.
 pub(crate) fn all_met(
     alloc: Global,
     family: &[u32],

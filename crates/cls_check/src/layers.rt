@@ -12,8 +12,8 @@ use cls_proof::{Block, Layer};
 use indexmap::IndexSet;
 use std::alloc::Global;
 
-/// The places of the blocks in their order, if each block is of the form that it must have for a goal with so many paths and
-/// no two have one place. The only error is out of memory.
+/// The places of the blocks in their order, if each block is of the form that it must have for a goal with so many paths
+/// and no two have one place. The only error is out of memory.
 pub(crate) fn block_places(
     alloc: Global,
     lib: &Library,
@@ -21,7 +21,8 @@ pub(crate) fn block_places(
     blocks: &[Block],
 ) -> Result<Option<IndexSet<Place>>, OutOfMemory>
     ensures { IfOk result (λ places. MatchOption places (PassesLayers lib.now (map block_of blocks.now) count → ⊥)
-        (λ table. PassesLayers lib.now (map block_of blocks.now) count × (table.keys ≡ map block_place (map block_of blocks.now)))) }
+        (λ table. PassesLayers lib.now (map block_of blocks.now) count
+        × (table.keys ≡ map block_place (map block_of blocks.now)))) }
 {
     let mut places = IndexSet::new(alloc);
     for block in blocks {

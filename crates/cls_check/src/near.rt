@@ -1,5 +1,5 @@
-//! An index of the sets of a layer, each under two of its numbers. A set that lacks at most one number of another set has one
-//! of any two of its numbers there, so it is found under a number of that set.
+//! An index of the sets of a layer, each under two of its numbers. A set that lacks at most one number of another set has
+//! one of any two of its numbers there, so it is found under a number of that set.
 ghost use Rattle.std.specs.Prelude.{◌≡◌, ◌++◌, ◌∷◌, [], ◌<◌, All, length, set, Contains, IfOk, IfSome, OnOk};
 ghost use Rattle.std.specs.List.{flat_map};
 ghost use Rattle.cls_base.specs.Lists.{AreBelow};

@@ -35,7 +35,8 @@ pub(crate) fn check_rows(
 ) -> Result<(), CheckFault>
     requires suits { SuitsAll (variances_in lib.now.taxonomy) (listed asked.now) }
     requires few { length rows.now < 2 ^ 32 }
-    ensures accepted { OnOk result (Accepts lib.now (type_of_paths (listed asked.now)) (inhabited (map row_of rows.now))) }
+    ensures accepted { OnOk result
+        (Accepts lib.now (type_of_paths (listed asked.now)) (inhabited (map row_of rows.now))) }
     ensures refused { IfErr result
         (IsRefusedAs lib.now (type_of_paths (listed asked.now)) (inhabited (map row_of rows.now))) }
 {

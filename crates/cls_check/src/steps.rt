@@ -71,7 +71,7 @@ fn sets_at<'a>(start: &'a [Numbers], layers: &'a [Layer], step: usize) -> &'a [N
     }
 }
 
-/// Whether each of the sets leads to the next layer, or is blocked.
+/// Whether each of the sets leads to the next layer, or is blocked. If no arrow leads to the path there is nothing to do.
 fn all_step(
     alloc: Global,
     lib: &Library,
@@ -92,6 +92,10 @@ fn all_step(
         return Ok(true);
     }
     let family = lib.family(alloc, place.component, place.n, path)?;
+    let leading = family.as_slice();
+    if leading.is_empty() {
+        return Ok(true);
+    }
     let index = index_of(alloc, layer, place.arrows(lib).len())?;
     for set in sets {
         if !is_settled(
@@ -100,7 +104,7 @@ fn all_step(
             goals,
             place,
             path,
-            family.as_slice(),
+            leading,
             layer,
             &index,
             set.as_slice(),
@@ -161,8 +165,8 @@ fn all_blocked(
     Ok(true)
 }
 
-/// Whether for some argument the intersection of what the arrows take is below a goal. The goals themselves are looked for
-/// first.
+/// Whether for some argument the intersection of what the arrows take is below a goal. The goals themselves are looked
+/// for first.
 fn is_blocked(
     alloc: Global,
     lib: &Library,

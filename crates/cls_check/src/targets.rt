@@ -31,7 +31,8 @@ fn some_leads(lib: &Library, place: Place, positions: &[u32], path: &Path) -> bo
     requires place { Stands lib.now place }
     requires within { AreBelow (length (arrows_in lib.now place)) positions.now }
     requires suits { Suits (variances_in lib.now.taxonomy) path.now }
-    ensures { IsTrue result ↔ ((i : ℕ) × Contains positions.now i × LeadsTo lib.now (arrows_in lib.now place) path.now i) }
+    ensures { IsTrue result
+        ↔ ((i : ℕ) × Contains positions.now i × LeadsTo lib.now (arrows_in lib.now place) path.now i) }
 {
     let arrows = place.arrows(lib);
     for position in positions {

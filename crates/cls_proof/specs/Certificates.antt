@@ -2,7 +2,8 @@
 use Rattle.std.specs.Prelude.{ℕ, List}
 use Rattle.cls_base.specs.Types.{ClosedType}
 
--- A goal, with the positions of arrows by which some term has it. The arrows are those of a component that take n arguments.
+-- A goal, with the positions of arrows by which some term has it. The arrows are those of a component that take n
+-- arguments.
 pub record ProofRow : Type 0 where
   pub goal : ClosedType
   pub component : ℕ

@@ -3,8 +3,8 @@ ghost use Rattle.std.specs.Prelude.{◌≡◌};
 use cls_base::Numbers;
 use std::marker::Model;
 
-/// Sets of positions of arrows, each set as a list. It is seen as the list of these lists. It is made from a `Vec` and gives
-/// it back. Neither takes memory.
+/// Sets of positions of arrows, each set as a list. It is seen as the list of these lists. It is made from a `Vec` and
+/// gives it back. Neither takes memory.
 #[derive(Drop)]
 pub struct Layer {
     items: Vec<Numbers>,

@@ -1,7 +1,7 @@
 //! Certificates: what is said for a type that some term has, and for one that no term has, so that it can be checked.
 //!
-//! - [`Certificate`] is a list of [`ProofRow`]s or a list of [`Member`]s. A row says of its goal that some term has it, by
-//!   the goals of rows before it. A member says of its goal that no term has it, and its [`Block`]s show why.
+//! - [`Certificate`] is a list of [`ProofRow`]s or a list of [`Member`]s. A row says of its goal that some term has it,
+//!   by the goals of rows before it. A member says of its goal that no term has it, and its [`Block`]s show why.
 //! - [`print_certificate`] gives the lines of a certificate.
 //! - `specs/` defines certificates and their lines. What one must meet is defined where it is checked.
 #![tactic(auto)]

@@ -18,8 +18,8 @@ use cls_syntax::write_type;
 use itoa::Buffer;
 use std::alloc::Global;
 
-/// The lines of the certificate, the last one `qed`. The names and components of the certificate are held. The only error
-/// is out of memory.
+/// The lines of the certificate, the last one `qed`. The names and components of the certificate are held. The only
+/// error is out of memory.
 pub fn print_certificate(
     alloc: Global,
     names: &Names,
