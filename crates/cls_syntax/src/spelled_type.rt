@@ -9,7 +9,7 @@ ghost use Rattle.cls_syntax.specs.Spans.{is_whole, type_in};
 use crate::closing::closed;
 use crate::interning::intern_names;
 use crate::schema_builder::{Tables, build};
-use crate::syntax_fault::begins_reserved;
+use crate::stop::begins_reserved;
 use cls_base::limits::MAX_TYPE_NODES;
 use cls_base::{OutOfMemory, Schema, Ty};
 use cls_lexer::{Names, Token};

@@ -34,7 +34,7 @@ impl Stop<'_, '_> {
 }
 
 /// Whether the tokens begin with the reserved name.
-fn begins_reserved(tokens: &[Token]) -> bool
+pub(crate) fn begins_reserved(tokens: &[Token]) -> bool
     ensures { result ≡ begins_reserved (words tokens.now) }
 {
     match tokens {
