@@ -50,7 +50,8 @@ fn step(
     place: Place,
     token: &Token,
 ) -> Result<Option<Place>, OutOfMemory>
-    ensures { IfOk result (λ p. next_of (outer_of frames.new.items) p ≡ step (number_of components.now) (state_of (outer_of frames.old.items) place) token.now.kind token.now.text.now) }
+    ensures { IfOk result (λ p. next_of (outer_of frames.new.items) p
+        ≡ step (number_of components.now) (state_of (outer_of frames.old.items) place) token.now.kind token.now.text.now) }
 {
     match place {
         Place::Operand => match token.kind {
@@ -72,7 +73,8 @@ fn step(
 /// After a term.
 #[tactic(auto, using(crate::proofs::Framing::last_frame))]
 fn after(frames: &mut Vec<Frame>, term: Term, kind: TokenKind) -> Result<Option<Place>, OutOfMemory>
-    ensures { IfOk result (λ p. next_of (outer_of frames.new.items) p ≡ step_after (outer_of frames.old.items) term kind) }
+    ensures { IfOk result (λ p. next_of (outer_of frames.new.items) p
+        ≡ step_after (outer_of frames.old.items) term kind) }
 {
     match kind {
         TokenKind::Comma => match frames.pop() {
