@@ -5,11 +5,18 @@
 //! - [`laws`] ties rules to typing.
 #![tactic(auto)]
 
+mod additions;
 mod arguments;
 mod expander;
 pub mod laws;
+mod memo;
+mod naming;
+mod renumbering;
 mod spine;
+mod store;
 #[cfg(test)]
 mod tests;
 
 pub use expander::Expander;
+pub use memo::Memo;
+pub use store::Store;
