@@ -12,8 +12,10 @@ use Rattle.cls_core.specs.declared.answer.Answer.{Answer}
 use Rattle.cls_core.specs.declared.answer.Answer.TheVariants.{Rules, Wide}
 use Rattle.cls_core.specs.Arguments.{arguments_of_rule, arguments_in, arguments_of, map_rule, map_answer, rule_count}
 use Rattle.cls_core.specs.Closure.{IsClosure, at_argument, goals_of}
-use Rattle.cls_core.specs.Machine.{numbered}
-use Rattle.cls_core.specs.Rows.{Row}
+use Rattle.cls_core.specs.Machine.{numbered, rules_in, rules_weight}
+use Rattle.cls_core.specs.declared.state.RowState.{RowState}
+use Rattle.cls_core.specs.declared.state.RowState.TheVariants.{Free, Held, Filed}
+use Rattle.cls_core.specs.Rows.{Row, filed_rows}
 use Rattle.cls_core.proofs.Closure.{answer-alike, mapped-count}
 use Rattle.cls_core.proofs.Insertion.{all-again, stays}
 use Rattle.cls_core.proofs.Members.{any-contains, contains-any, all-keeps, all-contains}
@@ -206,3 +208,14 @@ module _ {B G : Type 0} (eq : G → G → Bool) where
       let l : ls ≡ insert_all eq [] (goals_of rows) = subst (λ (ks : List G). ks ++ ls ≡ insert_all eq ks (goals_of rows)) k e in
       let v : vs ≡ newcomers eq (placed eq (insert_all eq [] (goals_of rows)) rows) [] rows = subst (λ (ks : List G). vs ≡ newcomers eq (placed eq (insert_all eq ks (goals_of rows)) rows) ks rows) k f in
       λ j. record { tag = t j; goals = l j; answers = v j }
+
+module _ {G : Type 0} where
+  -- filed rows are no more, and have no more rules together, than the goals and states of the machine
+  pub filed-at-most : (gs : List G) (ss : List RowState) → (length (filed_rows gs ss) ≤ length gs) × (sum_by (λ r. rule_count r.answer) (filed_rows gs ss) ≤ rules_in ss)
+  filed-at-most [] ss = (omega arith, omega arith)
+  filed-at-most (g ∷ gs) [] = (omega arith, omega arith)
+  filed-at-most (g ∷ gs) (Free ∷ ss) = (omega arith, omega arith)
+  filed-at-most (g ∷ gs) (Held worker ∷ ss) = (omega arith, omega arith)
+  filed-at-most (g ∷ gs) (Filed a ∷ ss) =
+      let h = filed-at-most gs ss in
+      (let a = h.0 in omega arith, let b = h.1 in omega (arith, sum_by-cons (λ (r : Row G). rule_count r.answer) (record { goal = g; answer = a }) (filed_rows gs ss), sum_by-cons rules_weight (Filed a) ss))
