@@ -2,7 +2,7 @@
 use Rattle.std.proofs.Common.{◌≡◌, ℕ, zero, suc, ◌+◌, ◌<◌, ◌≤◌, Bool, true, false, List, [], ◌∷◌, ◌++◌, Some, length, map, get_or, slice_get, refl, sym, ap, subst, ◌∙◌, arith, append_assoc, append-nil, length-append, if◌then◌else◌, cond, not, ◌||◌}
 use Rattle.std.specs.Prelude.{Contains}
 use Rattle.std.specs.List.{AllZip, list_any, position_or_len, sum_by}
-use Rattle.std.proofs.lemmas.List.Sums.{sum_by-append, sum_by-cons}
+use Rattle.std.proofs.lemmas.List.Sums.{sum_by-cons}
 use Rattle.std.proofs.lemmas.List.Elements.{Contains-append_left, Contains-append_right}
 use Rattle.indexmap.specs.IndexSet.{insert_key, insert_all}
 use Rattle.cls_base.specs.declared.rule.Rule.{Rule}
@@ -12,15 +12,15 @@ use Rattle.cls_core.specs.declared.answer.Answer.{Answer}
 use Rattle.cls_core.specs.declared.answer.Answer.TheVariants.{Rules, Wide}
 use Rattle.cls_core.specs.Arguments.{arguments_of_rule, arguments_in, arguments_of, map_rule, map_answer, rule_count}
 use Rattle.cls_core.specs.Closure.{IsClosure, at_argument, goals_of}
-use Rattle.cls_core.specs.Machine.{numbered, rules_in, rules_weight}
+use Rattle.cls_core.specs.Machine.{rules_in, rules_weight}
 use Rattle.cls_core.specs.declared.state.RowState.{RowState}
 use Rattle.cls_core.specs.declared.state.RowState.TheVariants.{Free, Held, Filed}
 use Rattle.cls_core.specs.Rows.{Row, filed_rows}
 use Rattle.cls_core.proofs.Closure.{answer-alike, mapped-count}
 use Rattle.cls_core.proofs.Insertion.{all-again, stays}
-use Rattle.cls_core.proofs.Members.{any-contains, contains-any, all-keeps, all-contains}
+use Rattle.cls_core.proofs.Members.{contains-any, all-keeps, all-contains}
 use Rattle.cls_core.proofs.OneToOne.{answer-twice}
-use Rattle.cls_expand.specs.Memos.{max_memo_goals, max_memo_rules, rules_together, FitMemo, StoreSeen, HasRoom, emptied, AreComplete, IsHeld, IsStore, placed, newcomers, together}
+use Rattle.cls_expand.specs.Memos.{rules_together, FitMemo, StoreSeen, HasRoom, emptied, AreComplete, IsHeld, IsStore, placed, newcomers, together}
 use Rattle.cls_expand.proofs.Adding.{goals-count, up-to}
 
 -- goals in place of numbers in place of goals

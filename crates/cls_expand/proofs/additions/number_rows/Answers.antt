@@ -1,4 +1,4 @@
-use Rattle.std.proofs.Common.{arith, ap, sym, subst, ◌≡◌, ◌∙◌, ◌++◌, ◌∷◌, [], ◌+◌, List, length, take, slice_get}
+use Rattle.std.proofs.Common.{arith, ap, ◌∙◌, ◌++◌, ◌∷◌, [], ◌+◌, length, take, slice_get}
 use Rattle.cls_core.specs.Closure.{goals_of}
 use Rattle.cls_expand.proofs.Adding.{with-goal, up-to, more-goals, more-numbers, all-below}
 use Rattle.cls_expand.proofs.additions.number_rows.Goals as goal

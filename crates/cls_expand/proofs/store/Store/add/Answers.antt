@@ -1,8 +1,8 @@
-use Rattle.std.proofs.Common.{◌≡◌, ap, sym, subst, ◌∙◌, List}
+use Rattle.std.proofs.Common.{sym, subst}
 use Rattle.std.specs.Prelude.{Contains}
 use Rattle.cls_core.specs.Closure.{goals_of}
 use Rattle.cls_core.proofs.Members.{all-contains}
-use Rattle.cls_expand.specs.Memos.{StoreSeen, IsStore, together}
+use Rattle.cls_expand.specs.Memos.{StoreSeen, IsStore}
 use Rattle.cls_expand.proofs.Keeping.{together-store, added-is}
 use Rattle.cls_expand.proofs.store.Store.add.Goals as goal
 

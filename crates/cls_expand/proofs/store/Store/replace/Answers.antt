@@ -1,10 +1,8 @@
-use Rattle.std.proofs.Common.{◌≡◌, arith, ap, sym, subst, ◌∙◌, ◌++◌, List, length, []}
+use Rattle.std.proofs.Common.{arith, ap, sym, subst, length, []}
 use Rattle.std.specs.Prelude.{Contains}
-use Rattle.indexmap.specs.IndexSet.{insert_all}
-use Rattle.cls_core.specs.declared.answer.Answer.{Answer}
 use Rattle.cls_core.specs.Closure.{goals_of}
 use Rattle.cls_core.proofs.Members.{all-contains}
-use Rattle.cls_expand.specs.Memos.{StoreSeen, IsStore, together, emptied, placed, newcomers}
+use Rattle.cls_expand.specs.Memos.{StoreSeen, IsStore}
 use Rattle.cls_expand.proofs.Adding.{goals-count}
 use Rattle.cls_expand.proofs.Keeping.{all-at-most, alone-store, alone-is}
 use Rattle.cls_expand.proofs.store.Store.replace.Goals as goal

@@ -1,4 +1,4 @@
-use Rattle.std.proofs.Common.{◌≡◌, arith, ap, sym, subst, ◌∙◌, length, get_or, List, refl}
+use Rattle.std.proofs.Common.{arith, ap, sym, subst, ◌∙◌, get_or, List}
 use Rattle.std.specs.Prelude.{Contains}
 use Rattle.cls_core.specs.Arguments.{map_answer}
 use Rattle.cls_core.proofs.Insertion.{place-found}

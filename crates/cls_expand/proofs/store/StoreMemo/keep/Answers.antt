@@ -1,4 +1,4 @@
-use Rattle.std.proofs.Common.{◌≡◌, arith, ap, sym, subst, ◌∙◌, List, length}
+use Rattle.std.proofs.Common.{arith, ap}
 use Rattle.indexmap.specs.IndexSet.{insert_all}
 use Rattle.cls_core.specs.Closure.{goals_of}
 use Rattle.cls_expand.specs.Memos.{rules_together}
