@@ -1,5 +1,7 @@
+pub mod Adding
 pub mod Covering
 pub mod FamilyCovers
+pub mod Keeping
 pub mod Keys
 pub mod LanguageTyping
 pub mod Making

@@ -9,6 +9,8 @@ mod core_tests;
 mod heap;
 mod meeting;
 #[cfg(test)]
+mod memo_tests;
+#[cfg(test)]
 mod renumbering;
 #[cfg(test)]
 mod table_tests;
