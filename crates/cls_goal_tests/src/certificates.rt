@@ -109,7 +109,7 @@ fn verdict(
     }
 }
 
-/// What is found of the rows for C, by f, which takes A and B to C, and x, which has both.
+/// What is found of the rows for C, by f, which takes A to C and B to C, and x, which has A and B.
 pub fn rows_verdict(alloc: Global, rows: &[Row]) -> Result<Verdict, Fail> {
     let mut given = declared(alloc, &[("f", "(A -> C) & (B -> C)"), ("x", "A & B")])?;
     let certificate = inhabited(alloc, &mut given.names, rows)?;

@@ -14,7 +14,7 @@ use std::sync::Wait;
 use std::test::Fail;
 use std::thread::Threads;
 
-// The grammar of C by f, which takes A and B to C, and x, which has both. So many workers find it, at most 64.
+// The grammar of C by f, which takes A to C and B to C, and x, which has A and B. So many workers find it.
 fn grammar_text<R: Threads + Wait + Sync>(
     rt: &R,
     alloc: Global,
@@ -48,7 +48,7 @@ fn goals_have_grammars(rt: HostRuntime) -> Result<(), Fail> {
     Ok(())
 }
 
-// Component 0 over component 0 and so on, so many times, over component 1 in the end.
+// Component 1 with component 0 applied to it so many times.
 fn nested(alloc: Global, count: u32) -> Result<Term, Fail>
     ensures { IfOk result (IsTermOver 2) }
 {
@@ -146,7 +146,7 @@ fn terms_are_read(rt: HostRuntime) -> Result<(), Fail> {
     Ok(())
 }
 
-// How large the terms of a goal are that holds two terms of the next one's in each of its own, and so on so many times.
+// How large the terms of the first goal of a chain are: a term of each goal takes two terms of the next one, so many times.
 fn size_of_chain<R: Threads + Wait + Sync>(
     rt: &R,
     alloc: Global,
