@@ -1,0 +1,12 @@
+//! Tests of what answers a goal: the library, the closure by workers, the grammar, and the checks of terms and
+//! certificates. There is nothing here but tests.
+#![tactic(auto)]
+
+#[cfg(test)]
+mod certificates;
+#[cfg(test)]
+mod goals;
+#[cfg(test)]
+mod grammars;
+#[cfg(test)]
+mod tests;
