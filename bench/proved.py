@@ -12,10 +12,23 @@ def dependencies():
         return {name: names.split() for name, names in (line.split(":") for line in file if ":" in line)}
 
 
+def closure(crates, stands_on):
+    """These crates of the repository and those below them, lowest first."""
+    wanted = set()
+    waiting = list(crates)
+    while waiting:
+        crate = waiting.pop()
+        if crate in stands_on and crate not in wanted:
+            wanted.add(crate)
+            waiting += stands_on[crate]
+    return [crate for crate in stands_on if crate in wanted]
+
+
 def build(folder, name, crates, source, proof=None, files=None):
-    """The path of the program with this source over these crates, lowest first, with this proof of its `main`, and with further
-    files by their paths in its folder."""
+    """The path of the program with this source over these crates and those below them, with this proof of its `main`, and with
+    further files by their paths in its folder."""
     stands_on = dependencies()
+    crates = closure(crates, stands_on)
     program = os.path.join(folder, "crates", name)
     os.makedirs(os.path.join(program, "src"))
     for crate in crates:
