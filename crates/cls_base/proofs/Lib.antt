@@ -1,3 +1,4 @@
 pub mod Depths
+pub mod Firsts
 pub mod Lists
 pub mod TypeOrders

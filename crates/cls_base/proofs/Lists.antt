@@ -1,8 +1,9 @@
 -- The laws of the words on lists.
-use Rattle.std.proofs.Common.{◌≡◌, ℕ, zero, suc, ◌+◌, ◌<◌, ◌≤◌, List, [], ◌∷◌, ◌++◌, Some, length, map, take, drop, get_or, slice_get, refl, sym, ap, ◌∙◌, subst, inl, inr, arith, append_assoc, take-append-drop}
+use Rattle.std.proofs.Common.{◌≡◌, ℕ, zero, suc, ◌+◌, ◌<◌, ◌≤◌, List, [], ◌∷◌, ◌++◌, Some, length, map, take, drop, get_or, slice_get, refl, sym, ap, add-one, ◌∙◌, subst, inl, inr, arith, append_assoc, take-append-drop}
 use Rattle.std.specs.Prelude.{Contains, ◌⊎◌, ◌==◌, true, false}
 use Rattle.std.specs.List.{sum_by, flat_map, IsDistinct, AllByRecursion}
 use Rattle.std.specs.Coded.{×_prop, Unit-prop, le_prop}
+use Rattle.std.proofs.Math.Seq.{take-suc}
 use Rattle.std.proofs.lemmas.Bool.Decides.{nat_tests}
 use Rattle.std.proofs.lemmas.List.{drop-append-le}
 use Rattle.std.proofs.lemmas.List.Elements.{Contains-push, Contains-push_cases, Contains-append_left, Contains-append_right, Contains-append_cases}
@@ -14,6 +15,20 @@ use Rattle.cls_base.specs.Lists.{AreDistinct, AreBelow}
 pub front_replaced : (whole new : List ℕ) (n m : ℕ) → n ≤ length (take m whole) → (new ++ drop n (take m whole)) ++ drop m whole ≡ new ++ drop n whole
 front_replaced whole new n m h =
     append_assoc new (drop n (take m whole)) (drop m whole) ∙ ap (λ l. new ++ l) (sym (drop-append-le n (take m whole) (drop m whole) h) ∙ ap (drop n) (take-append-drop m whole))
+
+-- the first n items and the next one
+pub take_next : {A : Type 0} (xs : List A) (n : ℕ) (d : A) → n < length xs → take (n + 1) xs ≡ take n xs ++ get_or xs n d ∷ []
+take_next xs n d l = rw add-one (take-suc xs n d l)
+
+pub take_whole : {A : Type 0} (xs : List A) (n : ℕ) → length xs ≤ n → take n xs ≡ xs
+take_whole [] zero l = refl
+take_whole [] (suc n) l = refl
+take_whole (x ∷ xs) zero l = absurd (let k : suc (length xs) ≤ 0 = l in omega arith)
+take_whole (x ∷ xs) (suc n) l = ap (λ ys. x ∷ ys) (take_whole xs n (let k : suc (length xs) ≤ suc n = l in omega arith))
+
+pub map_last : {A B : Type 0} (f : A → B) (xs : List A) (x : A) → map f (xs ++ x ∷ []) ≡ map f xs ++ f x ∷ []
+map_last f [] x = refl
+map_last f (y ∷ xs) x = ap (λ l. f y ∷ l) (map_last f xs x)
 
 module _ {A : Type 0} where
   pub Contains-nil : (x : A) → Contains [] x → ⊥

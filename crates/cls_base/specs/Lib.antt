@@ -1,3 +1,4 @@
+pub mod Firsts
 pub mod Languages
 pub mod Limits
 pub mod Lists

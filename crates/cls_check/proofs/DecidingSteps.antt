@@ -1,11 +1,12 @@
 -- Steps of loops over paths, goals and positions of arrows.
 use Rattle.std.proofs.Common.{ℕ, zero, suc, ◌≡◌, ◌+◌, ◌<◌, ◌≤◌, ◌↔◌, refl, sym, ◌∙◌, subst, ap, ◌⊎◌, inl, inr, List, [], ◌∷◌, ◌++◌, length, get_or, take, arith, Contains, below_more, Some, None, Bool, true, false}
 use Rattle.std.specs.Prelude.{map, slice_get}
+use Rattle.cls_base.proofs.Lists.{take_next, take_whole, map_last}
 use Rattle.cls_base.specs.Taxonomies.{Variance}
 use Rattle.cls_path.specs.Paths.{TypePath, Paths, none, InPaths, listed, Suits, SuitsAll}
 use Rattle.cls_library.specs.Arrows.{MultiArrow}
 use Rattle.cls_check.specs.Deciding.{no_arrow, arrow_of, source_of, IsWanted}
-use Rattle.cls_check.proofs.Lists.{take_next, take_whole, Contains-last, Contains-put, map_last, position_in, got, not_got}
+use Rattle.cls_check.proofs.Lists.{Contains-last, Contains-put, position_in, got, not_got}
 
 pub any_default : {A : Type 0} (xs : List A) (k : ℕ) (d e : A) → k < length xs → get_or xs k d ≡ get_or xs k e
 any_default [] k d e l = absurd (omega arith)

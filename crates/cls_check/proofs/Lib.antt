@@ -3,7 +3,6 @@ pub mod Arrows
 pub mod BlockLaws
 pub mod Deciding
 pub mod DecidingSteps
-pub mod Firsts
 pub mod GoalLaws
 pub mod Indexing
 pub mod Keys

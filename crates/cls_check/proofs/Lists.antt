@@ -7,15 +7,6 @@ use Rattle.std.proofs.lemmas.List.Elements.{Contains-append_left, Contains-appen
 use Rattle.cls_base.proofs.Lists.{Contains-nil, Contains-here, Contains-later, Contains-cases}
 use Rattle.cls_path.specs.Paths.{TypePath, InPaths, first_in, later_in, listed}
 
-pub take_next : {A : Type 0} (xs : List A) (n : ℕ) (d : A) → n < length xs → take (n + 1) xs ≡ take n xs ++ get_or xs n d ∷ []
-take_next xs n d l = rw add-one (take-suc xs n d l)
-
-pub take_whole : {A : Type 0} (xs : List A) (n : ℕ) → length xs ≤ n → take n xs ≡ xs
-take_whole [] zero l = refl
-take_whole [] (suc n) l = refl
-take_whole (x ∷ xs) zero l = absurd (let k : suc (length xs) ≤ 0 = l in omega arith)
-take_whole (x ∷ xs) (suc n) l = ap (λ ys. x ∷ ys) (take_whole xs n (let k : suc (length xs) ≤ suc n = l in omega arith))
-
 pub Contains-last : {A : Type 0} (xs : List A) (x y : A) → Contains (xs ++ x ∷ []) y → Contains xs y ⊎ (y ≡ x)
 Contains-last xs x y m = elim (Contains-append_cases xs (x ∷ []) y m) [
   | inl k ↦ inl k
@@ -25,10 +16,6 @@ Contains-last xs x y m = elim (Contains-append_cases xs (x ∷ []) y m) [
 pub Contains-put : {A : Type 0} (xs : List A) (x y : A) → Contains xs y ⊎ (y ≡ x) → Contains (xs ++ x ∷ []) y
 Contains-put xs x y (inl k) = Contains-append_left xs (x ∷ []) y k
 Contains-put xs x y (inr e) = subst (λ z. Contains (xs ++ x ∷ []) z) (sym e) (Contains-append_right xs (x ∷ []) x (Contains-here x []))
-
-pub map_last : {A B : Type 0} (f : A → B) (xs : List A) (x : A) → map f (xs ++ x ∷ []) ≡ map f xs ++ f x ∷ []
-map_last f [] x = refl
-map_last f (y ∷ xs) x = ap (λ l. f y ∷ l) (map_last f xs x)
 
 -- two lists, place by place
 pub pair_at : {A B : Type 0} (R : A → B → Type 0) (xs : List A) (ys : List B) (k : ℕ) (d : A) (e : B) → AllZip R xs ys → k < length xs → R (get_or xs k d) (get_or ys k e)

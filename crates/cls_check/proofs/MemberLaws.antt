@@ -16,7 +16,7 @@ use Rattle.cls_proof.specs.Certificates.{Block}
 use Rattle.cls_check.specs.declared.fault.Reason.{Reason}
 use Rattle.cls_check.specs.declared.fault.Reason.TheVariants.{Arrow, Target, Argument, Goal, Layers, Unblocked}
 use Rattle.cls_check.specs.Checking.{path_total, IsForm, IsBlocked, BlockedFrom, PassesLayers, PassesUnblocked, IsBelowMember, member_causes, PassesMember, member_refusal}
-use Rattle.cls_check.specs.Firsts.{First, FirstAfter, FirstAlong}
+use Rattle.cls_base.specs.Firsts.{First, FirstAfter, FirstAlong}
 use Rattle.cls_check.specs.Goals.{IsBelowGoal, AllSuit, AreForms, AreGoals}
 use Rattle.cls_check.specs.Tests.{TellsMember}
 use Rattle.cls_check.proofs.Loops.{drop-one, take-one}

@@ -16,7 +16,7 @@ use Rattle.cls_library.specs.Reaching.{PathLeIn, PathsLeIn, CoversGoal}
 use Rattle.cls_proof.specs.Certificates.{ProofRow}
 use Rattle.cls_check.specs.declared.fault.Reason.{Reason}
 use Rattle.cls_check.specs.Checking.{IsSubtype, IsForm, IsAboveRow, row_causes, PassesRow, PassRows, EndsBelow, row_refusal}
-use Rattle.cls_check.specs.Firsts.{First, FirstAfter, FirstAlong}
+use Rattle.cls_base.specs.Firsts.{First, FirstAfter, FirstAlong}
 use Rattle.cls_check.specs.Goals.{IsAboveGoal, AllSuit}
 use Rattle.cls_check.proofs.Loops.{drop-one, take-one}
 use Rattle.cls_check.proofs.Order.{reflexive, transitive, form_down, form_up}

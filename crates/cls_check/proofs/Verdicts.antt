@@ -9,9 +9,9 @@ use Rattle.cls_proof.specs.Certificates as proof
 use Rattle.cls_proof.specs.Certificates.{ProofRow, Certificate, inhabited, empty}
 use Rattle.cls_check.specs.declared.fault.Reason.{Reason}
 use Rattle.cls_check.specs.declared.fault.Reason.TheVariants.{Arrow, Target, Argument, Goal, Layers, Unblocked}
-use Rattle.cls_check.specs.Firsts.{Cause, IsSilent, IsDetermined, First, FirstAfter}
+use Rattle.cls_base.specs.Firsts.{Cause, IsSilent, IsDetermined, First, FirstAfter}
 use Rattle.cls_check.specs.Checking.{path_total, PassesArrow, PassesTarget, PassesArgument, row_causes, PassesRow, PassRows, EndsBelow, PassesLayers, PassesUnblocked, WithForm, member_causes, PassesMember, IsAboveRow, IsBelowMember, Accepts, by_rows, by_members, Refuses, refusals, row_refusal, member_refusal}
-use Rattle.cls_check.proofs.Firsts.{first-determined, along-determined}
+use Rattle.cls_base.proofs.Firsts.{first-determined, along-determined}
 use Rattle.cls_check.proofs.Order.{one_form}
 
 -- if a fact decides what is said, one thing is said

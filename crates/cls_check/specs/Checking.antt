@@ -15,7 +15,7 @@ use Rattle.cls_proof.specs.Certificates.{ProofRow, Block, Certificate, inhabited
 use Rattle.cls_check.specs.declared.fault.Reason.{Reason}
 use Rattle.cls_check.specs.declared.fault.Reason.TheVariants.{Arrow, Target, Argument, Goal, Layers, Unblocked}
 use Rattle.cls_check.specs.Arguments.{argument_type}
-use Rattle.cls_check.specs.Firsts.{Cause, First, FirstAlong}
+use Rattle.cls_base.specs.Firsts.{Cause, First, FirstAlong}
 
 -- the number of paths
 abbrev pub path_total : Paths → ℕ

@@ -6,7 +6,7 @@ use Rattle.cls_library.specs.Libraries.{Library, IsLibrary}
 use Rattle.cls_library.specs.Typing.{HasTypeIn}
 use Rattle.cls_proof.specs.Certificates.{Certificate, inhabited, empty}
 use Rattle.cls_check.specs.declared.fault.Reason.{Reason}
-use Rattle.cls_check.specs.Firsts.{IsDetermined}
+use Rattle.cls_base.specs.Firsts.{IsDetermined}
 use Rattle.cls_check.specs.Checking.{Accepts, Refuses}
 
 -- what a certificate says of a type: some term has it, or none

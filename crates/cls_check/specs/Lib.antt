@@ -3,7 +3,6 @@
 pub mod Arguments
 pub mod Checking
 pub mod Deciding
-pub mod Firsts
 pub mod Goals
 pub mod Laws
 pub mod Layers

@@ -6,7 +6,7 @@ use Rattle.cls_proof.specs.Certificates.{ProofRow, Block}
 use Rattle.cls_check.specs.declared.fault.Reason.{Reason}
 use Rattle.cls_check.specs.declared.fault.Reason.TheVariants.{Layers, Unblocked}
 use Rattle.cls_check.specs.declared.place.Place.{Place}
-use Rattle.cls_check.specs.Firsts.{First}
+use Rattle.cls_base.specs.Firsts.{First}
 use Rattle.cls_check.specs.Checking.{path_total, layers_for, row_causes, PassesRow, PassesLayers, PassesUnblocked, IsBlocked, BlockedFrom, Steps}
 use Rattle.cls_check.specs.Goals.{IsAboveGoal, IsBelowGoal}
 use Rattle.cls_check.specs.Places.{arrows_in}

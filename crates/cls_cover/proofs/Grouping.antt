@@ -5,6 +5,7 @@ use lib.Pointwise.{pointwise}
 use Rattle.std.proofs.Math.Seq.{take-suc, drop-cons}
 use Rattle.std.specs.List.Sorted.{IsPermutation}
 use Rattle.std.proofs.lemmas.List.Sorted.{Contains-permutation, IsPermutation-sym, length_permutation}
+use Rattle.cls_base.proofs.Lists.{take_whole}
 use Rattle.cls_cover.specs.Members.{Member, first, later, Ascending, Differ}
 use Rattle.cls_cover.specs.Groups.{together, row_at, HasRowOf, IsAlike, AreRuns, AreGroups}
 use Rattle.cls_cover.proofs.Lists.{contains_member, member_contains, differ_by_length, member_append, member_append_left, member_append_right, get_any, get_member}
@@ -170,12 +171,6 @@ module _ (rows : List (List Bool)) (positions : List ℕ) (n : ℕ) (groups grou
       (subst (λ (k : List (List ℕ)). IsBegun rows (take n positions ++ get_or positions n 0 ∷ []) k new) (sym g)
       (subst (λ (k : List ℕ). IsBegun rows (take n positions ++ get_or positions n 0 ∷ []) groups k) (sym (e ∙ ap (λ (k : List ℕ). k ++ get_or positions n 0 ∷ []) h))
       (begun_more rows (take n positions) groups group (get_or positions n 0) r b)))
-
-pub take_whole : {A : Type 0} (xs : List A) (n : ℕ) → length xs ≤ n → take n xs ≡ xs
-take_whole [] zero l = refl
-take_whole [] (suc n) l = refl
-take_whole (x ∷ xs) zero l = absurd (omega arith)
-take_whole (x ∷ xs) (suc n) l = ap (λ t. x ∷ t) (take_whole xs n (omega arith))
 
 pub begun_whole : (rows : List (List Bool)) (positions : List ℕ) (n : ℕ) (groups groups' : List (List ℕ)) (group : List ℕ) → length positions ≤ n → IsBegun rows (take n positions) groups group → groups' ≡ groups ++ group ∷ [] → AreRuns rows positions groups'
 begun_whole rows positions n groups groups' group l b e =

@@ -7,7 +7,7 @@ use Rattle.std.proofs.lemmas.Bool.Decides.{Decides-eqb}
 use Rattle.std.specs.Ordering.{eq_by_cmp}
 use Rattle.cls_base.specs.declared.rule.Rule.{Rule}
 use Rattle.cls_base.specs.declared.rule.Rule.TheVariants.{Head}
-use Rattle.cls_base.proofs.Lists.{Contains-nil, Contains-here, Contains-later, Contains-cases}
+use Rattle.cls_base.proofs.Lists.{Contains-nil, Contains-here, Contains-later, Contains-cases, take_next}
 use Rattle.cls_path.specs.Paths.{TypePath, Paths, more, listed, type_of_paths}
 use Rattle.cls_path.specs.PathOrder.{list_order}
 use Rattle.cls_path.specs.OrderLaws.{list_equal, list_same}
@@ -17,7 +17,6 @@ use Rattle.cls_library.specs.Rules.{Choice, IsRuleFor, IsTooLarge, IsChoice, IsW
 use Rattle.cls_expand.specs.declared.spine.Spine.{Spine}
 use Rattle.cls_expand.specs.Making.{rule_of_spine, rules_of_spines, choice_at, AreBegun}
 use Rattle.cls_expand.specs.Listing.{rule_component, rule_args, all_back, unlisted}
-use Rattle.cls_expand.proofs.Sources.{take_next}
 use Rattle.cls_expand.proofs.Making.{begun_cover}
 use Rattle.cls_expand.specs.Determined.{made_same}
 use Rattle.cls_expand.proofs.Places.{spine_same}

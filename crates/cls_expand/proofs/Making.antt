@@ -5,7 +5,7 @@ use Rattle.std.specs.List.{AllZip}
 use Rattle.std.proofs.lemmas.List.Elements.{Contains-append_left, Contains-append_right, Contains-append_cases}
 use Rattle.cls_base.specs.Terms.{Precedes}
 use Rattle.cls_base.specs.declared.rule.Rule.{Rule}
-use Rattle.cls_base.proofs.Lists.{Contains-nil, Contains-here, Contains-later, Contains-cases, Contains-map, Contains-from_map}
+use Rattle.cls_base.proofs.Lists.{Contains-nil, Contains-here, Contains-later, Contains-cases, Contains-map, Contains-from_map, map_last}
 use Rattle.cls_path.specs.Paths.{TypePath, Paths, more}
 use Rattle.cls_cover.specs.Lists.{Rises}
 use Rattle.cls_cover.specs.Covers.{IsMinimal, AreMinimal}
@@ -15,7 +15,7 @@ use Rattle.cls_library.specs.Reaching.{CoversGoal}
 use Rattle.cls_library.specs.Rules.{Choice, ComesBefore, IsRuleFor, IsTooLarge, HasManyCovers, IsWideBy, by_covers, by_size, IsWide, IsRules, IsRulesBy, FirstOnes, no_more}
 use Rattle.cls_expand.specs.declared.spine.Spine.{Spine}
 use Rattle.cls_expand.specs.Making.{rule_of_spine, rules_of_spines, IsEarlier, IsChosen, choice_at, AreBegun}
-use Rattle.cls_expand.specs.Listing.{first_ones_old, first_ones_new, all_last, map_last, append_last, append_nothing}
+use Rattle.cls_expand.specs.Listing.{first_ones_old, first_ones_new, all_last, append_last, append_nothing}
 
 pub in_mapped : {A B : Type 0} (f : A → B) (xs : List A) (y : B) → Contains (map f xs) y → (x : A) × Contains xs x × (f x ≡ y)
 in_mapped f xs y m = let r = Contains-from_map f xs y m in (r.0, r.1, sym r.2)

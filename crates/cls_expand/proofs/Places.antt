@@ -3,6 +3,7 @@ use Rattle.std.proofs.Common.{ℕ, zero, suc, ◌≡◌, ◌+◌, ◌<◌, ◌�
 use Rattle.std.specs.Prelude.{map, MatchBool, IfOk, OnOk, slice_get, IsSomeAnd, if◌then◌else◌}
 use Rattle.std.specs.Bool.{◌==◌}
 use Rattle.std.specs.List.{list_any}
+use Rattle.cls_base.proofs.Lists.{map_last}
 use Rattle.cls_base.specs.declared.rule.Rule.{Rule}
 use Rattle.cls_base.specs.declared.rule.Rule.TheVariants.{Head, Any}
 use Rattle.cls_path.specs.Paths.{TypePath, Paths, none, more, listed}
@@ -21,7 +22,7 @@ use Rattle.cls_expand.specs.Answers.{rule_of}
 use Rattle.cls_expand.specs.declared.spine.Spine.{Spine}
 use Rattle.cls_expand.specs.contracts.spine.SpinePartialEq.TheImpl.{eq-value}
 use Rattle.cls_expand.specs.Making.{AreFamilies, AreBegun, choice_at, rule_of_spine}
-use Rattle.cls_expand.specs.Listing.{map_last, append_nothing}
+use Rattle.cls_expand.specs.Listing.{append_nothing}
 use Rattle.cls_expand.proofs.Making.{begun_place, begun_rules, begun_by}
 use Rattle.cls_expand.proofs.FamilyCovers.{covers_goal, many_to}
 

@@ -4,6 +4,7 @@ use Rattle.std.specs.Prelude.{map, slice_get}
 use Rattle.std.specs.List.{AllZip}
 use Rattle.std.proofs.Math.Seq.{take-suc}
 use Rattle.std.proofs.lemmas.Option.{get_or_from_slice_get}
+use Rattle.cls_base.proofs.Lists.{map_last, take_next}
 use Rattle.cls_base.specs.declared.rule.Rule.TheVariants.{Head}
 use Rattle.cls_path.specs.Paths.{TypePath, Paths, none, more, append, InPaths, first_in, later_in, listed, type_of_paths, Suits, SuitsAll, PathsLe}
 use Rattle.cls_path.specs.NormalForms.{IsNormalForm, IsCanonical, IsCanonicalPath, EachCanonical}
@@ -19,7 +20,7 @@ use Rattle.cls_library.proofs.ByCases.{At, at_first, at_later, member_at, at_got
 use Rattle.cls_library.proofs.PathLemma.{from_sources, arrow_from}
 use Rattle.cls_library.proofs.LibraryTyping.{arrow_sources, declared}
 use Rattle.cls_expand.specs.Making.{no_arrow, picked_of, gathered, AreFamilies, choice_at}
-use Rattle.cls_expand.specs.Listing.{map_last, all_last}
+use Rattle.cls_expand.specs.Listing.{all_last}
 
 -- the arrows take n arguments, and their sources are normal
 pub record AreArrows (l : Library) (n : ℕ) (arrows : List MultiArrow) : Type 0 where
@@ -155,15 +156,6 @@ module _ (l : Library) where
 
       path_canonical : (a : MultiArrow) → InPaths (paths_at l x) (from_sources a.sources a.target) → IsCanonicalPath (below_in l.taxonomy) (variances_in l.taxonomy) (from_sources a.sources a.target)
       path_canonical a i = path_in (paths_at l x) (from_sources a.sources a.target) (h.each x no_component (declared l h x (from_sources a.sources a.target) i)).normal.canonical i
-
-pub take_whole : {A : Type 0} (xs : List A) (n : ℕ) → length xs ≤ n → take n xs ≡ xs
-take_whole [] zero l = refl
-take_whole [] (suc n) l = refl
-take_whole (x ∷ xs) zero l = absurd (let k : suc (length xs) ≤ 0 = l in omega arith)
-take_whole (x ∷ xs) (suc n) l = ap (λ ys. x ∷ ys) (take_whole xs n (let k : suc (length xs) ≤ suc n = l in omega arith))
-
-pub take_next : {A : Type 0} (xs : List A) (n : ℕ) (d : A) → n < length xs → take (n + 1) xs ≡ take n xs ++ get_or xs n d ∷ []
-take_next xs n d l = rw add-one (take-suc xs n d l)
 
 -- what an arrow takes at a place, if it takes anything there
 pub source_there : (ns : List Paths) (place : ℕ) (n : Paths) → Some n ≡ slice_get ns place → get_or ns place none ≡ n

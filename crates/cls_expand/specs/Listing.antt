@@ -71,10 +71,6 @@ all_last R [] (z ∷ ys) x y a r = absurd a
 all_last R (z ∷ xs) [] x y a r = absurd a
 all_last R (z ∷ xs) (w ∷ ys) x y a r = (a.0, all_last R xs ys x y a.1 r)
 
-pub map_last : {A B : Type 0} (f : A → B) (xs : List A) (x : A) → map f (xs ++ x ∷ []) ≡ map f xs ++ f x ∷ []
-map_last f [] x = refl
-map_last f (y ∷ xs) x = ap (λ l. f y ∷ l) (map_last f xs x)
-
 pub mapped_in : {A B : Type 0} (f : A → B) {xs : List A} {x : A} → Member xs x → Member (map f xs) (f x)
 mapped_in f first = first
 mapped_in f (later m) = later (mapped_in f m)

@@ -1,8 +1,9 @@
 use Rattle.std.proofs.Common.{ℕ, ◌≡◌, ◌+◌, ◌<◌, length, get_or, take, drop, ap, sym, ◌∙◌, subst, arith, rules, refl, List, ◌++◌, ◌∷◌, [], IsTrue, true, false, append_assoc, take-append-drop, inl, inr}
+use Rattle.cls_base.proofs.Lists.{take_whole}
 use Rattle.cls_cover.specs.declared.cover.Cover.{Cover}
 use Rattle.cls_cover.specs.Growing.{IsPartlyAdded}
 use Rattle.cls_cover.proofs.Lists.{get_member, member_append}
-use Rattle.cls_cover.proofs.Grouping.{append_none, take_whole, taken_member, fresh_at, one_more}
+use Rattle.cls_cover.proofs.Grouping.{append_none, taken_member, fresh_at, one_more}
 use Rattle.cls_cover.proofs.Joining.{row_below, row_width, known_below, known_owner, stays_minimal, minimal_stays, joined_known}
 use Rattle.cls_cover.proofs.Steps.{partly_no, partly_yes, partly_full}
 use Rattle.cls_cover.proofs.grow.add_group.Goals as goal

@@ -1,6 +1,7 @@
 use Rattle.std.proofs.Common.{◌≡◌, ◌<◌, ◌≤◌, length, List, [], sym, ◌∙◌, subst, ap, arith}
 use Rattle.std.specs.Prelude.{map}
 use Rattle.std.specs.List.{AllZip}
+use Rattle.cls_base.proofs.Lists.{take_whole}
 use Rattle.cls_taxon.specs.Orders.{Declared}
 use Rattle.cls_path.specs.Paths.{TypePath, Paths, SuitsAll, listed, type_of_paths}
 use Rattle.cls_path.specs.NormalForms.{EachCanonical, IsNormalForm}
@@ -8,7 +9,7 @@ use Rattle.cls_library.specs.Arrows.{MultiArrow}
 use Rattle.cls_library.specs.Libraries.{arrows_at, below_in, variances_in}
 use Rattle.cls_library.specs.Reaching.{IsReduced, columns}
 use Rattle.cls_expand.specs.Making.{gathered, picked_of}
-use Rattle.cls_expand.proofs.Sources.{gather_suits, gather_canonical, argument_step, columns_size, rule_made, take_whole}
+use Rattle.cls_expand.proofs.Sources.{gather_suits, gather_canonical, argument_step, columns_size, rule_made}
 use Rattle.cls_expand.proofs.arguments.arguments.Goals as goal
 
 pub gather-requires : goal.gather-requires

@@ -27,6 +27,10 @@ FirstAlong says xs t = FirstAfter says [] xs t
 abbrev pub IsDetermined : {T : Type 0} → Cause T → Type 0
 IsDetermined {T} says = (t u : T) → says t → says u → t ≡ u
 
+-- something is said, or nothing
+abbrev pub IsDecided : {T : Type 0} → Cause T → Type 0
+IsDecided {T} says = ((t : T) × says t) ⊎ IsSilent says
+
 -- each of the causes has the property
 abbrev pub EachCause : {T : Type 0} → (Cause T → Type 0) → List (Cause T) → Type 0
 EachCause P [] = Unit {0}
