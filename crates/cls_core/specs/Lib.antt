@@ -11,3 +11,4 @@ pub mod Numbers
 pub mod Renumbering
 pub mod Rows
 pub mod Times
+pub mod Typings

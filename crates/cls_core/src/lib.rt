@@ -2,7 +2,7 @@
 //!
 //! - [`Rule`] is one way in which a goal can be met, with goals for arguments. [`Goals`] and [`Rules`] are lists.
 //! - [`Answer`] is what is known of a goal once it was worked on, and [`Expand`] is what works on it. Which answer a
-//!   goal has is a relation, not a function.
+//!   goal has is a relation, not a function. [`TypedExpand`] is an expander whose answers are the rules of a typing.
 //! - [`Core`] has a row for each goal that was reached. A row is free, held by a worker, or filed with its answer.
 //!   [`Core::claim`] and [`Core::file`] are its two events, and [`Entry`] and [`History`] record them.
 //! - [`Finished`] is a core whose rows are all filed: [`Rows`] and the history. [`Core::finish`] makes it of a core,
@@ -21,6 +21,7 @@ pub mod laws;
 mod machine;
 mod numbering;
 mod state;
+mod typed_expand;
 
 pub use answer::Answer;
 pub use cls_base::{Goals, Rule, Rules};
@@ -29,3 +30,4 @@ pub use expand::Expand;
 pub use finished::{Finished, Rows};
 pub use machine::Core;
 pub use state::RowState;
+pub use typed_expand::TypedExpand;

@@ -12,35 +12,18 @@ use Rattle.cls_cover.proofs.Lists.{contains_member, member_contains, member_appe
 use Rattle.cls_core.specs.Arguments.{arguments_in}
 use Rattle.cls_library.specs.Libraries.{Library, IsLibrary, variances_in}
 use Rattle.cls_library.specs.Rules.{IsRules, HasRule, omega_rules, heads, numbers_from}
+use Rattle.cls_library.proofs.FirstOnes.{first_ones_from, first_ones_all}
+use Rattle.cls_library.proofs.RuleHeads.{below_has, rule_declared}
 use Rattle.cls_library.proofs.LibraryTyping as typing
 use Rattle.cls_library.proofs.LibraryTyping.{over_spine, spine_over}
 use Rattle.cls_library.proofs.ByCases.{Zip, zip_none, zip_more, zip_left, zip_right, all_zip}
-use Rattle.cls_expand.specs.Listing.{first_ones_from, first_ones_all}
-use Rattle.cls_expand.proofs.RuleTyping.{rule_reaches, rule_from}
+use Rattle.cls_library.proofs.RuleTyping.{rule_reaches, rule_from}
 
 pub arguments_have : (rs : List (Rule Paths)) (x : ℕ) (ns : List Paths) → Member rs (Head x ns) → (n : Paths) → Member ns n → Member (arguments_in rs) n
 arguments_have (Head y ms ∷ rs) x ns first n m = member_append_left (arguments_in rs) n m
 arguments_have (Head y ms ∷ rs) x ns (later k) n m = member_append_right ms (arguments_in rs) n (arguments_have rs x ns k n m)
 arguments_have (Any l r ∷ rs) x ns (later k) n m = later (later (arguments_have rs x ns k n m))
 arguments_have [] x ns k n m = elim k [ ]
-
--- the numbers from x on
-pub below_has : (k x y : ℕ) → x ≤ y → y < x + k → Member (heads (numbers_from x k)) (Head y [])
-below_has zero x y h l = absurd (omega arith)
-below_has (suc k) x y h l = go (first_or_later x y h) (λ g. below_has k (suc x) y g (omega arith))
-  where
-    first_or_later : (x y : ℕ) → x ≤ y → (x ≡ y) ⊎ (suc x ≤ y)
-    first_or_later x y h = grind arith
-
-    go : (x ≡ y) ⊎ (suc x ≤ y) → (suc x ≤ y → Member (heads (numbers_from (suc x) k)) (Head y [])) → Member (heads (numbers_from x (suc k))) (Head y [])
-    go (inl e) f = subst (λ z. Member (Head x [] ∷ heads (numbers_from (suc x) k)) (Head z [])) e first
-    go (inr g) f = later (f g)
-
--- each of the omega rules
-omega_rule : (k x : ℕ) (r : Rule Paths) → Member (heads (numbers_from x k)) r → (y : ℕ) × (y < x + k) × (r ≡ Head y [])
-omega_rule zero x r m = elim m [ ]
-omega_rule (suc k) x _ first = (x, omega arith, refl)
-omega_rule (suc k) x r (later m) = let u = omega_rule k (suc x) r m in let l : u.0 < suc x + k = u.1 in (u.0, omega arith, u.2)
 
 module _ (lib : Library) (law : IsLibrary lib) where
   abbrev count : ℕ
@@ -61,26 +44,6 @@ module _ (lib : Library) (law : IsLibrary lib) where
   abbrev MakesFrom : Applicative → List Paths → Applicative → Type 0
   MakesFrom f ns e = Applies Paths (HasRule lib) f ns e
 
-  -- a rule's component is declared
-  pub rule_declared : (g : Paths) (x : ℕ) (ns : List Paths) → HasRule lib g (Head x ns) → x < count
-  rule_declared none x ns r = declared (subst (λ (rs : List (Rule Paths)). Member rs (Head x ns)) r.1 (contains_member r.0 (Head x ns) r.2))
-    where
-      declared : Member (omega_rules count) (Head x ns) → x < count
-      declared m = elim (member_append (heads (numbers_from 0 count)) (Any none none ∷ []) (Head x ns) m) [
-        | inl k ↦ (let u = omega_rule count 0 (Head x ns) k in let e : x ≡ u.0 = (let f : ◌≡◌ {A = Rule Paths} (Head x ns) (Head u.0 []) = u.2 in cc) in let l : u.0 < 0 + count = u.1 in omega arith)
-        | inr k ↦ not_any k
-      ]
-        where
-          not_any : Member (Any none none ∷ []) (Head x ns) → x < count
-          not_any (later k) = elim k [ ]
-  rule_declared (more q n) x ns r =
-      let candidate = first_ones_from (Head x ns) r.1.first_ones r.2 in
-      let u = zip_right (Head x ns) (all_zip r.1.choices r.1.candidates r.1.made) (contains_member r.1.candidates (Head x ns) candidate) in
-      let choice = (r.1.chosen.exactly u.0).0 (member_contains u.1) in
-      let f : ◌≡◌ {A = Rule Paths} (Head x ns) (Head u.0.component u.2.arguments) = u.2.rule in
-      let e : x ≡ u.0.component = cc in
-      let l : u.0.component < count = choice.declared in omega arith
-
   head_reaches : (g : Paths) (x : ℕ) (ns : List Paths) (es : List Applicative) → HasRule lib g (Head x ns) → Each es ns → All (spine (component x) es) g
   head_reaches none x ns es r z = λ q i. elim i [ ]
   head_reaches (more p n) x ns es r z =
@@ -98,7 +61,7 @@ module _ (lib : Library) (law : IsLibrary lib) where
 
   mutual
     pub made_has : {g : Paths} {e : Applicative} → Makes g e → Over e × All e g
-    made_has (by_head {i = g} {x = x} {ns = ns} {e = e} r a) = let u = applied a in (subst (λ f. Over f) (sym u.1) (over_spine lib law count u.0 (component x) (rule_declared g x ns r) u.3), subst (λ f. All f g) (sym u.1) (head_reaches g x ns u.0 r u.2))
+    made_has (by_head {i = g} {x = x} {ns = ns} {e = e} r a) = let u = applied a in (subst (λ f. Over f) (sym u.1) (over_spine lib law count u.0 (component x) (rule_declared lib g x ns r) u.3), subst (λ f. All f g) (sym u.1) (head_reaches g x ns u.0 r u.2))
     made_has (by_any {i = g} {l = l} {m = m} {f = f} {a = a} r h k) = (((made_has h).0, (made_has k).0), subst (λ n. All (apply f a) n) (sym (any_omega g l m r)) (λ q i. elim i [ ]))
 
     applied : {f e : Applicative} {ns : List Paths} → MakesFrom f ns e → (es : List Applicative) × (e ≡ spine f es) × Each es ns × ((a : Applicative) → Member es a → Over a)

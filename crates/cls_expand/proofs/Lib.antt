@@ -1,11 +1,9 @@
 pub mod Adding
-pub mod Covering
 pub mod FamilyCovers
 pub mod Keeping
 pub mod Keys
 pub mod LanguageTyping
+pub mod Languages
 pub mod Making
 pub mod Places
-pub mod RuleTyping
-pub mod RulesTyping
 pub mod Sources

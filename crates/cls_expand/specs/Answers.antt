@@ -1,5 +1,6 @@
 -- The answer that a library means for a goal.
 use Rattle.std.specs.Prelude.{ℕ, List, map}
+use Rattle.cls_base.specs.Terms.{Applicative}
 use Rattle.cls_base.specs.declared.rule.Rule.{Rule}
 use Rattle.cls_path.specs.Paths.{TypePath, Paths, listed, type_of_paths}
 use Rattle.cls_path.specs.NormalForms.{IsNormal}
@@ -7,7 +8,8 @@ use Rattle.cls_norm.specs.Fit.{IsFit}
 use Rattle.cls_core.specs.Arguments.{map_rule}
 use Rattle.cls_core.specs.declared.answer.Answer.{Answer}
 use Rattle.cls_core.specs.declared.answer.Answer.TheVariants.{Rules, Wide}
-use Rattle.cls_library.specs.Libraries.{Library, below_in, variances_in}
+use Rattle.cls_library.specs.Libraries.{Library, IsLibrary, below_in, variances_in}
+use Rattle.cls_library.specs.Typing.{HasTypeIn}
 use Rattle.cls_library.specs.Rules.{IsRules, IsRulesBy, IsWide, IsWideBy}
 
 -- a rule of the program as one of the definition
@@ -24,7 +26,12 @@ abbrev pub IsAnswerBy : Library → ℕ → List TypePath → Answer (List TypeP
 IsAnswerBy l x goal (Rules rs) = (IsWideBy l x (listed goal) → ⊥) × IsRulesBy l x (listed goal) (map rule_of rs)
 IsAnswerBy l x goal Wide = IsWideBy l x (listed goal)
 
--- a goal that can be worked on
+-- a goal that can be worked on by a library
 pub record IsReady (l : Library) (goal : List TypePath) : Type 0 where
+  pub library : IsLibrary l
   pub normal : IsNormal (below_in l.taxonomy) (variances_in l.taxonomy) (listed goal)
   pub fit : IsFit (type_of_paths (listed goal))
+
+-- the term has the type of the goal by the typing rules
+abbrev pub HasGoal : Library → Applicative → List TypePath → Type 0
+HasGoal l e goal = HasTypeIn l e (type_of_paths (listed goal))

@@ -19,7 +19,8 @@ use Rattle.cls_library.specs.Reaching.{IsReduced, columns}
 use Rattle.cls_library.specs.Rules.{Choice, ComesBefore, code_of_choice, AreChoices, AreMade, IsRuleFor, IsRules, IsRulesBy, IsChoice, IsChoiceBy, FirstOnes}
 use Rattle.cls_library.proofs.ByCases.{all_zip, zip_unique}
 use Rattle.cls_expand.specs.Answers.{rule_of, IsAnswer}
-use Rattle.cls_expand.specs.Listing.{first_ones_unique, code_same}
+use Rattle.cls_library.proofs.FirstOnes.{first_ones_unique}
+use Rattle.cls_expand.specs.Listing.{code_same}
 
 all_unique : {A B : Type 0} {R : A → B → Type 0} (xs : List A) (ys zs : List B) → ((x : A) (y z : B) → R x y → R x z → y ≡ z) → AllZip R xs ys → AllZip R xs zs → ys ≡ zs
 all_unique xs ys zs f a b = zip_unique f (all_zip xs ys a) (all_zip xs zs b)

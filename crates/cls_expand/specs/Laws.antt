@@ -1,25 +1,13 @@
 -- What the rules of a goal have to do with typing.
-use Rattle.std.specs.Prelude.{ℕ, ◌↔◌, List, Contains}
-use Rattle.std.specs.List.{AllZip}
-use Rattle.cls_base.specs.Terms.{Applicative, component}
-use Rattle.cls_base.specs.Spines.{spine}
+use Rattle.std.specs.Prelude.{◌↔◌, List, Contains}
+use Rattle.cls_base.specs.Terms.{Applicative}
 use Rattle.cls_base.specs.declared.rule.Rule.{Rule}
-use Rattle.cls_base.specs.declared.rule.Rule.TheVariants.{Head}
 use Rattle.cls_base.specs.Languages.{Generates}
-use Rattle.cls_path.specs.Paths.{TypePath, Paths, none, more, type_of_paths, SuitsAll}
+use Rattle.cls_path.specs.Paths.{Paths, none, type_of_paths, SuitsAll}
 use Rattle.cls_core.specs.Arguments.{arguments_in}
 use Rattle.cls_library.specs.Libraries.{Library, IsLibrary, variances_in}
 use Rattle.cls_library.specs.Rules.{IsRules, HasRule}
 use Rattle.cls_library.specs.Typing.{HasTypeIn}
-
--- A spine has a goal with a path if and only if some rule of the goal has its head and number of arguments, and its
--- arguments have the types of the rule's arguments.
-abbrev pub RulesAreTheTyping : Type 0
-RulesAreTheTyping =
-    (lib : Library) → IsLibrary lib → (q : TypePath) (n : Paths) (rs : List (Rule Paths))
-    → SuitsAll (variances_in lib.taxonomy) (more q n) → IsRules lib (more q n) rs → (x : ℕ) (es : List Applicative)
-    → HasTypeIn lib (spine (component x) es) (type_of_paths (more q n))
-    ↔ ((ns : List Paths) × Contains rs (Head x ns) × AllZip (λ e m. HasTypeIn lib e (type_of_paths m)) es ns)
 
 -- the rules of omega generate the terms that have omega, and no others
 abbrev pub OmegaHasAllTerms : Type 0

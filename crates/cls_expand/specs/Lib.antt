@@ -6,3 +6,4 @@ pub mod Listing
 pub mod Making
 pub mod Memos
 pub mod Readiness
+pub mod Typings

@@ -9,11 +9,12 @@ use Rattle.cls_path.specs.Paths.{TypePath, Paths, none, more, listed, type_of_pa
 use Rattle.cls_norm.specs.Fit.{IsFit}
 use Rattle.cls_cover.specs.Members.{Member, first, later}
 use Rattle.cls_cover.proofs.Lists.{contains_member, member_contains, member_append, get_member}
-use Rattle.cls_library.specs.Libraries.{Library}
+use Rattle.cls_library.specs.Libraries.{Library, IsLibrary}
 use Rattle.cls_library.specs.Rules.{Choice, IsRuleFor, IsRules, IsChoice, IsWide, by_size, heads, numbers_from}
 use Rattle.cls_library.proofs.ByCases.{all_zip, zip_right}
 use Rattle.cls_expand.specs.Answers.{rule_of, IsAnswer, IsReady}
-use Rattle.cls_expand.specs.Listing.{mapped_in, first_ones_from, rule_args, unlisted, unlisted_back}
+use Rattle.cls_library.proofs.FirstOnes.{first_ones_from}
+use Rattle.cls_expand.specs.Listing.{mapped_in, rule_args, unlisted, unlisted_back}
 
 -- an argument of rules is one of some rule
 in_rule : (rs : List (Rule (List TypePath))) (g : List TypePath) → Member (arguments_in rs) g → (r : Rule (List TypePath)) × Member rs r × Member (arguments_of_rule r) g
@@ -47,7 +48,7 @@ abbrev is_any : Rule Paths → ℕ
 is_any (Head x ns) = 0
 is_any (Any n m) = 1
 
-module _ (l : Library) where
+module _ (l : Library) (law : IsLibrary l) where
   fit_stable : (n : Paths) → ((IsFit (type_of_paths n) → ⊥) → ⊥) → IsFit (type_of_paths n)
   fit_stable n f = record {
     few = below_stable _ _ (λ g. f (λ h. g h.few));
@@ -56,7 +57,7 @@ module _ (l : Library) where
   }
 
   none_ready : IsReady l []
-  none_ready = record { normal = record { suits = tt; canonical = tt }; fit = record { few = omega arith; shallow = omega arith; narrow = omega arith } }
+  none_ready = record { library = law; normal = record { suits = tt; canonical = tt }; fit = record { few = omega arith; shallow = omega arith; narrow = omega arith } }
 
   none_only : (g : List TypePath) → listed g ≡ none → IsReady l g
   none_only g e = subst (λ (h : List TypePath). IsReady l h) (sym (sym (unlisted_back g) ∙ ap unlisted e)) none_ready
@@ -105,6 +106,7 @@ module _ (l : Library) where
       let a : Member k.arguments (listed g) = subst (λ (ns : List Paths). Member ns (listed g)) e (mapped_in listed m) in
       let z = zip_right (listed g) (all_zip _ k.arguments k.reduced) a in
       record {
+        library = law;
         normal = z.2.normal;
         fit = fit_stable (listed g) (λ u. n (record {
           component = c.component;
@@ -125,5 +127,5 @@ module _ (l : Library) where
       of_choice q rest n z.0 ((h.chosen.exactly z.0).0 (member_contains z.1)) u.0 z.2 g u.2
 
 pub arguments_are_ready : (l : Library) → ArgumentsAreReady (IsReady l) (IsAnswer l)
-arguments_are_ready l goal (Rules rs) r h = λ k d m. each_ready l (listed goal) rs h.0 h.1 (get_or (arguments_in rs) k d) (get_member (arguments_in rs) k d m)
+arguments_are_ready l goal (Rules rs) r h = λ k d m. each_ready l r.library (listed goal) rs h.0 h.1 (get_or (arguments_in rs) k d) (get_member (arguments_in rs) k d m)
 arguments_are_ready l goal Wide r h = λ k d m. absurd (let e : k < 0 = m in omega arith)

@@ -11,7 +11,7 @@ ghost use Rattle.cls_expand.specs.Making.{AreBegun, AreFamilies, rule_of_spine, 
 use crate::arguments::{all_fit, arguments};
 use crate::spine::Spine;
 use cls_base::{Goals, Numbers, OutOfMemory, Rule, Rules};
-use cls_core::{Answer, Expand};
+use cls_core::{Answer, Expand, TypedExpand};
 use cls_cover::{CoverFault, covers};
 use cls_library::Library;
 use cls_path::Nf;
@@ -92,6 +92,15 @@ impl Expand for Expander<'_> {
     ghost one_answer = { one_answer };
 
     ghost arguments_ready = { arguments_are_ready };
+}
+
+impl TypedExpand for Expander<'_> {
+    ghost use Rattle.cls_expand.specs.Answers.{HasGoal};
+    ghost use Rattle.cls_expand.specs.Typings.{answers_are_typings};
+
+    ghost has = { HasGoal };
+
+    ghost rules = { answers_are_typings };
 }
 
 /// The rules of omega: each component alone, and any term applied to any.

@@ -2,7 +2,7 @@ ghost use Rattle.std.specs.Prelude.{◌≡◌};
 
 use crate::memo::Memo;
 use cls_base::OutOfMemory;
-use cls_core::{Answer, Expand};
+use cls_core::{Answer, Expand, TypedExpand};
 use std::alloc::Global;
 use std::marker::Model;
 
@@ -55,4 +55,10 @@ impl<E: Expand, M: Memo<E>> Expand for Stored<'_, E, M> {
     ghost one_answer = { E.one_answer };
 
     ghost arguments_ready = { E.arguments_ready };
+}
+
+impl<E: TypedExpand, M: Memo<E>> TypedExpand for Stored<'_, E, M> {
+    ghost has = { E.has };
+
+    ghost rules = { E.rules };
 }

@@ -18,7 +18,7 @@ use Rattle.cls_core.specs.Rows.{Row}
 use Rattle.cls_core.proofs.Renumbering.{place-is, place-of, the_answer, answer-is, argument-known, answer-at}
 use Rattle.cls_core.specs.Closure.{IsReached, at_start, at_argument, IsClosure, goals_of}
 use Rattle.cls_grammar.specs.Grammars.{book_of, first_wide}
-use Rattle.cls_grammar.specs.Meanings.{HaveGoals, no_goals, more_goals, FitsRule, by_component, by_application, AreRulesOf}
+use Rattle.cls_core.specs.Typings.{HaveGoals, no_goals, more_goals, FitsRule, by_component, by_application, AreRulesOf}
 use Rattle.cls_grammar.specs.Ranks.{IsProductiveIn}
 use Rattle.cls_grammar.proofs.Places.{wide-has}
 use Rattle.cls_grammar.proofs.Trees.{productive_exactly}

@@ -1,7 +1,7 @@
 //! What holds of the grammar of every goal, as calls that do nothing and promise the law.
 ghost use Rattle.cls_grammar.specs.Meanings.{LanguagesAreTypings, ProductiveGoalsHaveTerms};
 
-use crate::TypedExpand;
+use cls_core::TypedExpand;
 
 /// If an expander's answers are the rules of a typing, and no goal of a closure is wide, then each goal of its
 /// canonical grammar generates exactly the terms that have it.

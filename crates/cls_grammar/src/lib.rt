@@ -3,7 +3,6 @@
 //! - [`Grammar`] is the grammar, and [`GrammarFault`] says why rows make none. [`Ranks`] and [`Flags`] are what it
 //!   answers of each goal.
 //! - [`productive`] says of each node of any rule book whether it has a derivation tree.
-//! - [`TypedExpand`] is an expander whose answers are the rules of a typing of terms.
 //! - [`laws`] says what the languages of a grammar's goals are.
 #![tactic(auto)]
 
@@ -15,10 +14,8 @@ mod numbering;
 mod printing;
 mod ranking;
 mod trimming;
-mod typed_expand;
 
 pub use columns::{Flags, Ranks};
 pub use fault::GrammarFault;
 pub use grammar::Grammar;
 pub use ranking::productive;
-pub use typed_expand::TypedExpand;

@@ -1,15 +1,19 @@
 -- What holds of all libraries.
-use Rattle.std.specs.Prelude.{ℕ, ◌≡◌, ◌↔◌, List, [], ◌∷◌, ◌++◌}
+use Rattle.std.specs.Prelude.{ℕ, ◌≡◌, ◌↔◌, List, [], ◌∷◌, ◌++◌, Contains}
+use Rattle.std.specs.List.{AllZip}
 use Rattle.cls_base.specs.Types.{ClosedType, arrow, meet}
 use Rattle.cls_base.specs.Schemas.{OpenType}
 use Rattle.cls_base.specs.Terms.{Applicative, component, apply}
 use Rattle.cls_base.specs.Spines.{spine}
-use Rattle.cls_path.specs.Paths.{TypePath, type_of_path, Suits}
+use Rattle.cls_base.specs.declared.rule.Rule.{Rule}
+use Rattle.cls_base.specs.declared.rule.Rule.TheVariants.{Head}
+use Rattle.cls_path.specs.Paths.{TypePath, Paths, more, type_of_path, type_of_paths, Suits, SuitsAll}
 use Rattle.cls_taxon.specs.Orders.{Declared}
 use Rattle.cls_library.specs.declared.fault.LibraryFault.{LibraryFault}
 use Rattle.cls_library.specs.declared.fault.LibraryKind.TheVariants.{OutOfMemory}
 use Rattle.cls_library.specs.Libraries.{Library, IsLibrary, variances_in}
 use Rattle.cls_library.specs.Reaching.{IsReachedBy}
+use Rattle.cls_library.specs.Rules.{IsRules}
 use Rattle.cls_library.specs.Refusals.{Adds, IsLibraryOf, RefusesAt}
 use Rattle.cls_library.specs.Typing.{HasTypeIn, HasTypeByInstances}
 
@@ -56,3 +60,12 @@ abbrev pub PathsAreReached : Type 0
 PathsAreReached =
     (l : Library) → IsLibrary l → (x : ℕ) (es : List Applicative) (q : TypePath) → Suits (variances_in l.taxonomy) q
     → HasTypeIn l (spine (component x) es) (type_of_path q) ↔ IsReachedBy l x es q
+
+-- A spine has a goal with a path if and only if some rule of the goal has its head and number of arguments, and its
+-- arguments have the types of the rule's arguments.
+abbrev pub RulesAreTheTyping : Type 0
+RulesAreTheTyping =
+    (lib : Library) → IsLibrary lib → (q : TypePath) (n : Paths) (rs : List (Rule Paths))
+    → SuitsAll (variances_in lib.taxonomy) (more q n) → IsRules lib (more q n) rs → (x : ℕ) (es : List Applicative)
+    → HasTypeIn lib (spine (component x) es) (type_of_paths (more q n))
+    ↔ ((ns : List Paths) × Contains rs (Head x ns) × AllZip (λ e m. HasTypeIn lib e (type_of_paths m)) es ns)

@@ -1,5 +1,5 @@
 //! What holds of all libraries, as calls that do nothing and promise the law.
-ghost use Rattle.cls_library.specs.Laws.{AddingMakesLibraries, LibrariesAreUnique, RefusalsAreExact, ReadingsAgree, ApplicationsAreGenerated, IntersectionsAreBoth, PathsAreReached};
+ghost use Rattle.cls_library.specs.Laws.{AddingMakesLibraries, LibrariesAreUnique, RefusalsAreExact, ReadingsAgree, ApplicationsAreGenerated, IntersectionsAreBoth, PathsAreReached, RulesAreTheTyping};
 
 /// The library of a list of schemas, with a schema added, is that of the longer list.
 pub fn adding_makes_libraries()
@@ -35,4 +35,10 @@ pub fn intersections_are_both()
 /// has its source.
 pub fn paths_are_reached()
     ensures { PathsAreReached }
+{}
+
+/// A component, applied to terms, has a goal with a path if and only if some rule of the goal has that component and as
+/// many arguments, and each term has the type of its argument.
+pub fn rules_are_the_typing()
+    ensures { RulesAreTheTyping }
 {}

@@ -1,4 +1,4 @@
-use Rattle.cls_expand.proofs.RulesTyping.{languages_are_types}
+use Rattle.cls_expand.proofs.Languages.{languages_are_types}
 use Rattle.cls_expand.proofs.laws.languages_are_types.Goals as goal
 
 pub returns : goal.returns

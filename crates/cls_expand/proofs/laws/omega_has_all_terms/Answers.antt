@@ -1,4 +1,4 @@
-use Rattle.cls_expand.proofs.RulesTyping.{omega_has_all_terms}
+use Rattle.cls_expand.proofs.Languages.{omega_has_all_terms}
 use Rattle.cls_expand.proofs.laws.omega_has_all_terms.Goals as goal
 
 pub returns : goal.returns

@@ -1,4 +1,4 @@
-use cls_core::Expand;
+use crate::expand::Expand;
 
 /// An expander whose answers are the rules of a typing of terms by goals.
 ///
@@ -7,7 +7,7 @@ use cls_core::Expand;
 /// to a term of the other. Of a wide goal, which has no rules, it asks nothing.
 pub trait TypedExpand: Expand {
     ghost use Rattle.cls_base.specs.Terms.{Applicative};
-    ghost use Rattle.cls_grammar.specs.Meanings.{AreRulesOf};
+    ghost use Rattle.cls_core.specs.Typings.{AreRulesOf};
 
     ghost has: { Self.Tag → Applicative → Self.Goal → Type 0 };
 

@@ -17,7 +17,7 @@ use Rattle.cls_library.proofs.PathTyping.{all_up}
 use Rattle.cls_library.proofs.PathLemma.{IsSatisfied, path_lemma, from_sources, arrow_from, arrow_within}
 use Rattle.cls_library.proofs.LibraryTyping as typing
 use Rattle.cls_library.proofs.LibraryTyping.{reflexive, transitive, suited}
-use Rattle.cls_expand.proofs.Covering.{Lead, choose_minimal}
+use Rattle.cls_library.proofs.Covering.{Lead, choose_minimal}
 
 none_length : (n : ℕ) → length (no_sources n) ≡ n
 none_length zero = refl

@@ -1,4 +1,4 @@
--- The laws of rules and typing.
+-- The rules of a goal are its typing.
 use Rattle.std.proofs.Common.{◌≡◌, ◌∙◌, refl, sym, subst, List, length, inl, inr, Contains}
 use Rattle.cls_base.specs.Terms.{component}
 use Rattle.cls_base.specs.Spines.{spine}
@@ -12,12 +12,12 @@ use Rattle.cls_cover.proofs.Lists.{contains_member, member_contains}
 use Rattle.cls_library.specs.Libraries.{Library, IsLibrary, variances_in}
 use Rattle.cls_library.specs.Reaching.{IsReduced, columns}
 use Rattle.cls_library.proofs.ByCases.{Zip, zip_left, zip_right, zip_all, all_zip}
-use Rattle.cls_expand.specs.Listing.{first_ones_from, first_ones_all}
 use Rattle.cls_library.specs.Typing.{HasTypeIn}
 use Rattle.cls_library.proofs.LibraryTyping.{typed, over_spine, spine_over, each_typed, each_all}
-use Rattle.cls_expand.specs.Laws.{RulesAreTheTyping, OmegaHasAllTerms, LanguagesAreTypes}
-use Rattle.cls_expand.proofs.RuleTyping.{rule_reaches, rule_from, reduced_of}
-use Rattle.cls_expand.proofs.LanguageTyping.{made_has, omega_makes, makes_exactly, rule_declared}
+use Rattle.cls_library.specs.Laws.{RulesAreTheTyping}
+use Rattle.cls_library.proofs.FirstOnes.{first_ones_from, first_ones_all}
+use Rattle.cls_library.proofs.RuleHeads.{rule_declared}
+use Rattle.cls_library.proofs.RuleTyping.{rule_reaches, rule_from, reduced_of}
 
 module _ (lib : Library) (law : IsLibrary lib) where
   -- the arguments of a rule suit the variances
@@ -44,15 +44,6 @@ rules_are_the_typing lib law q n rs s rules x es = (to, back)
         let u = zip_right (Head x r.0) (all_zip rules.choices rules.candidates rules.made) (contains_member rules.candidates (Head x r.0) candidate) in
         let same : u.2.arguments ≡ r.0 = (let e : ◌≡◌ {A = Rule Paths} (Head x r.0) (Head u.0.component u.2.arguments) = u.2.rule in cc) in
         let v = each_all lib law (λ m k. suits_reduced lib law (subst (λ (a : List Paths). Zip (IsReduced lib) (columns u.0.places u.2.picked) a) same (reduced_of lib law u.0 (Head x r.0) u.2)) m k) (all_zip es r.0 r.2) in
-        let d = rule_declared lib law (more q n) x r.0 (rs, rules, r.1) in
+        let d = rule_declared lib (more q n) x r.0 (rs, rules, r.1) in
         (typed lib law (spine (component x) es) (more q n) s).1
         (over_spine lib law (length lib.components) es (component x) d v.1, rule_reaches lib law (more q n) u.0 (Head x r.0) x r.0 es ((rules.chosen.exactly u.0).0 (member_contains u.1)) u.2 refl v.0)
-
-pub omega_has_all_terms : OmegaHasAllTerms
-omega_has_all_terms lib law e = ((λ m. (typed lib law e none tt).1 (made_has lib law m)), (λ h. omega_makes lib law e ((typed lib law e none tt).0 h).0))
-
-pub languages_are_types : LanguagesAreTypes
-languages_are_types lib law goals f g m e =
-    let x = makes_exactly lib law (λ h. Contains goals h) (λ h k. (f h k).suits) (λ h k. let c = f h k in (c.rules, c.are_rules, (λ n i. c.arguments n (member_contains i)))) g e m in
-    let t = typed lib law e g (f g m).suits in
-    ((λ h. t.1 (x.0 h)), (λ h. x.1 (t.0 h)))
