@@ -17,8 +17,6 @@ mod renumbering;
 mod spine;
 mod store;
 mod stored;
-#[cfg(test)]
-mod tests;
 
 pub use expander::Expander;
 pub use memo::Memo;

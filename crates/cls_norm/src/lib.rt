@@ -8,8 +8,6 @@
 mod fits;
 mod normals;
 mod paths;
-#[cfg(test)]
-mod tests;
 mod types;
 
 pub use fits::fit;

@@ -1,6 +1,6 @@
 use Rattle.std.proofs.Common.{ℕ, ◌≡◌, ◌<◌, ◌+◌, ◌∙◌, ◌⊎◌, inl, inr, List, [], ◌∷◌, zero, suc, length, get_or, sym, ap, subst, refl, arith}
 use Rattle.cls_cover.specs.Lists.{IsAscending}
-use Rattle.cls_cover.proofs.tests.are_ascending.Goals as goal
+use Rattle.cls_library_tests.proofs.cover_lists.are_ascending.Goals as goal
 
 pub loop-family-init : goal.loop-family-init
 loop-family-init c = λ k d l. absurd (omega arith)

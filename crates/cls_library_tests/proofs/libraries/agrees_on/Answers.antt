@@ -3,7 +3,7 @@ use Rattle.std.specs.Prelude.{slice_get}
 use Rattle.cls_library.specs.Arrows.{MultiArrow}
 use Rattle.cls_library.specs.Libraries.{arrows_at}
 use Rattle.cls_library.proofs.Suits.{library-suits}
-use Rattle.cls_library.proofs.tests.agrees_on.Goals as goal
+use Rattle.cls_library_tests.proofs.libraries.agrees_on.Goals as goal
 
 pub agrees-requires-clause-suits : goal.agrees-requires-clause-suits
 agrees-requires-clause-suits c =

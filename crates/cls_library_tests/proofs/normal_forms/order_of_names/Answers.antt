@@ -1,6 +1,6 @@
 use Rattle.std.proofs.Common.{[], inl, inr, arith}
 use Rattle.cls_base.proofs.Lists.{Contains-nil, Contains-cases}
-use Rattle.cls_norm.proofs.tests.order_of_names.Goals as goal
+use Rattle.cls_library_tests.proofs.normal_forms.order_of_names.Goals as goal
 
 pub new-requires : goal.new-requires
 new-requires c = (

@@ -5,7 +5,7 @@ use Rattle.cls_taxon.specs.Orders.{Declared}
 use Rattle.cls_library.specs.Arrows.{MultiArrow}
 use Rattle.cls_library.specs.Libraries.{arrows_at, variances_in}
 use Rattle.cls_library.proofs.Suits.{library-suits}
-use Rattle.cls_library.proofs.tests.agrees.Goals as goal
+use Rattle.cls_library_tests.proofs.libraries.agrees.Goals as goal
 
 pub le-leads-requires-clause-suits : goal.le-leads-requires-clause-suits
 le-leads-requires-clause-suits c =

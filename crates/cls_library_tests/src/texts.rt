@@ -1,0 +1,52 @@
+//! Types and schemas from texts. The names A to Z have the numbers from 0 to 25, and so have the variables a to d from 0 to 3.
+use cls_base::limits::MAX_LINE_BYTES;
+use cls_base::{Schema, Ty};
+use cls_lexer::Names;
+use cls_syntax::{read_schema, read_type};
+use std::alloc::Global;
+use std::test::Fail;
+
+/// The names from A to Z.
+const LETTERS: &str =
+    "A & B & C & D & E & F & G & H & I & J & K & L & M & N & O & P & Q & R & S & T & U & V & W & X & Y & Z";
+
+/// The names from A to Z with their numbers.
+fn letters(alloc: Global) -> Result<Names, Fail> {
+    let mut names = Names::new(alloc);
+    read_type(alloc, &mut names, LETTERS)?;
+    Ok(names)
+}
+
+/// The type that the text spells.
+pub fn type_of_text(alloc: Global, text: &str) -> Result<Ty, Fail> {
+    let mut names = letters(alloc)?;
+    if text.len() > MAX_LINE_BYTES {
+        return Err("too long".into());
+    }
+    Ok(read_type(alloc, &mut names, text)?)
+}
+
+/// The schema that the text spells.
+pub fn schema_of_text(alloc: Global, text: &str) -> Result<Schema, Fail> {
+    let mut names = letters(alloc)?;
+    let mut variables = Names::new(alloc);
+    read_schema(alloc, &mut names, &mut variables, "$a & $b & $c & $d")?;
+    if text.len() > MAX_LINE_BYTES {
+        return Err("too long".into());
+    }
+    Ok(read_schema(alloc, &mut names, &mut variables, text)?)
+}
+
+/// The text inside, so many times between the other two.
+pub fn nested(
+    alloc: Global,
+    count: usize,
+    before: &str,
+    inside: &str,
+    after: &str,
+) -> Result<String, Fail> {
+    let mut text = before.repeat(alloc, count)?;
+    text.push_str(inside)?;
+    text.push_str(after.repeat(alloc, count)?.as_str())?;
+    Ok(text)
+}
