@@ -1,5 +1,5 @@
 -- The components of rules.
-use Rattle.std.proofs.Common.{ℕ, zero, suc, ◌≡◌, ◌<◌, ◌≤◌, ◌+◌, subst, ◌⊎◌, inl, inr, List, [], ◌∷◌, length, arith}
+use Rattle.std.proofs.Common.{ℕ, zero, suc, ◌≡◌, ◌<◌, ◌≤◌, ◌+◌, refl, subst, ◌⊎◌, inl, inr, List, [], ◌∷◌, length, arith}
 use Rattle.cls_base.specs.declared.rule.Rule.{Rule}
 use Rattle.cls_base.specs.declared.rule.Rule.TheVariants.{Head, Any}
 use Rattle.cls_path.specs.Paths.{Paths, none, more}
@@ -34,8 +34,8 @@ module _ (lib : Library) where
   rule_declared none x ns r = declared (subst (λ (rs : List (Rule Paths)). Member rs (Head x ns)) r.1 (contains_member r.0 (Head x ns) r.2))
     where
       declared : Member (omega_rules (length lib.components)) (Head x ns) → x < length lib.components
-      declared m = elim (member_append (heads (numbers_from 0 count)) (Any none none ∷ []) (Head x ns) m) [
-        | inl k ↦ (let u = omega_rule (length lib.components) 0 (Head x ns) k in let e : x ≡ u.0 = (let f : ◌≡◌ {A = Rule Paths} (Head x ns) (Head u.0 []) = u.2 in cc) in let l : u.0 < 0 + count = u.1 in omega arith)
+      declared m = elim (member_append (heads (numbers_from 0 (length lib.components))) (Any none none ∷ []) (Head x ns) m) [
+        | inl k ↦ (let u = omega_rule (length lib.components) 0 (Head x ns) k in let e : x ≡ u.0 = (let f : ◌≡◌ {A = Rule Paths} (Head x ns) (Head u.0 []) = u.2 in cc) in let l : u.0 < 0 + length lib.components = u.1 in omega arith)
         | inr k ↦ not_any k
       ]
         where
