@@ -83,13 +83,17 @@ module _ (lib : Library) (law : IsLibrary lib) where
   -- what fits a rule of the goal has it
   sound_at : (p : Paths) → SuitsAll (variances_in lib.taxonomy) p → (rs : List (Rule Goal)) → IsRules lib p (map rule_of rs)
       → (e : Applicative) (r : Rule Goal) → Contains rs r → FitsRule (HasGoal lib) e r → HasTypeIn lib e (type_of_paths p)
-  sound_at none s rs rules _ (Head x gs) m (by_component es refl h) =
-      has_omega (spine (component x) es) (over_spine lib law (length lib.components) es (component x)
-        (rule_declared lib none x (map listed gs) (map rule_of rs, rules, rule_there rs (Head x gs) m)) (over_each h))
-  sound_at none s rs rules _ (Any l m) i (meaning.by_application f a refl h k) = has_omega (apply f a) (over h, over k)
-  sound_at (more q n) s rs rules _ (Head x gs) m (by_component es refl h) =
-      (rules_are_the_typing lib law q n (map rule_of rs) s rules x es).1 (map listed gs, rule_there rs (Head x gs) m, zip_of h)
-  sound_at (more q n) s rs rules _ (Any l m) i (meaning.by_application f a refl h k) = absurd (no_any q n (map rule_of rs) rules (listed l) (listed m) (rule_there rs (Any l m) i))
+  sound_at none s rs rules e (Head x gs) m (by_component es is h) =
+      subst (λ (t : Applicative). HasTypeIn lib t (type_of_paths none)) (sym is)
+      (has_omega (spine (component x) es) (over_spine lib law (length lib.components) es (component x)
+        (rule_declared lib none x (map listed gs) (map rule_of rs, rules, rule_there rs (Head x gs) m)) (over_each h)))
+  sound_at none s rs rules e (Any l m) i (meaning.by_application f a is h k) =
+      subst (λ (t : Applicative). HasTypeIn lib t (type_of_paths none)) (sym is) (has_omega (apply f a) (over h, over k))
+  sound_at (more q n) s rs rules e (Head x gs) m (by_component es is h) =
+      subst (λ (t : Applicative). HasTypeIn lib t (type_of_paths (more q n))) (sym is)
+      ((rules_are_the_typing lib law q n (map rule_of rs) s rules x es).1 (map listed gs, rule_there rs (Head x gs) m, zip_of h))
+  sound_at (more q n) s rs rules e (Any l m) i (meaning.by_application f a is h k) =
+      absurd (no_any lib q n (map rule_of rs) rules (listed l) (listed m) (rule_there rs (Any l m) i))
 
   -- the term fits a rule whose image is this one
   fits_head : (x : ℕ) (es : List Applicative) (ns : List Paths) (r : Rule Goal) → rule_of r ≡ Head x ns → AllZip (λ e m. HasTypeIn lib e (type_of_paths m)) es ns → FitsRule (HasGoal lib) (spine (component x) es) r
