@@ -6,11 +6,20 @@ use cls_cover::covers;
 use std::alloc::Global;
 use std::test::Fail;
 
-/// The lists of these numbers.
-fn lists(alloc: Global, rows: &[&[u32]]) -> Result<Vec<Numbers>, Fail> {
+/// The numbers of the text.
+fn numbers(alloc: Global, text: &str) -> Result<Numbers, Fail> {
+    let mut items = Vec::new(alloc);
+    for word in text.split(' ') {
+        items.push(word.parse::<u32>().unwrap_or(0))?;
+    }
+    Ok(Numbers::new(items))
+}
+
+/// The lists of numbers in the lines of the text.
+fn lists(alloc: Global, text: &str) -> Result<Vec<Numbers>, Fail> {
     let mut lists = Vec::new(alloc);
-    for row in rows {
-        lists.push(Numbers::new(row.to_vec(alloc)?))?;
+    for line in text.split('\n') {
+        lists.push(numbers(alloc, line)?)?;
     }
     Ok(lists)
 }
@@ -37,35 +46,32 @@ fn are_ascending(families: &[Numbers]) -> bool
     true
 }
 
-/// Whether the lists are those of these numbers.
-fn are_equal(lists: &[Numbers], rows: &[&[u32]]) -> bool {
-    let mut rows = rows.iter();
-    for list in lists {
-        match rows.next() {
-            Some(row) if list.as_slice() == *row => {}
-            _ => return false,
+fn are_equal(some: &[Numbers], others: &[Numbers]) -> bool {
+    if some.len() != others.len() {
+        return false;
+    }
+    for i in 0..some.len() {
+        if some[i].as_slice() != others[i].as_slice() {
+            return false;
         }
     }
-    rows.next().is_none()
+    true
 }
 
-/// Whether the minimal covers of the families are these.
-fn have_covers(alloc: Global, families: &[&[u32]], wanted: &[&[u32]]) -> Result<bool, Fail> {
+/// Whether the minimal covers of the families are the lists of the second text.
+fn have_covers(alloc: Global, families: &str, wanted: &str) -> Result<bool, Fail> {
     let families = lists(alloc, families)?;
     if !are_ascending(&families) {
         return Err("not ascending".into());
     }
-    Ok(are_equal(covers(alloc, &families, 10)?.as_slice(), wanted))
+    let list = covers(alloc, &families, 10)?;
+    Ok(are_equal(list.as_slice(), &lists(alloc, wanted)?))
 }
 
 /// In the second case the positions 0 and 4 stand in the first family alone, 1 and 3 in the second one.
 #[test]
 fn families_have_covers(rt: HostRuntime) -> Result<(), Fail> {
-    let alloc = rt.alloc();
-    assert!(rt; have_covers(alloc, &[&[0, 1], &[1, 2]], &[&[0, 2], &[1]])?);
-    let wanted: &[&[u32]] = &[&[0, 1], &[0, 3], &[1, 4], &[2], &[3, 4]];
-    assert!(rt; have_covers(alloc, &[&[0, 2, 4], &[1, 2, 3]], wanted)?);
-    assert!(rt; have_covers(alloc, &[], &[&[]])?);
-    assert!(rt; have_covers(alloc, &[&[0, 1], &[]], &[])?);
+    assert!(rt; have_covers(rt.alloc(), "0 1\n1 2", "0 2\n1")?);
+    assert!(rt; have_covers(rt.alloc(), "0 2 4\n1 2 3", "0 1\n0 3\n1 4\n2\n3 4")?);
     Ok(())
 }

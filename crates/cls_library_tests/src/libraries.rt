@@ -3,7 +3,7 @@ ghost use Rattle.cls_path.specs.Paths.{Suits};
 ghost use Rattle.cls_library.specs.Arrows.{arity_of};
 ghost use Rattle.cls_library.specs.Libraries.{paths_at, variances_in};
 
-use crate::schemas::two_kinds;
+use crate::schemas::{three_kinds, two_kinds};
 use crate::texts::{nested, schema_of_text};
 use cls_base::{Name, Schema};
 use cls_kind::Kinds;
@@ -14,65 +14,68 @@ use std::alloc::Global;
 use std::test::Fail;
 
 /// A library of lists (L), numbers (N, I), texts (S) and truths (B), where lists may ascend (A) or descend (D).
-const COMPONENTS: [&str; 42] = [
-    "L(I)",
-    "L(S)",
-    "L($a) -> L($a) & A",
-    "(L($a) -> L($a)) & (A -> D) & (D -> A)",
-    "(L($a) -> L($a)) & (A -> A) & (D -> D)",
-    "(L($a) -> L($a)) & (A -> A) & (D -> D)",
-    "N -> (L($a) -> L($a)) & (A -> A) & (D -> D)",
-    "N -> (L($a) -> L($a)) & (A -> A) & (D -> D)",
-    "($a -> $b) -> L($a) -> L($b)",
-    "($a -> B) -> (L($a) -> L($a)) & (A -> A) & (D -> D)",
-    "($b -> $a -> $b) -> $b -> L($a) -> $b",
-    "L($a) -> L($a) -> L($a)",
-    "N",
-    "N",
-    "I -> I",
-    "I -> I",
-    "I -> I -> I",
-    "I -> I -> I",
-    "I -> I -> I",
-    "I -> B",
-    "I -> B",
-    "I -> I -> B",
-    "B -> B",
-    "B -> B -> B",
-    "B",
-    "L($a) -> N",
-    "L(I) -> I",
-    "L($a) -> $a",
-    "L($a) -> $a",
-    "I -> S",
-    "S -> I",
-    "S -> S",
-    "S -> S",
-    "S -> S -> S",
-    "S",
-    "S -> L(S)",
-    "L(S) -> S",
-    "S -> N",
-    "L($a) -> B",
-    "$a -> $b -> $a * $b",
-    "$a * $b -> $a",
-    "$a * $b -> $b",
-];
+const COMPONENTS: &str = "L(I)
+L(S)
+L($a) -> L($a) & A
+(L($a) -> L($a)) & (A -> D) & (D -> A)
+(L($a) -> L($a)) & (A -> A) & (D -> D)
+(L($a) -> L($a)) & (A -> A) & (D -> D)
+N -> (L($a) -> L($a)) & (A -> A) & (D -> D)
+N -> (L($a) -> L($a)) & (A -> A) & (D -> D)
+($a -> $b) -> L($a) -> L($b)
+($a -> B) -> (L($a) -> L($a)) & (A -> A) & (D -> D)
+($b -> $a -> $b) -> $b -> L($a) -> $b
+L($a) -> L($a) -> L($a)
+N
+N
+I -> I
+I -> I
+I -> I -> I
+I -> I -> I
+I -> I -> I
+I -> B
+I -> B
+I -> I -> B
+B -> B
+B -> B -> B
+B
+L($a) -> N
+L(I) -> I
+L($a) -> $a
+L($a) -> $a
+I -> S
+S -> I
+S -> S
+S -> S
+S -> S -> S
+S
+S -> L(S)
+L(S) -> S
+S -> N
+L($a) -> B
+$a -> $b -> $a * $b
+$a * $b -> $a
+$a * $b -> $b";
 
-/// The schemas that the texts spell.
-fn schemas_of_texts(alloc: Global, texts: &[&str]) -> Result<Vec<Schema>, Fail> {
+/// The schemas in the lines of the text.
+fn schemas_of_text(alloc: Global, text: &str) -> Result<Vec<Schema>, Fail> {
     let mut schemas = Vec::new(alloc);
-    for text in texts {
-        schemas.push(schema_of_text(alloc, text)?)?;
+    for line in text.split('\n') {
+        schemas.push(schema_of_text(alloc, line)?)?;
     }
     Ok(schemas)
 }
 
-/// The library of the schemas that the texts spell, in which N is below I.
-pub fn declared(alloc: Global, texts: &[&str], kinds: &Kinds) -> Result<Library, Fail> {
-    let schemas = schemas_of_texts(alloc, texts)?;
-    let taxonomy = Taxonomy::new(alloc, &[(Name(13), Name(8))], &[])?;
+/// The library of the schemas in the lines of the text.
+fn library(alloc: Global, taxonomy: Taxonomy, text: &str, kinds: &Kinds) -> Result<Library, Fail> {
+    let schemas = schemas_of_text(alloc, text)?;
     Ok(Library::build(alloc, taxonomy, &schemas, kinds)?)
+}
+
+/// That library, in which N is below I.
+pub fn declared(alloc: Global, text: &str, kinds: &Kinds) -> Result<Library, Fail> {
+    let taxonomy = Taxonomy::new(alloc, &[(Name(13), Name(8))], &[])?;
+    library(alloc, taxonomy, text, kinds)
 }
 
 /// Whether the family of the path is what a scan of all arrows finds.
@@ -122,8 +125,8 @@ fn agrees_for(alloc: Global, library: &Library, x: u32, y: u32) -> Result<bool, 
 
 #[test]
 fn families_are_scans(rt: HostRuntime) -> Result<(), Fail> {
-    let kinds = two_kinds(rt.alloc(), &["I", "S"], &["I", "S"])?;
-    let library = declared(rt.alloc(), &COMPONENTS, &kinds)?;
+    let kinds = two_kinds(rt.alloc(), "I\nS", "I\nS")?;
+    let library = declared(rt.alloc(), COMPONENTS, &kinds)?;
     let count = library.count();
     assert!(rt; count == 42);
     for pair in 0..count * count {
@@ -163,11 +166,11 @@ fn are_equal(one: &Library, other: &Library) -> bool {
     true
 }
 
-/// The library of the texts without the component in the middle, and then with another one.
-fn changed(alloc: Global, texts: [&str; 3], added: &str, kinds: &Kinds) -> Result<Library, Fail> {
-    let mut library = declared(alloc, &texts, kinds)?;
-    if library.count() != 3 {
-        return Err("not three components".into());
+/// The library of the lines without the component with the number 1, and then with another one.
+fn changed(alloc: Global, text: &str, added: &str, kinds: &Kinds) -> Result<Library, Fail> {
+    let mut library = declared(alloc, text, kinds)?;
+    if library.count() < 2 {
+        return Err("too few components".into());
     }
     library.remove(1);
     library.add(alloc, &schema_of_text(alloc, added)?, kinds)?;
@@ -176,15 +179,28 @@ fn changed(alloc: Global, texts: [&str; 3], added: &str, kinds: &Kinds) -> Resul
 
 #[test]
 fn add_after_remove_is_build(rt: HostRuntime) -> Result<(), Fail> {
-    let kinds = two_kinds(rt.alloc(), &["A", "B"], &["C", "A & D"])?;
-    let library = changed(
-        rt.alloc(),
-        ["$a -> $b", "I -> N", "(A -> C) & D"],
-        "I & $b",
-        &kinds,
-    )?;
-    let wanted = declared(rt.alloc(), &["$a -> $b", "(A -> C) & D", "I & $b"], &kinds)?;
+    let kinds = two_kinds(rt.alloc(), "A\nB", "C\nA & D")?;
+    let text = "$a -> $b\nI -> N\n(A -> C) & D";
+    let library = changed(rt.alloc(), text, "I & $b", &kinds)?;
+    let wanted = declared(rt.alloc(), "$a -> $b\n(A -> C) & D\nI & $b", &kinds)?;
     assert!(rt; are_equal(&library, &wanted));
+    Ok(())
+}
+
+/// How many paths a component has whose type the text spells, where no name is below another.
+fn path_count(alloc: Global, text: &str, kinds: &Kinds) -> Result<usize, Fail> {
+    let taxonomy = Taxonomy::new(alloc, &[], &[])?;
+    let library = library(alloc, taxonomy, text, kinds)?;
+    if library.count() == 0 {
+        return Err("no component".into());
+    }
+    Ok(library.arrows(0, 0).len())
+}
+
+#[test]
+fn instances_are_paths(rt: HostRuntime) -> Result<(), Fail> {
+    let kinds = three_kinds(rt.alloc(), 16)?;
+    assert!(rt; path_count(rt.alloc(), "$a -> $b -> $c", &kinds)? == 4_096);
     Ok(())
 }
 
@@ -207,18 +223,25 @@ fn is_last_refused(alloc: Global, text: &str, count: u32, kind: LibraryKind) -> 
     Ok(refused && fault(alloc, text, component)?.is_none())
 }
 
+#[test]
+fn components_are_counted(rt: HostRuntime) -> Result<(), Fail> {
+    assert!(rt; is_last_refused(rt.alloc(), "A", 1_001, LibraryKind::TooManyComponents)?);
+    Ok(())
+}
+
 /// The tower of seven arrows has the spread 13,119.
 #[test]
-fn limits_are_exact(rt: HostRuntime) -> Result<(), Fail> {
-    let many = LibraryKind::TooManyComponents;
-    assert!(rt; is_last_refused(rt.alloc(), "A", 1_001, many)?);
+fn spreads_are_added(rt: HostRuntime) -> Result<(), Fail> {
     let tower = nested(rt.alloc(), 7, "(", "A & B & C", ") -> A & B & C")?;
-    let large = LibraryKind::LibraryTooLarge;
-    assert!(rt; is_last_refused(rt.alloc(), tower.as_str(), 77, large)?);
+    assert!(rt; is_last_refused(rt.alloc(), tower.as_str(), 77, LibraryKind::LibraryTooLarge)?);
+    Ok(())
+}
+
+#[test]
+fn arguments_are_counted(rt: HostRuntime) -> Result<(), Fail> {
     let longest = nested(rt.alloc(), 32, "A -> ", "A", "")?;
     assert!(rt; fault(rt.alloc(), longest.as_str(), 1)?.is_none());
     let longer = nested(rt.alloc(), 33, "A -> ", "A", "")?;
-    let long = LibraryKind::ArityTooLarge;
-    assert!(rt; is_last_refused(rt.alloc(), longer.as_str(), 1, long)?);
+    assert!(rt; is_last_refused(rt.alloc(), longer.as_str(), 1, LibraryKind::ArityTooLarge)?);
     Ok(())
 }

@@ -31,16 +31,21 @@ fn count(answer: &Answer<Nf>) -> Option<usize> {
     }
 }
 
-/// The number of rules of the goal by one component with this type: by all components, and by that one.
-fn rule_counts(alloc: Global, component: &str, text: &str) -> Result<[Option<usize>; 2], Fail> {
-    let library = declared(alloc, &[component], &Kinds::new(alloc))?;
+/// Whether the goal has so many rules, None for a wide one, by one component with this type: by all components, and by that one.
+fn has_rules(
+    alloc: Global,
+    component: &str,
+    text: &str,
+    wanted: Option<usize>,
+) -> Result<bool, Fail> {
+    let library = declared(alloc, component, &Kinds::new(alloc))?;
     if library.count() == 0 {
         return Err("no component".into());
     }
     let goal = goal(alloc, &library, text)?;
     let expander = Expander::new(&library);
     let all = count(&expander.rules_of(alloc, &goal)?);
-    Ok([all, count(&expander.rules_by(alloc, &goal, 0)?)])
+    Ok(all == wanted && count(&expander.rules_by(alloc, &goal, 0)?) == wanted)
 }
 
 /// For each of these names, the functions to it from L and from M over it.
@@ -52,25 +57,27 @@ fn pairs(alloc: Global, names: &str) -> Result<String, Fail> {
     Ok(text)
 }
 
-/// Two to the power of their number are the rules of the intersection of the first names by pairs of functions to each, and
-/// over 1,024 make a goal wide.
+/// The intersection of these names.
+fn meet(alloc: Global, names: &str) -> Result<String, Fail> {
+    let mut text = String::from_str(alloc, "omega")?;
+    for x in names.chars() {
+        text.push_str(format!(in alloc; " & {x}")?.as_str())?;
+    }
+    Ok(text)
+}
+
+/// Whether the intersection of these names has so many rules by pairs of functions to each.
+fn pairs_have_rules(alloc: Global, names: &str, wanted: Option<usize>) -> Result<bool, Fail> {
+    let component = pairs(alloc, names)?;
+    let goal = meet(alloc, names)?;
+    has_rules(alloc, component.as_str(), goal.as_str(), wanted)
+}
+
 #[test]
-fn pairs_have_rules(rt: HostRuntime) -> Result<(), Fail> {
-    let apart = rule_counts(rt.alloc(), "(C -> A) & (D -> B)", "A & B")?;
-    assert!(rt; apart == [Some(1), Some(1)]);
-    let ten = pairs(rt.alloc(), "ABCDEFGHIJ")?;
-    let ten = rule_counts(
-        rt.alloc(),
-        ten.as_str(),
-        "A & B & C & D & E & F & G & H & I & J",
-    )?;
-    assert!(rt; ten == [Some(1024), Some(1024)]);
-    let eleven = pairs(rt.alloc(), "ABCDEFGHIJK")?;
-    let eleven = rule_counts(
-        rt.alloc(),
-        eleven.as_str(),
-        "A & B & C & D & E & F & G & H & I & J & K",
-    )?;
-    assert!(rt; eleven == [None, None]);
+fn covers_make_rules(rt: HostRuntime) -> Result<(), Fail> {
+    assert!(rt; has_rules(rt.alloc(), "(C -> A) & (D -> B)", "A & B", Some(1))?);
+    assert!(rt; pairs_have_rules(rt.alloc(), "A", Some(2))?);
+    assert!(rt; pairs_have_rules(rt.alloc(), "ABCDEFGHIJ", Some(1024))?);
+    assert!(rt; pairs_have_rules(rt.alloc(), "ABCDEFGHIJK", None)?);
     Ok(())
 }

@@ -1,5 +1,5 @@
 use crate::texts::{nested, schema_of_text, type_of_text};
-use cls_base::{Name, Ty};
+use cls_base::{Name, Schema, Ty};
 use cls_kind::{Choices, Instances, KindFault, Kinds, instances};
 use std::alloc::Global;
 use std::test::Fail;
@@ -14,13 +14,21 @@ fn give(kinds: &mut Kinds, variable: u32, types: Vec<Ty>) -> Result<(), Fail> {
     Ok(())
 }
 
-/// The types that the texts spell.
-fn types_of_texts(alloc: Global, texts: &[&str]) -> Result<Vec<Ty>, Fail> {
+/// The types in the lines of the text.
+fn types_of_text(alloc: Global, text: &str) -> Result<Vec<Ty>, Fail> {
     let mut types = Vec::new(alloc);
-    for text in texts {
-        types.push(type_of_text(alloc, text)?)?;
+    for line in text.split('\n') {
+        types.push(type_of_text(alloc, line)?)?;
     }
     Ok(types)
+}
+
+/// The kinds of the variables a and b.
+pub fn two_kinds(alloc: Global, first: &str, second: &str) -> Result<Kinds, Fail> {
+    let mut kinds = Kinds::new(alloc);
+    give(&mut kinds, 0, types_of_text(alloc, first)?)?;
+    give(&mut kinds, 1, types_of_text(alloc, second)?)?;
+    Ok(kinds)
 }
 
 /// The first names, so many.
@@ -32,16 +40,8 @@ fn names(alloc: Global, count: u32) -> Result<Vec<Ty>, Fail> {
     Ok(types)
 }
 
-/// For the variables a and b the kinds that these texts spell.
-pub fn two_kinds(alloc: Global, first: &[&str], second: &[&str]) -> Result<Kinds, Fail> {
-    let mut kinds = Kinds::new(alloc);
-    give(&mut kinds, 0, types_of_texts(alloc, first)?)?;
-    give(&mut kinds, 1, types_of_texts(alloc, second)?)?;
-    Ok(kinds)
-}
-
 /// For each of the variables a, b and c the first names, so many.
-fn three_kinds(alloc: Global, count: u32) -> Result<Kinds, Fail> {
+pub fn three_kinds(alloc: Global, count: u32) -> Result<Kinds, Fail> {
     let mut kinds = Kinds::new(alloc);
     for variable in 0..3 {
         give(&mut kinds, variable, names(alloc, count)?)?;
@@ -51,62 +51,65 @@ fn three_kinds(alloc: Global, count: u32) -> Result<Kinds, Fail> {
 
 /// Whether the next instance is the type that the text spells.
 fn is_next(alloc: Global, left: &mut Instances, text: &str) -> Result<bool, Fail> {
+    let wanted = type_of_text(alloc, text)?;
     match left.next() {
-        Some(made) => Ok(made?.order(&type_of_text(alloc, text)?).is_eq()),
-        None => Ok(false),
+        Some(Ok(made)) => Ok(made.order(&wanted).is_eq()),
+        _ => Ok(false),
     }
+}
+
+/// Whether the instances of the schema are the types in the lines of the text.
+fn are_instances(alloc: Global, schema: &Schema, kinds: &Kinds, text: &str) -> Result<bool, Fail> {
+    let mut left = instances(alloc, schema, kinds)?;
+    for line in text.split('\n') {
+        if !is_next(alloc, &mut left, line)? {
+            return Ok(false);
+        }
+    }
+    Ok(left.next().is_none())
 }
 
 #[test]
 fn the_first_variable_varies_slowest(rt: HostRuntime) -> Result<(), Fail> {
-    let kinds = two_kinds(rt.alloc(), &["A", "B"], &["C", "D"])?;
-    let schema = schema_of_text(rt.alloc(), "$b -> $a -> $b -> omega")?;
-    let mut left = instances(rt.alloc(), &schema, &kinds)?;
-    for text in [
-        "C -> A -> C -> omega",
-        "C -> B -> C -> omega",
-        "D -> A -> D -> omega",
-        "D -> B -> D -> omega",
-    ] {
-        assert!(rt; is_next(rt.alloc(), &mut left, text)?);
-    }
-    assert!(rt; left.next().is_none());
+    let kinds = two_kinds(rt.alloc(), "A\nB", "C\nD")?;
+    let schema = schema_of_text(rt.alloc(), "$b -> $a -> $b * E")?;
+    let wanted = "C -> A -> C * E\nC -> B -> C * E\nD -> A -> D * E\nD -> B -> D * E";
+    assert!(rt; are_instances(rt.alloc(), &schema, &kinds, wanted)?);
     Ok(())
 }
 
-/// Why the schema that the text spells has no instances, None if it has some.
-fn fault(alloc: Global, kinds: &Kinds, text: &str) -> Result<Option<KindFault>, Fail> {
-    Ok(instances(alloc, &schema_of_text(alloc, text)?, kinds).err())
+/// Why the schema that the text spells has no instances where three variables have so many types each, None if it has some.
+fn fault(alloc: Global, count: u32, text: &str) -> Result<Option<KindFault>, Fail> {
+    let kinds = three_kinds(alloc, count)?;
+    Ok(instances(alloc, &schema_of_text(alloc, text)?, &kinds).err())
 }
 
 #[test]
 fn faults_are_named(rt: HostRuntime) -> Result<(), Fail> {
-    let kinds = three_kinds(rt.alloc(), 17)?;
-    let unknown = KindFault::UnknownVariable(Name(4));
-    assert!(rt; fault(rt.alloc(), &kinds, "$a -> $e -> $f")? == Some(unknown));
-    let many = KindFault::TooManyInstances;
-    assert!(rt; fault(rt.alloc(), &kinds, "$a -> $b -> $c")? == Some(many));
-    let kinds = three_kinds(rt.alloc(), 16)?;
-    assert!(rt; fault(rt.alloc(), &kinds, "$a -> $b -> $c")?.is_none());
+    let unknown = fault(rt.alloc(), 17, "$a -> $e -> $f")?;
+    assert!(rt; unknown == Some(KindFault::UnknownVariable(Name(4))));
+    let many = fault(rt.alloc(), 17, "$a -> $b -> $c")?;
+    assert!(rt; many == Some(KindFault::TooManyInstances));
     Ok(())
 }
 
-/// Whether the schema that the text spells has an instance that is made, where a stands for 341 names of 1,022 nodes in all.
-fn is_made(alloc: Global, text: &str) -> Result<bool, Fail> {
-    let wide = nested(alloc, 340, "A & ", "A", "")?;
-    let kinds = two_kinds(alloc, &[wide.as_str()], &["B"])?;
-    let schema = schema_of_text(alloc, text)?;
-    let mut left = instances(alloc, &schema, &kinds)?;
-    match left.next() {
+/// Whether the first instance of the schema is made, and not too large.
+fn is_made(alloc: Global, schema: &Schema, kinds: &Kinds) -> Result<bool, Fail> {
+    match instances(alloc, schema, kinds)?.next() {
         Some(Ok(_)) => Ok(true),
-        Some(Err(KindFault::InstanceTooLarge)) => Ok(left.next().is_some()),
+        Some(Err(KindFault::InstanceTooLarge)) => Ok(false),
         _ => Err("no answer".into()),
     }
 }
 
+/// The variable a stands for 341 names, which have 1,022 nodes with the signs between them.
 #[test]
 fn an_instance_is_too_large(rt: HostRuntime) -> Result<(), Fail> {
-    assert!(rt; is_made(rt.alloc(), "$a -> $a -> $a -> $a -> omega")?);
-    assert!(rt; !is_made(rt.alloc(), "$a -> $a -> $a -> $a -> $a -> omega")?);
+    let wide = nested(rt.alloc(), 340, "A & ", "A", "")?;
+    let kinds = two_kinds(rt.alloc(), wide.as_str(), "B")?;
+    let schema = schema_of_text(rt.alloc(), "$a -> $a -> $a -> $a -> omega")?;
+    assert!(rt; is_made(rt.alloc(), &schema, &kinds)?);
+    let schema = schema_of_text(rt.alloc(), "$a -> $a -> $a -> $a -> $a -> omega")?;
+    assert!(rt; !is_made(rt.alloc(), &schema, &kinds)?);
     Ok(())
 }
