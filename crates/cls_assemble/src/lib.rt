@@ -16,8 +16,6 @@ mod piece;
 mod scan;
 mod template;
 mod templates;
-#[cfg(test)]
-mod tests;
 mod text;
 
 pub use fault::{TemplateFault, TextFault};

@@ -117,17 +117,3 @@ fn first_not_blank(bytes: &[u8]) -> Option<u8>
 {
     bytes.iter().copied().find(|byte| !is_blank(*byte))
 }
-
-#[cfg(test)]
-mod tests {
-    use super::*;
-    use std::test::Fail;
-
-    #[test]
-    fn a_comment_after_blanks_is_skipped(rt: HostRuntime) -> Result<(), Fail> {
-        let line = Line::new(rt.alloc(), b" \t# said once")?;
-        assert!(rt; line.content()?.is_none());
-        assert_eq!(rt; line.text()?, " \t# said once");
-        Ok(())
-    }
-}

@@ -83,21 +83,3 @@ fn first_feed(bytes: &[u8]) -> Option<usize>
 {
     bytes.iter().position(|byte| *byte == b'\n')
 }
-
-#[cfg(test)]
-mod tests {
-    use super::*;
-    use std::test::Fail;
-
-    #[test]
-    fn a_line_ends_in_a_later_piece(rt: HostRuntime) -> Result<(), Fail> {
-        let mut reader = LineReader::new(rt.alloc());
-        let (none, rest) = reader.take(rt.alloc(), b"comp f")?;
-        assert!(rt; none.is_none());
-        assert_eq!(rt; rest.len(), 0);
-        let (line, rest) = reader.take(rt.alloc(), b" : a\r\nend")?;
-        assert_eq!(rt; line.ok_or("no line")?.as_bytes(), b"comp f : a".as_slice());
-        assert_eq!(rt; rest, b"end".as_slice());
-        Ok(())
-    }
-}

@@ -116,20 +116,3 @@ impl Names {
         self.texts.as_slice()[name.0 as usize].as_str()
     }
 }
-
-#[cfg(test)]
-mod tests {
-    use super::*;
-    use std::test::Fail;
-
-    #[test]
-    fn a_known_text_keeps_its_number(rt: HostRuntime) -> Result<(), Fail> {
-        let mut names = Names::new(rt.alloc());
-        let first = names.intern(rt.alloc(), "List")?;
-        let second = names.intern(rt.alloc(), "Int")?;
-        let again = names.intern(rt.alloc(), "List")?;
-        assert_eq!(rt; (first.0, second.0, again.0), (0, 1, 0));
-        assert_eq!(rt; names.len(), 2);
-        Ok(())
-    }
-}

@@ -27,8 +27,6 @@ mod spelled_types;
 mod stop;
 mod syntax_fault;
 mod term_shape;
-#[cfg(test)]
-mod tests;
 mod type_shape;
 mod word_list;
 

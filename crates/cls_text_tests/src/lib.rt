@@ -1,0 +1,16 @@
+//! Tests of the crates of text: lines and tokens, forms of lines, types, terms and templates. There is nothing here but
+//! tests.
+#![tactic(auto)]
+
+#[cfg(test)]
+mod form_faults;
+#[cfg(test)]
+mod forms;
+#[cfg(test)]
+mod template_tests;
+#[cfg(test)]
+mod term_tests;
+#[cfg(test)]
+mod token_tests;
+#[cfg(test)]
+mod type_tests;
