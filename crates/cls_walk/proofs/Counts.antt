@@ -60,9 +60,9 @@ module _ (cell : ℕ → ℕ → List Applicative) (count : ℕ → ℕ → ℕ)
       omega (arith, length-append (rule_terms cell cost s (Head x ns)) (candidates cell cost s rs), a, rule-most cost s rs)
   rule-most cost s (Any l m ∷ rs) =
       let a = length-over_most (λ t. flat_map (λ f. fills cell f (m ∷ []) (s - t)) (cell t l)) s (λ t. count t l * ways count (m ∷ []) (s - t)) (λ t k.
-        let a = length-flat_map_most (λ f. fills cell f (m ∷ []) (s - t)) (cell t l) (ways count (m ∷ []) (s - t)) (λ f i. fills-most (m ∷ []) f (s - t)) in
-        let b = times-more (length (cell t l)) (count t l) (ways count (m ∷ []) (s - t)) (no_more t l) in
-        omega (arith, a, b)) in
+      let a = length-flat_map_most (λ f. fills cell f (m ∷ []) (s - t)) (cell t l) (ways count (m ∷ []) (s - t)) (λ f i. fills-most (m ∷ []) f (s - t)) in
+      let b = times-more (length (cell t l)) (count t l) (ways count (m ∷ []) (s - t)) (no_more t l) in
+      omega (arith, a, b)) in
       omega (arith, length-append (rule_terms cell cost s (Any l m)) (candidates cell cost s rs), a, rule-most cost s rs)
 
 module _ (book : List (List (Rule ℕ))) (cost : ℕ → ℕ) where
@@ -78,11 +78,11 @@ module _ (book : List (List (Rule ℕ))) (cost : ℕ → ℕ) where
       (each_once (candidates (cell_below book cost s) cost s (rules_at book n))).0 (cell_below book cost s t n)
       (all_ways (up_below book cost s) cost s (rules_at book n)) (up_below book cost s t n)
       (λ p.
-        let xs = candidates (cell_below book cost s) cost s (rules_at book n) in
-        let o = each_once xs in
-        let a = no_more_than o.0 xs o.1 (λ e. (o.2 e).0) in
-        let b = rule-most (cell_below book cost s) (up_below book cost s) (most-below s) cost s (rules_at book n) in
-        omega (arith, a, b))
+      let xs = candidates (cell_below book cost s) cost s (rules_at book n) in
+      let o = each_once xs in
+      let a = no_more_than o.0 xs o.1 (λ e. (o.2 e).0) in
+      let b = rule-most (cell_below book cost s) (up_below book cost s) (most-below s) cost s (rules_at book n) in
+      omega (arith, a, b))
       (λ p. most-below s t n)
 
   module _ (positive : (x : ℕ) → 1 ≤ cost x) where
@@ -91,11 +91,11 @@ module _ (book : List (List (Rule ℕ))) (cost : ℕ → ℕ) where
     exact-below (suc s) t l n e = chosen (λ (xs : List Applicative). IsIn xs e ↔ IsInCell book cost n t e) (nat_eq t s)
         (each_once (candidates (cell_below book cost s) cost s (rules_at book n))).0 (cell_below book cost s t n)
         (λ p.
-          let o = each_once (candidates (cell_below book cost s) cost s (rules_at book n)) in
-          let k = candidates_exact book cost positive (cell_below book cost s) s (exact-below s) n e in
-          let z : s ≡ t = grind (arith, nat_tests) in
-          let Q : ℕ → Type 0 = λ u. IsIn o.0 e ↔ IsInCell book cost n u e in
-          subst Q z ((λ i. k.0 ((o.2 e).0 i)), (λ c. (o.2 e).1 (k.1 c))))
+        let o = each_once (candidates (cell_below book cost s) cost s (rules_at book n)) in
+        let k = candidates_exact book cost positive (cell_below book cost s) s (exact-below s) n e in
+        let z : s ≡ t = grind (arith, nat_tests) in
+        let Q : ℕ → Type 0 = λ u. IsIn o.0 e ↔ IsInCell book cost n u e in
+        subst Q z ((λ i. k.0 ((o.2 e).0 i)), (λ c. (o.2 e).1 (k.1 c))))
         (λ p. exact-below s t (grind (arith, nat_tests)) n e)
 
     -- no list of different terms of the node and size is longer

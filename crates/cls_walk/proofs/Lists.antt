@@ -22,8 +22,8 @@ module _ {A B : Type 0} (f : A → List B) where
   once-flat_map (x ∷ xs) h p q = once-append (f x) (flat_map f xs) (p x (inl refl))
       (once-flat_map xs h.1 (λ y i. p y (inr i)) (λ y z e i j. q y z e (inr i) (inr j)))
       (λ e i j. let r = in_flat_map f xs e j in
-        let P : A → Type 0 = λ z. IsIn xs z in
-        h.0 (in_to xs x (subst P (sym (q x r.0 e (inl refl) (inr r.1) i r.2)) r.1)))
+      let P : A → Type 0 = λ z. IsIn xs z in
+      h.0 (in_to xs x (subst P (sym (q x r.0 e (inl refl) (inr r.1) i r.2)) r.1)))
 
   pub length-flat_map_most : (xs : List A) (k : ℕ) → ((x : A) → IsIn xs x → length (f x) ≤ k) → length (flat_map f xs) ≤ length xs * k
   length-flat_map_most [] k h = omega arith
@@ -32,6 +32,7 @@ module _ {A B : Type 0} (f : A → List B) where
       let b = length-flat_map_most xs k (λ y i. h y (inr i)) in
       let c : suc (length xs) * k ≡ length xs * k + k = more_times (length xs) k in
       omega (arith, a, b, c, length-append (f x) (flat_map f xs))
+
   pub length-flat_map_least : (xs : List A) (k : ℕ) → ((x : A) → IsIn xs x → k ≤ length (f x)) → length xs * k ≤ length (flat_map f xs)
   length-flat_map_least [] k h = omega arith
   length-flat_map_least (x ∷ xs) k h =
@@ -39,6 +40,7 @@ module _ {A B : Type 0} (f : A → List B) where
       let b = length-flat_map_least xs k (λ y i. h y (inr i)) in
       let c : suc (length xs) * k ≡ length xs * k + k = more_times (length xs) k in
       omega (arith, a, b, c, length-append (f x) (flat_map f xs))
+
 module _ {A : Type 0} (f : ℕ → List A) where
   pub once-over : (n : ℕ) → ((t : ℕ) → t < n → AreDistinct (f t)) → ((t u : ℕ) (e : A) → t < n → u < n → IsIn (f t) e → IsIn (f u) e → t ≡ u) → AreDistinct (over n f)
   once-over zero p q = tt
@@ -46,8 +48,8 @@ module _ {A : Type 0} (f : ℕ → List A) where
       (once-over n (λ t l. p t (omega arith)) (λ t u e l m. q t u e (omega arith) (omega arith)))
       (p n (omega arith))
       (λ e i j. let r = in_over n f e i in
-        let z = q r.0 n e (omega (arith, r.1)) (omega arith) r.2 j in
-        omega (arith, r.1, z))
+      let z = q r.0 n e (omega (arith, r.1)) (omega arith) r.2 j in
+      omega (arith, r.1, z))
 
   pub length-over_most : (n : ℕ) (g : ℕ → ℕ) → ((t : ℕ) → t < n → length (f t) ≤ g t) → length (over n f) ≤ total_below n g
   length-over_most zero g h = omega arith
@@ -61,8 +63,8 @@ pub once-map : {A B : Type 0} (f : A → B) (xs : List A) → ((x y : A) → f x
 once-map f [] h n = tt
 once-map {A} f (x ∷ xs) h n = (
   (λ c. let r = in_map f xs (f x) (in_from (map f xs) (f x) c) in
-    let P : A → Type 0 = λ z. IsIn xs z in
-    n.0 (in_to xs x (subst P (h r.0 x r.2) r.1))),
+      let P : A → Type 0 = λ z. IsIn xs z in
+      n.0 (in_to xs x (subst P (h r.0 x r.2) r.1))),
   once-map f xs h n.1,
 )
 

@@ -116,20 +116,20 @@ module _ (book : List (List (Rule ℕ))) (r : Request) (positive : (x : ℕ) →
     (λ i. elim (in_cases (smaller s) (tagged 0 (cell s 0)) p i) [
       | inl j ↦ (let q = in_smaller s p (omega arith) j in record { node = q.0; generated = q.1.0; short = q.1.2; sized = inl q.2 })
       | inr j ↦ (
-        let q = in_tag s 0 p l j in
-        let P : ℕ → Type 0 = λ n. (n < length book) × IsInCell book r.cost n s p.1 × (n ≡ 0) in
-        let c = subst P q.0 (some, q.1, refl) in
-        record { node = c.0; generated = c.1.0; short = c.1.2; sized = inr (c.2, c.1.1) })
+          let q = in_tag s 0 p l j in
+          let P : ℕ → Type 0 = λ n. (n < length book) × IsInCell book r.cost n s p.1 × (n ≡ 0) in
+          let c = subst P q.0 (some, q.1, refl) in
+          record { node = c.0; generated = c.1.0; short = c.1.2; sized = inr (c.2, c.1.1) })
     ]),
     (λ m. elim m.sized [
       | inl z ↦ in_left (smaller s) (tagged 0 (cell s 0)) p (smaller_in s p (omega arith) m.node (m.generated, refl, m.short) z)
       | inr z ↦ (
-        let y : p.0 ≡ 0 = z.0 in
-        let P : ℕ → Type 0 = λ n. IsInCell book r.cost n s p.1 in
-        let Q : Pair → Type 0 = λ q. IsIn (tagged 0 (cell s 0)) q in
-        let c = (exact s l 0 p.1).1 (subst P y (m.generated, z.1, m.short)) in
-        let d : (0, p.1) ≡ p = λ i. (sym y i, p.1) in
-        in_right (smaller s) (tagged 0 (cell s 0)) p (subst Q d (map_in (λ (e : Applicative). (0, e)) (cell s 0) p.1 c)))
+          let y : p.0 ≡ 0 = z.0 in
+          let P : ℕ → Type 0 = λ n. IsInCell book r.cost n s p.1 in
+          let Q : Pair → Type 0 = λ q. IsIn (tagged 0 (cell s 0)) q in
+          let c = (exact s l 0 p.1).1 (subst P y (m.generated, z.1, m.short)) in
+          let d : (0, p.1) ≡ p = λ i. (sym y i, p.1) in
+          in_right (smaller s) (tagged 0 (cell s 0)) p (subst Q d (map_in (λ (e : Applicative). (0, e)) (cell s 0) p.1 c)))
     ]),
   )
 
@@ -143,7 +143,7 @@ module _ (book : List (List (Rule ℕ))) (r : Request) (positive : (x : ℕ) →
   held-least : (s : ℕ) → IsOrdered book → total_held lo (length book) s ≤ length (held s)
   held-least s ordered =
       let a = length-over_least of_size s (λ t. total_below (length book) (λ n. lo t n)) (λ t l.
-        length-over_least (λ n. tagged n (cell t n)) (length book) (λ n. lo t n) (λ n m. omega (arith, length-tagged n (cell t n), least-below book r.cost positive ordered known t n))) in
+      length-over_least (λ n. tagged n (cell t n)) (length book) (λ n. lo t n) (λ n m. omega (arith, length-tagged n (cell t n), least-below book r.cost positive ordered known t n))) in
       omega (arith, a, length-append (smaller s) (tagged 0 (cell s 0)), length-tagged 0 (cell s 0), least-below book r.cost positive ordered known s 0)
 
   pub between : 0 < length book → IsOrdered book → (s : ℕ) → s < known → PoolIsBetween book r known s
@@ -175,8 +175,8 @@ module _ (book : List (List (Rule ℕ))) (r : Request) (positive : (x : ℕ) →
       let z = cursor-from r.cost r.after e d.later in
       over_in s (λ t. if nat_le (cursor_size r.cost r.after) t then cell t 0 else []) e (size_of r.cost e) m
       (chosen (λ (es : List Applicative). IsIn es e) (nat_le (cursor_size r.cost r.after) (size_of r.cost e)) (cell (size_of r.cost e) 0) []
-        (λ p. (exact (size_of r.cost e) (omega arith) 0 e).1 (d.typed, refl, d.short))
-        (λ p. absurd (grind (arith, nat_tests))))
+      (λ p. (exact (size_of r.cost e) (omega arith) 0 e).1 (d.typed, refl, d.short))
+      (λ p. absurd (grind (arith, nat_tests))))
 
   -- no page is full below s
   none-enough : (s : ℕ) → s ≤ known → total_due up (cursor_size r.cost r.after) s ≤ r.take → (t : ℕ) → t < s → IsEnough Due r.cost r.take t → ⊥

@@ -56,24 +56,24 @@ module _ (f : HeadRule → ℕ) (P : Applicative → Type 0) where
   run-shown (g ∷ hs) h best s t o =
       chosen (λ (k : ℕ). Following h k) (nat_eq h.0 g.0 && nat_eq (length h.1) (length g.1)) (run f h.0 (length h.1) (max best (f g)) hs) (best + run f g.0 (length g.1) (f g) hs)
       (λ p.
-        let k = same-kind h g p in
-        let u = t g (inl refl) in
-        let moved : Shown h (f g) = (u.0, u.1, u.2, (λ e i. let q = u.3 e i in (q.0, (q.1.0 ∙ sym k.0, q.1.1 ∙ sym k.1)))) in
-        let better : Shown h (max best (f g)) = elim (cases_lt best (f g)) [
-          | inl l ↦ (moved.0, moved.1, (let z = moved.2 in omega arith), moved.3)
-          | inr l ↦ (s.0, s.1, (let z = s.2 in omega arith), s.3)
-        ] in
-        run-shown hs h (max best (f g)) better (λ x i. t x (inr i)) ((λ x i. o.0 x (inr i)), o.1.1))
+      let k = same-kind h g p in
+      let u = t g (inl refl) in
+      let moved : Shown h (f g) = (u.0, u.1, u.2, (λ e i. let q = u.3 e i in (q.0, (q.1.0 ∙ sym k.0, q.1.1 ∙ sym k.1)))) in
+      let better : Shown h (max best (f g)) = elim (cases_lt best (f g)) [
+        | inl l ↦ (moved.0, moved.1, (let z = moved.2 in omega arith), moved.3)
+        | inr l ↦ (s.0, s.1, (let z = s.2 in omega arith), s.3)
+      ] in
+      run-shown hs h (max best (f g)) better (λ x i. t x (inr i)) ((λ x i. o.0 x (inr i)), o.1.1))
       (λ p.
-        let r = run-shown hs g (f g) (t g (inl refl)) (λ x i. t x (inr i)) o.1 in (
-          s.0 ++ r.0,
-          once-append s.0 r.0 s.1 r.1 (λ e i j. kind-later h.0 g.0 (length h.1) (length g.1) (head_of e) (argument_count e) p (o.0 g (inl refl)) (r.3 e j).1 (s.3 e i).1),
-          (let a = s.2 in let b = r.2 in omega (arith, length-append s.0 r.0)),
-          (λ e i. elim (in_cases s.0 r.0 e i) [
-            | inl j ↦ (let q = s.3 e j in (q.0, inr (sym q.1.0, (let z = q.1.1 in omega arith))))
-            | inr j ↦ (let q = r.3 e j in (q.0, not_before-step h g e (o.0 g (inl refl)) q.1))
-          ]),
-        ))
+      let r = run-shown hs g (f g) (t g (inl refl)) (λ x i. t x (inr i)) o.1 in (
+        s.0 ++ r.0,
+        once-append s.0 r.0 s.1 r.1 (λ e i j. kind-later h.0 g.0 (length h.1) (length g.1) (head_of e) (argument_count e) p (o.0 g (inl refl)) (r.3 e j).1 (s.3 e i).1),
+        (let a = s.2 in let b = r.2 in omega (arith, length-append s.0 r.0)),
+        (λ e i. elim (in_cases s.0 r.0 e i) [
+          | inl j ↦ (let q = s.3 e j in (q.0, inr (sym q.1.0, (let z = q.1.1 in omega arith))))
+          | inr j ↦ (let q = r.3 e j in (q.0, not_before-step h g e (o.0 g (inl refl)) q.1))
+        ]),
+      ))
 
   pub runs-shown : (hs : List HeadRule) → ((h : HeadRule) → IsIn hs h → Shown h (f h)) → InOrder hs → (es : List Applicative) × AreDistinct es × (runs f hs ≤ length es) × ((e : Applicative) → IsIn es e → P e)
   runs-shown hs t o =

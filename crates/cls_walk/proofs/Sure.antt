@@ -77,23 +77,23 @@ module _ (cell : ℕ → ℕ → List Applicative) where
     fills-once (n ∷ ns) f rest =
         once-over (λ t. flat_map (λ a. fills cell (apply f a) ns (rest - t)) (cell t n)) (rest + 1)
         (λ t l. once-flat_map (λ a. fills cell (apply f a) ns (rest - t)) (cell t n) (once t n) (λ a i. fills-once ns (apply f a) (rest - t))
-          (λ a b e i j k m. apply-argument f a b (sym (fills-peeled ns (apply f a) e (rest - t) k) ∙ fills-peeled ns (apply f b) e (rest - t) m)))
+        (λ a b e i j k m. apply-argument f a b (sym (fills-peeled ns (apply f a) e (rest - t) k) ∙ fills-peeled ns (apply f b) e (rest - t) m)))
         (λ t u e l m i j.
-          let p = in_flat_map (λ a. fills cell (apply f a) ns (rest - t)) (cell t n) e i in
-          let q = in_flat_map (λ a. fills cell (apply f a) ns (rest - u)) (cell u n) e j in
-          let z = apply-argument f p.0 q.0 (sym (fills-peeled ns (apply f p.0) e (rest - t) p.2) ∙ fills-peeled ns (apply f q.0) e (rest - u) q.2) in
-          sym (sized t n p.0 p.1) ∙ ap (size_of cost) z ∙ sized u n q.0 q.1)
+        let p = in_flat_map (λ a. fills cell (apply f a) ns (rest - t)) (cell t n) e i in
+        let q = in_flat_map (λ a. fills cell (apply f a) ns (rest - u)) (cell u n) e j in
+        let z = apply-argument f p.0 q.0 (sym (fills-peeled ns (apply f p.0) e (rest - t) p.2) ∙ fills-peeled ns (apply f q.0) e (rest - u) q.2) in
+        sym (sized t n p.0 p.1) ∙ ap (size_of cost) z ∙ sized u n q.0 q.1)
 
     pair-once : (s l m : ℕ) → AreDistinct (over s (λ t. flat_map (λ f. fills cell f (m ∷ []) (s - t)) (cell t l)))
     pair-once s l m =
         once-over (λ t. flat_map (λ f. fills cell f (m ∷ []) (s - t)) (cell t l)) s
         (λ t k. once-flat_map (λ f. fills cell f (m ∷ []) (s - t)) (cell t l) (once t l) (λ f i. fills-once (m ∷ []) f (s - t))
-          (λ f g e i j k o. sym (fills-peeled (m ∷ []) f e (s - t) k) ∙ fills-peeled (m ∷ []) g e (s - t) o))
+        (λ f g e i j k o. sym (fills-peeled (m ∷ []) f e (s - t) k) ∙ fills-peeled (m ∷ []) g e (s - t) o))
         (λ t u e k o i j.
-          let p = in_flat_map (λ f. fills cell f (m ∷ []) (s - t)) (cell t l) e i in
-          let q = in_flat_map (λ f. fills cell f (m ∷ []) (s - u)) (cell u l) e j in
-          let z = sym (fills-peeled (m ∷ []) p.0 e (s - t) p.2) ∙ fills-peeled (m ∷ []) q.0 e (s - u) q.2 in
-          sym (sized t l p.0 p.1) ∙ ap (size_of cost) z ∙ sized u l q.0 q.1)
+        let p = in_flat_map (λ f. fills cell f (m ∷ []) (s - t)) (cell t l) e i in
+        let q = in_flat_map (λ f. fills cell f (m ∷ []) (s - u)) (cell u l) e j in
+        let z = sym (fills-peeled (m ∷ []) p.0 e (s - t) p.2) ∙ fills-peeled (m ∷ []) q.0 e (s - u) q.2 in
+        sym (sized t l p.0 p.1) ∙ ap (size_of cost) z ∙ sized u l q.0 q.1)
 
     module _ (positive : (x : ℕ) → 1 ≤ cost x) (count : ℕ → ℕ → ℕ) (no_fewer : (t n : ℕ) → count t n ≤ length (cell t n)) where
       fills-least : (ns : List ℕ) (f : Applicative) (rest : ℕ) → size_of cost f + rest ≤ 64 → ways count ns rest ≤ length (fills cell f ns rest)
@@ -186,14 +186,14 @@ module _ (book : List (List (Rule ℕ))) (cost : ℕ → ℕ) (positive : (x : �
     alone-shown : Shown IsAlone (runs (head_ways_if count cost s true) (heads_of rs))
     alone-shown = runs-shown (head_ways_if count cost s true) IsAlone (heads_of rs)
         (λ h i. chosen (λ (k : ℕ). AloneShown h k) (true && nat_lt 0 (length h.1)) 0 (head_ways count cost s h)
-          (λ p. ([], tt, omega arith, (λ e j. absurd j)))
-          (λ p.
-            let z : length h.1 ≡ 0 = grind (arith, nat_tests) in (
-              rule_terms cell cost s (Head h.0 h.1),
-              head-once cell cost (sized-below s) (once-below book cost s) s h,
-              head-least cell cost (sized-below s) (once-below book cost s) positive count no_fewer s h l,
-              (λ e j. let k = head-kind cell cost s h e j in ((in_rule (Head h.0 h.1) e (heads-rule rs h i) j, k.1 ∙ z), k)),
-            )))
+        (λ p. ([], tt, omega arith, (λ e j. absurd j)))
+        (λ p.
+        let z : length h.1 ≡ 0 = grind (arith, nat_tests) in (
+          rule_terms cell cost s (Head h.0 h.1),
+          head-once cell cost (sized-below s) (once-below book cost s) s h,
+          head-least cell cost (sized-below s) (once-below book cost s) positive count no_fewer s h l,
+          (λ e j. let k = head-kind cell cost s h e j in ((in_rule (Head h.0 h.1) e (heads-rule rs h i) j, k.1 ∙ z), k)),
+        )))
         (ordered n)
 
     pairs-shown : Shown (λ e. IsInCell book cost n s e × (1 ≤ argument_count e)) (greatest (pair_ways count s) (pairs_of rs))
@@ -228,14 +228,14 @@ module _ (book : List (List (Rule ℕ))) (cost : ℕ → ℕ) (positive : (x : �
       (up_to_64 s (sure_ways (lo_below book cost s) cost s (rules_at book n))) (lo_below book cost s t n)
       (each_once (candidates (cell_below book cost s) cost s (rules_at book n))).0 (cell_below book cost s t n)
       (λ p.
-        let o = each_once (candidates (cell_below book cost s) cost s (rules_at book n)) in
-        chosen (λ (k : ℕ). k ≤ length o.0) (nat_le s 64) (sure_ways (lo_below book cost s) cost s (rules_at book n)) 0
-        (λ q.
-          let w = sure-shown s n (lo_below book cost s) (least-below s) (grind (arith, nat_tests)) in
-          let a = no_more_than w.0 o.0 w.1 (λ e i. (o.2 e).1 ((candidates_exact book cost positive (cell_below book cost s) s (exact-below book cost positive s) n e).1 (w.3 e i))) in
-          let b = w.2 in
-          omega (arith, a, b))
-        (λ q. omega arith))
+      let o = each_once (candidates (cell_below book cost s) cost s (rules_at book n)) in
+      chosen (λ (k : ℕ). k ≤ length o.0) (nat_le s 64) (sure_ways (lo_below book cost s) cost s (rules_at book n)) 0
+      (λ q.
+      let w = sure-shown s n (lo_below book cost s) (least-below s) (grind (arith, nat_tests)) in
+      let a = no_more_than w.0 o.0 w.1 (λ e i. (o.2 e).1 ((candidates_exact book cost positive (cell_below book cost s) s (exact-below book cost positive s) n e).1 (w.3 e i))) in
+      let b = w.2 in
+      omega (arith, a, b))
+      (λ q. omega arith))
       (λ p. least-below s t n)
 
   -- there is a list of as many different terms of the node and size

@@ -74,10 +74,10 @@ module _ (f g : ℕ → ℕ → ℕ) (same : (t n : ℕ) → Alike (f t n) (g t 
   sure-alike : (rs : List (Rule ℕ)) → Alike (up_to_64 s (sure_ways f cost s rs)) (up_to_64 s (sure_ways g cost s rs))
   sure-alike rs = chosen_both Alike (nat_le s 64) (sure_ways f cost s rs) 0 (sure_ways g cost s rs) 0
       (λ p. alike-max (runs (head_ways_if f cost s false) (heads_of rs)) (runs (head_ways_if g cost s false) (heads_of rs))
-        (runs (head_ways_if f cost s true) (heads_of rs) + greatest (pair_ways f s) (pairs_of rs)) (runs (head_ways_if g cost s true) (heads_of rs) + greatest (pair_ways g s) (pairs_of rs))
-        (runs-alike false (heads_of rs))
-        (alike-plus (runs (head_ways_if f cost s true) (heads_of rs)) (runs (head_ways_if g cost s true) (heads_of rs)) (greatest (pair_ways f s) (pairs_of rs)) (greatest (pair_ways g s) (pairs_of rs))
-          (runs-alike true (heads_of rs)) (greatest-alike (pair_ways f s) (pair_ways g s) pair-alike (pairs_of rs))))
+      (runs (head_ways_if f cost s true) (heads_of rs) + greatest (pair_ways f s) (pairs_of rs)) (runs (head_ways_if g cost s true) (heads_of rs) + greatest (pair_ways g s) (pairs_of rs))
+      (runs-alike false (heads_of rs))
+      (alike-plus (runs (head_ways_if f cost s true) (heads_of rs)) (runs (head_ways_if g cost s true) (heads_of rs)) (greatest (pair_ways f s) (pairs_of rs)) (greatest (pair_ways g s) (pairs_of rs))
+      (runs-alike true (heads_of rs)) (greatest-alike (pair_ways f s) (pair_ways g s) pair-alike (pairs_of rs))))
       (λ p. refl)
 
 list-push : (xs : List (List ℕ)) (x : List ℕ) (i : ℕ) → i < length xs → slice_index_or (xs ++ x ∷ []) i [] ≡ slice_index_or xs i []
@@ -106,10 +106,10 @@ holds-push : (count : ℕ → ℕ → ℕ) (s : ℕ) (table : List (List ℕ)) (
 holds-push count s table column new h c = (
   omega (arith, h.0, length-column table column),
   (λ t n. chosen (λ (k : ℕ). number_at (table ++ column ∷ []) t n ≡ capped k) (nat_eq t s) (new n) (count t n)
-    (λ p.
+      (λ p.
       let e : length table ≡ t = let z : t ≡ s = grind (arith, nat_tests) in omega (arith, z, h.0) in
       ap (λ (xs : List ℕ). slice_index xs n) (list-last table column t e) ∙ c n)
-    (λ p.
+      (λ p.
       let d : t ≡ s → ⊥ = λ z. differ t s p z in
       elim (cases_lt t (length table)) [
         | inl l ↦ ap (λ (xs : List ℕ). slice_index xs n) (list-push table column t l) ∙ h.1 t n
@@ -128,10 +128,10 @@ module _ (book : List (List (Rule ℕ))) (cost : ℕ → ℕ) (s : ℕ) (table :
   up-holds h c =
       let P : ℕ → Type 0 = λ k. Holds (up_below book cost k) k (table ++ column ∷ []) in
       subst P (sym (add-one s)) (holds-push (up_below book cost s) s table column (λ n. all_ways (up_below book cost s) cost s (rules_at book n)) h (λ n.
-        c n ∙ all-alike (number_at table) (up_below book cost s) (λ t m. ap capped (h.1 t m) ∙ capped-twice (up_below book cost s t m)) cost s (rules_at book n)))
+      c n ∙ all-alike (number_at table) (up_below book cost s) (λ t m. ap capped (h.1 t m) ∙ capped-twice (up_below book cost s t m)) cost s (rules_at book n)))
 
   pub lo-holds : Holds (lo_below book cost s) s table → ((n : ℕ) → slice_index column n ≡ capped (up_to_64 s (sure_ways (number_at table) cost s (rules_at book n)))) → Holds (lo_below book cost (s + 1)) (s + 1) (table ++ column ∷ [])
   lo-holds h c =
       let P : ℕ → Type 0 = λ k. Holds (lo_below book cost k) k (table ++ column ∷ []) in
       subst P (sym (add-one s)) (holds-push (lo_below book cost s) s table column (λ n. up_to_64 s (sure_ways (lo_below book cost s) cost s (rules_at book n))) h (λ n.
-        c n ∙ sure-alike (number_at table) (lo_below book cost s) (λ t m. ap capped (h.1 t m) ∙ capped-twice (lo_below book cost s t m)) cost s (rules_at book n)))
+      c n ∙ sure-alike (number_at table) (lo_below book cost s) (λ t m. ap capped (h.1 t m) ∙ capped-twice (lo_below book cost s t m)) cost s (rules_at book n)))

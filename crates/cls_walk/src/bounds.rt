@@ -35,8 +35,24 @@ pub(crate) fn grow<B: RuleBook>(
     ensures lo { OnOk result
         (Holds (lo_below (B.book book.now) (cost_of costs.now) (size + 1)) (size + 1) bounds.new.lo) }
 {
-    let up = upper_column(alloc, &Stage { table: &bounds.up, costs, size }, book)?;
-    let lo = lower_column(alloc, &Stage { table: &bounds.lo, costs, size }, book)?;
+    let up = upper_column(
+        alloc,
+        &Stage {
+            table: &bounds.up,
+            costs,
+            size,
+        },
+        book,
+    )?;
+    let lo = lower_column(
+        alloc,
+        &Stage {
+            table: &bounds.lo,
+            costs,
+            size,
+        },
+        book,
+    )?;
     bounds.up.push(up)?;
     bounds.lo.push(lo)?;
     Ok(())

@@ -15,5 +15,5 @@ returns-else-component-last-2 c = λ hs e.
     let x = c.args.last.component in
     let k = c.args.last.arguments in
     subst P (sym c.in-Head.is) (ends-head x k y m c.in-Head.args hs (ap length c.as_slice-arguments.ensures) c.if-component-last.false
-      (λ p. elim c.else-component-last-2.either [ inl z ↦ z.1 | inr z ↦ absurd (z p) ])
-      e.0 e.1)
+    (λ p. elim c.else-component-last-2.either [ inl z ↦ z.1 | inr z ↦ absurd (z p) ])
+    e.0 e.1)
