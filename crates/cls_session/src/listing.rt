@@ -12,9 +12,10 @@ ghost use Rattle.cls_term.specs.Texts.{name_at};
 
 use cls_base::limits::MAX_POOL;
 use cls_base::{Numbers, OutOfMemory};
-use cls_enum::{Page, PageFault, page};
+use cls_enum::{Page, PageFault};
 use cls_lexer::Names;
 use cls_rulebook::OmegaBook;
+use cls_walk::page;
 use std::alloc::Global;
 
 /// The reply to a listing of at most `take` terms of at most the size `max`. The only error is out of memory.

@@ -1,0 +1,12 @@
+pub mod Capped
+pub mod Columns
+pub mod Counts
+pub mod Endings
+pub mod Lists
+pub mod OrderSteps
+pub mod Pools
+pub mod RefusalSteps
+pub mod RunSteps
+pub mod Runs
+pub mod Sure
+pub mod Tables

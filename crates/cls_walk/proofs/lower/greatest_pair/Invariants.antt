@@ -1,0 +1,13 @@
+use Rattle.std.proofs.Common.{◌≡◌, drop, max}
+use Rattle.cls_walk.specs.Counts.{greatest, pair_ways, pairs_of}
+use Rattle.cls_walk.specs.Stages.{counts}
+use Rattle.cls_walk.specs.Tables.{capped}
+use Rattle.cls_walk.proofs.lower.greatest_pair.Given as goal
+
+abbrev pub invariant-loop-rule : goal.invariant-loop-rule
+invariant-loop-rule l =
+    let f = pair_ways (counts l.stage) l.stage.size in
+    record {
+      most : capped (max l.best (greatest f (pairs_of (drop l.rule-index l.rules)))) ≡ capped (greatest f (pairs_of l.rules));
+      small : l.best ≡ capped l.best;
+    }

@@ -1,0 +1,29 @@
+use Rattle.std.specs.Prelude.{option_copied}
+use Rattle.std.proofs.lemmas.Result.{IfOk-weaker}
+use Rattle.cls_term.specs.Costs.{cost_of}
+use Rattle.cls_enum.specs.Requests.{request}
+use Rattle.cls_enum.specs.States.{ExceedsPool}
+use Rattle.cls_walk.proofs.Endings.{fits-up, exceeds-up, too_many_weaker}
+use Rattle.cls_walk.proofs.paging.page.Goals as goal
+
+pub returns-then-branch-clause-over : goal.returns-then-branch-clause-over
+returns-then-branch-clause-over g c =
+    exceeds-up (g.B.RuleBook.book c.args.book.now) (cost_of c.args.costs.now) c.args.take (option_copied c.args.after) c.last_size-last.result c.args.max_size
+    c.last_size-last.ensures.within c.last_size-last.ensures.ends c.args.pool (c.in_ok-is_refused.ensures c.if-branch.true)
+
+pub returns-clause-within : goal.returns-clause-within
+returns-clause-within g c =
+    let book = g.B.RuleBook.book c.args.book.now in
+    IfOk-weaker c.page.result _ _
+    (λ p h. fits-up book (cost_of c.args.costs.now) c.args.take (option_copied c.args.after) c.last_size-last.result c.args.max_size c.last_size-last.ensures.within c.last_size-last.ensures.ends c.args.pool h)
+    c.page.ensures.within
+
+pub returns-clause-over : goal.returns-clause-over
+returns-clause-over g c =
+    let book = g.B.RuleBook.book c.args.book.now in
+    let costs = c.args.costs.now in
+    let after = option_copied c.args.after in
+    let last = c.last_size-last.result in
+    too_many_weaker c.page.result (ExceedsPool book (request costs after last c.args.take) c.args.pool) (ExceedsPool book (request costs after c.args.max_size c.args.take) c.args.pool)
+    (exceeds-up book (cost_of costs) c.args.take after last c.args.max_size c.last_size-last.ensures.within c.last_size-last.ensures.ends c.args.pool)
+    c.page.ensures.over

@@ -1,0 +1,9 @@
+pub mod Counts
+pub mod Ends
+pub mod Lasts
+pub mod Laws
+pub mod Orders
+pub mod Runs
+pub mod Stages
+pub mod Tables
+pub mod Totals

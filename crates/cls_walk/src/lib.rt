@@ -1,0 +1,22 @@
+//! Pages by counting first: bounds of the numbers of terms by size and node, by arithmetic, before a term is made.
+//!
+//! - [`page`] gives a page of the terms of any rule book after any term, or says that more terms would have to be held
+//!   than are allowed. If the bounds tell this, no term is made for it. Otherwise `cls_enum` makes the page.
+//! - [`laws`] says what the bounds are good for.
+#![tactic(auto)]
+
+mod bounds;
+mod ends;
+pub mod laws;
+mod lower;
+mod numbers;
+mod order;
+mod paging;
+mod refusal;
+mod run;
+mod stage;
+mod table;
+mod upper;
+mod ways;
+
+pub use paging::page;

@@ -1,0 +1,52 @@
+ghost use Rattle.std.specs.Prelude.{◌≡◌, ℕ, ◌<◌, ◌≤◌, ◌^◌, IfOk, IfErr, IfSome, option_copied};
+ghost use Rattle.cls_base.specs.Limits.{max_term_size};
+ghost use Rattle.cls_base.specs.Languages.{IsGenerated};
+ghost use Rattle.cls_base.specs.Pages.{IsPage};
+ghost use Rattle.cls_base.specs.Terms.{length_of};
+ghost use Rattle.cls_term.specs.Costs.{cost_of};
+ghost use Rattle.cls_enum.specs.Faults.{IfTooMany};
+ghost use Rattle.cls_enum.specs.Requests.{request};
+ghost use Rattle.cls_enum.specs.States.{ExceedsPool, FitsPool};
+
+use crate::ends::last_size;
+use crate::order::is_ordered;
+use crate::refusal::is_refused;
+use cls_base::Numbers;
+use cls_enum::{Page, PageFault};
+use cls_rulebook::RuleBook;
+use cls_term::Term;
+use std::alloc::Global;
+
+/// The first `take` terms of the start of a rule book that come after the cursor, where there is one, and have size at
+/// most `max_size` and length at most `MAX_TERM_LENGTH`, in the order by size and code, each once; and whether there
+/// is a further one. A component that has no cost in the list costs 1. The cursor needn't be a term of the book.
+///
+/// `TooManyTerms` comes if and only if more than `pool` terms have to be held: all of all nodes that are smaller than
+/// the deciding size, with those of the start that have it. The deciding size is the least one at which the page is
+/// known to be full with a further term behind it, or `max_size`.
+pub fn page<B: RuleBook>(
+    alloc: Global,
+    book: &B,
+    costs: &Numbers,
+    after: Option<&Term>,
+    max_size: u32,
+    take: u32,
+    pool: u64,
+) -> Result<Page, PageFault>
+    requires max { max_size ≤ max_term_size }
+    requires some { 1 ≤ take }
+    requires costs { (x : ℕ) → 1 ≤ cost_of costs.now x }
+    requires token { IfSome (option_copied after) (λ a. length_of a < 2 ^ 32) }
+    ensures page { let r = request costs.now (option_copied after.entry) max_size take in
+        IfOk result (λ p. IsPage (IsGenerated (B.book book.now) 0) r p.terms p.more) }
+    ensures within { let r = request costs.now (option_copied after.entry) max_size take in
+        IfOk result (λ _. FitsPool (B.book book.now) r pool) }
+    ensures over { let r = request costs.now (option_copied after.entry) max_size take in
+        IfErr result (λ fault. IfTooMany fault (ExceedsPool (B.book book.now) r pool)) }
+{
+    let last = last_size(book, costs, max_size);
+    if is_ordered(book) && is_refused(alloc, book, costs, after, last, take, pool)? {
+        return Err(PageFault::TooManyTerms);
+    }
+    cls_enum::page(alloc, book, costs, after, last, take, pool)
+}

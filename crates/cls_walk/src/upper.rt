@@ -1,0 +1,64 @@
+//! The upper bound of the number of terms of a node and size: in how many ways its rules make one.
+ghost use Rattle.std.specs.Prelude.{◌≡◌, IfOk};
+ghost use Rattle.cls_walk.specs.Stages.{head_count, rule_count, rules_count, IsColumn};
+
+use crate::numbers::{cost_at, plus};
+use crate::stage::Stage;
+use crate::ways::{pair_ways_of, ways_of};
+use cls_base::{OutOfMemory, Rule};
+use cls_rulebook::RuleBook;
+use std::alloc::Global;
+
+/// In how many ways a component with arguments of these nodes makes a term.
+pub(crate) fn head_ways_of(
+    alloc: Global,
+    stage: &Stage,
+    component: u32,
+    nodes: &[u32],
+) -> Result<u64, OutOfMemory>
+    ensures { IfOk result (λ n. n ≡ head_count stage.now (component, nodes.now)) }
+{
+    let cost = cost_at(stage.costs, component);
+    if cost > stage.size {
+        return Ok(0);
+    }
+    Ok(ways_of(alloc, stage.table, nodes, stage.size - cost)?)
+}
+
+/// In how many ways a rule makes a term.
+fn rule_ways_of(alloc: Global, stage: &Stage, rule: &Rule<u32>) -> Result<u64, OutOfMemory>
+    ensures { IfOk result (λ n. n ≡ rule_count stage.now rule.now) }
+{
+    match rule {
+        Rule::Head { component, args } => {
+            Ok(head_ways_of(alloc, stage, *component, args.as_slice())?)
+        }
+        Rule::Any { left, right } => Ok(pair_ways_of(stage, *left, *right)),
+    }
+}
+
+/// In how many ways the rules together make a term.
+fn all_ways_of(alloc: Global, stage: &Stage, rules: &[Rule<u32>]) -> Result<u64, OutOfMemory>
+    ensures { IfOk result (λ n. n ≡ rules_count stage.now rules.now) }
+{
+    let mut total = 0;
+    for rule in rules {
+        total = plus(total, rule_ways_of(alloc, stage, rule)?);
+    }
+    Ok(total)
+}
+
+/// The same for each node of a rule book.
+pub(crate) fn upper_column<B: RuleBook>(
+    alloc: Global,
+    stage: &Stage,
+    book: &B,
+) -> Result<Vec<u64>, OutOfMemory>
+    ensures { IfOk result (λ column. IsColumn (B.book book.now) (rules_count stage.now) column.items) }
+{
+    let mut column = Vec::new(alloc);
+    for node in 0..book.count() {
+        column.push(all_ways_of(alloc, stage, book.rules(node))?)?;
+    }
+    Ok(column)
+}

@@ -1,0 +1,91 @@
+//! In how many ways the sizes of some terms come to a sum.
+ghost use Rattle.std.specs.Prelude.{◌≡◌, ℕ, [], ◌+◌, ◌-◌, ◌*◌, ◌<◌, ◌^◌, IfOk, length, slice_index};
+ghost use Rattle.cls_walk.specs.Counts.{total_below, ways};
+ghost use Rattle.cls_walk.specs.Stages.{pair_count};
+ghost use Rattle.cls_walk.specs.Tables.{capped, number_at, AreWays};
+
+use crate::numbers::{plus, times};
+use crate::stage::Stage;
+use crate::table::Table;
+use cls_base::OutOfMemory;
+use std::alloc::Global;
+
+/// The ways in which a term of the node and further terms, for which the ways are given by rest, come to `rest`.
+fn with_node(table: &Table, node: u32, others: &[u64], rest: u32) -> u64
+    requires rest { rest < length others.now }
+    requires small { rest < 2 ^ 31 }
+    ensures { result
+        ≡ capped (total_below (rest + 1) (λ t. number_at table.now t node * slice_index others.now (rest - t))) }
+{
+    let mut total = 0;
+    for size in 0..rest + 1 {
+        let other = others[(rest - size) as usize];
+        total = plus(total, times(table.get(size, node), other));
+    }
+    total
+}
+
+/// In how many ways terms of the nodes come to each rest up to the greatest.
+fn by_rest(
+    alloc: Global,
+    table: &Table,
+    nodes: &[u32],
+    greatest: u32,
+) -> Result<Vec<u64>, OutOfMemory>
+    requires small { greatest < 2 ^ 31 }
+    ensures ways { IfOk result (λ list. AreWays (number_at table.now) nodes.now list.items) }
+    ensures long { IfOk result (λ list. length list.items ≡ greatest + 1) }
+{
+    let Some((node, others)) = nodes.split_first() else {
+        return only_none(alloc, greatest);
+    };
+    let further = by_rest(alloc, table, others, greatest)?;
+    let mut list = Vec::new(alloc);
+    for rest in 0..greatest + 1 {
+        list.push(with_node(table, *node, further.as_slice(), rest))?;
+    }
+    Ok(list)
+}
+
+/// Without nodes there is one way to come to 0, and none to come to more.
+fn only_none(alloc: Global, greatest: u32) -> Result<Vec<u64>, OutOfMemory>
+    requires small { greatest < 2 ^ 31 }
+    ensures ways { (count : ℕ → ℕ → ℕ) → IfOk result (λ list. AreWays count [] list.items) }
+    ensures long { IfOk result (λ list. length list.items ≡ greatest + 1) }
+{
+    let mut list = Vec::new(alloc);
+    list.push(1)?;
+    for _rest in 0..greatest {
+        list.push(0)?;
+    }
+    Ok(list)
+}
+
+/// In how many ways terms of the nodes in turn have sizes that come to `rest`.
+pub(crate) fn ways_of(
+    alloc: Global,
+    table: &Table,
+    nodes: &[u32],
+    rest: u32,
+) -> Result<u64, OutOfMemory>
+    requires small { rest < 2 ^ 31 }
+    ensures { IfOk result (λ n. n ≡ capped (ways (number_at table.now) nodes.now rest)) }
+{
+    let Some((node, others)) = nodes.split_first() else {
+        return Ok(if rest == 0 { 1 } else { 0 });
+    };
+    let further = by_rest(alloc, table, others, rest)?;
+    Ok(with_node(table, *node, further.as_slice(), rest))
+}
+
+/// In how many ways a term of one node, applied to a term of the other, makes a term.
+pub(crate) fn pair_ways_of(stage: &Stage, left: u32, right: u32) -> u64
+    ensures { result ≡ pair_count stage.now (left, right) }
+{
+    let mut total = 0;
+    for smaller in 0..stage.size {
+        let others = stage.table.get(stage.size - smaller, right);
+        total = plus(total, times(stage.table.get(smaller, left), others));
+    }
+    total
+}
