@@ -1,15 +1,16 @@
 #!/usr/bin/env python3
 """Times `Library::add` at its limits: instances of many paths, components up to the library's weight, towers of arrows.
 
-    bench/library.py [--runs N] [WORD ..]
+    bench/library.py [--runs N] [--instructions] [WORD ..]
 
-With words only the cases whose name has one of them are run. No program of the repository reads a library yet, so this builds
+With words only the cases whose name has one of them are run. With --instructions callgrind counts the instructions of the program,
+which other work on the machine doesn't change. No program of the repository reads a library yet, so this builds
 one in a folder of its own, which proves it first. Times are those of the adds; the memory is that of the whole program."""
 import argparse
 import subprocess
 import tempfile
 
-from proved import build
+from proved import build, instructions
 
 CRATES = ["cls_base", "cls_taxon", "cls_path", "cls_norm", "cls_kind", "cls_library"]
 
@@ -224,9 +225,12 @@ CASES = [
 ]
 
 
+def line_of(case):
+    return "%d %d %d %d\n" % tuple(case)
+
+
 def run(program, case):
-    line = "%d %d %d %d\n" % tuple(case)
-    reply = subprocess.run(["/usr/bin/time", "-f", "%M", program], input=line, capture_output=True, text=True)
+    reply = subprocess.run(["/usr/bin/time", "-f", "%M", program], input=line_of(case), capture_output=True, text=True)
     accepted, time = reply.stdout.split()
     return int(accepted), int(time) / 1e6, int(reply.stderr.split()[-1]) / 1024
 
@@ -234,6 +238,7 @@ def run(program, case):
 def main():
     parser = argparse.ArgumentParser(description=__doc__, formatter_class=argparse.RawDescriptionHelpFormatter)
     parser.add_argument("--runs", type=int, default=3)
+    parser.add_argument("--instructions", action="store_true")
     parser.add_argument("words", nargs="*")
     options = parser.parse_args()
     with tempfile.TemporaryDirectory() as folder:
@@ -243,7 +248,9 @@ def main():
                 continue
             results = [run(program, case) for _ in range(options.runs)]
             assert all(result[0] == accepted for result in results), (name, results)
-            print("%s: %.1f ms, %.1f MiB" % (name, min(result[1] for result in results), max(result[2] for result in results)))
+            print("%s: %.1f ms, %.1f MiB" % (name, min(result[1] for result in results), max(result[2] for result in results)), flush=True)
+            if options.instructions:
+                print("%s: %.0f million instructions" % (name, instructions(program, line_of(case))), flush=True)
 
 
 if __name__ == "__main__":

@@ -1,7 +1,9 @@
 """Builds a small program over crates of the repository, in a folder of its own. It is proved before it is built."""
 import os
+import re
 import shutil
 import subprocess
+import tempfile
 
 TOP = os.path.dirname(os.path.dirname(os.path.abspath(__file__)))
 
@@ -51,3 +53,11 @@ def build(folder, name, crates, source, proof=None, files=None):
     open(os.path.join(program, "stdin"), "w").close()
     subprocess.run(["rt", "run"], cwd=program, check=True, stdout=subprocess.DEVNULL)
     return os.path.join(program, "out", name)
+
+
+def instructions(program, text):
+    """The millions of instructions that the program takes to read the text and answer, as callgrind counts them."""
+    with tempfile.TemporaryDirectory() as folder:
+        command = ["valgrind", "--tool=callgrind", "--callgrind-out-file=" + os.path.join(folder, "calls"), program]
+        reply = subprocess.run(command, input=text, capture_output=True, text=True)
+    return int(re.search(r"Collected : (\d+)", reply.stderr).group(1)) / 1e6

@@ -8,11 +8,10 @@ builds one in a folder of its own, which proves it first. A time is that of one 
 With --instructions callgrind counts the instructions of the call, and those of reading the types."""
 import argparse
 import os
-import re
 import subprocess
 import tempfile
 
-from proved import build
+from proved import build, instructions
 
 CRATES = ["cls_base", "cls_lexer", "cls_syntax", "cls_taxon", "cls_path", "cls_norm", "cls_kind", "cls_library"]
 
@@ -141,13 +140,6 @@ def run(program, text):
     return int(accepted), int(time) / 1e6, int(reply.stderr.split()[-1]) / 1024
 
 
-def instructions(folder, program, text):
-    """The millions of instructions that the program takes."""
-    command = ["valgrind", "--tool=callgrind", "--callgrind-out-file=" + os.path.join(folder, "calls"), program]
-    reply = subprocess.run(command, input=text, capture_output=True, text=True)
-    return int(re.search(r"Collected : (\d+)", reply.stderr).group(1)) / 1e6
-
-
 def main():
     parser = argparse.ArgumentParser(description=__doc__, formatter_class=argparse.RawDescriptionHelpFormatter)
     parser.add_argument("--runs", type=int, default=5)
@@ -165,8 +157,8 @@ def main():
             best = min(result[1] for result in results)
             print("%s: %d components, %.1f ms, %.1f MiB" % (name, components, best, max(result[2] for result in results)), flush=True)
             if options.instructions:
-                reading = instructions(folder, program, read)
-                whole = instructions(folder, program, read + "build it\n")
+                reading = instructions(program, read)
+                whole = instructions(program, read + "build it\n")
                 print("%s: %.0f million instructions, reading %.0f" % (name, whole - reading, reading), flush=True)
 
 
