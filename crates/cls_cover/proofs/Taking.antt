@@ -69,9 +69,9 @@ taken_all front c limit done found cut f k missed to back t e = record {
     minimal = (λ x m u p. stays_minimal front.families.now front.rows.now f.rows front.count f.more c k missed x (to x (t.origin x (found_of x m))) u p front.flags.now f.exactly (t.stay x (found_of x m)));
   };
   whole = (λ w x m u p q.
-  let o = minimal_stays front.families.now front.rows.now f.rows front.count f.more c k missed x m u p front.flags.now f.exactly q in
-  let s = short w in
-  subst (λ (l : List ℕ). Member l x) (sym (e ∙ take_whole found (limit + 1) (omega arith))) (t.whole s x (back x m) o));
+      let o = minimal_stays front.families.now front.rows.now f.rows front.count f.more c k missed x m u p front.flags.now f.exactly q in
+      let s = short w in
+      subst (λ (l : List ℕ). Member l x) (sym (e ∙ take_whole found (limit + 1) (omega arith))) (t.whole s x (back x m) o));
 }
   where
     found_of : (x : ℕ) → Member cut x → Member found x

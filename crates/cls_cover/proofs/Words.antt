@@ -207,10 +207,10 @@ joined_flags once met row n once' met' w a b small_row j f = go (dec_lt (f / 64)
     go : Dec (f / 64 < n) → (bit once' f ≡ ((bit once f && not (bit row f)) || (bit row f && not (bit met f)))) × (bit met' f ≡ (bit met f || bit row f))
     go (yes l) = (
       ap (λ q. is_one (bit_at q (f % 64))) (j.once_done (f / 64) l)
-      ∙ (one_and (bit_or (get_or once (f / 64) 0) (get_or row (f / 64) 0)) (bit_not w64 (bit_and (get_or met (f / 64) 0) (get_or row (f / 64) 0))) (f % 64)
-      ∙ (ap (λ q. q && is_one (bit_at (bit_not w64 (bit_and (get_or met (f / 64) 0) (get_or row (f / 64) 0))) (f % 64))) (one_or (get_or once (f / 64) 0) (get_or row (f / 64) 0) (f % 64))
-      ∙ (ap (λ q. (bit once f || bit row f) && q) (one_not (bit_and (get_or met (f / 64) 0) (get_or row (f / 64) 0)) (f % 64) (small (f / 64)) (below_64 f) ∙ ap not (one_and (get_or met (f / 64) 0) (get_or row (f / 64) 0) (f % 64)))
-      ∙ same (bit once f) (bit row f) (bit met f)))),
+          ∙ (one_and (bit_or (get_or once (f / 64) 0) (get_or row (f / 64) 0)) (bit_not w64 (bit_and (get_or met (f / 64) 0) (get_or row (f / 64) 0))) (f % 64)
+          ∙ (ap (λ q. q && is_one (bit_at (bit_not w64 (bit_and (get_or met (f / 64) 0) (get_or row (f / 64) 0))) (f % 64))) (one_or (get_or once (f / 64) 0) (get_or row (f / 64) 0) (f % 64))
+          ∙ (ap (λ q. (bit once f || bit row f) && q) (one_not (bit_and (get_or met (f / 64) 0) (get_or row (f / 64) 0)) (f % 64) (small (f / 64)) (below_64 f) ∙ ap not (one_and (get_or met (f / 64) 0) (get_or row (f / 64) 0) (f % 64)))
+          ∙ same (bit once f) (bit row f) (bit met f)))),
       ap (λ q. is_one (bit_at q (f % 64))) (j.met_done (f / 64) l) ∙ one_or (get_or met (f / 64) 0) (get_or row (f / 64) 0) (f % 64),
     )
     go (no g) =

@@ -13,7 +13,7 @@ returns-then-once-i-ne0 c =
     let b = c.as_slice-front.result.now in
     let r = c.as_slice-row.result.now in (
       (λ _. moved a b r c.args.once.now c.args.front.now c.args.row.now c.as_slice-once.ensures c.as_slice-front.ensures c.as_slice-row.ensures
-      (shared_yes a b r c.loop-i.i (search rules) (λ z. c.if-once-i-ne0.true z))),
+          (shared_yes a b r c.loop-i.i (search rules) (λ z. c.if-once-i-ne0.true z))),
       (λ _. let t : true ≡ true = refl in t),
     )
 
@@ -24,5 +24,5 @@ returns c =
     let r = c.as_slice-row.result.now in (
       (λ h. absurd (let g : false ≡ true = h in cc)),
       (λ s. absurd (shared_no a b r (λ k l. c.loop-i.invariant k (omega arith))
-      (moved c.args.once.now c.args.front.now c.args.row.now a b r (sym c.as_slice-once.ensures) (sym c.as_slice-front.ensures) (sym c.as_slice-row.ensures) s))),
+          (moved c.args.once.now c.args.front.now c.args.row.now a b r (sym c.as_slice-once.ensures) (sym c.as_slice-front.ensures) (sym c.as_slice-row.ensures) s))),
     )

@@ -13,7 +13,7 @@ returns-then-once-i-ne0 c =
     let r = c.as_slice-row.result.now in
     let o = c.as_slice-other.result.now in (
       (λ _. moved a b r o c.args.once.now c.args.front.now c.args.row.now c.args.other.now c.as_slice-once.ensures c.as_slice-front.ensures c.as_slice-row.ensures c.as_slice-other.ensures
-      (apart_yes a b r o c.loop-i.i (search rules) (search rules) (λ z. c.if-once-i-ne0.true z))),
+          (apart_yes a b r o c.loop-i.i (search rules) (search rules) (λ z. c.if-once-i-ne0.true z))),
       (λ _. let t : true ≡ true = refl in t),
     )
 
@@ -25,5 +25,5 @@ returns c =
     let o = c.as_slice-other.result.now in (
       (λ h. absurd (let g : false ≡ true = h in cc)),
       (λ s. absurd (apart_no a b r o (λ k. search rules) (λ k l. c.loop-i.invariant k (omega arith))
-      (moved c.args.once.now c.args.front.now c.args.row.now c.args.other.now a b r o (sym c.as_slice-once.ensures) (sym c.as_slice-front.ensures) (sym c.as_slice-row.ensures) (sym c.as_slice-other.ensures) s))),
+          (moved c.args.once.now c.args.front.now c.args.row.now c.args.other.now a b r o (sym c.as_slice-once.ensures) (sym c.as_slice-front.ensures) (sym c.as_slice-row.ensures) (sym c.as_slice-other.ensures) s))),
     )
