@@ -1,7 +1,5 @@
 -- The positions of a family in groups.
-use Rattle.std.proofs.Common.{ℕ, zero, suc, ◌≡◌, ◌+◌, ◌<◌, ◌≤◌, refl, sym, ◌∙◌, subst, ap, inl, inr, List, [], ◌∷◌, ◌++◌, length, get_or, take, drop, arith, append_assoc, Bool, true, false, Some, None, slice_get, take-append-drop, add-one}
-use Rattle.std.proofs.Math.Bool.{beq}
-use lib.Pointwise.{pointwise}
+use Rattle.std.proofs.Common.{ℕ, zero, suc, ◌≡◌, ◌+◌, ◌<◌, ◌≤◌, refl, sym, ◌∙◌, subst, ap, inl, inr, List, [], ◌∷◌, ◌++◌, length, get_or, take, drop, arith, append_assoc, Some, None, slice_get, take-append-drop, add-one}
 use Rattle.std.proofs.Math.Seq.{take-suc, drop-cons}
 use Rattle.std.specs.List.Sorted.{IsPermutation}
 use Rattle.std.proofs.lemmas.List.Sorted.{Contains-permutation, IsPermutation-sym, length_permutation}
@@ -68,7 +66,7 @@ pub ascending_differ : (s : List ℕ) → Ascending s → Differ s
 ascending_differ [] a = tt
 ascending_differ (x ∷ s) a = ((λ m. let l : x < x = a.0 x m in omega arith), ascending_differ s a.1)
 
-pub runs_groups : (rows : List (List Bool)) (family positions : List ℕ) (groups : List (List ℕ)) → Ascending family → IsPermutation family positions → AreRuns rows positions groups → AreGroups rows family groups
+pub runs_groups : (rows : List (List ℕ)) (family positions : List ℕ) (groups : List (List ℕ)) → Ascending family → IsPermutation family positions → AreRuns rows positions groups → AreGroups rows family groups
 runs_groups rows family positions groups a p r = record {
   same = (λ x. (
     (λ m. permuted_member positions family x (IsPermutation-sym family positions p) (subst (λ (l : List ℕ). Member l x) r.whole m)),
@@ -79,27 +77,27 @@ runs_groups rows family positions groups a p r = record {
 }
 
 -- what holds of a group while it is made
-pub record IsBegun (rows : List (List Bool)) (before : List ℕ) (groups : List (List ℕ)) (group : List ℕ) : Type 0 where
+pub record IsBegun (rows : List (List ℕ)) (before : List ℕ) (groups : List (List ℕ)) (group : List ℕ) : Type 0 where
   pub whole : together groups ++ group ≡ before
   pub alike : (g : List ℕ) → Member groups g → IsAlike rows g
   pub last : IsAlike rows group
 
-pub begun_none : (rows : List (List Bool)) → IsBegun rows [] [] []
+pub begun_none : (rows : List (List ℕ)) → IsBegun rows [] [] []
 begun_none rows = record { whole = refl; alike = (λ g m. elim m [ ]); last = (λ x m. elim m [ ]) }
 
-row_of_first : (rows : List (List Bool)) (group : List ℕ) (x y : ℕ) → HasRowOf rows group y → Member (group ++ x ∷ []) y → HasRowOf rows (group ++ x ∷ []) y
+row_of_first : (rows : List (List ℕ)) (group : List ℕ) (x y : ℕ) → HasRowOf rows group y → Member (group ++ x ∷ []) y → HasRowOf rows (group ++ x ∷ []) y
 row_of_first rows [] x _ h first = refl
 row_of_first rows [] x y h (later m) = elim m [ ]
 row_of_first rows (z ∷ group) x y h m = h
 
-pub alike_more : (rows : List (List Bool)) (group : List ℕ) (x : ℕ) → HasRowOf rows group x → IsAlike rows group → IsAlike rows (group ++ x ∷ [])
+pub alike_more : (rows : List (List ℕ)) (group : List ℕ) (x : ℕ) → HasRowOf rows group x → IsAlike rows group → IsAlike rows (group ++ x ∷ [])
 alike_more rows group x h a y m = row_of_first rows group x y (elim (member_append group (x ∷ []) y m) [ inl k ↦ a y k | inr k ↦ only y k ]) m
   where
     only : (y : ℕ) → Member (x ∷ []) y → HasRowOf rows group y
     only _ first = h
     only y (later k) = elim k [ ]
 
-pub begun_more : (rows : List (List Bool)) (before : List ℕ) (groups : List (List ℕ)) (group : List ℕ) (x : ℕ) → HasRowOf rows group x → IsBegun rows before groups group → IsBegun rows (before ++ x ∷ []) groups (group ++ x ∷ [])
+pub begun_more : (rows : List (List ℕ)) (before : List ℕ) (groups : List (List ℕ)) (group : List ℕ) (x : ℕ) → HasRowOf rows group x → IsBegun rows before groups group → IsBegun rows (before ++ x ∷ []) groups (group ++ x ∷ [])
 begun_more rows before groups group x h b = record {
   whole = sym (append_assoc (together groups) group (x ∷ [])) ∙ ap (λ l. l ++ x ∷ []) b.whole;
   alike = b.alike;
@@ -107,7 +105,7 @@ begun_more rows before groups group x h b = record {
 }
 
 -- the group is put to the others
-pub begun_next : (rows : List (List Bool)) (before : List ℕ) (groups : List (List ℕ)) (group : List ℕ) → IsBegun rows before groups group → IsBegun rows before (groups ++ group ∷ []) []
+pub begun_next : (rows : List (List ℕ)) (before : List ℕ) (groups : List (List ℕ)) (group : List ℕ) → IsBegun rows before groups group → IsBegun rows before (groups ++ group ∷ []) []
 begun_next rows before groups group b = record {
   whole = append_none (together (groups ++ group ∷ [])) ∙ (together_last groups group ∙ b.whole);
   alike = (λ g m. elim (member_append groups (group ∷ []) g m) [ inl k ↦ b.alike g k | inr k ↦ only g k ]);
@@ -118,10 +116,10 @@ begun_next rows before groups group b = record {
     only _ first = b.last
     only g (later k) = elim k [ ]
 
-pub begun_runs : (rows : List (List Bool)) (positions : List ℕ) (groups : List (List ℕ)) → IsBegun rows positions groups [] → AreRuns rows positions groups
+pub begun_runs : (rows : List (List ℕ)) (positions : List ℕ) (groups : List (List ℕ)) → IsBegun rows positions groups [] → AreRuns rows positions groups
 begun_runs rows positions groups b = record { whole = sym (append_none (together groups)) ∙ b.whole; alike = b.alike }
 
-pub alike_rows : (rows : List (List Bool)) (group : List ℕ) (x y : ℕ) → IsAlike rows group → Member group x → Member group y → row_at rows x ≡ row_at rows y
+pub alike_rows : (rows : List (List ℕ)) (group : List ℕ) (x y : ℕ) → IsAlike rows group → Member group x → Member group y → row_at rows x ≡ row_at rows y
 alike_rows rows (z ∷ group) x y a m n = a x m ∙ sym (a y n)
 alike_rows rows [] x y a m n = elim m [ ]
 
@@ -134,27 +132,18 @@ pub no_first : (group : List ℕ) (x : ℕ) → None ≡ slice_get group 0 → M
 no_first [] x e m = elim m [ ]
 no_first (z ∷ group) x e m = cc
 
-pub first_row : (rows : List (List Bool)) (group : List ℕ) (x y : ℕ) → Some y ≡ slice_get group 0 → row_at rows x ≡ row_at rows y → HasRowOf rows group x
+pub first_row : (rows : List (List ℕ)) (group : List ℕ) (x y : ℕ) → Some y ≡ slice_get group 0 → row_at rows x ≡ row_at rows y → HasRowOf rows group x
 first_row rows [] x y e h = tt
 first_row rows (z ∷ group) x y e h = h ∙ ap (λ w. row_at rows w) (let f : y ≡ z = cc in f)
 
-pub same_flags : (xs ys : List Bool) → pointwise beq xs ys ≡ true → xs ≡ ys
-same_flags [] [] e = refl
-same_flags [] (y ∷ ys) e = absurd cc
-same_flags (x ∷ xs) [] e = absurd cc
-same_flags (true ∷ xs) (true ∷ ys) e = ap (λ l. true ∷ l) (same_flags xs ys e)
-same_flags (true ∷ xs) (false ∷ ys) e = absurd (let f : false ≡ true = e in cc)
-same_flags (false ∷ xs) (true ∷ ys) e = absurd (let f : false ≡ true = e in cc)
-same_flags (false ∷ xs) (false ∷ ys) e = ap (λ l. false ∷ l) (same_flags xs ys e)
-
 -- the steps of making groups
-pub begun_start : (rows : List (List Bool)) (groups : List (List ℕ)) (group : List ℕ) → groups ≡ [] → group ≡ [] → IsBegun rows [] groups group
+pub begun_start : (rows : List (List ℕ)) (groups : List (List ℕ)) (group : List ℕ) → groups ≡ [] → group ≡ [] → IsBegun rows [] groups group
 begun_start rows groups group e d = subst (λ (l : List (List ℕ)). IsBegun rows [] l group) (sym e) (subst (λ (l : List ℕ). IsBegun rows [] [] l) (sym d) (begun_none rows))
 
-pub begun_member : (rows : List (List Bool)) (before : List ℕ) (groups : List (List ℕ)) (group : List ℕ) (y : ℕ) → IsBegun rows before groups group → Member group y → Member before y
+pub begun_member : (rows : List (List ℕ)) (before : List ℕ) (groups : List (List ℕ)) (group : List ℕ) (y : ℕ) → IsBegun rows before groups group → Member group y → Member before y
 begun_member rows before groups group y b m = subst (λ (l : List ℕ). Member l y) b.whole (member_append_right (together groups) group y m)
 
-module _ (rows : List (List Bool)) (positions : List ℕ) (n : ℕ) (groups groups' : List (List ℕ)) (group group' new : List ℕ) (l : n < length positions) (b : IsBegun rows (take n positions) groups group) (e : new ≡ group' ++ get_or positions n 0 ∷ []) where
+module _ (rows : List (List ℕ)) (positions : List ℕ) (n : ℕ) (groups groups' : List (List ℕ)) (group group' new : List ℕ) (l : n < length positions) (b : IsBegun rows (take n positions) groups group) (e : new ≡ group' ++ get_or positions n 0 ∷ []) where
   one_on : take n positions ++ get_or positions n 0 ∷ [] ≡ take (n + 1) positions
   one_on = sym (rw add-one (take-suc positions n 0 l))
 
@@ -172,13 +161,13 @@ module _ (rows : List (List Bool)) (positions : List ℕ) (n : ℕ) (groups grou
       (subst (λ (k : List ℕ). IsBegun rows (take n positions ++ get_or positions n 0 ∷ []) groups k) (sym (e ∙ ap (λ (k : List ℕ). k ++ get_or positions n 0 ∷ []) h))
       (begun_more rows (take n positions) groups group (get_or positions n 0) r b)))
 
-pub begun_whole : (rows : List (List Bool)) (positions : List ℕ) (n : ℕ) (groups groups' : List (List ℕ)) (group : List ℕ) → length positions ≤ n → IsBegun rows (take n positions) groups group → groups' ≡ groups ++ group ∷ [] → AreRuns rows positions groups'
+pub begun_whole : (rows : List (List ℕ)) (positions : List ℕ) (n : ℕ) (groups groups' : List (List ℕ)) (group : List ℕ) → length positions ≤ n → IsBegun rows (take n positions) groups group → groups' ≡ groups ++ group ∷ [] → AreRuns rows positions groups'
 begun_whole rows positions n groups groups' group l b e =
     subst (λ (k : List (List ℕ)). AreRuns rows positions k) (sym e)
     (begun_runs rows positions (groups ++ group ∷ []) (subst (λ (k : List ℕ). IsBegun rows k (groups ++ group ∷ []) []) (take_whole positions n l) (begun_next rows (take n positions) groups group b)))
 
 -- what is done of the groups
-module _ (rows : List (List Bool)) (family : List ℕ) (groups : List (List ℕ)) (g : AreGroups rows family groups) where
+module _ (rows : List (List ℕ)) (family : List ℕ) (groups : List (List ℕ)) (g : AreGroups rows family groups) where
   pub done_in_family : (n x : ℕ) → Member (together (take n groups)) x → Member family x
   done_in_family n x m = (g.same x).0 (subst (λ (l : List ℕ). Member l x) (sym (together_front groups n)) (member_append_left (together (drop n groups)) x m))
 

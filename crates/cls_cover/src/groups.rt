@@ -56,7 +56,7 @@ fn belongs(rows: &[Row], group: &[u32], x: u32) -> bool
     ensures { (result ≡ false) ⊎ HasRowOf rows.now group.now x }
 {
     match group.first() {
-        Some(y) => rows[*y as usize].as_slice() == rows[x as usize].as_slice(),
+        Some(y) => rows[*y as usize].flags().is_same(rows[x as usize].flags()),
         None => true,
     }
 }

@@ -7,16 +7,13 @@ use Rattle.cls_cover.proofs.grow.can_take_group.Goals as goal
 pub can_take-requires-clause-here : goal.can_take-requires-clause-here
 can_take-requires-clause-here c = c.requires.here c.in-Some.x.now (first_member c.args.group.now c.in-Some.x.now (ap option_copied (sym c.in-Some.is) ∙ c.first.ensures.value))
 
-pub can_take-requires-clause-wide : goal.can_take-requires-clause-wide
-can_take-requires-clause-wide c = c.requires.wide
-
 pub returns-in-Some : goal.returns-in-Some
 returns-in-Some c = λ x m.
     let h = first_member c.args.group.now c.in-Some.x.now (ap option_copied (sym c.in-Some.is) ∙ c.first.ensures.value) in
-    let to = alike_rows c.args.rows.now c.args.group.now c.in-Some.x.now x c.requires.alike h m in
-    let back = alike_rows c.args.rows.now c.args.group.now x c.in-Some.x.now c.requires.alike m h in (
-      (λ t y n. stays_alike c.args.rows.now c.args.cover.now.alone.items c.in-Some.x.now x y to (c.can_take.ensures.0 t y n)),
-      (λ f. c.can_take.ensures.1 (λ y n. stays_alike c.args.rows.now c.args.cover.now.alone.items x c.in-Some.x.now y back (f y n))),
+    let to = alike_rows c.args.front.now.rows.now c.args.group.now c.in-Some.x.now x c.requires.alike h m in
+    let back = alike_rows c.args.front.now.rows.now c.args.group.now x c.in-Some.x.now c.requires.alike m h in (
+      (λ t y n. stays_alike c.args.front.now.rows.now c.args.front.now.flags.now c.args.cover.now.once c.in-Some.x.now x y to (c.can_take.ensures.0 t y n)),
+      (λ f. c.can_take.ensures.1 (λ y n. stays_alike c.args.front.now.rows.now c.args.front.now.flags.now c.args.cover.now.once x c.in-Some.x.now y back (f y n))),
     )
 
 pub returns-in-None : goal.returns-in-None
