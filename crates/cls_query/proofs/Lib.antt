@@ -1,0 +1,5 @@
+pub mod FirstErrors
+pub mod QueryErrors
+pub mod QueryLines
+pub mod Searches
+pub mod TablePlaces
