@@ -116,3 +116,8 @@ module _ {X : Type 0} (P : X → Type 0) where
   pub all_last : (xs ys : List X) → AllByRecursion P (xs ++ ys) → AllByRecursion P ys
   all_last [] ys a = a
   all_last (x ∷ xs) ys a = all_last xs ys a.1
+
+-- what is never something is nothing
+pub never_some : {A B : Type 0} (f : A → B) (o : Option A) → ((x : A) → o ≡ Some x → ⊥) → option_map f o ≡ None
+never_some f None n = refl
+never_some f (Some x) n = absurd (n x refl)

@@ -1,6 +1,10 @@
 -- Internal: what the code's forms of queries say.
+use Rattle.std.specs.Prelude.{ℕ, ◌≤◌, List}
 use Rattle.std.specs.Option.{option_map}
 use Rattle.std.proofs.Common.{inl, inr}
+use Rattle.cls_base.specs.Limits.{max_term_size, max_page_terms}
+use Rattle.cls_base.specs.Types.{ClosedType}
+use Rattle.cls_lexer.specs.Numerals.{number_value}
 use Rattle.cls_syntax.specs.Forms.{Values}
 use Rattle.cls_syntax.specs.LineGrammars.{LineOf}
 use Rattle.cls_syntax.specs.SpelledTerms.{term_text}
@@ -14,6 +18,7 @@ use Rattle.cls_query.specs.declared.form.GoalForm.{GoalForm}
 use Rattle.cls_query.specs.declared.form.GoalForm.TheVariants.{Goal, Page}
 use Rattle.cls_query.specs.declared.form.QueryForm.{QueryForm}
 use Rattle.cls_query.specs.declared.form.QueryForm.TheVariants.{Sub, Paths, Typed, Asks}
+use Rattle.cls_query.specs.Queries.{Listing, Query, inhabit, grammar, audit, certify, verify, list, texts}
 use Rattle.cls_query.specs.QueryForms.{goal_form, listing_form, listing_rows, goal_rows, query_rows}
 
 abbrev pub listing_says : ListingForm → Values listing_form
@@ -39,3 +44,22 @@ form_says (Sub s t) = inl (type_text s, (type_text t, tt))
 form_says (Paths x) = inr (inl (x.now, tt))
 form_says (Typed e t) = inr (inr (inl (term_text e, (type_text t, tt))))
 form_says (Asks form) = inr (inr (inr (goal_says form)))
+
+-- The number is within the range of a form that allows it up to the greatest one.
+abbrev pub IsWithin : (greatest : ℕ) → (digits : List ℕ) → Type 0
+IsWithin greatest digits = (1 ≤ number_value digits) × (number_value digits ≤ greatest)
+
+abbrev pub AreInRange : (max take : List ℕ) → Type 0
+AreInRange max take = IsWithin max_term_size max × IsWithin max_page_terms take
+
+-- What the word asks of the goal, and of the page.
+abbrev pub goal_asked : GoalWord → ClosedType → Query
+goal_asked Inhabit t = inhabit t
+goal_asked Grammar t = grammar t
+goal_asked Audit t = audit t
+goal_asked Certify t = certify t
+goal_asked Verify t = verify t
+
+abbrev pub listing_asked : ListingWord → Listing → Query
+listing_asked listing.List l = list l
+listing_asked listing.Texts l = texts l

@@ -1,19 +1,23 @@
-//! The line of a query: the table of the ten forms, what each form asks, and the errors of a line in their order.
+//! Reads the line of a query: which of the ten forms it is, with types, terms and numbers in place of texts, or the first of
+//! its errors.
 //!
-//! - [`query_form`] recognises a line by its tokens, as [`QueryForm`], or answers where the line leaves the table.
-//! - [`LineFault`] is why a line is no query, and [`LineFault::write_to`] writes its words.
-//! - [`laws`] holds what is true of every line: it has one error at most, it is one query at most, and it has an error or is
-//!   a query.
+//! - [`read_query`] gives the [`Query`] or the [`LineFault`]. The names of constructors are numbered exactly if there is no
+//!   fault.
+//! - [`LineFault::write_to`] writes the words of a fault.
+//! - [`laws`] holds what is true of every line.
 //!
-//! The table of forms stands in `specs/QueryForms`, what a form asks in `specs/Queries`, and the errors in
-//! `specs/QueryErrors`.
+//! The table of forms stands in `specs/QueryForms`, and the errors in their order in `specs/QueryErrors`.
 #![tactic(auto)]
 
+mod build;
+mod checks;
 mod fault;
 mod form;
 pub mod laws;
+mod line;
 mod query;
+mod reader;
 
 pub use fault::LineFault;
-pub use form::{GoalForm, GoalWord, ListingForm, ListingWord, QueryForm, query_form};
 pub use query::{Listing, Query};
+pub use reader::read_query;
