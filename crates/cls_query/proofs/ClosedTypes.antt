@@ -1,13 +1,13 @@
 -- The types of a line without a `$` have no variables.
-use Rattle.std.proofs.Common.{◌≡◌, ℕ, Bool, true, false, List, [], ◌∷◌, ◌++◌, map, refl, ap, sym, ◌∙◌, subst, inl, inr}
-use Rattle.std.specs.Prelude.{Option, Some, None, ◌||◌}
+use Rattle.std.proofs.Common.{◌≡◌, false, List, [], ◌∷◌, ◌++◌, map, ap, sym, ◌∙◌, subst, inl, inr}
+use Rattle.std.specs.Prelude.{Some, None}
 use Rattle.std.specs.List.{list_any, AllByRecursion}
 use Rattle.std.proofs.lemmas.List.{map-append}
 use Rattle.std.proofs.lemmas.List.Folds.{list_any-append}
-use Rattle.cls_lexer.specs.Words.{Word, sign}
+use Rattle.cls_lexer.specs.Words.{sign}
 use Rattle.cls_lexer.specs.declared.token.TokenKind.TheVariants.{Bar}
 use Rattle.cls_syntax.specs.ClosedTypes.{HasNoDollar}
-use Rattle.cls_syntax.specs.Forms.{Form, nothing, ◌⨾◌, perhaps, names, numbers, types, anything, the_word, the_sign, a_name, a_number, a_type, a_term, Values, Part, fixed, part_word, type_parts, term_parts, types_parts, line_parts, line_words}
+use Rattle.cls_syntax.specs.Forms.{Form, nothing, ◌⨾◌, perhaps, names, numbers, types, anything, the_word, the_sign, a_name, a_number, a_type, a_term, Values, Part, fixed, part_word, type_parts, term_parts, types_parts, line_parts}
 use Rattle.cls_syntax.specs.LineGrammars.{Row, LineOf, row_words}
 use Rattle.cls_syntax.specs.TypeSchemas.{is_dollar}
 use Rattle.cls_syntax.specs.TypeTexts.{TypeText, TypeList, last, more, type_words}

@@ -1,9 +1,9 @@
 -- The parts and types of the code's forms of queries.
 use Rattle.std.proofs.Common.{◌≡◌, ℕ, ◌≤◌, Bool, true, false, not, List, [], ◌∷◌, refl, ap, sym, ◌∙◌, inl, inr}
 use Rattle.std.specs.Prelude.{Option, Some, None, ◌||◌, ◌&&◌, find, nat_le, IsTrue, ◌↔◌, is_none}
-use Rattle.std.specs.List.{list_any, AllByRecursion}
+use Rattle.std.specs.List.{list_any}
 use Rattle.std.specs.Option.{option_map, SomeIff}
-use Rattle.std.proofs.lemmas.Bool.{le-leb, leb-true, lt-leb, leb-false, lt-ltb, le-ltb, cases_lt, true≢false}
+use Rattle.std.proofs.lemmas.Bool.{le-leb, leb-true, lt-ltb, le-ltb, cases_lt, true≢false}
 use Rattle.std.proofs.Common.{zero, suc, arith, Contains, slice_get, ◌+◌, ◌-◌, length}
 use Rattle.std.specs.Prelude.{position, is_some}
 use Rattle.cls_syntax.specs.TypeSchemas.{with_constructors}
@@ -20,8 +20,7 @@ use Rattle.std.proofs.lemmas.Option.{slice_get_within, get_or_from_slice_get}
 use Rattle.std.proofs.lemmas.Slice.Eq.{bytes_eq-Decides}
 use Rattle.cls_base.specs.Limits.{max_term_size, max_page_terms, max_type_nodes}
 use Rattle.cls_lexer.specs.Numerals.{number_value}
-use Rattle.cls_syntax.specs.ClosedTypes.{HasNoDollar}
-use Rattle.cls_syntax.specs.Forms.{numeral, naming, type_parts}
+use Rattle.cls_syntax.specs.Forms.{numeral, type_parts}
 use Rattle.cls_syntax.specs.TypeTexts.{TypeText, type_words, type_nodes}
 use Rattle.cls_syntax.specs.TermTexts.{TermText, term_words}
 use Rattle.cls_syntax.specs.declared.spelled_term.SpelledTerm.{SpelledTerm}
@@ -34,13 +33,13 @@ use Rattle.cls_query.specs.declared.form.ListingWord.{ListingWord}
 use Rattle.cls_query.specs.declared.form.ListingForm.{ListingForm}
 use Rattle.cls_query.specs.declared.form.GoalForm.{GoalForm}
 use Rattle.cls_query.specs.declared.form.GoalForm.TheVariants.{Goal, Page}
-use Rattle.cls_query.specs.declared.form.QueryForm.TheVariants.{Sub, Paths, Typed, Asks}
+use Rattle.cls_query.specs.declared.form.QueryForm.TheVariants.{Sub, Typed, Asks}
 use Rattle.cls_query.specs.FormAnswers.{listing_says, listing_line, goal_line, goal_says, form_says, goal_asked, IsWithin, AreInRange}
 use Rattle.cls_query.specs.QueryForms.{listing_rows, goal_rows, query_rows}
 use Rattle.cls_query.specs.Queries.{Tables, row_parts, with_names, type_in, goal_query}
 use Rattle.cls_query.specs.QueryErrors.{row_types, is_large, is_outside, is_absent, is_unknown}
 use Rattle.cls_query.proofs.Searches.{behind}
-use Rattle.cls_query.proofs.FormParts.{listing_values, asks_page, goal_types, page_types, goal_inside, page_outside, goal_known, page_known, goal_in_term, plain_in_term, cursor_in_term, cursor_within, goal_names, page_names}
+use Rattle.cls_query.proofs.FormParts.{listing_values, asks_page, page_types, goal_inside, page_outside, goal_known, page_known, goal_in_term, plain_in_term, cursor_in_term, cursor_within, goal_names, page_names}
 
 abbrev with_end : TermText → TermText × Unit {0}
 with_end e = (e, tt)

@@ -3,20 +3,17 @@ use Rattle.std.proofs.lemmas.List.Folds.{list_any-append}
 use Rattle.cls_base.specs.Limits.{max_term_size, max_page_terms}
 use Rattle.cls_lexer.specs.Names.{with_texts}
 use Rattle.cls_lexer.specs.declared.token.TokenKind.TheVariants.{AtMost, Colon}
-use Rattle.std.proofs.Common.{◌≡◌, ℕ, ◌+◌, ◌-◌, ◌≤◌, cond, Bool, true, false, not, List, [], ◌∷◌, ◌++◌, map, length, refl, ap, sym, ◌∙◌, subst, inl, inr, arith, rules, append_assoc, append-nil}
+use Rattle.std.proofs.Common.{◌≡◌, ℕ, ◌+◌, ◌-◌, ◌≤◌, cond, Bool, true, false, List, [], ◌∷◌, ◌++◌, length, refl, ap, sym, ◌∙◌, inl, inr, arith, append_assoc, append-nil}
 use Rattle.std.specs.Prelude.{Option, Some, None, ◌||◌, position, find, codes}
 use Rattle.std.specs.List.{list_any}
 use Rattle.std.specs.Option.{option_map}
 use Rattle.std.proofs.lemmas.List.{length-map, length-append}
 use Rattle.cls_lexer.specs.Words.{Word, name, sign}
-use Rattle.cls_syntax.specs.declared.role.Role.TheVariants.{Component, TermComponent}
+use Rattle.cls_syntax.specs.declared.role.Role.TheVariants.{Component}
 use Rattle.cls_syntax.specs.TypeTexts.{TypeText}
 use Rattle.cls_syntax.specs.TermTexts.{TermText, term_words}
 use Rattle.cls_syntax.specs.Forms.{Values, Part, fixed, naming, numeral, part_word, type_parts, term_parts, line_parts, constructors_named}
 use Rattle.cls_syntax.specs.LineGrammars.{LineOf}
-use Rattle.cls_syntax.specs.TypeSchemas.{with_constructors}
-use Rattle.cls_syntax.specs.SpelledTerms.{term_text}
-use Rattle.cls_syntax.specs.SpelledTypes.{type_text}
 use Rattle.cls_syntax.proofs.LineParts.{term_same}
 use Rattle.cls_term.specs.TokenFaults as faults
 use Rattle.cls_query.specs.declared.form.GoalWord.{GoalWord}

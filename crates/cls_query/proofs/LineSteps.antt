@@ -1,5 +1,5 @@
 -- The tests of a line one after another, and what each has found.
-use Rattle.std.proofs.Common.{◌≡◌, ℕ, ◌-◌, ◌<◌, ◌≤◌, Bool, true, false, List, [], ◌∷◌, ◌++◌, length, refl, ap, sym, ◌∙◌, subst, inl, inr, arith}
+use Rattle.std.proofs.Common.{◌≡◌, ℕ, ◌-◌, ◌<◌, ◌≤◌, Bool, true, false, List, ◌++◌, length, refl, sym, ◌∙◌, inl, inr, arith}
 use Rattle.std.specs.Prelude.{Option, Some, None, IfSome, IsUtf8, ◌&&◌, position, find, codes}
 use Rattle.std.specs.Fmt.{decimal}
 use Rattle.std.specs.List.{list_any}
@@ -11,21 +11,21 @@ use Rattle.cls_lexer.specs.Tokens.{byte_at, tokens_of}
 use Rattle.cls_lexer.specs.Words.{Word, words_of}
 use Rattle.cls_syntax.specs.declared.role.Role.TheVariants.{Component}
 use Rattle.cls_syntax.specs.Depths.{most_open}
-use Rattle.cls_syntax.specs.Faults.{IsFault, Says, stop}
+use Rattle.cls_syntax.specs.Faults.{Says, stop}
 use Rattle.cls_syntax.specs.Forms.{naming}
 use Rattle.cls_syntax.specs.LineGrammars.{LineOf, row_words, RowStands, grammar_read}
 use Rattle.cls_syntax.specs.Sorts.{begins_reserved}
 use Rattle.cls_syntax.specs.SyntaxFaults.{IsFlat}
 use Rattle.cls_syntax.specs.TypeSchemas.{is_dollar}
 use Rattle.cls_syntax.proofs.TypeFaults.{stops_at}
-use Rattle.std.specs.Prelude.{Result, Ok, Err}
+use Rattle.std.specs.Prelude.{Err}
 use Rattle.cls_query.specs.QueryForms.{query_rows}
 use Rattle.cls_query.specs.Queries.{Tables, row_parts}
-use Rattle.cls_query.specs.QueryErrors.{row_types, is_large, is_outside, is_unknown, is_unknown_in_term, place_words, too_deep, leaves_table, too_many_nodes, has_variable, out_of_range, unknown_component, unknown_in_term, line_errors}
+use Rattle.cls_query.specs.QueryErrors.{row_types, is_large, is_outside, is_unknown, is_unknown_in_term, place_words, too_deep, too_many_nodes, has_variable, out_of_range, unknown_component, unknown_in_term, line_errors}
 use Rattle.cls_query.specs.Steps.{text_errors, spelling_errors, type_errors, value_errors}
 use Rattle.cls_query.proofs.FirstErrors.{first_front, first_later, silent_both}
 use Rattle.cls_query.proofs.Searches.{nothing_found}
-use Rattle.cls_query.proofs.QueryLines.{holds_of, stays_silent, stop_leaves, read_says}
+use Rattle.cls_query.proofs.QueryLines.{holds_of, stays_silent, stop_leaves}
 
 -- THE STEPS
 module _ (tables : Tables) (line : List ℕ) where

@@ -1,7 +1,7 @@
 -- The names of a query are numbered once, and a type keeps its meaning whatever names come later.
 use Rattle.std.proofs.Common.{◌≡◌, ℕ, ◌+◌, Bool, true, false, cond, not, List, [], ◌∷◌, ◌++◌, length, take, refl, ap, sym, ◌∙◌, subst, append-nil, append_assoc}
 use Rattle.std.specs.Prelude.{◌||◌, if◌then◌else◌}
-use Rattle.std.specs.List.{list_any, position_or_len, AllByRecursion}
+use Rattle.std.specs.List.{list_any, AllByRecursion}
 use Rattle.std.specs.Str.{bytes_eq}
 use Rattle.std.proofs.lemmas.Bool.{true≢false}
 use Rattle.std.proofs.lemmas.List.Folds.{list_any-append}
@@ -11,9 +11,8 @@ use Rattle.cls_base.specs.Schemas.{OpenType}
 use Rattle.cls_base.specs.Types as types
 use Rattle.cls_base.specs.Types.{ClosedType}
 use Rattle.cls_lexer.specs.Names.{number_of, with_text, with_texts}
-use Rattle.cls_lexer.specs.Words as word
 use Rattle.cls_lexer.specs.Words.{Word, sign}
-use Rattle.cls_lexer.specs.declared.token.TokenKind.TheVariants.{To, And, Times, Open, Close, Comma, Dollar}
+use Rattle.cls_lexer.specs.declared.token.TokenKind.TheVariants.{To, And, Times, Close, Comma}
 use Rattle.cls_syntax.specs.declared.role.Role.TheVariants.{Constructor}
 use Rattle.cls_syntax.specs.ClosedTypes.{opened, Spells}
 use Rattle.cls_syntax.specs.Forms.{Part, fixed, naming, numeral, type_parts, meet_parts, product_parts, atom_parts, term_parts, terms_parts, constructors_named}
@@ -23,7 +22,7 @@ use Rattle.cls_syntax.specs.TypeSchemas.{type_schema, meet_schema, product_schem
 use Rattle.cls_syntax.specs.TypeTexts.{TypeText, MeetText, ProductText, AtomText, only_meet, arrow, only_product, meet, only_atom, product, omega, named, applied, variable, inside, type_words}
 use Rattle.cls_syntax.proofs.PartNames.{type_constructors}
 use Rattle.cls_query.specs.Queries.{closed, type_in, with_names}
-use Rattle.cls_query.proofs.Searches.{all_both, all_first, all_last}
+use Rattle.cls_query.proofs.Searches.{all_first, all_last}
 
 -- a closed type that is opened is closed to itself
 closed_again : (t : ClosedType) → closed (opened t) ≡ t

@@ -1,5 +1,5 @@
 -- Searches along the parts of types and terms.
-use Rattle.std.proofs.Common.{◌≡◌, ℕ, Bool, true, false, not, List, [], ◌∷◌, ◌++◌, map, refl, ap, sym, ◌∙◌}
+use Rattle.std.proofs.Common.{◌≡◌, ℕ, Bool, false, List, [], ◌∷◌, ◌++◌, refl, ap, sym, ◌∙◌}
 use Rattle.std.specs.Prelude.{◌||◌, position}
 use Rattle.std.specs.List.{list_any, AllByRecursion}
 use Rattle.cls_lexer.proofs.TextTables.{position-map}

@@ -1,5 +1,5 @@
 -- No two errors are said of a line, and one is said of each line that isn't read as a query.
-use Rattle.std.proofs.Common.{◌≡◌, ℕ, ◌-◌, ◌<◌, Bool, true, false, List, [], ◌∷◌, ◌++◌, length, refl, ap, sym, ◌∙◌, subst, inl, inr, arith}
+use Rattle.std.proofs.Common.{◌≡◌, ℕ, ◌-◌, ◌<◌, Bool, true, false, List, [], ◌∷◌, ◌++◌, length, refl, ap, sym, ◌∙◌, inl, inr, arith}
 use Rattle.std.specs.Prelude.{Option, Some, None, ◌⊎◌, Result, Ok, Err, is_ok, IsUtf8, ◌&&◌, position, find, codes}
 use Rattle.std.specs.Fmt.{decimal}
 use Rattle.std.specs.List.{list_any}
@@ -10,14 +10,14 @@ use Rattle.cls_base.specs.Firsts.{Cause, First, IsSilent, IsDetermined, IsDecide
 use Rattle.cls_base.specs.Limits.{max_line_bytes, max_type_depth}
 use Rattle.cls_base.proofs.Firsts.{first-determined, first-decided}
 use Rattle.cls_lexer.specs.Tokens.{byte_at, tokens_of}
-use Rattle.cls_lexer.specs.Words.{Word, words_of}
+use Rattle.cls_lexer.specs.Words.{words_of}
 use Rattle.cls_syntax.specs.declared.role.Role.TheVariants.{Component}
 use Rattle.cls_syntax.specs.Depths.{most_open}
-use Rattle.cls_syntax.specs.Faults.{Stop, stop, Says}
+use Rattle.cls_syntax.specs.Faults.{stop, Says}
 use Rattle.cls_syntax.specs.Forms.{Part, fixed, naming, numeral}
 use Rattle.cls_syntax.specs.LineGrammars.{LineOf, row_words, RowStands, grammar_read}
 use Rattle.cls_syntax.specs.Sorts.{begins_reserved}
-use Rattle.cls_syntax.specs.SyntaxFaults.{IsTooDeep, LeavesAt}
+use Rattle.cls_syntax.specs.SyntaxFaults.{IsTooDeep}
 use Rattle.cls_syntax.specs.TypeSchemas.{is_dollar}
 use Rattle.cls_syntax.proofs.TypeFaults.{stops_at}
 use Rattle.cls_query.specs.QueryForms.{query_rows}

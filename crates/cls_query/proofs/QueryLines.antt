@@ -1,5 +1,5 @@
 -- Lines of the table of queries, as they are read.
-use Rattle.std.proofs.Common.{◌≡◌, ℕ, Bool, List, refl, ap, sym, ◌∙◌, subst, rules}
+use Rattle.std.proofs.Common.{◌≡◌, ℕ, Bool, List, ap, sym, ◌∙◌, subst, rules}
 use Rattle.std.specs.Prelude.{Result, Ok, Err}
 use Rattle.cls_base.specs.Firsts.{IsSilent}
 use Rattle.cls_lexer.specs.Words.{Word, words_of}

@@ -1,27 +1,22 @@
 -- What is found among the parts of a query's line.
-use Rattle.std.proofs.Common.{◌≡◌, ℕ, ◌+◌, ◌-◌, Bool, true, false, not, List, [], ◌∷◌, ◌++◌, map, length, refl, ap, sym, ◌∙◌, inl, inr, arith, append_assoc, append-nil}
-use Rattle.std.specs.Prelude.{Option, Some, None, ◌||◌, position, find}
+use Rattle.std.proofs.Common.{◌≡◌, ℕ, Bool, false, List, [], ◌∷◌, ◌++◌, map, refl, inl, inr}
+use Rattle.std.specs.Prelude.{Option, Some, None, ◌||◌}
 use Rattle.std.specs.List.{list_any}
 use Rattle.std.specs.Option.{option_map}
-use Rattle.std.proofs.lemmas.List.{length-map, length-append}
 use Rattle.cls_lexer.specs.Words.{Word, name}
 use Rattle.cls_lexer.specs.declared.token.TokenKind.TheVariants.{AtMost, Colon}
 use Rattle.std.specs.Prelude.{codes}
 use Rattle.cls_base.specs.Limits.{max_term_size, max_page_terms}
 use Rattle.cls_lexer.specs.Words.{sign}
-use Rattle.cls_syntax.specs.declared.role.Role.TheVariants.{Constructor, Variable, Component, TermComponent}
+use Rattle.cls_syntax.specs.declared.role.Role.TheVariants.{Constructor, Variable, TermComponent}
 use Rattle.cls_syntax.specs.TypeTexts.{TypeText}
-use Rattle.cls_syntax.specs.TermTexts.{TermText, term_words}
-use Rattle.cls_syntax.specs.Forms.{Values, Part, fixed, naming, numeral, part_word, type_parts, term_parts, line_parts, line_words}
+use Rattle.cls_syntax.specs.TermTexts.{TermText}
+use Rattle.cls_syntax.specs.Forms.{Values, Part, fixed, naming, numeral, part_word, type_parts, term_parts, line_parts}
 use Rattle.cls_syntax.specs.LineGrammars.{Row, LineOf, row_words}
-use Rattle.cls_syntax.proofs.LineParts.{term_same}
-use Rattle.cls_term.specs.TokenFaults as faults
-use Rattle.cls_query.specs.QueryForms.{comparison_form, component_form, typing_form, goal_form, cursor_form, listing_form, listing_rows, goal_rows, query_rows}
+use Rattle.cls_query.specs.QueryForms.{comparison_form, typing_form, goal_form, listing_form}
 use Rattle.cls_query.specs.Queries.{row_parts}
-use Rattle.cls_query.specs.QueryErrors.{is_outside, is_absent, is_unknown, is_unknown_in_term}
-use Rattle.cls_query.specs.FormAnswers.{listing_line}
-use Rattle.cls_query.proofs.Searches.{behind, both_none, find_none, place_none, place_within}
-use Rattle.cls_query.proofs.PartSearches.{joined_none, type_none, term_none, unknown_in_words}
+use Rattle.cls_query.proofs.Searches.{both_none}
+use Rattle.cls_query.proofs.PartSearches.{joined_none, type_none, term_none}
 
 -- the words of a line are those of its parts
 pub words_of_parts : (rows : List Row) (v : LineOf rows) → row_words rows v ≡ map part_word (row_parts rows v)

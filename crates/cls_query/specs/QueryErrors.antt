@@ -1,5 +1,5 @@
 -- The errors that the line of a query and the tables of names decide, in the order in which they are tested.
-use Rattle.std.specs.Prelude.{ℕ, ◌≡◌, ◌≤◌, ◌<◌, Bool, true, false, not, ◌&&◌, nat_le, nat_lt, List, [], ◌∷◌, ◌++◌, length, codes, IsUtf8, Some, position, find}
+use Rattle.std.specs.Prelude.{ℕ, ◌≡◌, ◌<◌, Bool, true, false, not, ◌&&◌, nat_le, nat_lt, List, [], ◌∷◌, ◌++◌, length, codes, IsUtf8, Some, position, find}
 use Rattle.std.specs.Fmt.{decimal}
 use Rattle.std.specs.List.{list_any}
 use Rattle.std.specs.Str.{bytes_eq}
@@ -16,7 +16,7 @@ use Rattle.cls_syntax.specs.LineGrammars.{Row, LineOf, row_words, RowStands}
 use Rattle.cls_syntax.specs.SyntaxFaults.{IsTooDeep, LeavesAt}
 use Rattle.cls_syntax.specs.TypeSchemas.{is_dollar}
 use Rattle.cls_syntax.specs.TypeTexts.{TypeText, TypeList, last, more, type_nodes}
-use Rattle.std.specs.Prelude.{Option, None}
+use Rattle.std.specs.Prelude.{None}
 use Rattle.cls_query.specs.QueryForms.{query_rows}
 use Rattle.cls_query.specs.Queries.{Tables, row_parts}
 

@@ -13,7 +13,7 @@ use Rattle.cls_query.specs.declared.query.Query.TheVariants as forms
 use Rattle.cls_query.specs.declared.query.Listing as listings
 use Rattle.cls_query.specs.QueryForms.{query_rows}
 use Rattle.cls_query.specs.Queries.{Listing, Query, Tables, sub, paths, typed, inhabit, grammar, audit, certify, verify, list, texts, with_query, query_of}
-use Rattle.cls_query.specs.QueryErrors.{place_words, line_errors}
+use Rattle.cls_query.specs.QueryErrors.{line_errors}
 
 -- The words of the fault. Out of memory has none.
 abbrev pub fault_words : LineFault → Option (List ℕ)

@@ -1,9 +1,6 @@
-use Rattle.std.proofs.Common.{◌≡◌, ℕ, List, sym, ap, ◌∙◌, subst, take, length}
-use Rattle.cls_lexer.specs.Names.{with_texts}
+use Rattle.std.proofs.Common.{ℕ, List, sym, ap, ◌∙◌, subst, take}
 use Rattle.cls_syntax.specs.Forms.{type_parts, constructors_named}
 use Rattle.cls_syntax.specs.SpelledTypes.{type_text}
-use Rattle.cls_syntax.specs.TypeTexts.{TypeText, type_words}
-use Rattle.cls_base.specs.Types.{ClosedType}
 use Rattle.cls_query.specs.Queries.{type_in, with_names}
 use Rattle.cls_query.proofs.Numbering.{spelled_is, names_of_type, type_stays, old_stays, grown_texts, IsGrown}
 use Rattle.cls_query.proofs.build.both_types.Goals as goal

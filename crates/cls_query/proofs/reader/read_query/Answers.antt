@@ -1,4 +1,4 @@
-use Rattle.std.proofs.Common.{◌≡◌, ℕ, List, sym, ap, ◌∙◌, subst, rules}
+use Rattle.std.proofs.Common.{ℕ, List, sym, ap, ◌∙◌, subst, rules}
 use Rattle.std.specs.Prelude.{IfSome}
 use Rattle.cls_base.specs.Firsts.{First, IsSilent}
 use Rattle.cls_lexer.specs.Words.{Word, words_of}

@@ -1,4 +1,4 @@
-use Rattle.std.proofs.Common.{◌≡◌, ℕ, List, sym, ap, ◌∙◌}
+use Rattle.std.proofs.Common.{sym, ap, ◌∙◌}
 use Rattle.cls_syntax.specs.SpelledTypes.{type_text}
 use Rattle.cls_query.specs.declared.form.QueryForm.TheVariants.{Asks}
 use Rattle.cls_query.specs.declared.form.GoalForm.{GoalForm}

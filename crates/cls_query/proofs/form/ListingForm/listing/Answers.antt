@@ -1,9 +1,8 @@
 use Rattle.std.proofs.Common.{◌≡◌, ℕ, List, sym, ap, ◌∙◌}
-use Rattle.std.specs.Prelude.{Option, Some, None}
+use Rattle.std.specs.Prelude.{Option, Some}
 use Rattle.std.specs.Option.{option_map}
 use Rattle.cls_base.specs.Terms.{Applicative}
 use Rattle.cls_syntax.specs.declared.spelled_term.SpelledTerm.{SpelledTerm}
-use Rattle.cls_syntax.specs.SpelledTerms.{term_text}
 use Rattle.cls_syntax.specs.SpelledTypes.{type_text}
 use Rattle.cls_syntax.specs.TermTexts.{TermText}
 use Rattle.cls_query.specs.Queries.{term_in}

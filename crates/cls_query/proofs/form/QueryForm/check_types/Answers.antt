@@ -1,5 +1,5 @@
-use Rattle.std.proofs.Common.{◌≡◌, ℕ, ◌++◌, sym, ap, ◌∙◌, subst}
-use Rattle.std.specs.Prelude.{Option, Some, None, position, codes}
+use Rattle.std.proofs.Common.{ℕ, ◌++◌, sym, ap, ◌∙◌, subst}
+use Rattle.std.specs.Prelude.{position, codes}
 use Rattle.std.specs.Fmt.{decimal}
 use Rattle.cls_base.specs.Firsts.{First}
 use Rattle.cls_syntax.specs.TypeSchemas.{is_dollar}

@@ -1,7 +1,6 @@
-use Rattle.std.proofs.Common.{Bor, ◌≡◌, ℕ, ◌++◌, List, sym, ap, ◌∙◌, subst, length}
-use Rattle.std.specs.Prelude.{Option, Some, None, codes, position, find}
+use Rattle.std.proofs.Common.{Bor, ℕ, ◌++◌, List, sym, ap, ◌∙◌, subst, length}
+use Rattle.std.specs.Prelude.{codes}
 use Rattle.std.specs.Fmt.{decimal}
-use Rattle.std.specs.Option.{option_map}
 use Rattle.std.proofs.lemmas.List.{length-map}
 use Rattle.cls_base.specs.Firsts.{First}
 use Rattle.cls_lexer.specs.Words.{word_of}

@@ -1,5 +1,5 @@
 use Rattle.std.proofs.Common.{◌≡◌, ℕ, List, refl, sym, subst}
-use Rattle.std.specs.Prelude.{Option, Some, None, find}
+use Rattle.std.specs.Prelude.{Option, None, find}
 use Rattle.cls_syntax.specs.Forms.{Part}
 use Rattle.cls_query.specs.declared.form.QueryForm.{QueryForm}
 use Rattle.cls_query.specs.FormAnswers.{form_says}

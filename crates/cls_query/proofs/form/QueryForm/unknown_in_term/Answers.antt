@@ -1,12 +1,4 @@
-use Rattle.std.proofs.Common.{◌≡◌, ℕ, ◌-◌, ◌≤◌, ◌+◌, List, sym, ap, ◌∙◌, arith, length}
-use Rattle.std.proofs.lemmas.List.{length-map}
-use Rattle.std.specs.Prelude.{position}
-use Rattle.cls_lexer.specs.declared.token.Token.{Token}
-use Rattle.cls_lexer.specs.Words.{words, word_of}
-use Rattle.cls_syntax.specs.SpelledTerms.{term_text}
-use Rattle.cls_syntax.specs.TermTexts.{term_words}
-use Rattle.cls_term.specs.TokenFaults as faults
-use Rattle.cls_query.proofs.Searches.{behind}
+use Rattle.std.proofs.Common.{sym, ◌∙◌, arith}
 use Rattle.cls_query.proofs.CodeForms.{sub_placed, typed_placed, typed_fits}
 use Rattle.cls_query.proofs.form.QueryForm.unknown_in_term.Goals as goal
 

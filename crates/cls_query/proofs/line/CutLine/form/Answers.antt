@@ -1,5 +1,5 @@
-use Rattle.std.proofs.Common.{◌≡◌, ℕ, ◌-◌, List, sym, ap, ◌∙◌, subst, arith, length, map}
-use Rattle.std.specs.Prelude.{Option, IfSome, Err, ◌&&◌}
+use Rattle.std.proofs.Common.{◌≡◌, ℕ, ◌-◌, List, sym, ap, ◌∙◌, subst, arith, length}
+use Rattle.std.specs.Prelude.{Option, IfSome, ◌&&◌}
 use Rattle.std.proofs.lemmas.List.{length-map}
 use Rattle.cls_base.specs.Firsts.{First}
 use Rattle.cls_lexer.specs.declared.token.Token.{Token}
