@@ -1,0 +1,12 @@
+pub mod ClosedTypes
+pub mod CodeForms
+pub mod FirstErrors
+pub mod FormParts
+pub mod LineSteps
+pub mod Numbering
+pub mod PartSearches
+pub mod QueryErrors
+pub mod QueryLines
+pub mod RowParts
+pub mod Searches
+pub mod TablePlaces

@@ -1,0 +1,40 @@
+use Rattle.std.proofs.Common.{Bor, ℕ, ◌++◌, List, sym, ap, ◌∙◌, subst, length}
+use Rattle.std.specs.Prelude.{codes}
+use Rattle.std.specs.Fmt.{decimal}
+use Rattle.std.proofs.lemmas.List.{length-map}
+use Rattle.cls_base.specs.Firsts.{First}
+use Rattle.cls_lexer.specs.Words.{word_of}
+use Rattle.cls_syntax.specs.declared.role.Role.TheVariants.{Component}
+use Rattle.cls_syntax.specs.Forms.{part_word, naming}
+use Rattle.cls_query.proofs.Searches.{never_some}
+use Rattle.cls_query.specs.FormAnswers.{form_says}
+use Rattle.cls_query.specs.Queries.{row_parts}
+use Rattle.cls_query.specs.QueryForms.{query_rows}
+use Rattle.cls_query.specs.Steps.{value_errors}
+use Rattle.cls_query.proofs.LineSteps.{unknown_said, term_said, values_silent}
+use Rattle.cls_query.proofs.RowParts.{words_of_parts}
+use Rattle.cls_query.proofs.form.QueryForm.check_values.Goals as goal
+
+pub returns-in-Some-clause-tested : goal.returns-in-Some-clause-tested
+returns-in-Some-clause-tested c =
+    let inside = sym c.is_outside.ensures ∙ c.if-is_outside.false in
+    unknown_said c.args.line.now.text.now (form_says c.args.self.now) c.requires c.args.components.now inside _ c.in-Some.ensures
+
+pub unknown_in_term-requires : goal.unknown_in_term-requires
+unknown_in_term-requires c =
+    let parts = row_parts query_rows (form_says c.args.self.now) in
+    sym (length-map parts part_word) ∙ (ap length (sym (words_of_parts query_rows (form_says c.args.self.now)) ∙ (c.requires.spelled ∙ sym c.args.line.now.spoken)) ∙ length-map c.args.line.now.tokens.now word_of)
+
+pub returns-in-Some-unknown_in_term-clause-tested : goal.returns-in-Some-unknown_in_term-clause-tested
+returns-in-Some-unknown_in_term-clause-tested c =
+    let line = c.args.line.now.text.now in
+    let inside = sym c.is_outside.ensures ∙ c.if-is_outside.false in
+    let none = c.unknown.ensures ∙ never_some (λ (name : Bor (List ℕ)). naming Component name.now) c.unknown.result c.in_default.not-Some in
+    subst (λ (b : ℕ). First (value_errors line c.args.components.now) (codes "token " ++ decimal b)) (sym c.byte.ensures)
+    (term_said line (form_says c.args.self.now) c.requires c.args.components.now inside none c.in-Some-unknown_in_term.place (sym c.unknown_in_term.ensures ∙ c.in-Some-unknown_in_term.is))
+
+pub returns-in-None-clause-tested : goal.returns-in-None-clause-tested
+returns-in-None-clause-tested c =
+    let inside = sym c.is_outside.ensures ∙ c.if-is_outside.false in
+    let none = c.unknown.ensures ∙ never_some (λ (name : Bor (List ℕ)). naming Component name.now) c.unknown.result c.in_default.not-Some in
+    values_silent c.args.line.now.text.now (form_says c.args.self.now) c.requires c.args.components.now inside none (sym c.unknown_in_term.ensures ∙ c.in-None.is)

@@ -1,0 +1,23 @@
+//! Reads the line of a query: which of the ten forms it is, with types, terms and numbers in place of texts, or the first of
+//! its errors.
+//!
+//! - [`read_query`] gives the [`Query`] or the [`LineFault`]. The names of constructors are numbered exactly if there is no
+//!   fault.
+//! - [`LineFault::write_to`] writes the words of a fault.
+//! - [`laws`] holds what is true of every line.
+//!
+//! The table of forms stands in `specs/QueryForms`, and the errors in their order in `specs/QueryErrors`.
+#![tactic(auto)]
+
+mod build;
+mod checks;
+mod fault;
+mod form;
+pub mod laws;
+mod line;
+mod query;
+mod reader;
+
+pub use fault::LineFault;
+pub use query::{Listing, Query};
+pub use reader::read_query;

@@ -1,0 +1,55 @@
+//! Reads the line of a query.
+ghost use Rattle.std.specs.Prelude.{◌≡◌, IfOk, IfErr, IfSome, OnOk, OnErr};
+ghost use Rattle.cls_base.specs.Firsts.{First};
+ghost use Rattle.cls_lexer.specs.Skipped.{IsText};
+ghost use Rattle.cls_query.specs.Queries.{tables_of};
+ghost use Rattle.cls_query.specs.QueryErrors.{line_errors};
+ghost use Rattle.cls_query.specs.ReadQueries.{fault_words, asked_of, ReadsQuery};
+ghost use Rattle.cls_query.specs.Steps.{text_errors, Tests};
+
+use crate::fault::LineFault;
+use crate::line::CutLine;
+use crate::query::Query;
+use cls_lexer::{Line, Names, TextFault, tokens};
+use std::alloc::Global;
+
+/// The query that the line is. Its types and terms have the numbers that the tables give their names. New names of
+/// constructors are numbered in the order of the line's tokens. After any error the table is as before.
+///
+/// The error is the first that applies, in the order of [`LineFault`].
+pub fn read_query<'a>(
+    alloc: Global,
+    constructors: &mut Names,
+    components: &Names,
+    line: &'a Line,
+) -> Result<Query, LineFault<'a>>
+    ensures query { IfOk result (λ query. ReadsQuery (tables_of constructors.old components.now) line.now (asked_of query)
+        constructors.new) }
+    ensures fault { IfErr result (λ fault. IfSome (fault_words fault)
+        (First (line_errors (tables_of constructors.old components.now) line.now))) }
+    ensures stay { OnErr result (constructors.new ≡ constructors.old) }
+{
+    let text = text_of(line)?;
+    let tokens = tokens(alloc, text)?;
+    let cut = CutLine {
+        text,
+        tokens: &tokens,
+    };
+    let form = cut.form()?;
+    form.check_types(&cut)?;
+    form.check_values(components, &cut)?;
+    Ok(form.query(alloc, constructors, components)?)
+}
+
+/// The line as a text.
+fn text_of(line: &Line) -> Result<&str, LineFault>
+    ensures same { IfOk result (λ text. text.now ≡ line.now) }
+    ensures text { OnOk result (IsText line.now) }
+    ensures tested { Tests (text_errors line.now) result }
+{
+    match line.text() {
+        Ok(text) => Ok(text),
+        Err(TextFault::TooLong) => Err(LineFault::TooLong),
+        Err(TextFault::NotUtf8) => Err(LineFault::NotUtf8),
+    }
+}
