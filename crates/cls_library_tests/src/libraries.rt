@@ -166,6 +166,12 @@ fn are_equal(one: &Library, other: &Library) -> bool {
     true
 }
 
+/// Puts the component last whose type the text spells.
+fn put(alloc: Global, library: &mut Library, text: &str, kinds: &Kinds) -> Result<(), Fail> {
+    let schema = schema_of_text(alloc, text)?;
+    Ok(library.add(alloc, &schema, kinds)?)
+}
+
 /// The library of the lines without the component with the number 1, and then with another one.
 fn changed(alloc: Global, text: &str, added: &str, kinds: &Kinds) -> Result<Library, Fail> {
     let mut library = declared(alloc, text, kinds)?;
@@ -173,7 +179,7 @@ fn changed(alloc: Global, text: &str, added: &str, kinds: &Kinds) -> Result<Libr
         return Err("too few components".into());
     }
     library.remove(1);
-    library.add(alloc, &schema_of_text(alloc, added)?, kinds)?;
+    put(alloc, &mut library, added, kinds)?;
     Ok(library)
 }
 

@@ -6,35 +6,39 @@ use cls_syntax::{read_schema, read_type};
 use std::alloc::Global;
 use std::test::Fail;
 
-/// The names from A to Z.
-const LETTERS: &str =
-    "A & B & C & D & E & F & G & H & I & J & K & L & M & N & O & P & Q & R & S & T & U & V & W & X & Y & Z";
+/// Names and variables in the order of their numbers.
+const LETTERS: &str = "$a*$b*$c*$d*A*B*C*D*E*F*G*H*I*J*K*L*M*N*O*P*Q*R*S*T*U*V*W*X*Y*Z";
 
-/// The names from A to Z with their numbers.
-fn letters(alloc: Global) -> Result<Names, Fail> {
+/// The names and the variables with their numbers.
+#[derive(Drop)]
+struct Alphabet {
+    names: Names,
+    variables: Names,
+}
+
+fn letters(alloc: Global) -> Result<Alphabet, Fail> {
     let mut names = Names::new(alloc);
-    read_type(alloc, &mut names, LETTERS)?;
-    Ok(names)
+    let mut variables = Names::new(alloc);
+    read_schema(alloc, &mut names, &mut variables, LETTERS)?;
+    Ok(Alphabet { names, variables })
 }
 
 /// The type that the text spells.
 pub fn type_of_text(alloc: Global, text: &str) -> Result<Ty, Fail> {
-    let mut names = letters(alloc)?;
     if text.len() > MAX_LINE_BYTES {
         return Err("too long".into());
     }
-    Ok(read_type(alloc, &mut names, text)?)
+    let mut alphabet = letters(alloc)?;
+    Ok(read_type(alloc, &mut alphabet.names, text)?)
 }
 
 /// The schema that the text spells.
 pub fn schema_of_text(alloc: Global, text: &str) -> Result<Schema, Fail> {
-    let mut names = letters(alloc)?;
-    let mut variables = Names::new(alloc);
-    read_schema(alloc, &mut names, &mut variables, "$a & $b & $c & $d")?;
     if text.len() > MAX_LINE_BYTES {
         return Err("too long".into());
     }
-    Ok(read_schema(alloc, &mut names, &mut variables, text)?)
+    let mut alphabet = letters(alloc)?;
+    Ok(read_schema(alloc, &mut alphabet.names, &mut alphabet.variables, text)?)
 }
 
 /// The text inside, so many times between the other two.
