@@ -78,7 +78,8 @@ place_words false byte = codes "syntax " ++ decimal byte
 module _ (line : List ℕ) where
   -- The line is a query, of which this holds.
   abbrev pub IsQuery : (LineOf query_rows → Type 0) → Type 0
-  IsQuery P = (said : LineOf query_rows) × Says (row_words query_rows) (RowStands query_rows) said (words_of line) × P said
+  IsQuery P =
+      (said : LineOf query_rows) × Says (row_words query_rows) (RowStands query_rows) said (words_of line) × P said
 
   abbrev pub too_long : Cause (List ℕ)
   too_long t = (max_line_bytes < length line) × (t ≡ codes "long")

@@ -15,7 +15,8 @@ abbrev pub type_errors : (line : List ℕ) → List (Cause (List ℕ))
 type_errors line = too_many_nodes line ∷ has_variable line ∷ []
 
 abbrev pub value_errors : (line : List ℕ) → (components : List (List ℕ)) → List (Cause (List ℕ))
-value_errors line components = out_of_range line ∷ unknown_component line components ∷ unknown_in_term line components ∷ []
+value_errors line components =
+    out_of_range line ∷ unknown_component line components ∷ unknown_in_term line components ∷ []
 
 -- None of the causes applies, or the fault is the first that does. Out of memory says nothing.
 abbrev pub Tests : {A : Type 0} → List (Cause (List ℕ)) → Result A LineFault → Type 0

@@ -30,7 +30,8 @@ use cls_term::first_unknown;
 impl<'t, 'a> QueryForm<'t, 'a> {
     /// Whether its types are small and without variables.
     pub fn check_types(&self, line: &CutLine<'t, 'a>) -> Result<(), LineFault<'a>>
-        requires { Says (row_words query_rows) (RowStands query_rows) (form_says self.now) (words_of line.now.text.now) }
+        requires { Says (row_words query_rows) (RowStands query_rows)
+            (form_says self.now) (words_of line.now.text.now) }
         ensures tested { Tests (type_errors line.now.text.now) result }
         ensures closed { OnOk result (HasNoDollar (words_of line.now.text.now)) }
     {
@@ -49,7 +50,8 @@ impl<'t, 'a> QueryForm<'t, 'a> {
         components: &Names,
         line: &CutLine<'t, 'a>,
     ) -> Result<(), LineFault<'a>>
-        requires { Says (row_words query_rows) (RowStands query_rows) (form_says self.now) (words_of line.now.text.now) }
+        requires { Says (row_words query_rows) (RowStands query_rows)
+            (form_says self.now) (words_of line.now.text.now) }
         ensures tested { Tests (value_errors line.now.text.now components.now) result }
         ensures in_range { OnOk result (list_any is_outside (row_parts query_rows (form_says self.now)) ≡ false) }
     {
@@ -187,7 +189,8 @@ fn is_large(spelled: &SpelledType) -> bool
 /// The place of the first name of the term that is no component, where so many tokens stand before the term.
 fn unknown_behind(components: &Names, term: &SpelledTerm, before: usize) -> Option<usize>
     requires { before + length (term_words (term_text term.now)) < 2 ^ 64 }
-    ensures { result ≡ option_map (λ place. before + place) (position (faults.is_unknown components.now) (term_words (term_text term.now))) }
+    ensures { result ≡ option_map (λ place. before + place)
+        (position (faults.is_unknown components.now) (term_words (term_text term.now))) }
 {
     let place = first_unknown(components, term.as_slice())?;
     Some(before + place)

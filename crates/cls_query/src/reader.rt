@@ -23,8 +23,8 @@ pub fn read_query<'a>(
     components: &Names,
     line: &'a Line,
 ) -> Result<Query, LineFault<'a>>
-    ensures query { IfOk result (λ query. ReadsQuery (tables_of constructors.old components.now) line.now (asked_of query)
-        constructors.new) }
+    ensures query { IfOk result (λ query.
+        ReadsQuery (tables_of constructors.old components.now) line.now (asked_of query) constructors.new) }
     ensures fault { IfErr result (λ fault. IfSome (fault_words fault)
         (First (line_errors (tables_of constructors.old components.now) line.now))) }
     ensures stay { OnErr result (constructors.new ≡ constructors.old) }
