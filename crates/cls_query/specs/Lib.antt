@@ -1,5 +1,5 @@
--- To be read and believed: QueryForms, Queries, QueryErrors and ReadQueries. FormAnswers and Steps say what parts of the code
--- answer, and Laws states what is true of every line.
+-- To be read and believed: QueryForms, Queries, QueryErrors and ReadQueries. FormAnswers and Steps say what parts of
+-- the code answer, and Laws states what is true of every line.
 pub mod FormAnswers
 pub mod Laws
 pub mod Queries

@@ -18,8 +18,8 @@ use Rattle.cls_syntax.specs.TypeTexts.{TypeText}
 use Rattle.cls_term.specs.TermReadings.{term_of}
 use Rattle.cls_query.specs.QueryForms.{listing_rows, goal_rows, query_rows, listing_form}
 
--- A page that is asked for: terms of the type and of at most the size `max`, the first `take` of them after the cursor, if
--- there is one.
+-- A page that is asked for: terms of the type and of at most the size `max`, the first `take` of them after the cursor,
+-- if there is one.
 pub record Listing : Type 0 where
   pub goal : ClosedType
   pub max : ℕ

@@ -69,8 +69,8 @@ abbrev pub is_unknown_in_term : List (List ℕ) → Part → Bool
 is_unknown_in_term table (naming TermComponent x) = is_absent table x
 is_unknown_in_term table _ = false
 
--- What is said of a line that leaves the table at the byte. `reserved` says that `omega` stands there and each name could
--- that isn't set aside.
+-- What is said of a line that leaves the table at the byte. `reserved` says that `omega` stands there and each name
+-- could that isn't set aside.
 abbrev pub place_words : (reserved : Bool) → (byte : ℕ) → List ℕ
 place_words true byte = codes "reserved " ++ decimal byte
 place_words false byte = codes "syntax " ++ decimal byte

@@ -22,8 +22,8 @@ use cls_term::spelled_term;
 use std::alloc::Global;
 
 impl QueryForm<'_, '_> {
-    /// The query. The names of its constructors are numbered in the order of its tokens. The only error is out of memory,
-    /// and leaves the table as before.
+    /// The query. The names of its constructors are numbered in the order of its tokens. The only error is out of
+    /// memory, and leaves the table as before.
     pub fn query(
         &self,
         alloc: Global,
@@ -106,8 +106,8 @@ impl ListingWord {
 }
 
 impl ListingForm<'_, '_> {
-    /// The page that is asked for. The names of its type are numbered in the order of its tokens. The only error is out of
-    /// memory, and leaves the table as before.
+    /// The page that is asked for. The names of its type are numbered in the order of its tokens. The only error is out
+    /// of memory, and leaves the table as before.
     fn listing(
         &self,
         alloc: Global,

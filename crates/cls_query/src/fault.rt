@@ -43,8 +43,8 @@ impl From<OutOfMemory> for LineFault<'_> {
 }
 
 impl LineFault<'_> {
-    /// Writes `error ` and the words of the fault at the end of the text, as `error syntax 12`. The only error is out of
-    /// memory, which is also the answer where that is the fault.
+    /// Writes `error ` and the words of the fault at the end of the text, as `error syntax 12`. The only error is out
+    /// of memory, which is also the answer where that is the fault.
     pub fn write_to(&self, text: &mut String) -> Result<(), OutOfMemory>
         ensures { OnOk result (Some (string_bytes text.new)
             ≡ option_map (λ words. string_bytes text.old ++ (codes "error " ++ words)) (fault_words self.now)) }

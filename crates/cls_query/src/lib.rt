@@ -1,8 +1,8 @@
-//! Reads the line of a query: which of the ten forms it is, with types, terms and numbers in place of texts, or the first of
-//! its errors.
+//! Reads the line of a query: which of the ten forms it is, with types, terms and numbers in place of texts, or the
+//! first of its errors.
 //!
-//! - [`read_query`] gives the [`Query`] or the [`LineFault`]. The names of constructors are numbered exactly if there is no
-//!   fault.
+//! - [`read_query`] gives the [`Query`] or the [`LineFault`]. The names of constructors are numbered exactly if there
+//!   is no fault.
 //! - [`LineFault::write_to`] writes the words of a fault.
 //! - [`laws`] holds what is true of every line.
 //!
