@@ -86,7 +86,7 @@ module _ (lib : Library) (law : IsLibrary lib) where
   sound_at none s rs rules e (Head x gs) m (by_component es is h) =
       subst (λ (t : Applicative). HasTypeIn lib t (type_of_paths none)) (sym is)
       (has_omega (spine (component x) es) (over_spine lib law (length lib.components) es (component x)
-        (rule_declared lib none x (map listed gs) (map rule_of rs, rules, rule_there rs (Head x gs) m)) (over_each h)))
+      (rule_declared lib none x (map listed gs) (map rule_of rs, rules, rule_there rs (Head x gs) m)) (over_each h)))
   sound_at none s rs rules e (Any l m) i (meaning.by_application f a is h k) =
       subst (λ (t : Applicative). HasTypeIn lib t (type_of_paths none)) (sym is) (has_omega (apply f a) (over h, over k))
   sound_at (more q n) s rs rules e (Head x gs) m (by_component es is h) =
@@ -117,13 +117,13 @@ module _ (lib : Library) (law : IsLibrary lib) where
       → (e : Applicative) → HasTypeIn lib e (type_of_paths p) → (r : Rule Goal) × Contains rs r × FitsRule (HasGoal lib) e r
   complete_at none s rs rules (component x) h =
       let there : Contains (map rule_of rs) (Head x []) = subst (λ (l : List (Rule Paths)). Contains l (Head x [])) (sym rules)
-          (member_contains (member_append_left (Any none none ∷ []) (Head x []) (below_has (length lib.components) 0 x (omega arith) (let o = over h in omega arith)))) in
+      (member_contains (member_append_left (Any none none ∷ []) (Head x []) (below_has (length lib.components) 0 x (omega arith) (let o = over h in omega arith)))) in
       let r = from_map rule_of rs (Head x []) there in
       (r.0, r.1, fits_head x [] [] r.0 r.2 tt)
   complete_at none s rs rules (apply f a) h =
       let o = over h in
       let there : Contains (map rule_of rs) (Any none none) = subst (λ (l : List (Rule Paths)). Contains l (Any none none)) (sym rules)
-          (member_contains (member_append_right (heads (numbers_from 0 (length lib.components))) (Any none none ∷ []) (Any none none) first)) in
+      (member_contains (member_append_right (heads (numbers_from 0 (length lib.components))) (Any none none ∷ []) (Any none none) first)) in
       let r = from_map rule_of rs (Any none none) there in
       (r.0, r.1, fits_any f a r.0 r.2 (has_omega f o.0) (has_omega a o.1))
   complete_at (more q n) s rs rules e h =
