@@ -77,6 +77,8 @@ pub fn goal(alloc: Global, library: &Library, names: &mut Names, text: &str) -> 
     requires { length text.now < 2 ^ 32 }
     ensures { IfOk result (IsReady library.now) }
 {
+    // For the prover: what holds of each library.
+    let _count = library.count();
     let ty = read_type(alloc, names, text)?;
     let goal = normal(alloc, library.taxonomy(), &ty)?;
     if !fit(alloc, &goal)? {

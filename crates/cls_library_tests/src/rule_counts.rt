@@ -16,6 +16,8 @@ use std::test::Fail;
 fn goal(alloc: Global, library: &Library, text: &str) -> Result<Nf, Fail>
     ensures { IfOk result (IsReady library.now) }
 {
+    // For the prover: what holds of each library.
+    let _count = library.count();
     let goal = normal(alloc, library.taxonomy(), &type_of_text(alloc, text)?)?;
     if !fit(alloc, &goal)? {
         return Err("not fit".into());
