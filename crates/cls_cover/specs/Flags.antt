@@ -22,4 +22,5 @@ AreSharedApart once front row other =
 -- the flags of what is met once and of what is met where a position with this row joins
 abbrev pub AreJoined : List ℕ → List ℕ → List ℕ → List ℕ → List ℕ → Type 0
 AreJoined once met row once' met' =
-    (f : ℕ) → (bit once' f ≡ ((bit once f && not (bit row f)) || (bit row f && not (bit met f)))) × (bit met' f ≡ (bit met f || bit row f))
+    (f : ℕ) → (bit once' f ≡ ((bit once f && not (bit row f)) || (bit row f && not (bit met f))))
+    × (bit met' f ≡ (bit met f || bit row f))

@@ -37,6 +37,10 @@ HasRoom s = (length s.goals ≤ max_memo_goals) × (rules_together s.answers ≤
 abbrev pub emptied : {B G : Type 0} → StoreSeen B G → StoreSeen B G
 emptied s = record { tag = s.tag; goals = []; answers = [] }
 
+-- each goal of the rows is among the goals
+abbrev pub HasGoalsOf : {G : Type 0} → List (Row G) → List G → Type 0
+HasGoalsOf {G} rows goals = (g : G) → Contains (goals_of rows) g → Contains goals g
+
 module _ {G : Type 0} (eq : G → G → Bool) where
   -- the rows are the closure of some goal. IsAnswer g a: a is an answer of the goal g
   abbrev pub AreComplete : (G → Answer G → Type 0) → List (Row G) → Type 0

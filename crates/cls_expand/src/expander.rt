@@ -17,56 +17,52 @@ use cls_library::Library;
 use cls_path::Nf;
 use indexmap::IndexSet;
 use std::alloc::Global;
+use std::marker::Model;
 
 /// The greatest number of minimal covers.
 const MAX_COVERS: u32 = 1024;
 
-/// Gives the rules of goals by a library.
+/// Gives the rules of goals by a library, and is seen as that.
 #[derive(Drop)]
 pub struct Expander<'a> {
     lib: &'a Library,
 }
 
+impl<'a> Model for Expander<'a> {
+    ghost use Rattle.cls_library.specs.Libraries as libraries;
+    ghost use Rattle.cls_library.specs.Stored.{coded_library};
+
+    ghost Value = { libraries.Library };
+
+    ghost coded = { coded_library };
+
+    ghost view = { λ e. e.lib.now };
+}
+
 impl<'a> Expander<'a> {
     /// The expander of the library. It takes no memory.
     pub fn new(lib: &'a Library) -> Expander<'a>
-        ensures { result.lib.now ≡ lib.entry.now }
+        ensures { result ≡ lib.entry.now }
     {
         Expander { lib }
     }
 
     /// The rules of the goal, or that it is wide. The only error is out of memory.
     pub fn rules_of(&self, alloc: Global, goal: &Nf) -> Result<Answer<Nf>, OutOfMemory>
-        requires { IsReady self.now.lib.now goal.now }
-        ensures { IfOk result (IsAnswer self.now.lib.now goal.now) }
+        requires { IsReady self.now goal.now }
+        ensures { IfOk result (IsAnswer self.now goal.now) }
     {
-        if goal.paths().is_empty() {
-            return Ok(Answer::Rules(omega(alloc, self.lib.count())?));
-        }
-        let mut spines = IndexSet::new(alloc);
-        for x in 0..self.lib.count() {
-            if !add_component(alloc, self.lib, goal, x, &mut spines)? {
-                return Ok(Answer::Wide);
-            }
-        }
-        Ok(Answer::Rules(head_rules(alloc, spines)?))
+        all_rules(alloc, self.lib, goal)
     }
 
     /// The rules that one component makes for the goal, even if another one makes it wide, or that this one does. The
     /// only error is out of memory.
     pub fn rules_by(&self, alloc: Global, goal: &Nf, x: u32) -> Result<Answer<Nf>, OutOfMemory>
-        requires ready { IsReady self.now.lib.now goal.now }
-        requires declared { x < length self.now.lib.now.components }
-        ensures { IfOk result (IsAnswerBy self.now.lib.now x goal.now) }
+        requires ready { IsReady self.now goal.now }
+        requires declared { x < length self.now.components }
+        ensures { IfOk result (IsAnswerBy self.now x goal.now) }
     {
-        let mut spines = IndexSet::new(alloc);
-        if goal.paths().is_empty() {
-            let args = Vec::new(alloc);
-            spines.insert(Spine { component: x, args })?;
-        } else if !add_component(alloc, self.lib, goal, x, &mut spines)? {
-            return Ok(Answer::Wide);
-        }
-        Ok(Answer::Rules(head_rules(alloc, spines)?))
+        component_rules(alloc, self.lib, goal, x)
     }
 }
 
@@ -79,7 +75,7 @@ impl Expand for Expander<'_> {
 
     type Tag = Library;
 
-    ghost tag = { λ e. e.lib.now };
+    ghost tag = { λ e. e };
 
     ghost answers = { IsAnswer };
 
@@ -101,6 +97,39 @@ impl TypedExpand for Expander<'_> {
     ghost has = { HasGoal };
 
     ghost rules = { answers_are_typings };
+}
+
+/// The rules of the goal by all components.
+fn all_rules(alloc: Global, lib: &Library, goal: &Nf) -> Result<Answer<Nf>, OutOfMemory>
+    requires { IsReady lib.now goal.now }
+    ensures { IfOk result (IsAnswer lib.now goal.now) }
+{
+    if goal.paths().is_empty() {
+        return Ok(Answer::Rules(omega(alloc, lib.count())?));
+    }
+    let mut spines = IndexSet::new(alloc);
+    for x in 0..lib.count() {
+        if !add_component(alloc, lib, goal, x, &mut spines)? {
+            return Ok(Answer::Wide);
+        }
+    }
+    Ok(Answer::Rules(head_rules(alloc, spines)?))
+}
+
+/// The rules of the goal by one component.
+fn component_rules(alloc: Global, lib: &Library, goal: &Nf, x: u32) -> Result<Answer<Nf>, OutOfMemory>
+    requires ready { IsReady lib.now goal.now }
+    requires declared { x < length lib.now.components }
+    ensures { IfOk result (IsAnswerBy lib.now x goal.now) }
+{
+    let mut spines = IndexSet::new(alloc);
+    if goal.paths().is_empty() {
+        let args = Vec::new(alloc);
+        spines.insert(Spine { component: x, args })?;
+    } else if !add_component(alloc, lib, goal, x, &mut spines)? {
+        return Ok(Answer::Wide);
+    }
+    Ok(Answer::Rules(head_rules(alloc, spines)?))
 }
 
 /// The rules of omega: each component alone, and any term applied to any.

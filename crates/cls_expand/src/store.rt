@@ -1,6 +1,5 @@
-ghost use Rattle.std.specs.Prelude.{◌≡◌, ◌↔◌, ◌+◌, ◌<◌, ◌≤◌, ◌^◌, ◌++◌, [], Contains, IfOk, IfSome, IfNone, IsTrue, OnOk, OnErr, length};
-ghost use Rattle.cls_core.specs.Closure.{goals_of};
-ghost use Rattle.cls_expand.specs.Memos.{rules_together};
+ghost use Rattle.std.specs.Prelude.{◌≡◌, ◌↔◌, ◌+◌, ◌<◌, ◌≤◌, ◌^◌, ◌++◌, [], IfOk, IfSome, IfNone, IsTrue, OnOk, OnErr, length};
+ghost use Rattle.cls_expand.specs.Memos.{rules_together, HasGoalsOf};
 
 use crate::additions::Additions;
 use crate::memo::Memo;
@@ -105,7 +104,7 @@ impl<E: Expand> Store<E> {
         requires goals { self.old.goals ++ more.goals.keys ≡ (together E.Goal.eq self.old rows.now).goals }
         requires answers { self.old.answers ++ more.answers.items ≡ (together E.Goal.eq self.old rows.now).answers }
         ensures ok { OnOk result (self.new ≡ together E.Goal.eq self.old rows.now) }
-        ensures held { OnOk result ((g : E.Goal) → Contains (goals_of rows.now) g → Contains self.new.goals g) }
+        ensures held { OnOk result (HasGoalsOf rows.now self.new.goals) }
         ensures err { OnErr result (self.new ≡ self.old) }
     {
         let Additions {
@@ -126,7 +125,7 @@ impl<E: Expand> Store<E> {
         requires complete { AreComplete E.Goal.eq (E.answers self.old.tag) rows.now }
         requires fit { FitMemo rows.now }
         ensures ok { OnOk result (self.new ≡ together E.Goal.eq (emptied self.old) rows.now) }
-        ensures held { OnOk result ((g : E.Goal) → Contains (goals_of rows.now) g → Contains self.new.goals g) }
+        ensures held { OnOk result (HasGoalsOf rows.now self.new.goals) }
         ensures err { OnErr result (self.new ≡ self.old) }
     {
         let none = IndexSet::new(alloc);
@@ -163,7 +162,7 @@ impl<E: Expand> Memo<E> for Store<E> {
         requires complete { AreComplete E.Goal.eq (E.answers self.old.tag) finished.now.rows }
         requires fit { FitMemo finished.now.rows }
         ensures tag { self.new.tag ≡ self.old.tag }
-        ensures held { OnOk result ((g : E.Goal) → Contains (goals_of finished.now.rows) g → Contains self.new.goals g) }
+        ensures held { OnOk result (HasGoalsOf finished.now.rows self.new.goals) }
         ensures kept { OnOk result (IsKept E.Goal.eq self.old finished.now.rows self.new) }
         ensures err { OnErr result (self.new ≡ self.old) }
     {

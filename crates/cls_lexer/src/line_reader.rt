@@ -3,6 +3,7 @@ ghost use Rattle.cls_lexer.specs.Lines.{lines_of, without_return, HasNoFeed, Cut
 
 use crate::line::Line;
 use cls_base::OutOfMemory;
+use memchr::memchr;
 use std::alloc::Global;
 use std::marker::Model;
 
@@ -78,8 +79,9 @@ impl LineReader {
     }
 }
 
+/// The place of the first line feed.
 fn first_feed(bytes: &[u8]) -> Option<usize>
     ensures { result ≡ position (λ b. b == 10) bytes.now }
 {
-    bytes.iter().position(|byte| *byte == b'\n')
+    memchr(b'\n', bytes)
 }

@@ -15,6 +15,8 @@ mod listings;
 #[cfg(test)]
 mod pieces;
 #[cfg(test)]
+mod queries;
+#[cfg(test)]
 mod refusals;
 #[cfg(test)]
 mod streaming;

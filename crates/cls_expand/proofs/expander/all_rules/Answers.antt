@@ -4,17 +4,17 @@ use Rattle.cls_expand.specs.declared.spine.Spine.{Spine}
 use Rattle.cls_expand.specs.Making.{AreBegun}
 use Rattle.cls_expand.proofs.Making.{begun_none}
 use Rattle.cls_expand.proofs.Places.{when_false, when_true, parts, rules_all}
-use Rattle.cls_expand.proofs.expander.Expander.rules_of.Goals as goal
+use Rattle.cls_expand.proofs.expander.all_rules.Goals as goal
 
 pub loop-x-init : goal.loop-x-init
-loop-x-init c = λ q rest e. subst (λ (ks : List Spine). AreBegun c.args.self.now.lib.now (listed c.args.goal.now) 0 0 0 [] ks) (sym c.new-spines.ensures.empty) (begun_none c.args.self.now.lib.now (listed c.args.goal.now) 0)
+loop-x-init c = λ q rest e. subst (λ (ks : List Spine). AreBegun c.args.lib.now (listed c.args.goal.now) 0 0 0 [] ks) (sym c.new-spines.ensures.empty) (begun_none c.args.lib.now (listed c.args.goal.now) 0)
 
 pub returns-then-not-branch : goal.returns-then-not-branch
 returns-then-not-branch c =
     let p = parts c.args.goal.now c.paths.result.now c.is_empty.result c.paths.ensures c.is_empty.ensures c.if-is_empty.false in
     record {
       component = c.loop-x.x;
-      declared = (let t : c.loop-x.x < c.count-x-end.result = c.loop-x-test.true in let n : c.count-x-end.result ≡ length c.args.self.now.lib.now.components = c.count-x-end.ensures.count in omega arith);
+      declared = (let t : c.loop-x.x < c.count-x-end.result = c.loop-x-test.true in let n : c.count-x-end.result ≡ length c.args.lib.now.components = c.count-x-end.ensures.count in omega arith);
       wide = when_false _ c.if-not-branch.true (c.in_ok-add_component.ensures p.0 p.1 0 p.2 (omega arith) (c.loop-x.invariant p.0 p.1 p.2));
     }
 
@@ -26,6 +26,6 @@ returns c =
     let p = parts c.args.goal.now c.paths.result.now c.is_empty.result c.paths.ensures c.is_empty.ensures c.if-is_empty.false in
     let t : c.count-x-end.result ≤ c.loop-x.x = c.loop-x-test.false in
     let u : c.loop-x.x ≤ c.count-x-end.result = c.loop-x.auto.x-end in
-    let n : c.count-x-end.result ≡ length c.args.self.now.lib.now.components = c.count-x-end.ensures.count in
-    let e : c.loop-x.x ≡ length c.args.self.now.lib.now.components = omega arith in
-    rules_all c.args.self.now.lib.now (listed c.args.goal.now) p.0 p.1 c.loop-x.x c.loop-x.spines.keys _ p.2 e (c.loop-x.invariant p.0 p.1 p.2) c.in_ok-head_rules.ensures
+    let n : c.count-x-end.result ≡ length c.args.lib.now.components = c.count-x-end.ensures.count in
+    let e : c.loop-x.x ≡ length c.args.lib.now.components = omega arith in
+    rules_all c.args.lib.now (listed c.args.goal.now) p.0 p.1 c.loop-x.x c.loop-x.spines.keys _ p.2 e (c.loop-x.invariant p.0 p.1 p.2) c.in_ok-head_rules.ensures

@@ -1,7 +1,0 @@
-use Rattle.std.proofs.Common.{◌≡◌, []}
-use Rattle.cls_path.specs.Paths.{TypePath, Paths, more, listed}
-use Rattle.cls_expand.specs.Making.{AreBegun}
-use Rattle.cls_expand.proofs.expander.Expander.rules_of.Given as goal
-
-abbrev pub invariant-loop-x : goal.invariant-loop-x
-invariant-loop-x l = (q : TypePath) (rest : Paths) → listed l.goal ≡ more q rest → AreBegun l.self.lib.now (listed l.goal) 0 l.x 0 [] l.spines.keys
