@@ -117,7 +117,12 @@ fn all_rules(alloc: Global, lib: &Library, goal: &Nf) -> Result<Answer<Nf>, OutO
 }
 
 /// The rules of the goal by one component.
-fn component_rules(alloc: Global, lib: &Library, goal: &Nf, x: u32) -> Result<Answer<Nf>, OutOfMemory>
+fn component_rules(
+    alloc: Global,
+    lib: &Library,
+    goal: &Nf,
+    x: u32,
+) -> Result<Answer<Nf>, OutOfMemory>
     requires ready { IsReady lib.now goal.now }
     requires declared { x < length lib.now.components }
     ensures { IfOk result (IsAnswerBy lib.now x goal.now) }
