@@ -3,7 +3,7 @@ ghost use Rattle.cls_base.specs.Terms.{IsTermOver};
 
 use crate::certificates::{Row, Verdict, member_text, member_verdict, rows_verdict};
 use crate::goals::{declared, doubling, goal};
-use crate::grammars::{grammar, printed};
+use crate::grammars::grammar;
 use cls_base::Numbers;
 use cls_check::{Reason, has_type};
 use cls_finite::{FiniteAnswer, finite};
@@ -25,7 +25,7 @@ fn grammar_text<R: Threads + Wait + Sync>(
     let mut given = declared(alloc, &[("f", "(A -> C) & (B -> C)"), ("x", "A & B")])?;
     let goal = goal(alloc, &given.library, &mut given.names, "C")?;
     let grammar = grammar(rt, alloc, &given.library, goal, workers)?;
-    printed(alloc, &given.names, &given.components, &grammar)
+    Ok(grammar.print(alloc, &given.names, &given.components)?)
 }
 
 // The trimmed grammar of A, of which g makes no term since none has B.
@@ -34,7 +34,7 @@ fn trimmed_text<R: Threads + Wait + Sync>(rt: &R, alloc: Global) -> Result<Strin
     let goal = goal(alloc, &given.library, &mut given.names, "A")?;
     let grammar = grammar(rt, alloc, &given.library, goal, 1)?;
     let grammar = grammar.trim(alloc)?;
-    printed(alloc, &given.names, &given.components, &grammar)
+    Ok(grammar.print(alloc, &given.names, &given.components)?)
 }
 
 #[test]

@@ -10,13 +10,7 @@ use Rattle.cls_core.specs.declared.answer.Answer.TheVariants.{Rules}
 use Rattle.cls_core.specs.Arguments.{rules_of, rule_count}
 use Rattle.cls_core.specs.Rows.{Row}
 use Rattle.cls_core.proofs.Columns.{get-some}
-use Rattle.cls_syntax.specs.TypePrinting.{HasNamesBelow}
-use Rattle.cls_grammar.specs.GrammarTexts.{rules_text, goal_text, row_text, rows_text, HasComponentBelow, HaveComponentsBelow, AreNamed}
-
-pub component-at : (n : ℕ) (rs : List (Rule ℕ)) (i : ℕ) (r : Rule ℕ) → HaveComponentsBelow n rs → slice_get rs i ≡ Some r → HasComponentBelow n r
-component-at n [] i r h e = cc
-component-at n (q ∷ rs) zero r h e = subst (HasComponentBelow n) (let f : q ≡ r = cc in f) h.0
-component-at n (q ∷ rs) (suc i) r h e = component-at n rs i r h.1 e
+use Rattle.cls_grammar.specs.GrammarTexts.{rules_text, goal_text, row_text, rows_text}
 
 pub read-at : {A : Type 0} (xs : List A) (i : ℕ) (d : A) → i < length xs → slice_get xs i ≡ Some (get_or xs i d)
 read-at xs i d l = let u = get-some xs i l in subst (λ x. slice_get xs i ≡ Some x) (sym (get_or_from_slice_get xs i u.0 d u.1)) u.1
@@ -31,20 +25,6 @@ row-parts rows i g l r goal answer at =
     let b : Some r.answer ≡ Some (Rules l) = ap (option_map (λ (r : Shown). r.answer)) (sym at) ∙ answer in
     let c : r.answer ≡ Rules l = cc in
     ((let d : r.goal ≡ g = cc in d), ap rules_of c)
-
-pub goal-held : (n m : ℕ) (rows : List Shown) (i : ℕ) (g : List TypePath) → AreNamed n m rows → i < length rows → option_map (λ (r : Shown). r.goal) (slice_get rows i) ≡ Some g → HasNamesBelow n (type_of_paths (listed g))
-goal-held n m rows i g h l goal =
-    let u = get-some rows i l in
-    let a : Some (u.0).goal ≡ Some g = ap (option_map (λ (r : Shown). r.goal)) (sym u.1) ∙ goal in
-    let d : (u.0).goal ≡ g = cc in
-    subst (λ x. HasNamesBelow n (type_of_paths (listed x))) d (h.names_known i u.0 u.1)
-
-pub rules-held : (n m : ℕ) (rows : List Shown) (i : ℕ) (l : List (Rule ℕ)) → AreNamed n m rows → i < length rows → option_map (λ (r : Shown). r.answer) (slice_get rows i) ≡ Some (Rules l) → HaveComponentsBelow m l
-rules-held n m rows i l h less answer =
-    let u = get-some rows i less in
-    let b : Some (u.0).answer ≡ Some (Rules l) = ap (option_map (λ (r : Shown). r.answer)) (sym u.1) ∙ answer in
-    let c : (u.0).answer ≡ Rules l = cc in
-    subst (HaveComponentsBelow m) (ap rules_of c) (h.components_known i u.0 u.1)
 
 -- the text of a row is that of its goal and its rules
 pub row-written : (name component : ℕ → List ℕ) (rows : List Shown) (i : ℕ) (g : List TypePath) (l : List (Rule ℕ)) (rank : Option ℕ) (t u v : List ℕ)

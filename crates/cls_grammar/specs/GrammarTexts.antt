@@ -59,19 +59,3 @@ module _ (name component : ℕ → List ℕ) where
   -- the text of the grammar with the ranks of its goals
   abbrev pub IsGrammarText : List (Row (List TypePath)) → List ℕ → Type 0
   IsGrammarText rows text = (ranks : List (Option ℕ)) × AreRanks (book_of rows) ranks × (text ≡ grammar_text rows ranks)
-
--- the component of the rule has a number below n
-abbrev pub HasComponentBelow : ℕ → Rule ℕ → Type 0
-HasComponentBelow n (Head x ns) = x < n
-HasComponentBelow n (Any l m) = Unit {0}
-
-abbrev pub HaveComponentsBelow : ℕ → List (Rule ℕ) → Type 0
-HaveComponentsBelow n [] = Unit {0}
-HaveComponentsBelow n (r ∷ rs) = HasComponentBelow n r × HaveComponentsBelow n rs
-
--- the names and the components that occur in the grammar have numbers below these
-pub record AreNamed (names components : ℕ) (rows : List (Row (List TypePath))) : Type 0 where
-  pub names_known : (i : ℕ) (r : Row (List TypePath)) → slice_get rows i ≡ Some r
-      → HasNamesBelow names (type_of_paths (listed r.goal))
-  pub components_known : (i : ℕ) (r : Row (List TypePath)) → slice_get rows i ≡ Some r
-      → HaveComponentsBelow components (rules_of r.answer)

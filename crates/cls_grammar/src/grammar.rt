@@ -4,7 +4,7 @@ ghost use Rattle.cls_core.specs.Renumbering.{renumbered};
 ghost use Rattle.cls_rulebook.specs.Books.{HaveNodesBelow};
 ghost use Rattle.cls_grammar.specs.Faults.{IfWide};
 ghost use Rattle.cls_syntax.specs.TypePrinting.{name_in};
-ghost use Rattle.cls_grammar.specs.GrammarTexts.{AreNamed, IsGrammarText};
+ghost use Rattle.cls_grammar.specs.GrammarTexts.{IsGrammarText};
 ghost use Rattle.cls_grammar.specs.Grammars.{MakeGrammar, book_of, first_wide};
 ghost use Rattle.cls_grammar.specs.Ranks.{AreRanks, AreProductive};
 ghost use Rattle.cls_grammar.specs.Trimming.{IsTrimmed, HaveSameLanguages};
@@ -91,14 +91,14 @@ impl Grammar {
         Ok(useful_rows(alloc, self, &flags)?)
     }
 
-    /// The text of the grammar, with each goal's rank or that it has none. The only error is out of memory.
+    /// The text of the grammar, with each goal's rank or that it has none. A name that isn't in its table is the empty
+    /// text. The only error is out of memory.
     pub fn print(
         &self,
         alloc: Global,
         names: &Names,
         components: &Names,
     ) -> Result<String, OutOfMemory>
-        requires { AreNamed (length names.now) (length components.now) self.now }
         ensures { IfOk result (λ text.
             IsGrammarText (name_in names.now) (name_in components.now) self.now (string_bytes text)) }
     {

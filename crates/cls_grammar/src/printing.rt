@@ -5,8 +5,8 @@ ghost use Rattle.std.specs.List.{sum_by};
 ghost use Rattle.cls_path.specs.Paths.{TypePath, listed, type_of_paths};
 ghost use Rattle.cls_core.specs.Arguments.{rule_count};
 ghost use Rattle.cls_core.specs.Rows.{Row};
-ghost use Rattle.cls_syntax.specs.TypePrinting.{name_in, HasNamesBelow};
-ghost use Rattle.cls_grammar.specs.GrammarTexts.{counts_text, numbers_text, line, rank_text, rule_text, rules_text, goal_text, row_text, rows_text, grammar_text, HasComponentBelow, HaveComponentsBelow, AreNamed};
+ghost use Rattle.cls_syntax.specs.TypePrinting.{name_in};
+ghost use Rattle.cls_grammar.specs.GrammarTexts.{counts_text, numbers_text, line, rank_text, rule_text, rules_text, goal_text, row_text, rows_text, grammar_text};
 
 use crate::grammar::Grammar;
 use cls_base::{Name, OutOfMemory, Rule};
@@ -46,7 +46,6 @@ fn write_numbers(numbers: &[u32], text: &mut String) -> Result<(), OutOfMemory>
 
 // Writes the line of a rule.
 fn write_rule(components: &Names, rule: &Rule<u32>, text: &mut String) -> Result<(), OutOfMemory>
-    requires { HasComponentBelow (length components.now) rule.now }
     ensures { OnOk result (string_bytes text.new ≡ string_bytes text.old ++
         line (rule_text (name_in components.now) rule.now)) }
 {
@@ -75,7 +74,6 @@ fn write_rules(
     rules: &[Rule<u32>],
     text: &mut String,
 ) -> Result<(), OutOfMemory>
-    requires { HaveComponentsBelow (length components.now) rules.now }
     ensures { OnOk result (string_bytes text.new ≡ string_bytes text.old ++
         rules_text (name_in components.now) rules.now) }
 {
@@ -111,7 +109,6 @@ fn write_goal(
     rank: Option<u32>,
     text: &mut String,
 ) -> Result<(), OutOfMemory>
-    requires { HasNamesBelow (length names.now) (type_of_paths (listed goal.now)) }
     ensures { OnOk result (string_bytes text.new ≡ string_bytes text.old ++
         goal_text (name_in names.now) number goal.now rank) }
 {
@@ -135,8 +132,7 @@ fn write_row(
     rank: Option<u32>,
     text: &mut String,
 ) -> Result<(), OutOfMemory>
-    requires within { number < length grammar.now }
-    requires named { AreNamed (length tables.now.names.now) (length tables.now.components.now) grammar.now }
+    requires { number < length grammar.now }
     ensures { OnOk result ((r : Row (List TypePath)) → slice_get grammar.now number ≡ Some r
         → string_bytes text.new ≡ string_bytes text.old ++
         row_text (name_in tables.now.names.now) (name_in tables.now.components.now) number r rank) }
@@ -161,8 +157,7 @@ fn write_rows(
     ranks: &[Option<u32>],
     text: &mut String,
 ) -> Result<(), OutOfMemory>
-    requires paired { length ranks.now ≡ length grammar.now }
-    requires named { AreNamed (length tables.now.names.now) (length tables.now.components.now) grammar.now }
+    requires { length ranks.now ≡ length grammar.now }
     ensures { OnOk result (string_bytes text.new ≡ string_bytes text.old ++
         rows_text (name_in tables.now.names.now) (name_in tables.now.components.now) 0 grammar.now ranks.now) }
 {
@@ -205,8 +200,7 @@ pub(crate) fn write_grammar(
     ranks: &[Option<u32>],
     text: &mut String,
 ) -> Result<(), OutOfMemory>
-    requires paired { length ranks.now ≡ length grammar.now }
-    requires named { AreNamed (length tables.now.names.now) (length tables.now.components.now) grammar.now }
+    requires { length ranks.now ≡ length grammar.now }
     ensures { OnOk result (string_bytes text.new ≡ string_bytes text.old ++
         grammar_text (name_in tables.now.names.now) (name_in tables.now.components.now) grammar.now ranks.now) }
 {

@@ -108,11 +108,13 @@ impl Names {
         self.texts.shift_remove_index(name.0 as usize);
     }
 
-    /// The text of the number.
+    /// The text of the number. A number that no text has gives the empty text.
     pub fn text(&self, name: Name) -> &str
-        requires { name.0 < length self.now }
         ensures { result.now ≡ slice_index_or self.now name.0 [] }
     {
-        self.texts.as_slice()[name.0 as usize].as_str()
+        match self.texts.get_index(name.0 as usize) {
+            Some(text) => text.as_str(),
+            None => "",
+        }
     }
 }

@@ -1,11 +1,11 @@
 //! The text of a certificate.
-ghost use Rattle.std.specs.Prelude.{◌≡◌, ◌++◌, ◌<◌, length, decimal, map, string_bytes, IfOk, OnOk};
-ghost use Rattle.std.specs.List.{flat_map, AllByRecursion};
+ghost use Rattle.std.specs.Prelude.{◌≡◌, ◌++◌, decimal, map, string_bytes, IfOk, OnOk};
+ghost use Rattle.std.specs.List.{flat_map};
 ghost use Rattle.cls_proof.specs.Blocks.{block_of};
 ghost use Rattle.cls_proof.specs.Members.{member_of};
 ghost use Rattle.cls_proof.specs.Rows.{row_of};
 ghost use Rattle.cls_proof.specs.Seen.{certificate_of};
-ghost use Rattle.cls_proof.specs.Texts.{certificate_text, row_text, member_text, block_text, layer_text, set_text, numbers_text, IsHeld, IsRowHeld, IsMemberHeld, IsBlockHeld};
+ghost use Rattle.cls_proof.specs.Texts.{certificate_text, row_text, member_text, block_text, layer_text, set_text, numbers_text};
 
 use crate::block::Block;
 use crate::certificate::Certificate;
@@ -18,7 +18,7 @@ use cls_syntax::write_type;
 use itoa::Buffer;
 use std::alloc::Global;
 
-/// The lines of the certificate, the last one `qed`. The names and components of the certificate are held. The only
+/// The lines of the certificate, the last one `qed`. A name or component that isn't in its table is the empty text. The only
 /// error is out of memory.
 pub fn print_certificate(
     alloc: Global,
@@ -26,7 +26,6 @@ pub fn print_certificate(
     components: &Names,
     certificate: &Certificate,
 ) -> Result<String, OutOfMemory>
-    requires { IsHeld (length names.now) (length components.now) (certificate_of certificate.now) }
     ensures { IfOk result (λ text.
         string_bytes text ≡ certificate_text names.now components.now (certificate_of certificate.now)) }
 {
@@ -53,7 +52,6 @@ fn write_rows(
     rows: &[ProofRow],
     text: &mut String,
 ) -> Result<(), OutOfMemory>
-    requires { AllByRecursion (IsRowHeld (length names.now) (length components.now)) (map row_of rows.now) }
     ensures { OnOk result (string_bytes text.new
         ≡ string_bytes text.old ++ flat_map (row_text names.now components.now) (map row_of rows.now)) }
 {
@@ -71,7 +69,6 @@ fn write_row(
     row: &ProofRow,
     text: &mut String,
 ) -> Result<(), OutOfMemory>
-    requires { IsRowHeld (length names.now) (length components.now) (row_of row.now) }
     ensures { OnOk result (string_bytes text.new
         ≡ string_bytes text.old ++ row_text names.now components.now (row_of row.now)) }
 {
@@ -95,7 +92,6 @@ fn write_members(
     members: &[Member],
     text: &mut String,
 ) -> Result<(), OutOfMemory>
-    requires { AllByRecursion (IsMemberHeld (length names.now) (length components.now)) (map member_of members.now) }
     ensures { OnOk result (string_bytes text.new
         ≡ string_bytes text.old ++ flat_map (member_text names.now components.now) (map member_of members.now)) }
 {
@@ -111,7 +107,6 @@ fn write_members(
 /// Writes the lines of the blocks at the end.
 #[tactic(auto, using(crate::proofs::Writing::texts))]
 fn write_blocks(components: &Names, blocks: &[Block], text: &mut String) -> Result<(), OutOfMemory>
-    requires { AllByRecursion (IsBlockHeld (length components.now)) (map block_of blocks.now) }
     ensures { OnOk result (string_bytes text.new
         ≡ string_bytes text.old ++ flat_map (block_text components.now) (map block_of blocks.now)) }
 {

@@ -1,16 +1,15 @@
 //! Prints a type.
-ghost use Rattle.std.specs.Prelude.{◌≡◌, ◌<◌, ◌++◌, length, IfOk, OnOk, string_bytes};
+ghost use Rattle.std.specs.Prelude.{◌≡◌, ◌<◌, ◌++◌, IfOk, OnOk, string_bytes};
 ghost use Rattle.cls_base.specs.Ty.{type_of};
-ghost use Rattle.cls_syntax.specs.TypePrinting.{name_in, HasNamesBelow, text_if, is_omega_type, printed};
+ghost use Rattle.cls_syntax.specs.TypePrinting.{name_in, text_if, is_omega_type, printed};
 
 use cls_base::{OutOfMemory, Ty};
 use cls_lexer::Names;
 use std::alloc::Global;
 
 /// The text of the type: ` -> `, ` & ` and ` * ` between parts, and parentheses only where they are needed. A name over
-/// omega is the bare name. The only error is out of memory.
+/// omega is the bare name, and a name that isn't in the table is the empty text. The only error is out of memory.
 pub fn print_type(alloc: Global, names: &Names, ty: &Ty) -> Result<String, OutOfMemory>
-    requires { HasNamesBelow (length names.now) (type_of ty.now) }
     ensures { IfOk result (λ text. string_bytes text ≡ printed (name_in names.now) 0 (type_of ty.now)) }
 {
     let mut text = String::new(alloc);
@@ -20,7 +19,6 @@ pub fn print_type(alloc: Global, names: &Names, ty: &Ty) -> Result<String, OutOf
 
 /// Writes that text at the end. The only error is out of memory.
 pub fn write_type(text: &mut String, names: &Names, ty: &Ty) -> Result<(), OutOfMemory>
-    requires { HasNamesBelow (length names.now) (type_of ty.now) }
     ensures { OnOk result (string_bytes text.new
         ≡ string_bytes text.old ++ printed (name_in names.now) 0 (type_of ty.now)) }
 {
@@ -31,7 +29,6 @@ pub fn write_type(text: &mut String, names: &Names, ty: &Ty) -> Result<(), OutOf
 /// intersection, 3 an atom.
 #[tactic(auto, using(crate::proofs::Regrouping::regroup), unfolding(crate::specs::TypePrinting::printed))]
 fn push_type(text: &mut String, names: &Names, ty: &Ty, strength: u8) -> Result<(), OutOfMemory>
-    requires { HasNamesBelow (length names.now) (type_of ty.now) }
     ensures { OnOk result (string_bytes text.new
         ≡ string_bytes text.old ++ printed (name_in names.now) strength (type_of ty.now)) }
 {

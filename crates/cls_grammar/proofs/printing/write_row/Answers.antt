@@ -1,13 +1,6 @@
-use Rattle.std.proofs.Common.{length}
 use Rattle.cls_syntax.specs.TypePrinting.{name_in}
-use Rattle.cls_grammar.proofs.PrintedRows.{goal-held, rules-held, row-written}
+use Rattle.cls_grammar.proofs.PrintedRows.{row-written}
 use Rattle.cls_grammar.proofs.printing.write_row.Goals as goal
-
-pub write_goal-requires : goal.write_goal-requires
-write_goal-requires c = goal-held (length c.args.tables.now.names.now) (length c.args.tables.now.components.now) c.args.grammar.now c.args.number c.goal.result.now c.requires.named c.requires.within c.goal.ensures
-
-pub write_rules-requires : goal.write_rules-requires
-write_rules-requires c = rules-held (length c.args.tables.now.names.now) (length c.args.tables.now.components.now) c.args.grammar.now c.args.number c.rules.result.now c.requires.named c.requires.within c.rules.ensures.rules
 
 pub returns : goal.returns
 returns c = λ r e. row-written (name_in c.args.tables.now.names.now) (name_in c.args.tables.now.components.now) c.args.grammar.now c.args.number c.goal.result.now c.rules.result.now c.args.rank _ _ _ c.goal.ensures c.rules.ensures.rules c.in_ok-write_goal.ensures c.in_ok-write_rules.ensures r e
