@@ -84,6 +84,13 @@ impl Component {
         self.weight
     }
 
+    /// The paths.
+    pub fn paths(&self) -> &Nf
+        ensures { listed result.now ≡ self.now.paths }
+    {
+        &self.paths
+    }
+
     /// The greatest number of arguments that an arrow takes.
     pub fn arity(&self) -> usize
         ensures { result ≡ arity_of self.now.paths }

@@ -2,7 +2,7 @@
 ghost use Rattle.std.specs.Prelude.{◌≡◌, ◌+◌, ◌≤◌, ◌<◌, length, map, remove, IfOk, IfErr, OnOk, OnErr};
 ghost use Rattle.cls_base.specs.Limits.{max_library_weight};
 ghost use Rattle.cls_base.specs.Schemas.{schema_of};
-ghost use Rattle.cls_path.specs.Paths.{Suits};
+ghost use Rattle.cls_path.specs.Paths.{listed, Suits};
 ghost use Rattle.cls_library.specs.Arrows.{arity_of};
 ghost use Rattle.cls_library.specs.Families.{IsFamilyIn};
 ghost use Rattle.cls_library.specs.Libraries.{variances_in, paths_at, arrows_at, total_of, IsLibrary, IsComponentOf, IsWithinLimits};
@@ -100,6 +100,14 @@ impl Library {
         ensures library { IsLibrary self.now }
     {
         self.components.len() as u32
+    }
+
+    /// The paths of the component, whose intersection is its type.
+    pub fn paths(&self, x: u32) -> &Nf
+        requires { x < length self.now.components }
+        ensures { listed result.now ≡ paths_at self.now x }
+    {
+        self.components[x as usize].paths()
     }
 
     /// The greatest number of arguments that an arrow of the component takes.

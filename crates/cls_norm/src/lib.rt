@@ -1,6 +1,6 @@
 //! Normal forms of types, and subtyping.
 //!
-//! - [`normal`] gives the normal form of a type, [`type_of`] the type of a normal form.
+//! - [`normal`] gives the normal form of a type, [`type_of`] the type of a normal form, [`path_type`] that of a path.
 //! - [`subtype`] says whether a derivation of subtyping exists.
 //! - [`fit`] says whether the type of a normal form is small enough to be worked on further.
 #![tactic(auto)]
@@ -12,4 +12,4 @@ mod types;
 
 pub use fits::fit;
 pub use normals::{normal, subtype};
-pub use types::type_of;
+pub use types::{path_type, type_of};

@@ -25,9 +25,9 @@ pub fn type_of(alloc: Global, nf: &Nf) -> Result<Ty, OutOfMemory>
     }
 }
 
-/// The type of the path.
+/// The type of the path. The only error is out of memory.
 #[cycle(type_of)]
-fn path_type(alloc: Global, path: &Path) -> Result<Ty, OutOfMemory>
+pub fn path_type(alloc: Global, path: &Path) -> Result<Ty, OutOfMemory>
     ensures { IfOk result (λ ty. closed.type_of ty ≡ type_of_path path.now) }
 {
     match path.form() {
