@@ -1,7 +1,7 @@
 ghost use Rattle.std.specs.Prelude.{◌<◌, ◌^◌, length, IfOk};
 ghost use Rattle.cls_base.specs.Terms.{IsTermOver};
 
-use crate::certificates::{Row, Verdict, member_text, member_verdict, rows_verdict};
+use crate::certificates::{Found, found, printed_again};
 use crate::goals::{declared, doubling, goal};
 use crate::grammars::{grammar, printed};
 use cls_base::Numbers;
@@ -88,31 +88,82 @@ fn terms_have_types(rt: HostRuntime) -> Result<(), Fail> {
 // A certificate of C by the library of `grammar_text`, and altered ones.
 #[test]
 fn rows_are_checked(rt: HostRuntime) -> Result<(), Fail> {
-    let a: Row = ("A", 1, 0, &[0]);
-    let b: Row = ("B", 1, 0, &[1]);
-    let c: Row = ("C", 0, 1, &[0]);
-    assert!(rt; rows_verdict(rt.alloc(), &[a, b, c])? == None);
-    assert!(rt; rows_verdict(rt.alloc(), &[b, c])? == Some((2, Reason::Argument)));
-    assert!(rt; rows_verdict(rt.alloc(), &[a, ("C", 0, 2, &[0])])? == Some((2, Reason::Arrow)));
-    assert!(rt; rows_verdict(rt.alloc(), &[("A", 1, 0, &[1])])? == Some((1, Reason::Target)));
-    assert!(rt; rows_verdict(rt.alloc(), &[a, b])? == Some((2, Reason::Goal)));
+    let alloc = rt.alloc();
+    let given: &[(&str, &str)] = &[("f", "(A -> C) & (B -> C)"), ("x", "A & B")];
+    let (a, b, c) = ("row A by x 0 : 0", "row B by x 0 : 1", "row C by f 1 : 0");
+    let cases: [(&[&str], Found); 10] = [
+        (&[a, b, c], Found::Accepted),
+        (&[b, c], Found::Refused(2, Reason::Argument)),
+        (&[a, b, "row C by f 1 : 1"], Found::Accepted),
+        (&[a, "row C by f 2 : 0"], Found::Refused(2, Reason::Arrow)),
+        (&[a, "row C by f 1 : 1 0"], Found::Refused(2, Reason::Arrow)),
+        (&["row A by x 0 : 1"], Found::Refused(1, Reason::Target)),
+        (&["row A by x 0 :"], Found::Refused(1, Reason::Target)),
+        (&[a, b], Found::Refused(2, Reason::Goal)),
+        (&[], Found::Refused(0, Reason::Goal)),
+        (&["row A by x 0 : 4294967296"], Found::Bad(2)),
+    ];
+    for (rows, expected) in cases {
+        let mut lines = vec![in alloc; "inhabited"]?;
+        lines.extend_from_slice(rows)?;
+        lines.push("qed")?;
+        assert_eq!(rt; found(alloc, given, "C", lines.as_slice())?, expected);
+    }
     Ok(())
 }
 
+// A certificate for A & B by one component, which has A, and altered ones.
 #[test]
 fn members_are_checked(rt: HostRuntime) -> Result<(), Fail> {
     let alloc = rt.alloc();
-    let layers: &[&[&[u32]]] = &[&[&[0]], &[]];
-    assert!(rt; member_verdict(alloc, "A", "A & B", "A & B", 0, layers)? == None);
-    assert!(rt; member_verdict(alloc, "A", "B", "A & B", 0, layers)? == Some((0, Reason::Goal)));
-    let layers: &[&[&[u32]]] = &[&[&[0]]];
-    assert!(rt;
-        member_verdict(alloc, "A", "A & B", "A & B", 0, layers)? == Some((1, Reason::Layers))
-    );
-    assert!(rt; member_verdict(alloc, "A -> A", "A", "A", 1, layers)? == None);
-    assert!(rt; member_verdict(alloc, "A -> A", "A", "A", 1, &[])? == Some((1, Reason::Unblocked)));
-    let text = member_text(alloc, "A", 1, layers)?;
-    assert!(rt; text.as_str() == "empty\nmember A\nblock f 1\nlayer\nset 0\nqed\n");
+    let given: &[(&str, &str)] = &[("x", "A")];
+    let (member, block, layer, set) = ("member A & B", "block x 0", "layer", "set 0");
+    let whole: &[&str] = &["empty", member, block, layer, set, layer, "qed"];
+    for (asked, expected) in [
+        ("A & B", Found::Accepted),
+        ("B", Found::Refused(0, Reason::Goal)),
+        ("A & B & D", Found::Accepted),
+    ] {
+        assert_eq!(rt; found(alloc, given, asked, whole)?, expected);
+    }
+    let twice = [block, layer, set, layer, block, layer, set, layer];
+    let cases: [(&[&str], Found); 5] = [
+        (&[block, layer, set], Found::Refused(1, Reason::Layers)),
+        (&[block, layer, "set 1", layer], Found::Refused(1, Reason::Layers)),
+        (&twice, Found::Refused(1, Reason::Layers)),
+        (&[block, layer, layer], Found::Refused(1, Reason::Unblocked)),
+        (&[], Found::Refused(1, Reason::Unblocked)),
+    ];
+    for (blocks, expected) in cases {
+        let mut lines = vec![in alloc; "empty", member]?;
+        lines.extend_from_slice(blocks)?;
+        lines.push("qed")?;
+        assert_eq!(rt; found(alloc, given, "A & B", lines.as_slice())?, expected);
+    }
+    Ok(())
+}
+
+// Lines that are no certificate, and one that is printed again.
+#[test]
+fn certificates_are_read(rt: HostRuntime) -> Result<(), Fail> {
+    let alloc = rt.alloc();
+    let given: &[(&str, &str)] = &[("f", "A -> A")];
+    let whole: &[&str] = &["empty", "member A", "block f 1", "layer", "set 0", "qed"];
+    assert_eq!(rt; found(alloc, given, "A", whole)?, Found::Accepted);
+    let text = printed_again(alloc, given, whole)?;
+    assert_eq!(rt; text.as_str(), "empty\nmember A\nblock f 1\nlayer\nset 0\nqed\n");
+    let cases: [(&[&str], Found); 7] = [
+        (&["empty", "hello", "qed"], Found::Bad(2)),
+        (&["empty"], Found::NoQed),
+        (&["qed"], Found::Bad(1)),
+        (&["# said once", "empty", " ", "member A", "layer", "qed"], Found::Bad(5)),
+        (&["empty", "member A", "block f 1", "set 0", "qed"], Found::Bad(4)),
+        (&["empty", "member $a", "qed"], Found::Bad(2)),
+        (&["empty", "qed", "qed"], Found::Bad(3)),
+    ];
+    for (lines, expected) in cases {
+        assert_eq!(rt; found(alloc, given, "A", lines)?, expected);
+    }
     Ok(())
 }
 
