@@ -1,6 +1,6 @@
 -- What a line is read as, by what its tokens are read as.
-use Rattle.std.proofs.Common.{◌≡◌, ℕ, List, refl, sym, subst}
-use Rattle.std.specs.Prelude.{Result, Ok, Err}
+use Rattle.std.proofs.Common.{◌≡◌, ℕ, Bool, true, false, List, refl, sym, subst}
+use Rattle.std.specs.Prelude.{Result, Ok, Err, Option, Some, None, IsNone}
 use Rattle.cls_lexer.specs.declared.token.Token.{Token}
 use Rattle.cls_lexer.specs.Skipped.{IsText, IsSkipped}
 use Rattle.cls_lexer.specs.Words.{Word, words, words_of}
@@ -16,6 +16,11 @@ use Rattle.cls_proof.specs.declared.statement_form.StatementForm.{StatementForm}
 use Rattle.cls_proof.specs.Forms.{certificate_rows, line_of, constructors_of, Written}
 use Rattle.cls_proof.specs.Said.{statement_of, written, IsMeant, IsReadAs}
 use Rattle.cls_proof.proofs.Meanings.{SaysNothing, stop_nothing, line_says}
+
+-- a value that is there
+pub some_there : {A : Type 0} (o : Option A) (x : A) → o ≡ Some x → IsNone o → ⊥
+some_there {A} None x e n = absurd (let f : ◌≡◌ {A = Option A} None (Some x) = e in cc)
+some_there {A} (Some y) x e n = absurd (let f : ◌≡◌ {A = Bool} true false = n in cc)
 
 -- the form, by the words of the line
 pub read_of : (line : List ℕ) (toks : List Token) (w : Written) → words toks ≡ words_of line → grammar_read certificate_rows (words toks) ≡ Ok (line_of w) → grammar_read certificate_rows (words_of line) ≡ Ok (line_of w)

@@ -1,5 +1,4 @@
 use Rattle.std.proofs.Common.{◌≡◌, ◌∙◌, List, refl, ap, sym, subst, arith}
-use Rattle.std.specs.Prelude.{is_none, true}
 use Rattle.std.proofs.lemmas.Option.{MatchOption-at_none, MatchOption-at_some}
 use Rattle.cls_lexer.specs.Words.{Word, words, words_of}
 use Rattle.cls_syntax.specs.ClosedTypes.{HasNoDollar}
@@ -7,7 +6,7 @@ use Rattle.cls_syntax.specs.Depths.{most_open}
 use Rattle.cls_syntax.specs.SyntaxFaults.{IsFlat}
 use Rattle.cls_proof.specs.Said.{statement_of, written, IsMeant, IsMeaningless}
 use Rattle.cls_proof.proofs.LineMeanings.{dollar_absent, dollar_found}
-use Rattle.cls_proof.proofs.LineReadings.{read_of, stopped, says}
+use Rattle.cls_proof.proofs.LineReadings.{some_there, read_of, stopped, says}
 use Rattle.cls_proof.proofs.Meanings.{goal_closed, text_nothing, deep_nothing, open_nothing, meaning_nothing}
 use Rattle.cls_proof.proofs.reading.read_line.Goals as goal
 
@@ -23,7 +22,7 @@ returns-then-deepest-gt-MAX_TYPE_DEPTH-clause-read c =
     let said = c.in_ok-tokens.ensures.words ∙ ap words_of same in
     let most = c.deepest.ensures ∙ ap (most_open 0 0) (ap words c.deref.ensures.value ∙ said) in
     let many = c.if-deepest-gt-MAX_TYPE_DEPTH.true in
-    deep_nothing c.args.components.now line (λ s. let none : is_none c.in-Ok-Some.field-0 ≡ true = ok.skipped.1 s in let e = ap is_none (sym c.in-Ok-Some.field-0-is) ∙ none in absurd (cc)) (λ (flat : IsFlat line). omega (arith, most, many, flat))
+    deep_nothing c.args.components.now line (λ s. some_there c.in-Ok-Some.field-0 c.in-Ok-Some.text c.in-Ok-Some.field-0-is (ok.skipped.1 s)) (λ (flat : IsFlat line). omega (arith, most, many, flat))
 
 pub returns-then-is_some-clause-read : goal.returns-then-is_some-clause-read
 returns-then-is_some-clause-read c =
@@ -32,7 +31,7 @@ returns-then-is_some-clause-read c =
     let same = MatchOption-at_some _ (λ t. t.now ≡ line) c.in-Ok-Some.text c.in-Ok-Some.field-0-is ok.same in
     let said = c.in_ok-tokens.ensures.words ∙ ap words_of same in
     let said2 : words c.deref-2.result.now ≡ words_of line = ap words c.deref-2.ensures.value ∙ said in
-    open_nothing c.args.components.now line (λ s. let none : is_none c.in-Ok-Some.field-0 ≡ true = ok.skipped.1 s in let e = ap is_none (sym c.in-Ok-Some.field-0-is) ∙ none in absurd (cc))
+    open_nothing c.args.components.now line (λ s. some_there c.in-Ok-Some.field-0 c.in-Ok-Some.text c.in-Ok-Some.field-0-is (ok.skipped.1 s))
     (λ closed. dollar_found c.first_variable.result (words c.deref-2.result.now) c.first_variable.ensures (sym c.is_some.ensures ∙ c.if-is_some.true) (subst (λ (ws : List Word). HasNoDollar ws) (sym said2) closed))
 
 pub returns-in_default-clause-read : goal.returns-in_default-clause-read
@@ -42,7 +41,7 @@ returns-in_default-clause-read c =
     let same = MatchOption-at_some _ (λ t. t.now ≡ line) c.in-Ok-Some.text c.in-Ok-Some.field-0-is ok.same in
     let said = c.in_ok-tokens.ensures.words ∙ ap words_of same in
     let said3 : words c.deref-3.result.now ≡ words_of line = ap words c.deref-3.ensures.value ∙ said in
-    stopped c.args.components.now line (λ s. let none : is_none c.in-Ok-Some.field-0 ≡ true = ok.skipped.1 s in let e = ap is_none (sym c.in-Ok-Some.field-0-is) ∙ none in absurd (cc)) c.deref-3.result.now c.statement_form.result said3 c.statement_form.ensures c.in_default.not-Ok
+    stopped c.args.components.now line (λ s. some_there c.in-Ok-Some.field-0 c.in-Ok-Some.text c.in-Ok-Some.field-0-is (ok.skipped.1 s)) c.deref-3.result.now c.statement_form.result said3 c.statement_form.ensures c.in_default.not-Ok
 
 pub statement-requires : goal.statement-requires
 statement-requires c =
@@ -72,7 +71,7 @@ returns-in-Some-clause-read c =
     let w = written c.in-Ok.form in
     let e = read_of line c.deref-3.result.now w said3 c.in-Ok.ensures in
     let meant = MatchOption-at_some _ (λ s. IsMeant c.args.components.now c.args.names.now c.statement.new.names w (statement_of s)) c.in-Some.statement c.in-Some.is c.in_ok-statement.ensures.meant in
-    says c.args.components.now line (λ s. let none : is_none c.in-Ok-Some.field-0 ≡ true = ok.skipped.1 s in let e = ap is_none (sym c.in-Ok-Some.field-0-is) ∙ none in absurd (cc)) c.args.names.now c.statement.new.names w c.in-Some.statement (ok.ok.0 refl) flat closed e meant
+    says c.args.components.now line (λ s. some_there c.in-Ok-Some.field-0 c.in-Ok-Some.text c.in-Ok-Some.field-0-is (ok.skipped.1 s)) c.args.names.now c.statement.new.names w c.in-Some.statement (ok.ok.0 refl) flat closed e meant
 
 pub returns-clause-read : goal.returns-clause-read
 returns-clause-read c =
@@ -83,5 +82,5 @@ returns-clause-read c =
     let said3 : words c.deref-3.result.now ≡ words_of line = ap words c.deref-3.ensures.value ∙ said in
     let w = written c.in-Ok.form in
     let e = read_of line c.deref-3.result.now w said3 c.in-Ok.ensures in
-    meaning_nothing c.args.components.now line (λ s. let none : is_none c.in-Ok-Some.field-0 ≡ true = ok.skipped.1 s in let e = ap is_none (sym c.in-Ok-Some.field-0-is) ∙ none in absurd (cc)) w e
+    meaning_nothing c.args.components.now line (λ s. some_there c.in-Ok-Some.field-0 c.in-Ok-Some.text c.in-Ok-Some.field-0-is (ok.skipped.1 s)) w e
     (MatchOption-at_none (IsMeaningless c.args.components.now w) _ c.in-None.is c.in_ok-statement.ensures.meant)
