@@ -1,10 +1,10 @@
 -- Which statements may follow others: those of a certificate lead from its start to its end.
-use Rattle.std.proofs.Common.{◌≡◌, ℕ, Bool, true, false, List, [], ◌∷◌, ◌++◌, Option, Some, None, refl, ap, sym, ◌∙◌, map, append_assoc}
+use Rattle.std.proofs.Common.{◌≡◌, ℕ, List, [], ◌∷◌, ◌++◌, Option, Some, None, refl, ap, ◌∙◌, map}
 use Rattle.std.specs.List.{flat_map}
 use Rattle.cls_base.specs.Types.{ClosedType}
 use Rattle.cls_proof.specs.Certificates as certificate
 use Rattle.cls_proof.specs.Certificates.{ProofRow, Block, Member, Certificate}
-use Rattle.cls_proof.specs.Statements.{Statement, inhabited, row, empty, member, block, layer, set, qed, layer_statements, block_statements, member_statements, statements_of}
+use Rattle.cls_proof.specs.Statements.{Statement, row, member, block, set, qed, layer_statements, block_statements, member_statements, statements_of}
 use Rattle.cls_proof.specs.Drafts.{Place, at_start, in_rows, in_members, in_member, in_block, in_layer, at_end, after}
 
 -- where a certificate stands after the statements

@@ -1,12 +1,12 @@
 -- What a draft says begins a certificate, and leads to its place.
-use Rattle.std.proofs.Common.{◌≡◌, ℕ, Bool, true, false, List, [], ◌∷◌, ◌++◌, Option, Some, None, refl, ap, sym, ◌∙◌, map, append_assoc, append-nil}
+use Rattle.std.proofs.Common.{◌≡◌, ℕ, false, List, [], ◌∷◌, ◌++◌, Option, Some, refl, ap, sym, ◌∙◌, map, append_assoc, append-nil}
 use Rattle.std.specs.List.{flat_map, list_any}
 use Rattle.std.proofs.lemmas.Bool.{or_parts}
 use Rattle.cls_base.specs.Types.{ClosedType}
 use Rattle.cls_base.specs.Ty.{type_of}
 use Rattle.cls_proof.specs.Certificates as certificate
 use Rattle.cls_proof.specs.Certificates.{ProofRow, Block, Member, Certificate}
-use Rattle.cls_proof.specs.Statements.{Statement, inhabited, row, empty, member, block, layer, set, qed, layer_statements, block_statements, member_statements, statements_of, is_qed}
+use Rattle.cls_proof.specs.Statements.{Statement, row, empty, member, block, set, qed, layer_statements, block_statements, member_statements, statements_of, is_qed}
 use Rattle.cls_proof.specs.Blocks.{block_of}
 use Rattle.cls_proof.specs.Members.{member_of}
 use Rattle.cls_proof.specs.Rows.{row_of}
@@ -17,7 +17,7 @@ use Rattle.cls_proof.specs.declared.draft.Draft.TheVariants as drafts
 use Rattle.cls_proof.specs.declared.draft.MemberDraft.{MemberDraft}
 use Rattle.cls_proof.specs.declared.draft.BlockDraft.{BlockDraft}
 use Rattle.cls_proof.specs.Drafts.{Place, at_start, in_rows, in_members, in_member, in_block, in_layer, at_end, after, said_in, place_in, members_said, member_said, block_said, layer_said}
-use Rattle.cls_proof.proofs.Allowed.{run_from, run_on, IsInBlock, IsInMember, IsInMembers, Leads, rows_run, layer_run, layers_run, blocks_run, member_run, members_run, certificate_run}
+use Rattle.cls_proof.proofs.Allowed.{run_from, run_on, IsInBlock, IsInMember, IsInMembers, Leads, rows_run, layer_run, layers_run, member_run, members_run, certificate_run}
 
 flat_last : {A B : Type 0} (f : A → List B) (xs : List A) (x : A) → flat_map f (xs ++ x ∷ []) ≡ flat_map f xs ++ f x
 flat_last f [] x = append-nil (f x)

@@ -1,6 +1,6 @@
 -- What a line means by what its parts mean.
-use Rattle.std.proofs.Common.{◌≡◌, ℕ, zero, suc, ◌<◌, ◌^◌, Bool, true, false, List, [], ◌∷◌, length, get_or, refl, sym, ap, ◌∙◌, subst, arith, Option, Some, None}
-use Rattle.std.specs.Prelude.{◌||◌, slice_get, is_some, position}
+use Rattle.std.proofs.Common.{◌≡◌, ℕ, zero, suc, ◌<◌, ◌^◌, true, false, List, [], ◌∷◌, length, get_or, refl, sym, arith, Option, Some, None}
+use Rattle.std.specs.Prelude.{slice_get, is_some, position}
 use Rattle.std.specs.List.{list_any}
 use Rattle.std.proofs.lemmas.Bool.{or_parts}
 use Rattle.std.proofs.lemmas.List.Quantifiers.{position-Some}
@@ -17,7 +17,7 @@ use Rattle.cls_syntax.proofs.Dollars.{no_dollar}
 use Rattle.cls_proof.specs.Certificates.{ProofRow}
 use Rattle.cls_proof.specs.Forms.{Written}
 use Rattle.cls_proof.specs.Forms as written
-use Rattle.cls_proof.specs.Statements.{Statement, inhabited, row, empty, member, block, layer, set, qed}
+use Rattle.cls_proof.specs.Statements.{row, member}
 use Rattle.cls_proof.specs.Reading.{AreNumbers, IsGoal}
 use Rattle.cls_proof.specs.Said.{IsMeant, IsMeaningless}
 use Rattle.cls_proof.proofs.NumberLists.{in_range}

@@ -1,5 +1,5 @@
 -- What a line is read as, by what its tokens are read as.
-use Rattle.std.proofs.Common.{◌≡◌, ℕ, Bool, true, false, List, refl, sym, subst}
+use Rattle.std.proofs.Common.{◌≡◌, ℕ, Bool, true, false, List, refl, subst}
 use Rattle.std.specs.Prelude.{Result, Ok, Err, Option, Some, None, IsNone}
 use Rattle.cls_lexer.specs.declared.token.Token.{Token}
 use Rattle.cls_lexer.specs.Skipped.{IsText, IsSkipped}

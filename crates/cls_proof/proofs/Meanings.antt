@@ -1,6 +1,6 @@
 -- What a line means, and why one means nothing.
 use Rattle.std.proofs.Common.{◌≡◌, ℕ, ◌<◌, ◌≤◌, ◌^◌, List, [], ◌∷◌, ◌++◌, length, map, refl, ap, sym, ◌∙◌, subst, arith, Some}
-use Rattle.std.specs.Prelude.{Result, Ok, Err, false, ◌||◌, min, codes, Contains, is_ok, slice_get}
+use Rattle.std.specs.Prelude.{Result, Ok, Err, codes, Contains, is_ok, slice_get}
 use Rattle.std.specs.List.{list_any}
 use Rattle.std.proofs.lemmas.Bool.{or_parts}
 use Rattle.std.proofs.lemmas.List.{map-append}
@@ -16,18 +16,17 @@ use Rattle.cls_syntax.specs.Faults.{Stop}
 use Rattle.cls_lexer.specs.declared.token.TokenKind.TheVariants.{Colon}
 use Rattle.cls_syntax.specs.declared.role.Role.TheVariants.{Component}
 use Rattle.cls_syntax.specs.Forms.{Part, fixed, naming, numeral, part_word, type_parts}
-use Rattle.cls_syntax.specs.LineGrammars.{LineOf, row_words, grammar_read}
+use Rattle.cls_syntax.specs.LineGrammars.{row_words, grammar_read}
 use Rattle.cls_syntax.specs.SyntaxFaults.{IsFlat}
 use Rattle.cls_syntax.specs.TypePrinting.{HasNamesBelow}
 use Rattle.cls_syntax.specs.TypeSchemas.{is_dollar}
 use Rattle.cls_syntax.specs.TypeTexts.{TypeText, type_words, type_nodes}
 use Rattle.cls_syntax.proofs.LineParts.{type_same}
-use Rattle.cls_proof.specs.Certificates.{ProofRow}
 use Rattle.cls_proof.specs.Forms.{greatest_number, certificate_rows, Written, line_of, goal_words, constructors_of}
 use Rattle.cls_proof.specs.Forms as written
 use Rattle.cls_proof.specs.Statements.{Statement}
-use Rattle.cls_proof.specs.Reading.{IsNumber, AreNumbers, IsGoal, Means, SaysStatement, Says, no_statement, one_statement}
-use Rattle.cls_proof.specs.Said.{IsMeant, IsMeaningless, IsStatementHeld}
+use Rattle.cls_proof.specs.Reading.{IsNumber, IsGoal, Means, SaysStatement, Says, no_statement, one_statement}
+use Rattle.cls_proof.specs.Said.{IsMeant, IsMeaningless}
 use Rattle.cls_proof.proofs.GoalTexts.{one_spread, later_spells}
 use Rattle.cls_proof.proofs.SaidLines.{said_reads, read_says, written_one}
 

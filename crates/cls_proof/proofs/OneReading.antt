@@ -1,5 +1,5 @@
 -- Lines say one thing alone.
-use Rattle.std.proofs.Common.{◌≡◌, ℕ, suc, zero, ◌+◌, ◌<◌, ◌≤◌, Bool, true, false, List, [], ◌∷◌, ◌++◌, Option, Some, None, length, map, get_or, slice_get, refl, ap, sym, ◌∙◌, subst, arith, append_assoc, append-nil}
+use Rattle.std.proofs.Common.{◌≡◌, ℕ, ◌<◌, Bool, true, false, List, [], ◌∷◌, ◌++◌, Option, Some, None, length, map, slice_get, refl, ap, sym, ◌∙◌, subst, arith, append_assoc, append-nil}
 use Rattle.std.specs.List.{flat_map, list_any, IsDistinct}
 use Rattle.std.specs.Str.{bytes_eq}
 use Rattle.std.proofs.lemmas.Bool.{or_parts, true≢false}
@@ -18,7 +18,7 @@ use Rattle.cls_proof.specs.Certificates.{ProofRow, Block, Member, Certificate}
 use Rattle.cls_proof.specs.Forms.{Written, constructors_of}
 use Rattle.cls_proof.specs.Forms as written
 use Rattle.cls_proof.specs.Statements.{Statement, inhabited, row, empty, member, block, layer, set, qed, layer_statements, block_statements, member_statements, statements_of, is_qed}
-use Rattle.cls_proof.specs.Reading.{IsNumber, AreNumbers, IsGoal, IsRow, Means, SaysStatement, Says, no_statement, one_statement, LinesSay, SaysCertificate, BeginCertificate, IsFirstBad, LacksQed}
+use Rattle.cls_proof.specs.Reading.{AreNumbers, IsRow, Means, SaysStatement, Says, no_statement, one_statement, LinesSay, SaysCertificate, BeginCertificate, IsFirstBad, LacksQed}
 use Rattle.cls_proof.specs.ReadOnce.{SayOneCertificate, HaveOneFirstBad, AreExclusive}
 use Rattle.cls_proof.specs.Drafts.{Place, at_start, in_rows, in_members, in_member, in_block, in_layer, at_end, after}
 use Rattle.cls_proof.proofs.Allowed.{run_from, certificate_run}

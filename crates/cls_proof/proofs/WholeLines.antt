@@ -1,6 +1,6 @@
 -- The end of the lines: what is said when no line is left.
 use Rattle.std.proofs.Common.{◌≡◌, ℕ, ◌≤◌, List, length, take, sym, subst, Option, Some, None}
-use Rattle.std.specs.Prelude.{Result, Ok, Err, false, MatchOption, MatchResult, ⊤}
+use Rattle.std.specs.Prelude.{Result, false, MatchOption, MatchResult, ⊤}
 use Rattle.std.specs.Option.{ok_or}
 use Rattle.std.specs.List.{list_any, AllByRecursion}
 use Rattle.std.proofs.lemmas.List.{take_all}

@@ -1,5 +1,5 @@
 -- Internal: certificates that are read up to some line, and which statements may come next.
-use Rattle.std.specs.Prelude.{ℕ, ◌≡◌, List, [], ◌∷◌, ◌++◌, Option, Some, None, MatchOption, map}
+use Rattle.std.specs.Prelude.{◌≡◌, List, [], ◌∷◌, ◌++◌, Option, Some, None, MatchOption, map}
 use Rattle.std.specs.List.{flat_map}
 use Rattle.cls_base.specs.Ty.{type_of}
 use Rattle.cls_proof.specs.declared.draft.Draft.{Draft}
