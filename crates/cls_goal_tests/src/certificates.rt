@@ -1,5 +1,5 @@
-//! Certificates from their lines, and what is found of them.
-ghost use Rattle.std.specs.Prelude.{◌≡◌, ◌<◌, ◌^◌, length, IfOk, MatchResult};
+//! Certificates from texts, and what is found of them.
+ghost use Rattle.std.specs.Prelude.{◌≡◌, ◌<◌, ◌≤◌, ◌^◌, length, IfOk, vec_len};
 ghost use Rattle.cls_proof.specs.Seen.{certificate_of};
 ghost use Rattle.cls_proof.specs.Texts.{IsHeld};
 ghost use Rattle.cls_check.specs.Verdicts.{rows_in};
@@ -11,36 +11,44 @@ use cls_proof::{Certificate, ProofFault, print_certificate, read_certificate};
 use std::alloc::Global;
 use std::test::Fail;
 
-/// What is found of lines.
+/// What is found of a text.
 #[derive(Clone, Copy, Debug, PartialEq, Eq)]
-pub enum Found {
-    /// They are a certificate, which is accepted.
+pub enum Finding {
+    /// It is a certificate, which is accepted.
     Accepted,
-    /// They are a certificate, and this row or member is refused.
+    /// It is a certificate, and this row or member is refused.
     Refused(u32, Reason),
     /// This line is bad.
     Bad(u32),
-    /// None is `qed`.
+    /// No line is `qed`.
     NoQed,
 }
 
-/// The certificate that the lines say.
+/// The certificate that the lines of the text say.
 fn certificate(
     alloc: Global,
     given: &mut Declarations,
-    lines: &[&str],
+    text: &str,
 ) -> Result<Result<Certificate, ProofFault>, Fail>
     ensures { IfOk result (λ read. IfOk read (λ certificate.
         IsHeld (length given.new.names) (length given.new.components) (certificate_of certificate))) }
 {
-    let mut all = Vec::new(alloc);
-    for line in lines {
-        all.push(Line::new(alloc, line.as_bytes())?)?;
+    let lines = lines(alloc, text)?;
+    Ok(read_certificate(alloc, &mut given.names, &given.components, lines.as_slice()))
+}
+
+/// The lines of the text.
+fn lines(alloc: Global, text: &str) -> Result<Vec<Line>, Fail>
+    ensures { IfOk result (λ lines. vec_len lines ≤ 1000) }
+{
+    let mut lines = Vec::new(alloc);
+    for line in text.lines() {
+        lines.push(Line::new(alloc, line.as_bytes())?)?;
     }
-    if all.len() > 1_000 {
+    if lines.len() > 1_000 {
         return Err("too long".into());
     }
-    Ok(read_certificate(alloc, &mut given.names, &given.components, all.as_slice()))
+    Ok(lines)
 }
 
 /// How many rows or members there are.
@@ -53,41 +61,41 @@ fn size(certificate: &Certificate) -> usize
     }
 }
 
-/// What is found of the lines as a certificate of the goal that is asked, by the components with their types.
+/// What is found of the text as a certificate of the goal that is asked, by the components with their types.
 pub fn found(
     alloc: Global,
     components: &[(&str, &str)],
     asked: &str,
-    lines: &[&str],
-) -> Result<Found, Fail>
+    text: &str,
+) -> Result<Finding, Fail>
     requires { length asked.now < 2 ^ 32 }
 {
     let mut given = declared(alloc, components)?;
     let goal = goal(alloc, &given.library, &mut given.names, asked)?;
-    let certificate = match certificate(alloc, &mut given, lines)? {
+    let certificate = match certificate(alloc, &mut given, text)? {
         Ok(certificate) => certificate,
-        Err(ProofFault::BadLine(line)) => return Ok(Found::Bad(line)),
-        Err(ProofFault::NoQed) => return Ok(Found::NoQed),
+        Err(ProofFault::BadLine(line)) => return Ok(Finding::Bad(line)),
+        Err(ProofFault::NoQed) => return Ok(Finding::NoQed),
         Err(ProofFault::OutOfMemory) => return Err("out of memory".into()),
     };
     if size(&certificate) > 1_000 {
         return Err("too long".into());
     }
     match check(alloc, &given.library, &goal, &certificate) {
-        Ok(()) => Ok(Found::Accepted),
-        Err(CheckFault::Refused { row, reason }) => Ok(Found::Refused(row, reason)),
+        Ok(()) => Ok(Finding::Accepted),
+        Err(CheckFault::Refused { row, reason }) => Ok(Finding::Refused(row, reason)),
         Err(CheckFault::OutOfMemory) => Err("out of memory".into()),
     }
 }
 
-/// The lines of the certificate that these lines say, by the components with their types.
+/// The text of the certificate that this text is, by the components with their types.
 pub fn printed_again(
     alloc: Global,
     components: &[(&str, &str)],
-    lines: &[&str],
+    text: &str,
 ) -> Result<String, Fail> {
     let mut given = declared(alloc, components)?;
-    match certificate(alloc, &mut given, lines)? {
+    match certificate(alloc, &mut given, text)? {
         Ok(certificate) => {
             let text = print_certificate(alloc, &given.names, &given.components, &certificate)?;
             Ok(text)

@@ -1,7 +1,7 @@
 ghost use Rattle.std.specs.Prelude.{◌<◌, ◌^◌, length, IfOk};
 ghost use Rattle.cls_base.specs.Terms.{IsTermOver};
 
-use crate::certificates::{Found, found, printed_again};
+use crate::certificates::{Finding, found, printed_again};
 use crate::goals::{declared, doubling, goal};
 use crate::grammars::{grammar, printed};
 use cls_base::Numbers;
@@ -89,25 +89,44 @@ fn terms_have_types(rt: HostRuntime) -> Result<(), Fail> {
 #[test]
 fn rows_are_checked(rt: HostRuntime) -> Result<(), Fail> {
     let alloc = rt.alloc();
-    let given: &[(&str, &str)] = &[("f", "(A -> C) & (B -> C)"), ("x", "A & B")];
-    let (a, b, c) = ("row A by x 0 : 0", "row B by x 0 : 1", "row C by f 1 : 0");
-    let cases: [(&[&str], Found); 10] = [
-        (&[a, b, c], Found::Accepted),
-        (&[b, c], Found::Refused(2, Reason::Argument)),
-        (&[a, b, "row C by f 1 : 1"], Found::Accepted),
-        (&[a, "row C by f 2 : 0"], Found::Refused(2, Reason::Arrow)),
-        (&[a, "row C by f 1 : 1 0"], Found::Refused(2, Reason::Arrow)),
-        (&["row A by x 0 : 1"], Found::Refused(1, Reason::Target)),
-        (&["row A by x 0 :"], Found::Refused(1, Reason::Target)),
-        (&[a, b], Found::Refused(2, Reason::Goal)),
-        (&[], Found::Refused(0, Reason::Goal)),
-        (&["row A by x 0 : 4294967296"], Found::Bad(2)),
+    let cases = [
+        (
+            "row A by x 0 : 0\nrow B by x 0 : 1\nrow C by f 1 : 0",
+            Finding::Accepted,
+        ),
+        (
+            "row B by x 0 : 1\nrow C by f 1 : 0",
+            Finding::Refused(2, Reason::Argument),
+        ),
+        (
+            "row A by x 0 : 0\nrow B by x 0 : 1\nrow C by f 1 : 1",
+            Finding::Accepted,
+        ),
+        (
+            "row A by x 0 : 0\nrow C by f 2 : 0",
+            Finding::Refused(2, Reason::Arrow),
+        ),
+        (
+            "row A by x 0 : 0\nrow C by f 1 : 1 0",
+            Finding::Refused(2, Reason::Arrow),
+        ),
+        ("row A by x 0 : 1", Finding::Refused(1, Reason::Target)),
+        ("row A by x 0 :", Finding::Refused(1, Reason::Target)),
+        (
+            "row A by x 0 : 0\nrow B by x 0 : 1",
+            Finding::Refused(2, Reason::Goal),
+        ),
+        ("", Finding::Refused(0, Reason::Goal)),
+        ("row A by x 0 : 4294967296", Finding::Bad(2)),
     ];
     for (rows, expected) in cases {
-        let mut lines = vec![in alloc; "inhabited"]?;
-        lines.extend_from_slice(rows)?;
-        lines.push("qed")?;
-        assert_eq!(rt; found(alloc, given, "C", lines.as_slice())?, expected);
+        let text = format!(in alloc; "inhabited\n{rows}\nqed")?;
+        let given = &[("f", "(A -> C) & (B -> C)"), ("x", "A & B")];
+        assert_eq!(rt;
+            found(alloc, given, "C", text.as_str())?,
+            expected,
+            "{rows}"
+        );
     }
     Ok(())
 }
@@ -116,29 +135,40 @@ fn rows_are_checked(rt: HostRuntime) -> Result<(), Fail> {
 #[test]
 fn members_are_checked(rt: HostRuntime) -> Result<(), Fail> {
     let alloc = rt.alloc();
-    let given: &[(&str, &str)] = &[("x", "A")];
-    let (member, block, layer, set) = ("member A & B", "block x 0", "layer", "set 0");
-    let whole: &[&str] = &["empty", member, block, layer, set, layer, "qed"];
-    for (asked, expected) in [
-        ("A & B", Found::Accepted),
-        ("B", Found::Refused(0, Reason::Goal)),
-        ("A & B & D", Found::Accepted),
-    ] {
-        assert_eq!(rt; found(alloc, given, asked, whole)?, expected);
-    }
-    let twice = [block, layer, set, layer, block, layer, set, layer];
-    let cases: [(&[&str], Found); 5] = [
-        (&[block, layer, set], Found::Refused(1, Reason::Layers)),
-        (&[block, layer, "set 1", layer], Found::Refused(1, Reason::Layers)),
-        (&twice, Found::Refused(1, Reason::Layers)),
-        (&[block, layer, layer], Found::Refused(1, Reason::Unblocked)),
-        (&[], Found::Refused(1, Reason::Unblocked)),
+    let whole = "block x 0\nlayer\nset 0\nlayer";
+    let cases = [
+        ("A & B", whole, Finding::Accepted),
+        ("B", whole, Finding::Refused(0, Reason::Goal)),
+        ("A & B & D", whole, Finding::Accepted),
+        (
+            "A & B",
+            "block x 0\nlayer\nset 0",
+            Finding::Refused(1, Reason::Layers),
+        ),
+        (
+            "A & B",
+            "block x 0\nlayer\nset 1\nlayer",
+            Finding::Refused(1, Reason::Layers),
+        ),
+        (
+            "A & B",
+            "block x 0\nlayer\nset 0\nlayer\nblock x 0\nlayer\nset 0\nlayer",
+            Finding::Refused(1, Reason::Layers),
+        ),
+        (
+            "A & B",
+            "block x 0\nlayer\nlayer",
+            Finding::Refused(1, Reason::Unblocked),
+        ),
+        ("A & B", "", Finding::Refused(1, Reason::Unblocked)),
     ];
-    for (blocks, expected) in cases {
-        let mut lines = vec![in alloc; "empty", member]?;
-        lines.extend_from_slice(blocks)?;
-        lines.push("qed")?;
-        assert_eq!(rt; found(alloc, given, "A & B", lines.as_slice())?, expected);
+    for (asked, blocks, expected) in cases {
+        let text = format!(in alloc; "empty\nmember A & B\n{blocks}\nqed")?;
+        assert_eq!(rt;
+            found(alloc, &[("x", "A")], asked, text.as_str())?,
+            expected,
+            "{blocks}"
+        );
     }
     Ok(())
 }
@@ -147,23 +177,29 @@ fn members_are_checked(rt: HostRuntime) -> Result<(), Fail> {
 #[test]
 fn certificates_are_read(rt: HostRuntime) -> Result<(), Fail> {
     let alloc = rt.alloc();
-    let given: &[(&str, &str)] = &[("f", "A -> A")];
-    let whole: &[&str] = &["empty", "member A", "block f 1", "layer", "set 0", "qed"];
-    assert_eq!(rt; found(alloc, given, "A", whole)?, Found::Accepted);
-    let text = printed_again(alloc, given, whole)?;
-    assert_eq!(rt; text.as_str(), "empty\nmember A\nblock f 1\nlayer\nset 0\nqed\n");
-    let cases: [(&[&str], Found); 7] = [
-        (&["empty", "hello", "qed"], Found::Bad(2)),
-        (&["empty"], Found::NoQed),
-        (&["qed"], Found::Bad(1)),
-        (&["# said once", "empty", " ", "member A", "layer", "qed"], Found::Bad(5)),
-        (&["empty", "member A", "block f 1", "set 0", "qed"], Found::Bad(4)),
-        (&["empty", "member $a", "qed"], Found::Bad(2)),
-        (&["empty", "qed", "qed"], Found::Bad(3)),
+    let whole = "empty\nmember A\nblock f 1\nlayer\nset 0\nqed\n";
+    let cases = [
+        (whole, Finding::Accepted),
+        ("empty\nhello\nqed", Finding::Bad(2)),
+        ("empty", Finding::NoQed),
+        ("qed", Finding::Bad(1)),
+        (
+            "# said once\nempty\n \nmember A\nlayer\nqed",
+            Finding::Bad(5),
+        ),
+        ("empty\nmember A\nblock f 1\nset 0\nqed", Finding::Bad(4)),
+        ("empty\nmember $a\nqed", Finding::Bad(2)),
+        ("empty\nqed\nqed", Finding::Bad(3)),
     ];
-    for (lines, expected) in cases {
-        assert_eq!(rt; found(alloc, given, "A", lines)?, expected);
+    for (text, expected) in cases {
+        assert_eq!(rt;
+            found(alloc, &[("f", "A -> A")], "A", text)?,
+            expected,
+            "{text}"
+        );
     }
+    let text = printed_again(alloc, &[("f", "A -> A")], whole)?;
+    assert!(rt; text.as_str() == whole);
     Ok(())
 }
 
