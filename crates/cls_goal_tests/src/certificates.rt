@@ -4,9 +4,9 @@ ghost use Rattle.cls_proof.specs.Seen.{certificate_of};
 ghost use Rattle.cls_proof.specs.Texts.{IsHeld};
 ghost use Rattle.cls_check.specs.Verdicts.{rows_in};
 
-use crate::goals::{Declarations, declared, goal};
+use crate::goals::{declared, goal};
 use cls_check::{CheckFault, Reason, check};
-use cls_lexer::Line;
+use cls_lexer::{Line, Names};
 use cls_proof::{Certificate, ProofFault, print_certificate, read_certificate};
 use std::alloc::Global;
 use std::test::Fail;
@@ -27,14 +27,15 @@ pub enum Finding {
 /// The certificate that the lines of the text say.
 fn certificate(
     alloc: Global,
-    given: &mut Declarations,
+    names: &mut Names,
+    components: &Names,
     text: &str,
 ) -> Result<Result<Certificate, ProofFault>, Fail>
     ensures { IfOk result (λ read. IfOk read (λ certificate.
-        IsHeld (length given.new.names) (length given.new.components) (certificate_of certificate))) }
+        IsHeld (length names.new) (length components.now) (certificate_of certificate))) }
 {
     let lines = lines(alloc, text)?;
-    Ok(read_certificate(alloc, &mut given.names, &given.components, lines.as_slice()))
+    Ok(read_certificate(alloc, names, components, lines.as_slice()))
 }
 
 /// The lines of the text.
@@ -72,7 +73,7 @@ pub fn found(
 {
     let mut given = declared(alloc, components)?;
     let goal = goal(alloc, &given.library, &mut given.names, asked)?;
-    let certificate = match certificate(alloc, &mut given, text)? {
+    let certificate = match certificate(alloc, &mut given.names, &given.components, text)? {
         Ok(certificate) => certificate,
         Err(ProofFault::BadLine(line)) => return Ok(Finding::Bad(line)),
         Err(ProofFault::NoQed) => return Ok(Finding::NoQed),
@@ -95,7 +96,7 @@ pub fn printed_again(
     text: &str,
 ) -> Result<String, Fail> {
     let mut given = declared(alloc, components)?;
-    match certificate(alloc, &mut given, text)? {
+    match certificate(alloc, &mut given.names, &given.components, text)? {
         Ok(certificate) => {
             let text = print_certificate(alloc, &given.names, &given.components, &certificate)?;
             Ok(text)
