@@ -1,7 +1,7 @@
 ghost use Rattle.std.specs.Prelude.{◌<◌, ◌^◌, length, IfOk};
 ghost use Rattle.cls_base.specs.Terms.{IsTermOver};
 
-use crate::certificates::{Row, Verdict, member_text, member_verdict, rows_verdict};
+use crate::certificates::{Finding, found, printed_again};
 use crate::goals::{declared, doubling, goal};
 use crate::grammars::grammar;
 use cls_base::Numbers;
@@ -88,31 +88,118 @@ fn terms_have_types(rt: HostRuntime) -> Result<(), Fail> {
 // A certificate of C by the library of `grammar_text`, and altered ones.
 #[test]
 fn rows_are_checked(rt: HostRuntime) -> Result<(), Fail> {
-    let a: Row = ("A", 1, 0, &[0]);
-    let b: Row = ("B", 1, 0, &[1]);
-    let c: Row = ("C", 0, 1, &[0]);
-    assert!(rt; rows_verdict(rt.alloc(), &[a, b, c])? == None);
-    assert!(rt; rows_verdict(rt.alloc(), &[b, c])? == Some((2, Reason::Argument)));
-    assert!(rt; rows_verdict(rt.alloc(), &[a, ("C", 0, 2, &[0])])? == Some((2, Reason::Arrow)));
-    assert!(rt; rows_verdict(rt.alloc(), &[("A", 1, 0, &[1])])? == Some((1, Reason::Target)));
-    assert!(rt; rows_verdict(rt.alloc(), &[a, b])? == Some((2, Reason::Goal)));
+    let alloc = rt.alloc();
+    let cases = [
+        (
+            "row A by x 0 : 0\nrow B by x 0 : 1\nrow C by f 1 : 0",
+            Finding::Accepted,
+        ),
+        (
+            "row B by x 0 : 1\nrow C by f 1 : 0",
+            Finding::Refused(2, Reason::Argument),
+        ),
+        (
+            "row A by x 0 : 0\nrow B by x 0 : 1\nrow C by f 1 : 1",
+            Finding::Accepted,
+        ),
+        (
+            "row A by x 0 : 0\nrow C by f 2 : 0",
+            Finding::Refused(2, Reason::Arrow),
+        ),
+        (
+            "row A by x 0 : 0\nrow C by f 1 : 1 0",
+            Finding::Refused(2, Reason::Arrow),
+        ),
+        ("row A by x 0 : 1", Finding::Refused(1, Reason::Target)),
+        ("row A by x 0 :", Finding::Refused(1, Reason::Target)),
+        (
+            "row A by x 0 : 0\nrow B by x 0 : 1",
+            Finding::Refused(2, Reason::Goal),
+        ),
+        ("", Finding::Refused(0, Reason::Goal)),
+        ("row A by x 0 : 4294967296", Finding::Bad(2)),
+    ];
+    for (rows, expected) in cases {
+        let text = format!(in alloc; "inhabited\n{rows}\nqed")?;
+        let given = &[("f", "(A -> C) & (B -> C)"), ("x", "A & B")];
+        assert_eq!(rt;
+            found(alloc, given, "C", text.as_str())?,
+            expected,
+            "{rows}"
+        );
+    }
     Ok(())
 }
 
+// A certificate for A & B by one component, which has A, and altered ones.
 #[test]
 fn members_are_checked(rt: HostRuntime) -> Result<(), Fail> {
     let alloc = rt.alloc();
-    let layers: &[&[&[u32]]] = &[&[&[0]], &[]];
-    assert!(rt; member_verdict(alloc, "A", "A & B", "A & B", 0, layers)? == None);
-    assert!(rt; member_verdict(alloc, "A", "B", "A & B", 0, layers)? == Some((0, Reason::Goal)));
-    let layers: &[&[&[u32]]] = &[&[&[0]]];
-    assert!(rt;
-        member_verdict(alloc, "A", "A & B", "A & B", 0, layers)? == Some((1, Reason::Layers))
-    );
-    assert!(rt; member_verdict(alloc, "A -> A", "A", "A", 1, layers)? == None);
-    assert!(rt; member_verdict(alloc, "A -> A", "A", "A", 1, &[])? == Some((1, Reason::Unblocked)));
-    let text = member_text(alloc, "A", 1, layers)?;
-    assert!(rt; text.as_str() == "empty\nmember A\nblock f 1\nlayer\nset 0\nqed\n");
+    let whole = "block x 0\nlayer\nset 0\nlayer";
+    let cases = [
+        ("A & B", whole, Finding::Accepted),
+        ("B", whole, Finding::Refused(0, Reason::Goal)),
+        ("A & B & D", whole, Finding::Accepted),
+        (
+            "A & B",
+            "block x 0\nlayer\nset 0",
+            Finding::Refused(1, Reason::Layers),
+        ),
+        (
+            "A & B",
+            "block x 0\nlayer\nset 1\nlayer",
+            Finding::Refused(1, Reason::Layers),
+        ),
+        (
+            "A & B",
+            "block x 0\nlayer\nset 0\nlayer\nblock x 0\nlayer\nset 0\nlayer",
+            Finding::Refused(1, Reason::Layers),
+        ),
+        (
+            "A & B",
+            "block x 0\nlayer\nlayer",
+            Finding::Refused(1, Reason::Unblocked),
+        ),
+        ("A & B", "", Finding::Refused(1, Reason::Unblocked)),
+    ];
+    for (asked, blocks, expected) in cases {
+        let text = format!(in alloc; "empty\nmember A & B\n{blocks}\nqed")?;
+        assert_eq!(rt;
+            found(alloc, &[("x", "A")], asked, text.as_str())?,
+            expected,
+            "{blocks}"
+        );
+    }
+    Ok(())
+}
+
+// Lines that are no certificate, and one that is printed again.
+#[test]
+fn certificates_are_read(rt: HostRuntime) -> Result<(), Fail> {
+    let alloc = rt.alloc();
+    let whole = "empty\nmember A\nblock f 1\nlayer\nset 0\nqed\n";
+    let cases = [
+        (whole, Finding::Accepted),
+        ("empty\nhello\nqed", Finding::Bad(2)),
+        ("empty", Finding::NoQed),
+        ("qed", Finding::Bad(1)),
+        (
+            "# said once\nempty\n \nmember A\nlayer\nqed",
+            Finding::Bad(5),
+        ),
+        ("empty\nmember A\nblock f 1\nset 0\nqed", Finding::Bad(4)),
+        ("empty\nmember $a\nqed", Finding::Bad(2)),
+        ("empty\nqed\nqed", Finding::Bad(3)),
+    ];
+    for (text, expected) in cases {
+        assert_eq!(rt;
+            found(alloc, &[("f", "A -> A")], "A", text)?,
+            expected,
+            "{text}"
+        );
+    }
+    let text = printed_again(alloc, &[("f", "A -> A")], whole)?;
+    assert!(rt; text.as_str() == whole);
     Ok(())
 }
 
