@@ -9,11 +9,14 @@ use Rattle.cls_library.specs.Libraries.{Library}
 use Rattle.cls_expand.specs.Answers.{IsAnswer}
 use Rattle.cls_engine.specs.Goals.{Goal, same, IsGoalOf}
 
--- A legal complete history from the goal of the type, by workers with numbers up to this one.
-pub record IsHistoryOf (lib : Library) (workers : ℕ) (t : ClosedType) (events : List Entry) : Type 0 where
-  pub goal : Goal
-  pub is_goal : IsGoalOf lib t goal
-  pub machine : Machine Goal
-  pub legal : Replays same (IsAnswer lib) (begun goal) events machine
-  pub complete : AllFiled machine
-  pub named : NamesUpTo workers events
+module _ (lib : Library) (workers : ℕ) where
+  -- A legal complete history from the goal, by workers with numbers up to this one.
+  pub record IsHistoryFrom (start : Goal) (events : List Entry) : Type 0 where
+    pub machine : Machine Goal
+    pub legal : Replays same (IsAnswer lib) (begun start) events machine
+    pub complete : AllFiled machine
+    pub named : NamesUpTo workers events
+
+  -- the same from the goal of the type
+  abbrev pub IsHistoryOf : ClosedType → List Entry → Type 0
+  IsHistoryOf t events = (goal : Goal) × IsGoalOf lib t goal × IsHistoryFrom goal events

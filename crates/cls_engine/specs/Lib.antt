@@ -1,4 +1,6 @@
+pub mod Closing
 pub mod Conversions
+pub mod Engines
 pub mod Faults
 pub mod Goals
 pub mod Histories

@@ -1,9 +1,7 @@
--- What bounds the work on a query.
-use Rattle.std.specs.Prelude.{ℕ, ◌<◌, ◌≤◌, List}
+-- The ranges of what bounds the work on a query.
+use Rattle.std.specs.Prelude.{◌<◌, ◌≤◌}
 use Rattle.cls_base.specs.Limits.{max_workers}
 use Rattle.cls_expand.specs.Memos.{max_memo_goals, max_memo_rules}
-use Rattle.cls_term.specs.Costs.{cost_of}
-use Rattle.cls_library.specs.Libraries.{Library}
 use Rattle.cls_engine.specs.declared.options.Options.{Options}
 
 -- each option is within its range
@@ -14,14 +12,3 @@ pub record AreInRange (o : Options) : Type 0 where
   pub few_goals : o.goals ≤ max_memo_goals
   pub some_rule : 0 < o.rules
   pub few_rules : o.rules ≤ max_memo_rules
-
--- What an engine is seen as.
-pub record EngineSeen : Type 0 where
-  pub library : Library
-  pub costs : List ℕ
-  pub options : Options
-
--- what holds of each engine
-pub record IsEngine (e : EngineSeen) : Type 0 where
-  pub in_range : AreInRange e.options
-  pub costly : (x : ℕ) → 0 < cost_of e.costs x

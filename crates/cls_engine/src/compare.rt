@@ -15,7 +15,7 @@ use cls_norm::{normal, subtype};
 use cls_term::Term;
 use std::alloc::Global;
 
-impl<'a, R, T> Engine<'a, R, T> {
+impl Engine {
     /// Whether the first type is a subtype of the second: yes if and only if a derivation exists.
     pub fn subtype(&self, alloc: Global, lower: &Ty, upper: &Ty) -> Result<bool, EngineFault>
         ensures exact { IfOk result (λ yes. IsTrue yes ↔ Subtype (below_in self.now.library.taxonomy)
@@ -26,7 +26,7 @@ impl<'a, R, T> Engine<'a, R, T> {
         if lower.spread() > MAX_TYPE_SPREAD || upper.spread() > MAX_TYPE_SPREAD {
             return Err(EngineFault::Size);
         }
-        Ok(subtype(alloc, self.library.taxonomy(), lower, upper)?)
+        Ok(subtype(alloc, self.library().taxonomy(), lower, upper)?)
     }
 
     /// Whether the term has the type by the typing rules.
@@ -39,7 +39,7 @@ impl<'a, R, T> Engine<'a, R, T> {
         if ty.spread() > MAX_TYPE_SPREAD {
             return Err(EngineFault::Size);
         }
-        let goal = normal(alloc, self.library.taxonomy(), ty)?;
-        Ok(has_type(alloc, self.library, term, &goal)?)
+        let goal = normal(alloc, self.library().taxonomy(), ty)?;
+        Ok(has_type(alloc, self.library(), term, &goal)?)
     }
 }

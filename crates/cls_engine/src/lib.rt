@@ -1,17 +1,20 @@
 //! What a session asks of a library.
 //!
-//! - [`Engine`] answers queries about types: subtyping, typing, whether a type has terms, its grammar and history.
+//! - [`Engine`] owns a library and answers queries about types: subtyping, typing, certificates, whether a type has terms,
+//!   its grammar, its history and its terms page by page. It keeps answers from query to query.
 //! - [`Options`] bound its work, [`Verdict`] is what it finds of a certificate, and [`EngineFault`] is why a query isn't
 //!   answered.
 #![tactic(auto)]
 
-mod closed;
+mod closing;
 mod closure;
 mod compare;
 mod engine;
 mod fault;
+mod library_expander;
+mod listing;
 mod options;
-mod pages;
+mod questions;
 mod verdict;
 mod verify;
 

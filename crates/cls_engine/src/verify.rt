@@ -15,7 +15,7 @@ use cls_norm::normal;
 use cls_proof::Certificate;
 use std::alloc::Global;
 
-impl<'a, R, T> Engine<'a, R, T> {
+impl Engine {
     /// Whether the certificate is accepted for the type, and otherwise which of its rows or members fails which test. It
     /// has less than 2^32 rows or members, and its types have a spread that callers keep at 16,384 or below.
     pub fn verify(
@@ -33,8 +33,8 @@ impl<'a, R, T> Engine<'a, R, T> {
         if ty.spread() > MAX_TYPE_SPREAD {
             return Err(EngineFault::Size);
         }
-        let goal = normal(alloc, self.library.taxonomy(), ty)?;
-        match check(alloc, self.library, &goal, certificate) {
+        let goal = normal(alloc, self.library().taxonomy(), ty)?;
+        match check(alloc, self.library(), &goal, certificate) {
             Ok(()) => Ok(Verdict::Accepted),
             Err(CheckFault::Refused { row, reason }) => Ok(Verdict::Refused { row, reason }),
             Err(CheckFault::OutOfMemory) => Err(EngineFault::OutOfMemory),

@@ -1,0 +1,43 @@
+-- internal: what is known of the closure of a goal, once it is worked out.
+use Rattle.std.specs.Prelude.{◌≡◌, List, Some, None}
+use Rattle.cls_base.specs.Types.{ClosedType}
+use Rattle.cls_core.specs.declared.entry.Entry.{Entry}
+use Rattle.cls_core.specs.Canonical.{IsCanonical}
+use Rattle.cls_core.specs.Closure.{IsTooLarge}
+use Rattle.cls_core.specs.Rows.{Row}
+use Rattle.cls_table.specs.declared.tag.Tag.{Tag}
+use Rattle.cls_library.specs.Libraries.{Library}
+use Rattle.cls_expand.specs.Answers.{IsAnswer, IsReady}
+use Rattle.cls_grammar.specs.Grammars.{first_wide}
+use Rattle.cls_engine.specs.declared.options.Options.{Options}
+use Rattle.cls_engine.specs.declared.fault.EngineFault.{EngineFault}
+use Rattle.cls_engine.specs.declared.fault.EngineFault.TheVariants.{Size, TooLarge, Wide, TooManyTerms, OutOfMemory}
+use Rattle.cls_engine.specs.Goals.{Goal, same, IsGoalOf}
+
+module _ (lib : Library) (o : Options) where
+  -- what the workers are to find, within the limits of the options
+  abbrev pub tag_of : Goal → Tag Library Goal
+  tag_of start = record { by = lib; start = start; goals = o.goals; rules = o.rules; workers = o.workers }
+
+  abbrev pub IsLargeFrom : Goal → Type 0
+  IsLargeFrom start = IsTooLarge (IsAnswer lib) start o.goals o.rules
+
+  -- The rows are the closure of the goal in its canonical numbering, within the limits, and no goal of it is wide.
+  pub record IsKnown (start : Goal) (rows : List (Row Goal)) : Type 0 where
+    pub ready : IsReady lib start
+    pub canonical : IsCanonical same (IsAnswer lib) start rows
+    pub none_wide : first_wide rows ≡ None
+    pub not_large : IsLargeFrom start → ⊥
+
+  -- the same of the goal of the type
+  abbrev pub IsKnownOf : ClosedType → List (Row Goal) → Type 0
+  IsKnownOf t rows = (goal : Goal) × IsGoalOf lib t goal × IsKnown goal rows
+
+  -- Why the closure of the goal isn't known.
+  abbrev pub IsClosingFault : Goal → EngineFault → Type 0
+  IsClosingFault start TooLarge = IsLargeFrom start
+  IsClosingFault start (Wide g) =
+      (IsLargeFrom start → ⊥) × (rows : List (Row Goal)) × IsCanonical same (IsAnswer lib) start rows × (first_wide rows ≡ Some g)
+  IsClosingFault start OutOfMemory = Unit {0}
+  IsClosingFault start Size = ⊥
+  IsClosingFault start TooManyTerms = ⊥
