@@ -1,26 +1,18 @@
 -- Which fault is the first cause.
-use Rattle.std.proofs.Common.{◌≡◌, refl, inl, inr, ◌⊎◌}
+use Rattle.std.proofs.Common.{◌≡◌, refl, inl, inr, ◌⊎◌, List}
 use Rattle.cls_base.specs.Types.{ClosedType}
-use Rattle.cls_table.specs.declared.fault.ExpandFault.{ExpandFault}
-use Rattle.cls_table.specs.declared.fault.ExpandFault.TheVariants as expand
-use Rattle.cls_grammar.specs.declared.fault.GrammarFault.{GrammarFault}
-use Rattle.cls_grammar.specs.declared.fault.GrammarFault.TheVariants as grammar
-use Rattle.cls_grammar.specs.Faults.{IfWide}
+use Rattle.cls_core.specs.Rows.{Row}
+use Rattle.cls_expand.specs.Answers.{IsAnswer, IsReady}
 use Rattle.cls_library.specs.Libraries.{Library}
 use Rattle.cls_engine.specs.declared.options.Options.{Options}
 use Rattle.cls_engine.specs.declared.fault.EngineFault.{EngineFault}
 use Rattle.cls_engine.specs.declared.fault.EngineFault.TheVariants.{Size, TooLarge, Wide, TooManyTerms, OutOfMemory}
-use Rattle.cls_engine.specs.Conversions.{of_expand, of_grammar}
+use Rattle.cls_engine.specs.Closing.{IsLargeFrom, IsKnown, IsKnownOf, IsClosingFault}
 use Rattle.cls_engine.specs.Faults.{closure_faults, IsFaultOf, IsOversizedOr, AreSilent}
-use Rattle.cls_engine.specs.Goals.{Goal, IsSpread, IsUnfit, HasLargeClosure, IsFirstWide}
+use Rattle.cls_engine.specs.Goals.{Goal, IsSpread, IsGoalOf, IsUnfit, HasLargeClosure, IsClosed, IsFirstWide}
+use Rattle.cls_engine.proofs.Goals.{not_unfit, not_large, not_wide}
 
 module _ (lib : Library) (o : Options) (t : ClosedType) where
-  abbrev Oversized : Type 0
-  Oversized = IsSpread t ⊎ IsUnfit lib t
-
-  abbrev Large : Type 0
-  Large = HasLargeClosure lib o.goals o.rules t
-
   pub by_size : (f : EngineFault) → IsOversizedOr lib t f → IsFaultOf (closure_faults lib o t) f
   by_size OutOfMemory h = tt
   by_size Size h = inl h
@@ -28,19 +20,34 @@ module _ (lib : Library) (o : Options) (t : ClosedType) where
   by_size (Wide g) h = inl h
   by_size TooManyTerms h = inl h
 
-  pub by_number : (e : ExpandFault) → (Oversized → ⊥) → (e ≡ expand.TooLarge → Large) → IsFaultOf (closure_faults lib o t) (of_expand e)
-  by_number expand.TooLarge n h = inr ((λ f k. n k.0), inl (h refl, refl))
-  by_number expand.OutOfMemory n h = tt
+  module _ (goal : Goal) (is : IsGoalOf lib t goal) (narrow : IsSpread t → ⊥) where
+    abbrev not_oversized : IsReady lib goal → IsSpread t ⊎ IsUnfit lib t → ⊥
+    not_oversized ready (inl h) = narrow h
+    not_oversized ready (inr h) = not_unfit lib t goal is ready.fit h
 
-  pub by_width : (e : GrammarFault) → (Oversized → ⊥) → (Large → ⊥) → IfWide (IsFirstWide lib t) e → IsFaultOf (closure_faults lib o t) (of_grammar e)
-  by_width (grammar.Wide g) n l h = inr ((λ f k. n k.0), inr ((λ f k. l k.0), inl (g, h, refl)))
-  by_width grammar.OutOfMemory n l h = tt
+    pub by_closing : IsReady lib goal → (f : EngineFault) → IsClosingFault lib o goal f → IsFaultOf (closure_faults lib o t) f
+    by_closing ready Size h = absurd h
+    by_closing ready TooManyTerms h = absurd h
+    by_closing ready OutOfMemory h = tt
+    by_closing ready TooLarge h = inr ((λ f k. not_oversized ready k.0), inl ((goal, is, h), refl))
+    by_closing ready (Wide g) h =
+        let closed : IsClosed lib t h.1 = record { goal = goal; is_goal = is; fit = ready.fit; canonical = h.2 } in
+        inr ((λ f k. not_oversized ready k.0), inr ((λ f k. not_large lib t o.goals o.rules goal is h.0 k.0), inl (g, (h.1, closed, h.3), refl)))
 
-  pub silent : (Oversized → ⊥) → (Large → ⊥) → ((g : Goal) → IsFirstWide lib t g → ⊥) → AreSilent (closure_faults lib o t)
-  silent n l w = λ f p. elim p [
-    | inl h ↦ n h.0
-    | inr q ↦ elim q.1 [
-      | inl h ↦ l h.0
-      | inr r ↦ elim r.1 [ inl h ↦ w h.0 h.1 | inr s ↦ absurd s.1 ]
+    pub known-closed : (rows : List (Row Goal)) → IsKnown lib o goal rows → IsClosed lib t rows
+    known-closed rows k = record { goal = goal; is_goal = is; fit = k.ready.fit; canonical = k.canonical }
+
+    pub known-silent : (rows : List (Row Goal)) → IsKnown lib o goal rows → AreSilent (closure_faults lib o t)
+    known-silent rows k = λ f p. elim p [
+      | inl h ↦ not_oversized k.ready h.0
+      | inr q ↦ elim q.1 [
+        | inl h ↦ not_large lib t o.goals o.rules goal is k.not_large h.0
+        | inr r ↦ elim r.1 [ inl h ↦ not_wide lib t rows (known-closed rows k) k.none_wide h.0 h.1 | inr s ↦ absurd s.1 ]
+      ]
     ]
-  ]
+
+  pub closed-of : (rows : List (Row Goal)) → IsKnownOf lib o t rows → IsClosed lib t rows
+  closed-of rows k = known-closed k.goal k.is_goal k.narrow rows k.known
+
+  pub silent-of : (rows : List (Row Goal)) → IsKnownOf lib o t rows → AreSilent (closure_faults lib o t)
+  silent-of rows k = known-silent k.goal k.is_goal k.narrow rows k.known

@@ -1,8 +1,7 @@
 -- Rows that aren't wide stay so when they are renumbered.
 use Rattle.std.proofs.Common.{ℕ, inl, inr, ◌≡◌, refl, sym, ◌∙◌, ap, List, [], ◌∷◌, Contains, Option, None, Some, nat_eq}
 use Rattle.std.specs.Prelude.{map, slice_get}
-use Rattle.std.specs.List.{filter_map}
-use Rattle.core.specs.List.{cons_option}
+use Rattle.std.specs.List.{filter_map, cons_option}
 use Rattle.cls_base.proofs.Lists.{Contains-nil, Contains-here, Contains-later, Contains-cases, Contains-at}
 use Rattle.cls_core.specs.declared.answer.Answer.{Answer}
 use Rattle.cls_core.specs.declared.answer.Answer.TheVariants.{Rules, Wide}
@@ -12,6 +11,10 @@ use Rattle.cls_core.specs.Rows.{Row}
 use Rattle.cls_expand.proofs.Making.{in_mapped}
 use Rattle.cls_grammar.specs.Grammars.{first_wide, wide_or}
 use Rattle.cls_grammar.proofs.Places.{wide-has}
+
+answer_wide : (keys : List ℕ) (a : Answer ℕ) → numbered nat_eq keys a ≡ Wide → a ≡ Wide
+answer_wide keys (Rules rs) e = cc
+answer_wide keys Wide e = refl
 
 module _ {G : Type 0} where
   all_ruled : (rows : List (Row G)) → ((r : Row G) → Contains rows r → r.answer ≡ Wide → ⊥) → first_wide rows ≡ None
@@ -24,18 +27,14 @@ module _ {G : Type 0} where
 
   from_numbers : (rows : List (Row G)) (keys : List ℕ) (r : Row G) → Contains (filter_map (slice_get rows) keys) r → Contains rows r
   from_numbers rows [] r m = absurd (Contains-nil r m)
-  from_numbers rows (k ∷ keys) r m = by (slice_get rows k) refl m
+  from_numbers rows (k ∷ keys) r m = by (from_numbers rows keys r) (slice_get rows k) refl m
     where
-      by : (o : Option (Row G)) → slice_get rows k ≡ o → Contains (cons_option o (filter_map (slice_get rows) keys)) r → Contains rows r
-      by None e i = from_numbers rows keys r i
-      by (Some q) e i = elim (Contains-cases q (filter_map (slice_get rows) keys) r i) [
+      by : (Contains (filter_map (slice_get rows) keys) r → Contains rows r) → (o : Option (Row G)) → slice_get rows k ≡ o → Contains (cons_option o (filter_map (slice_get rows) keys)) r → Contains rows r
+      by rest None e i = rest i
+      by rest (Some q) e i = elim (Contains-cases q (filter_map (slice_get rows) keys) r i) [
         | inl s ↦ Contains-at rows k r (e ∙ ap Some (sym s))
-        | inr j ↦ from_numbers rows keys r j
+        | inr j ↦ rest j
       ]
-
-  answer_wide : (keys : List ℕ) (a : Answer ℕ) → numbered nat_eq keys a ≡ Wide → a ≡ Wide
-  answer_wide keys (Rules rs) e = cc
-  answer_wide keys Wide e = refl
 
   pub renumbered_ruled : (rows : List (Row G)) → first_wide rows ≡ None → first_wide (renumbered rows) ≡ None
   renumbered_ruled rows n = all_ruled (renumbered rows) (λ r m w.

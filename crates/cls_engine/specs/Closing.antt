@@ -12,7 +12,7 @@ use Rattle.cls_grammar.specs.Grammars.{first_wide}
 use Rattle.cls_engine.specs.declared.options.Options.{Options}
 use Rattle.cls_engine.specs.declared.fault.EngineFault.{EngineFault}
 use Rattle.cls_engine.specs.declared.fault.EngineFault.TheVariants.{Size, TooLarge, Wide, TooManyTerms, OutOfMemory}
-use Rattle.cls_engine.specs.Goals.{Goal, same, IsGoalOf}
+use Rattle.cls_engine.specs.Goals.{Goal, same, IsSpread, IsGoalOf}
 
 module _ (lib : Library) (o : Options) where
   -- what the workers are to find, within the limits of the options
@@ -29,9 +29,12 @@ module _ (lib : Library) (o : Options) where
     pub none_wide : first_wide rows ≡ None
     pub not_large : IsLargeFrom start → ⊥
 
-  -- the same of the goal of the type
-  abbrev pub IsKnownOf : ClosedType → List (Row Goal) → Type 0
-  IsKnownOf t rows = (goal : Goal) × IsGoalOf lib t goal × IsKnown goal rows
+  -- The same of the goal of the type, which doesn't have too large a spread.
+  pub record IsKnownOf (t : ClosedType) (rows : List (Row Goal)) : Type 0 where
+    pub goal : Goal
+    pub is_goal : IsGoalOf lib t goal
+    pub narrow : IsSpread t → ⊥
+    pub known : IsKnown goal rows
 
   -- Why the closure of the goal isn't known.
   abbrev pub IsClosingFault : Goal → EngineFault → Type 0

@@ -1,5 +1,5 @@
 //! The closure of a goal, worked out by the workers.
-ghost use Rattle.std.specs.Prelude.{◌≡◌, IfOk, IfErr, OnOk};
+ghost use Rattle.std.specs.Prelude.{◌≡◌, IfOk, IfErr};
 ghost use Rattle.cls_core.specs.Rows.{Row};
 ghost use Rattle.cls_expand.specs.Answers.{IsAnswer, IsReady};
 ghost use Rattle.cls_expand.specs.Memos.{AreComplete, FitMemo};
@@ -44,7 +44,6 @@ impl Engine {
     ) -> Result<Finished<Nf>, ExpandFault>
         requires ready { IsReady self.now.library goal }
         ensures complete { IfOk result (IsComplete same IsAnswer (tag_of self.now.library self.now.options goal)) }
-        ensures within { OnOk result (IsLargeFrom self.now.library self.now.options goal → ⊥) }
         ensures large { IfErr result (λ e. e ≡ TooLarge → IsLargeFrom self.now.library self.now.options goal) }
     {
         let by = Stored::new(&self.expander, &self.store);

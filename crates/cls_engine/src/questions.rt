@@ -2,6 +2,8 @@
 ghost use Rattle.std.specs.Prelude.{◌≡◌, ◌↔◌, IfOk, IfErr, OnOk, IsTrue};
 ghost use Rattle.cls_base.specs.Ty.{type_of};
 ghost use Rattle.cls_base.specs.Terms.{Applicative};
+ghost use Rattle.cls_grammar.specs.Grammars.{book_of};
+ghost use Rattle.cls_grammar.specs.Ranks.{IsProductiveIn};
 ghost use Rattle.cls_library.specs.Typing.{HasTypeIn};
 ghost use Rattle.cls_engine.specs.Faults.{IsFaultOf, AreSilent, closure_faults};
 ghost use Rattle.cls_engine.specs.Goals.{IsClosed};
@@ -9,12 +11,22 @@ ghost use Rattle.cls_engine.specs.Histories.{IsHistoryOf};
 
 use crate::engine::Engine;
 use crate::fault::EngineFault;
-use cls_base::{Gate, Ty};
+use cls_base::{Gate, OutOfMemory, Ty};
 use cls_core::History;
 use cls_grammar::Grammar;
 use std::alloc::Global;
 use std::sync::Wait;
 use std::thread::Threads;
+
+/// Whether the start of the grammar is productive.
+fn is_productive(alloc: Global, grammar: &Grammar) -> Result<bool, OutOfMemory>
+    ensures { IfOk result (λ yes. IsTrue yes ↔ IsProductiveIn (book_of grammar.now) 0) }
+{
+    // For the prover: there is a start.
+    let _count = grammar.count();
+    let flags = grammar.productive(alloc)?;
+    Ok(flags.as_slice()[0])
+}
 
 impl Engine {
     /// Whether some term has the type.
@@ -33,8 +45,7 @@ impl Engine {
             (IsFaultOf (closure_faults self.old.library self.old.options (type_of ty.now))) }
     {
         let grammar = self.closure(rt, alloc, ty, gate)?;
-        let flags = grammar.productive(alloc)?;
-        let inhabited = flags.as_slice()[0];
+        let inhabited = is_productive(alloc, &grammar)?;
         self.recent = Some(grammar);
         Ok(inhabited)
     }
@@ -53,7 +64,8 @@ impl Engine {
         ensures fault { IfErr result
             (IsFaultOf (closure_faults self.old.library self.old.options (type_of ty.now))) }
     {
-        self.closure(rt, alloc, ty, gate)
+        let grammar = self.closure(rt, alloc, ty, gate)?;
+        Ok(grammar)
     }
 
     /// The history of the work on the type's goal: one that is legal and complete.
