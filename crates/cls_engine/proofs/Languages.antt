@@ -26,16 +26,17 @@ use Rattle.cls_engine.specs.declared.options.Options.{Options}
 use Rattle.cls_engine.specs.Closing.{IsKnownOf}
 use Rattle.cls_engine.specs.Goals.{Goal, same, IsGoalOf}
 
+-- a type and its goal are equivalent
+pub goal_same : (lib : Library) (t : ClosedType) (g : Goal) → IsGoalOf lib t g → AreEquivalent (below_in lib.taxonomy) (variances_in lib.taxonomy) t (type_of_paths (listed g))
+goal_same lib t g k = forms_are_equivalent (is_below lib.taxonomy) (variances_in lib.taxonomy) (record {
+    reflexive = is_below-reflexive lib.taxonomy;
+    transitive = is_below-transitive lib.taxonomy;
+    antisymmetric = is_below-antisymmetric lib.taxonomy;
+  }) t (listed g) k
+
 -- a type has the terms of its goal
 pub same_terms : (lib : Library) (t : ClosedType) (g : Goal) → IsGoalOf lib t g → (e : Applicative) → HasTypeIn lib e (type_of_paths (listed g)) ↔ HasTypeIn lib e t
-same_terms lib t g k e = ((λ h. by_subsumption h same.1), (λ h. by_subsumption h same.0))
-  where
-    same : AreEquivalent (below_in lib.taxonomy) (variances_in lib.taxonomy) t (type_of_paths (listed g))
-    same = forms_are_equivalent (is_below lib.taxonomy) (variances_in lib.taxonomy) (record {
-      reflexive = is_below-reflexive lib.taxonomy;
-      transitive = is_below-transitive lib.taxonomy;
-      antisymmetric = is_below-antisymmetric lib.taxonomy;
-    }) t (listed g) k
+same_terms lib t g k e = let same = goal_same lib t g k in ((λ h. by_subsumption h same.1), (λ h. by_subsumption h same.0))
 
 first_row : (rows : List (Row Goal)) (g : Goal) → slice_get (goals_of rows) 0 ≡ Some g → (r : Row Goal) × (slice_get rows 0 ≡ Some r) × (r.goal ≡ g)
 first_row [] g e = absurd (let f : ◌≡◌ {A = Option Goal} None (Some g) = e in cc)

@@ -11,7 +11,7 @@ use crate::fault::EngineFault;
 use cls_base::Ty;
 use cls_base::limits::MAX_TYPE_SPREAD;
 use cls_check::has_type;
-use cls_norm::{normal, subtype};
+use cls_norm::subtype;
 use cls_term::Term;
 use std::alloc::Global;
 
@@ -39,7 +39,7 @@ impl Engine {
         if ty.spread() > MAX_TYPE_SPREAD {
             return Err(EngineFault::Size);
         }
-        let goal = normal(alloc, self.library().taxonomy(), ty)?;
+        let goal = self.normal_form(alloc, ty)?;
         Ok(has_type(alloc, self.library(), term, &goal)?)
     }
 }

@@ -12,7 +12,7 @@ use crate::fault::EngineFault;
 use crate::library_expander::LibraryExpander;
 use crate::options::Options;
 use cls_base::limits::MAX_TYPE_SPREAD;
-use cls_base::{Numbers, Ty};
+use cls_base::{Numbers, OutOfMemory, Ty};
 use cls_expand::Store;
 use cls_grammar::Grammar;
 use cls_library::Library;
@@ -86,6 +86,13 @@ impl Engine {
         let _ = &self.costs;
     }
 
+    /// The normal form of the type.
+    pub(crate) fn normal_form(&self, alloc: Global, ty: &Ty) -> Result<Nf, OutOfMemory>
+        ensures { IfOk result (IsGoalOf self.now.library (type_of ty.now)) }
+    {
+        normal(alloc, self.library().taxonomy(), ty)
+    }
+
     /// The goal of the type. `Size` comes if and only if the type's spread is over the limit or its goal is too large.
     pub(crate) fn goal(&self, alloc: Global, ty: &Ty) -> Result<Nf, EngineFault>
         ensures goal { IfOk result (IsGoalOf self.now.library (type_of ty.now)) }
@@ -96,10 +103,9 @@ impl Engine {
         if ty.spread() > MAX_TYPE_SPREAD {
             return Err(EngineFault::Size);
         }
-        let library = self.library();
         // For the prover: what holds of each library.
-        let _count = library.count();
-        let goal = normal(alloc, library.taxonomy(), ty)?;
+        let _count = self.library().count();
+        let goal = self.normal_form(alloc, ty)?;
         if !fit(alloc, &goal)? {
             return Err(EngineFault::Size);
         }

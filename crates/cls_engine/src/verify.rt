@@ -11,7 +11,6 @@ use crate::verdict::Verdict;
 use cls_base::Ty;
 use cls_base::limits::MAX_TYPE_SPREAD;
 use cls_check::{CheckFault, check};
-use cls_norm::normal;
 use cls_proof::Certificate;
 use std::alloc::Global;
 
@@ -33,7 +32,7 @@ impl Engine {
         if ty.spread() > MAX_TYPE_SPREAD {
             return Err(EngineFault::Size);
         }
-        let goal = normal(alloc, self.library().taxonomy(), ty)?;
+        let goal = self.normal_form(alloc, ty)?;
         match check(alloc, self.library(), &goal, certificate) {
             Ok(()) => Ok(Verdict::Accepted),
             Err(CheckFault::Refused { row, reason }) => Ok(Verdict::Refused { row, reason }),
