@@ -15,4 +15,4 @@ pub returns-in-Err-Refused-clause-verdict : goal.returns-in-Err-Refused-clause-v
 returns-in-Err-Refused-clause-verdict c =
     let same = goal_same c.args.self.now.library (type_of c.args.ty.now) c.in_ok-goal.goal c.in_ok-goal.ensures in
     refuses c.args.self.now.library (type_of_paths (listed c.in_ok-goal.goal)) (type_of c.args.ty.now) same.1 same.0 (certificate_of c.args.certificate.now) (c.in-Err-Refused.row, c.in-Err-Refused.reason)
-      (rw c.library.ensures at c.in-Err-Refused.ensures.refused)
+      (let h = rw c.in-Err-Refused.field-0-is at c.in-Err-Refused.ensures.refused in rw c.library.ensures at h)
