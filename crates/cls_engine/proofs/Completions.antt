@@ -1,11 +1,10 @@
 -- What the workers finished, as the closure that is known of a goal.
-use Rattle.std.proofs.Common.{ℕ, ◌≡◌, ◌≤◌, sym, ◌∙◌, subst, ap, List, Option, Some, None, length, arith}
+use Rattle.std.proofs.Common.{◌≡◌, ◌≤◌, sym, subst, List, Some, None, length, arith}
 use Rattle.cls_core.specs.Canonical.{IsCanonical}
-use Rattle.cls_core.specs.Closure.{IsTooLarge}
 use Rattle.cls_core.specs.Laws.{RenumberedRowsAreCanonical, CompleteHistoriesMakeGrammars}
 use Rattle.cls_core.specs.Machine.{rules_in}
 use Rattle.cls_core.specs.Renumbering.{renumbered}
-use Rattle.cls_core.specs.Rows.{Row, filed_rows}
+use Rattle.cls_core.specs.Rows.{Row}
 use Rattle.cls_core.specs.declared.finished.Finished.{Finished}
 use Rattle.cls_expand.specs.Answers.{IsAnswer, IsReady}
 use Rattle.cls_expand.specs.Memos.{AreComplete, FitMemo}

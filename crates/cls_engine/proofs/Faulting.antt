@@ -1,15 +1,15 @@
 -- Which fault is the first cause.
-use Rattle.std.proofs.Common.{◌≡◌, refl, inl, inr, ◌⊎◌, List}
+use Rattle.std.proofs.Common.{refl, inl, inr, ◌⊎◌, List}
 use Rattle.cls_base.specs.Types.{ClosedType}
 use Rattle.cls_core.specs.Rows.{Row}
-use Rattle.cls_expand.specs.Answers.{IsAnswer, IsReady}
+use Rattle.cls_expand.specs.Answers.{IsReady}
 use Rattle.cls_library.specs.Libraries.{Library}
 use Rattle.cls_engine.specs.declared.options.Options.{Options}
 use Rattle.cls_engine.specs.declared.fault.EngineFault.{EngineFault}
 use Rattle.cls_engine.specs.declared.fault.EngineFault.TheVariants.{Size, TooLarge, Wide, TooManyTerms, OutOfMemory}
-use Rattle.cls_engine.specs.Closing.{IsLargeFrom, IsKnown, IsKnownOf, IsClosingFault}
+use Rattle.cls_engine.specs.Closing.{IsKnown, IsKnownOf, IsClosingFault}
 use Rattle.cls_engine.specs.Faults.{closure_faults, IsFaultOf, IsOversizedOr, AreSilent}
-use Rattle.cls_engine.specs.Goals.{Goal, IsSpread, IsGoalOf, IsUnfit, HasLargeClosure, IsClosed, IsFirstWide}
+use Rattle.cls_engine.specs.Goals.{Goal, IsSpread, IsGoalOf, IsUnfit, IsClosed}
 use Rattle.cls_engine.proofs.Goals.{not_unfit, not_large, not_wide}
 
 module _ (lib : Library) (o : Options) (t : ClosedType) where

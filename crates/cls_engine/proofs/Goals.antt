@@ -1,9 +1,9 @@
 -- A type has one goal, and one closure.
-use Rattle.std.proofs.Common.{ℕ, ◌≡◌, sym, ◌∙◌, subst, ap, inl, inr, ◌⊎◌, List, Option, Some, None}
+use Rattle.std.proofs.Common.{ℕ, ◌≡◌, sym, ◌∙◌, subst, ap, List, Option, Some, None}
 use Rattle.cls_base.specs.Subtyping.{reflexivity}
 use Rattle.cls_base.specs.Types.{ClosedType}
 use Rattle.cls_taxon.specs.DecisionLaws.{is_below-reflexive, is_below-transitive, is_below-antisymmetric}
-use Rattle.cls_path.specs.Paths.{TypePath, listed, type_of_paths}
+use Rattle.cls_path.specs.Paths.{listed, type_of_paths}
 use Rattle.cls_path.proofs.Uniqueness.{form_unique}
 use Rattle.cls_norm.specs.Fit.{IsFit}
 use Rattle.cls_core.specs.Rows.{Row}
@@ -12,10 +12,10 @@ use Rattle.cls_core.specs.Canonical.{IsCanonical}
 use Rattle.cls_core.proofs.Canonical.{canonical-unique}
 use Rattle.cls_library.specs.Libraries.{Library, below_in, variances_in}
 use Rattle.cls_grammar.specs.Grammars.{first_wide}
-use Rattle.cls_expand.specs.Answers.{IsAnswer, IsReady}
+use Rattle.cls_expand.specs.Answers.{IsAnswer}
 use Rattle.cls_expand.specs.Determined.{one_answer}
 use Rattle.cls_expand.specs.Listing.{unlisted, unlisted_back}
-use Rattle.cls_engine.specs.Goals.{Goal, same, IsSpread, IsGoalOf, IsUnfit, HasLargeClosure, IsClosed, IsFirstWide}
+use Rattle.cls_engine.specs.Goals.{Goal, same, IsGoalOf, IsUnfit, HasLargeClosure, IsClosed, IsFirstWide}
 
 module _ (lib : Library) (t : ClosedType) where
   pub goal_unique : (g h : Goal) → IsGoalOf lib t g → IsGoalOf lib t h → g ≡ h

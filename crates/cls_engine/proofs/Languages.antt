@@ -1,12 +1,12 @@
 -- What the grammar of a type generates is what has the type.
-use Rattle.std.proofs.Common.{ℕ, zero, ◌≡◌, ◌<◌, ◌↔◌, refl, sym, ◌∙◌, subst, ap, List, [], ◌∷◌, length, map, Option, None, Some, slice_get, arith}
+use Rattle.std.proofs.Common.{◌≡◌, ◌↔◌, refl, sym, subst, List, [], ◌∷◌, Option, None, Some, slice_get}
 use Rattle.cls_base.specs.Languages.{IsGenerated}
 use Rattle.cls_base.specs.Terms.{Applicative}
 use Rattle.cls_base.specs.Types.{ClosedType}
 use Rattle.cls_base.specs.Typing.{by_subsumption}
 use Rattle.cls_taxon.specs.DecisionLaws.{is_below-reflexive, is_below-transitive, is_below-antisymmetric}
 use Rattle.cls_taxon.specs.Decisions.{is_below}
-use Rattle.cls_path.specs.Paths.{TypePath, listed, type_of_paths}
+use Rattle.cls_path.specs.Paths.{listed, type_of_paths}
 use Rattle.cls_path.specs.Laws.{AreEquivalent}
 use Rattle.cls_path.specs.OrderLaws.{list_equal, list_same}
 use Rattle.cls_path.proofs.PathLaws.{forms_are_equivalent}
@@ -29,10 +29,10 @@ use Rattle.cls_engine.specs.Goals.{Goal, same, IsGoalOf}
 -- a type and its goal are equivalent
 pub goal_same : (lib : Library) (t : ClosedType) (g : Goal) → IsGoalOf lib t g → AreEquivalent (below_in lib.taxonomy) (variances_in lib.taxonomy) t (type_of_paths (listed g))
 goal_same lib t g k = forms_are_equivalent (is_below lib.taxonomy) (variances_in lib.taxonomy) (record {
-    reflexive = is_below-reflexive lib.taxonomy;
-    transitive = is_below-transitive lib.taxonomy;
-    antisymmetric = is_below-antisymmetric lib.taxonomy;
-  }) t (listed g) k
+  reflexive = is_below-reflexive lib.taxonomy;
+  transitive = is_below-transitive lib.taxonomy;
+  antisymmetric = is_below-antisymmetric lib.taxonomy;
+}) t (listed g) k
 
 -- a type has the terms of its goal
 pub same_terms : (lib : Library) (t : ClosedType) (g : Goal) → IsGoalOf lib t g → (e : Applicative) → HasTypeIn lib e (type_of_paths (listed g)) ↔ HasTypeIn lib e t

@@ -1,6 +1,5 @@
 -- Pages of the grammar of a type are pages of its terms.
-use Rattle.std.proofs.Common.{ℕ, ◌≡◌, ◌≤◌, ◌<◌, ◌↔◌, refl, inl, inr, List, [], ◌∷◌, length, Bool, Option, None, Some, slice_get, subst, arith}
-use Rattle.std.specs.Prelude.{Contains}
+use Rattle.std.proofs.Common.{ℕ, ◌≡◌, ◌<◌, ◌↔◌, refl, inl, inr, List, [], ◌∷◌, length, Bool, Option, None, Some, slice_get, subst, arith}
 use Rattle.cls_base.specs.Languages.{IsGenerated}
 use Rattle.cls_base.specs.Pages.{Request, IsDue, IsPage}
 use Rattle.cls_base.specs.Pools.{PoolIs, IsDecidingSize}

@@ -1,5 +1,5 @@
 -- The grammar that was kept is that of its first goal.
-use Rattle.std.proofs.Common.{◌≡◌, sym, ◌∙◌, subst, List, [], ◌∷◌, Option, None, Some, slice_get}
+use Rattle.std.proofs.Common.{◌≡◌, ◌∙◌, subst, List, [], ◌∷◌, Option, None, Some, slice_get}
 use Rattle.std.specs.Prelude.{option_map}
 use Rattle.cls_core.specs.Closure.{goals_of}
 use Rattle.cls_core.specs.Rows.{Row}

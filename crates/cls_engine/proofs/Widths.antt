@@ -1,6 +1,6 @@
 -- Rows that aren't wide stay so when they are renumbered.
 use Rattle.std.proofs.Common.{ℕ, inl, inr, ◌≡◌, refl, sym, ◌∙◌, ap, List, [], ◌∷◌, Contains, Option, None, Some, nat_eq}
-use Rattle.std.specs.Prelude.{map, slice_get}
+use Rattle.std.specs.Prelude.{slice_get}
 use Rattle.std.specs.List.{filter_map, cons_option}
 use Rattle.cls_base.proofs.Lists.{Contains-nil, Contains-here, Contains-later, Contains-cases, Contains-at}
 use Rattle.cls_core.specs.declared.answer.Answer.{Answer}

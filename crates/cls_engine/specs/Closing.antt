@@ -1,7 +1,6 @@
 -- internal: what is known of the closure of a goal, once it is worked out.
 use Rattle.std.specs.Prelude.{◌≡◌, List, Some, None}
 use Rattle.cls_base.specs.Types.{ClosedType}
-use Rattle.cls_core.specs.declared.entry.Entry.{Entry}
 use Rattle.cls_core.specs.Canonical.{IsCanonical}
 use Rattle.cls_core.specs.Closure.{IsTooLarge}
 use Rattle.cls_core.specs.Rows.{Row}

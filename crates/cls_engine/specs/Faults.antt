@@ -17,9 +17,9 @@ compare_faults ts = (λ f. ((t : ClosedType) × Contains ts t × IsSpread t) × 
 abbrev pub closure_faults : Library → Options → ClosedType → List (Cause EngineFault)
 closure_faults lib o t =
     (λ f. (IsSpread t ⊎ IsUnfit lib t) × (f ≡ Size))
-  ∷ (λ f. HasLargeClosure lib o.goals o.rules t × (f ≡ TooLarge))
-  ∷ (λ f. (g : Goal) × IsFirstWide lib t g × (f ≡ Wide g))
-  ∷ []
+    ∷ (λ f. HasLargeClosure lib o.goals o.rules t × (f ≡ TooLarge))
+    ∷ (λ f. (g : Goal) × IsFirstWide lib t g × (f ≡ Wide g))
+    ∷ []
 
 -- a page of the closure is made
 abbrev pub list_faults : Library → Options → ClosedType → Request → List (Cause EngineFault)

@@ -1,5 +1,5 @@
 -- The goal of a type, and its closure under the rules of a library.
-use Rattle.std.specs.Prelude.{ℕ, ◌≡◌, ◌<◌, ◌⊎◌, List, Some, Bool}
+use Rattle.std.specs.Prelude.{ℕ, ◌≡◌, ◌<◌, List, Some, Bool}
 use Rattle.std.specs.Ordering.{eq_by_cmp}
 use Rattle.cls_base.specs.Limits.{max_type_spread}
 use Rattle.cls_base.specs.Types.{ClosedType, spread}

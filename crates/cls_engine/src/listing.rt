@@ -42,7 +42,8 @@ impl Engine {
         ensures over { let r = request self.now.costs (option_copied after.entry) max take in
             IfErr result (λ fault. IfTooMany fault (ExceedsPool (book_of grammar.now) r self.now.options.pool)) }
     {
-        page(alloc, grammar, &self.costs, after, max, take, self.options.pool)
+        let pool = self.options.pool;
+        page(alloc, grammar, &self.costs, after, max, take, pool)
     }
 
     /// The first `take` terms of the type that come after the cursor, if there is one, and have at most the size `max` and

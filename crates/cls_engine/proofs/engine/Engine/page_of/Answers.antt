@@ -10,9 +10,9 @@ use Rattle.cls_engine.proofs.engine.Engine.page_of.Goals as goal
 pub returns-clause-within : goal.returns-clause-within
 returns-clause-within c =
     subst (λ (e : EngineSeen). IfOk c.page.result (λ _. FitsPool (book_of c.args.grammar.now) (request e.costs (option_copied c.args.after) c.args.max c.args.take) e.options.pool))
-      c.self.view_is c.page.ensures.within
+    c.self.view_is c.page.ensures.within
 
 pub returns-clause-over : goal.returns-clause-over
 returns-clause-over c =
     subst (λ (e : EngineSeen). IfErr c.page.result (λ fault. IfTooMany fault (ExceedsPool (book_of c.args.grammar.now) (request e.costs (option_copied c.args.after) c.args.max c.args.take) e.options.pool)))
-      c.self.view_is c.page.ensures.over
+    c.self.view_is c.page.ensures.over
