@@ -1,6 +1,7 @@
 pub mod Causes
 pub mod Completions
 pub mod Faulting
+pub mod Finiteness
 pub mod Goals
 pub mod Languages
 pub mod Pages

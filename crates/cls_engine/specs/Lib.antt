@@ -5,4 +5,5 @@ pub mod Faults
 pub mod Goals
 pub mod Histories
 pub mod Options
+pub mod Sizes
 pub mod Verdicts

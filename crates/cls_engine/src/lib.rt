@@ -15,6 +15,9 @@ mod library_expander;
 mod listing;
 mod options;
 mod questions;
+mod sizes;
+#[cfg(test)]
+mod tests;
 mod verdict;
 mod verify;
 
