@@ -1,0 +1,10 @@
+pub mod Causes
+pub mod Completions
+pub mod Faulting
+pub mod Finiteness
+pub mod Goals
+pub mod Languages
+pub mod Pages
+pub mod Recents
+pub mod Verdicts
+pub mod Widths

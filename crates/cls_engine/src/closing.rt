@@ -1,0 +1,90 @@
+//! The closure of a goal, worked out by the workers.
+ghost use Rattle.std.specs.Prelude.{◌≡◌, IfOk, IfErr};
+ghost use Rattle.cls_core.specs.Rows.{Row};
+ghost use Rattle.cls_expand.specs.Answers.{IsAnswer, IsReady};
+ghost use Rattle.cls_expand.specs.Memos.{AreComplete, FitMemo};
+ghost use Rattle.cls_table.specs.Completing.{IsComplete};
+ghost use Rattle.cls_table.specs.declared.fault.ExpandFault.TheVariants.{TooLarge};
+ghost use Rattle.cls_engine.specs.Closing.{tag_of, IsLargeFrom, IsKnown, IsClosingFault};
+ghost use Rattle.cls_engine.specs.Goals.{same};
+ghost use Rattle.cls_engine.specs.Histories.{IsHistoryFrom};
+
+use crate::engine::Engine;
+use crate::fault::EngineFault;
+use crate::library_expander::LibraryExpander;
+use cls_base::{Gate, OutOfMemory};
+use cls_core::laws::{complete_histories_make_grammars, renumbered_rows_are_canonical};
+use cls_core::{Finished, History};
+use cls_expand::{Memo, Stored};
+use cls_grammar::Grammar;
+use cls_path::Nf;
+use cls_table::{ExpandFault, Limits};
+use cls_workers::expand_all;
+use std::alloc::Global;
+use std::sync::Wait;
+use std::thread::Threads;
+
+/// What the workers found of a goal.
+#[derive(Drop)]
+pub(crate) struct Closed {
+    /// The grammar of the goal: its closure in the canonical numbering.
+    pub(crate) grammar: Grammar,
+    /// Who claimed and filed which row, in turn.
+    pub(crate) history: History,
+}
+
+impl Engine {
+    /// Has the workers find the closure of the goal. They look each goal up among the answers that are kept first.
+    fn expand<R: Threads + Wait + Sync, T: Gate + Sync>(
+        &self,
+        rt: &R,
+        alloc: Global,
+        goal: Nf,
+        gate: &T,
+    ) -> Result<Finished<Nf>, ExpandFault>
+        requires ready { IsReady self.now.library goal }
+        ensures complete { IfOk result (IsComplete same IsAnswer (tag_of self.now.library self.now.options goal)) }
+        ensures large { IfErr result (λ e. e ≡ TooLarge → IsLargeFrom self.now.library self.now.options goal) }
+    {
+        let by = Stored::new(&self.expander, &self.store);
+        let limits = Limits {
+            goals: self.options.goals,
+            rules: self.options.rules,
+        };
+        expand_all(rt, alloc, &by, goal, self.options.workers, limits, gate)
+    }
+
+    /// Keeps the answers of the rows for later queries.
+    fn keep(&mut self, alloc: Global, finished: &Finished<Nf>) -> Result<(), OutOfMemory>
+        requires complete { AreComplete same (IsAnswer self.old.library) finished.now.rows }
+        requires fit { FitMemo finished.now.rows }
+        ensures { self.new ≡ self.old }
+    {
+        self.store.keep(alloc, finished)
+    }
+
+    /// Works out the closure of the goal, and keeps its answers for later queries.
+    pub(crate) fn close<R: Threads + Wait + Sync, T: Gate + Sync>(
+        &mut self,
+        rt: &R,
+        alloc: Global,
+        goal: Nf,
+        gate: &T,
+    ) -> Result<Closed, EngineFault>
+        requires ready { IsReady self.old.library goal }
+        ensures same { self.new ≡ self.old }
+        ensures known { IfOk result (λ c. IsKnown self.old.library self.old.options goal c.grammar) }
+        ensures history { IfOk result (λ c. IsHistoryFrom self.old.library self.old.options.workers goal c.history) }
+        ensures fault { IfErr result (IsClosingFault self.old.library self.old.options goal) }
+    {
+        // For the prover: what the rows of a complete history are, and what holds of each engine.
+        complete_histories_make_grammars::<LibraryExpander>();
+        renumbered_rows_are_canonical::<LibraryExpander>();
+        self.facts();
+        let finished = self.expand(rt, alloc, goal, gate)?;
+        self.keep(alloc, &finished)?;
+        let Finished { rows, history } = finished;
+        let grammar = Grammar::of(alloc, rows)?;
+        Ok(Closed { grammar, history })
+    }
+}

@@ -1,0 +1,127 @@
+ghost use Rattle.std.specs.Prelude.{◌≡◌, ℕ, ◌<◌, IfOk, IfErr, IfSome, OnOk};
+ghost use Rattle.cls_base.specs.Ty.{type_of};
+ghost use Rattle.cls_term.specs.Costs.{cost_of};
+ghost use Rattle.cls_expand.specs.Answers.{IsReady};
+ghost use Rattle.cls_engine.specs.Closing.{IsKnown};
+ghost use Rattle.cls_engine.specs.Engines.{seen_as};
+ghost use Rattle.cls_engine.specs.Faults.{IsOversizedOr};
+ghost use Rattle.cls_engine.specs.Goals.{IsGoalOf, IsSpread};
+ghost use Rattle.cls_engine.specs.Options.{AreInRange};
+
+use crate::fault::EngineFault;
+use crate::library_expander::LibraryExpander;
+use crate::options::Options;
+use cls_base::limits::MAX_TYPE_SPREAD;
+use cls_base::{Numbers, OutOfMemory, Ty};
+use cls_expand::Store;
+use cls_grammar::Grammar;
+use cls_library::Library;
+use cls_norm::{fit, normal};
+use cls_path::Nf;
+use std::alloc::Global;
+use std::marker::Model;
+
+/// Answers queries by a library that it owns, with workers and within bounds. It is seen as the library, the costs of the
+/// components and the options.
+///
+/// It keeps the answers of the goals of earlier queries, and the grammar of the goal that it was asked for last: if a
+/// query has the same goal again, nothing is worked out anew.
+#[derive(Drop)]
+pub struct Engine {
+    pub(crate) expander: LibraryExpander,
+    pub(crate) costs: Numbers,
+    pub(crate) options: Options,
+    // The answers of the goals of earlier queries.
+    pub(crate) store: Store<LibraryExpander>,
+    // The grammar of the last goal.
+    pub(crate) recent: Option<Grammar>,
+}
+
+impl Model for Engine {
+    ghost use Rattle.std.specs.Coded.{codes};
+    ghost use Rattle.cls_library.specs.Stored.{coded_library};
+    ghost use Rattle.cls_engine.specs.Engines.{EngineSeen, seen_as, IsEngine};
+
+    ghost Value = { EngineSeen };
+
+    ghost coded = { Prim.hlevel (codes, coded_library) };
+
+    ghost view = { λ e. seen_as e.expander.library e.costs e.options };
+
+    ghost invariant = { λ e. IsEngine (seen_as e.expander.library e.costs e.options) e.store.tag e.recent };
+}
+
+impl Engine {
+    /// The engine of a library, whose component x costs the number at place x of the list, or 1 if there is none. It
+    /// takes no memory.
+    pub fn new(alloc: Global, library: Library, costs: Numbers, options: Options) -> Engine
+        requires in_range { AreInRange options }
+        requires costs { (x : ℕ) → 0 < cost_of costs x }
+        ensures { result ≡ seen_as library costs options }
+    {
+        let expander = LibraryExpander { library };
+        let store = Store::new(alloc, &expander);
+        Engine {
+            expander,
+            costs,
+            options,
+            store,
+            recent: None,
+        }
+    }
+
+    /// The library.
+    pub fn library(&self) -> &Library
+        ensures { result.now ≡ self.now.library }
+    {
+        &self.expander.library
+    }
+
+    /// Does nothing, and says what holds of each engine: its options are in their ranges, and each component costs at least 1.
+    pub fn facts(&self)
+        ensures in_range { AreInRange self.now.options }
+        ensures costs { (x : ℕ) → 0 < cost_of self.now.costs x }
+    {
+        // For the prover: opens the engine's model.
+        let _ = &self.costs;
+    }
+
+    /// The normal form of the type.
+    pub(crate) fn normal_form(&self, alloc: Global, ty: &Ty) -> Result<Nf, OutOfMemory>
+        ensures { IfOk result (IsGoalOf self.now.library (type_of ty.now)) }
+    {
+        normal(alloc, self.library().taxonomy(), ty)
+    }
+
+    /// The goal of the type. `Size` comes if and only if the type's spread is over the limit or its goal is too large.
+    pub(crate) fn goal(&self, alloc: Global, ty: &Ty) -> Result<Nf, EngineFault>
+        ensures goal { IfOk result (IsGoalOf self.now.library (type_of ty.now)) }
+        ensures ready { IfOk result (IsReady self.now.library) }
+        ensures narrow { OnOk result (IsSpread (type_of ty.now) → ⊥) }
+        ensures size { IfErr result (IsOversizedOr self.now.library (type_of ty.now)) }
+    {
+        if ty.spread() > MAX_TYPE_SPREAD {
+            return Err(EngineFault::Size);
+        }
+        // For the prover: what holds of each library.
+        let _count = self.library().count();
+        let goal = self.normal_form(alloc, ty)?;
+        if !fit(alloc, &goal)? {
+            return Err(EngineFault::Size);
+        }
+        Ok(goal)
+    }
+
+    /// Takes the grammar that was kept, if it is that of the goal.
+    pub(crate) fn take_recent(&mut self, goal: &Nf) -> Option<Grammar>
+        ensures same { self.new ≡ self.old }
+        ensures known { IfSome result (IsKnown self.old.library self.old.options goal.now) }
+    {
+        let grammar = self.recent.take()?;
+        if grammar.goal(0) == goal {
+            Some(grammar)
+        } else {
+            None
+        }
+    }
+}

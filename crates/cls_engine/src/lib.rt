@@ -1,0 +1,27 @@
+//! What a session asks of a library.
+//!
+//! - [`Engine`] owns a library and answers queries about types: subtyping, typing, certificates, whether a type has terms,
+//!   its grammar, its history and its terms page by page. It keeps answers from query to query.
+//! - [`Options`] bound its work, [`Verdict`] is what it finds of a certificate, and [`EngineFault`] is why a query isn't
+//!   answered.
+#![tactic(auto)]
+
+mod closing;
+mod closure;
+mod compare;
+mod engine;
+mod fault;
+mod library_expander;
+mod listing;
+mod options;
+mod questions;
+mod sizes;
+#[cfg(test)]
+mod tests;
+mod verdict;
+mod verify;
+
+pub use engine::Engine;
+pub use fault::EngineFault;
+pub use options::Options;
+pub use verdict::Verdict;

@@ -1,0 +1,79 @@
+ghost use Rattle.std.specs.Prelude.{◌≡◌, ◌<◌, ◌≤◌, ◌^◌, IfOk, IfErr, IfSome, OnOk, option_copied};
+ghost use Rattle.cls_base.specs.Limits.{max_term_size};
+ghost use Rattle.cls_base.specs.Languages.{IsGenerated};
+ghost use Rattle.cls_base.specs.Pages.{IsPage};
+ghost use Rattle.cls_base.specs.Terms.{length_of};
+ghost use Rattle.cls_base.specs.Ty.{type_of};
+ghost use Rattle.cls_enum.specs.Faults.{IfTooMany};
+ghost use Rattle.cls_enum.specs.Requests.{request};
+ghost use Rattle.cls_enum.specs.States.{ExceedsPool, FitsPool};
+ghost use Rattle.cls_grammar.specs.Grammars.{book_of};
+ghost use Rattle.cls_library.specs.Typing.{HasTypeIn};
+ghost use Rattle.cls_engine.specs.Faults.{IsFaultOf, AreSilent, list_faults};
+
+use crate::engine::Engine;
+use crate::fault::EngineFault;
+use cls_base::{Gate, Ty};
+use cls_enum::{Page, PageFault};
+use cls_grammar::Grammar;
+use cls_term::Term;
+use cls_walk::page;
+use std::alloc::Global;
+use std::sync::Wait;
+use std::thread::Threads;
+
+impl Engine {
+    /// The page of the terms of the grammar's start.
+    fn page_of(
+        &self,
+        alloc: Global,
+        grammar: &Grammar,
+        after: Option<&Term>,
+        max: u32,
+        take: u32,
+    ) -> Result<Page, PageFault>
+        requires max { max ≤ max_term_size }
+        requires some { 1 ≤ take }
+        requires cursor { IfSome (option_copied after) (λ e. length_of e < 2 ^ 32) }
+        ensures page { let r = request self.now.costs (option_copied after.entry) max take in
+            IfOk result (λ p. IsPage (IsGenerated (book_of grammar.now) 0) r p.terms p.more) }
+        ensures within { let r = request self.now.costs (option_copied after.entry) max take in
+            IfOk result (λ _. FitsPool (book_of grammar.now) r self.now.options.pool) }
+        ensures over { let r = request self.now.costs (option_copied after.entry) max take in
+            IfErr result (λ fault. IfTooMany fault (ExceedsPool (book_of grammar.now) r self.now.options.pool)) }
+    {
+        let pool = self.options.pool;
+        page(alloc, grammar, &self.costs, after, max, take, pool)
+    }
+
+    /// The first `take` terms of the type that come after the cursor, if there is one, and have at most the size `max` and
+    /// the length 64, in the order by size and code; and whether there is a further one. The cursor needn't have the type.
+    pub fn list<R: Threads + Wait + Sync, T: Gate + Sync>(
+        &mut self,
+        rt: &R,
+        alloc: Global,
+        ty: &Ty,
+        after: Option<&Term>,
+        max: u32,
+        take: u32,
+        gate: &T,
+    ) -> Result<Page, EngineFault>
+        requires max { max ≤ max_term_size }
+        requires some { 1 ≤ take }
+        requires cursor { IfSome (option_copied after) (λ e. length_of e < 2 ^ 32) }
+        ensures same { self.new ≡ self.old }
+        ensures page { IfOk result (λ p. IsPage (λ e. HasTypeIn self.old.library e (type_of ty.now))
+            (request self.old.costs (option_copied after.entry) max take) p.terms p.more) }
+        ensures silent { OnOk result (AreSilent (list_faults self.old.library self.old.options (type_of ty.now)
+            (request self.old.costs (option_copied after.entry) max take))) }
+        ensures fault { IfErr result (IsFaultOf (list_faults self.old.library self.old.options (type_of ty.now)
+            (request self.old.costs (option_copied after.entry) max take))) }
+    {
+        // For the prover: what a component costs.
+        self.facts();
+        let grammar = self.closure(rt, alloc, ty, gate)?;
+        let page = self.page_of(alloc, &grammar, after, max, take);
+        self.recent = Some(grammar);
+        Ok(page?)
+    }
+}

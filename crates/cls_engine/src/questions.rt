@@ -1,0 +1,91 @@
+//! The queries that need the closure of a type's goal.
+ghost use Rattle.std.specs.Prelude.{◌≡◌, ◌↔◌, IfOk, IfErr, OnOk, IsTrue};
+ghost use Rattle.cls_base.specs.Ty.{type_of};
+ghost use Rattle.cls_base.specs.Terms.{Applicative};
+ghost use Rattle.cls_grammar.specs.Grammars.{book_of};
+ghost use Rattle.cls_grammar.specs.Ranks.{IsProductiveIn};
+ghost use Rattle.cls_library.specs.Typing.{HasTypeIn};
+ghost use Rattle.cls_engine.specs.Faults.{IsFaultOf, AreSilent, closure_faults};
+ghost use Rattle.cls_engine.specs.Goals.{IsClosed};
+ghost use Rattle.cls_engine.specs.Histories.{IsHistoryOf};
+
+use crate::engine::Engine;
+use crate::fault::EngineFault;
+use cls_base::{Gate, OutOfMemory, Ty};
+use cls_core::History;
+use cls_grammar::Grammar;
+use std::alloc::Global;
+use std::sync::Wait;
+use std::thread::Threads;
+
+/// Whether the start of the grammar is productive.
+fn is_productive(alloc: Global, grammar: &Grammar) -> Result<bool, OutOfMemory>
+    ensures { IfOk result (λ yes. IsTrue yes ↔ IsProductiveIn (book_of grammar.now) 0) }
+{
+    // For the prover: there is a start.
+    let _count = grammar.count();
+    let flags = grammar.productive(alloc)?;
+    Ok(flags.as_slice()[0])
+}
+
+impl Engine {
+    /// Whether some term has the type.
+    pub fn inhabit<R: Threads + Wait + Sync, T: Gate + Sync>(
+        &mut self,
+        rt: &R,
+        alloc: Global,
+        ty: &Ty,
+        gate: &T,
+    ) -> Result<bool, EngineFault>
+        ensures same { self.new ≡ self.old }
+        ensures exact { IfOk result
+            (λ yes. IsTrue yes ↔ ((e : Applicative) × HasTypeIn self.old.library e (type_of ty.now))) }
+        ensures silent { OnOk result (AreSilent (closure_faults self.old.library self.old.options (type_of ty.now))) }
+        ensures fault { IfErr result
+            (IsFaultOf (closure_faults self.old.library self.old.options (type_of ty.now))) }
+    {
+        let grammar = self.closure(rt, alloc, ty, gate)?;
+        let inhabited = is_productive(alloc, &grammar)?;
+        self.recent = Some(grammar);
+        Ok(inhabited)
+    }
+
+    /// The grammar of the type's goal.
+    pub fn grammar<R: Threads + Wait + Sync, T: Gate + Sync>(
+        &mut self,
+        rt: &R,
+        alloc: Global,
+        ty: &Ty,
+        gate: &T,
+    ) -> Result<Grammar, EngineFault>
+        ensures same { self.new ≡ self.old }
+        ensures closed { IfOk result (IsClosed self.old.library (type_of ty.now)) }
+        ensures silent { OnOk result (AreSilent (closure_faults self.old.library self.old.options (type_of ty.now))) }
+        ensures fault { IfErr result
+            (IsFaultOf (closure_faults self.old.library self.old.options (type_of ty.now))) }
+    {
+        let grammar = self.closure(rt, alloc, ty, gate)?;
+        Ok(grammar)
+    }
+
+    /// The history of the work on the type's goal: one that is legal and complete.
+    pub fn audit<R: Threads + Wait + Sync, T: Gate + Sync>(
+        &mut self,
+        rt: &R,
+        alloc: Global,
+        ty: &Ty,
+        gate: &T,
+    ) -> Result<History, EngineFault>
+        ensures same { self.new ≡ self.old }
+        ensures history { IfOk result
+            (IsHistoryOf self.old.library self.old.options.workers (type_of ty.now)) }
+        ensures silent { OnOk result (AreSilent (closure_faults self.old.library self.old.options (type_of ty.now))) }
+        ensures fault { IfErr result
+            (IsFaultOf (closure_faults self.old.library self.old.options (type_of ty.now))) }
+    {
+        let goal = self.goal(alloc, ty)?;
+        let closed = self.close(rt, alloc, goal, gate)?;
+        self.recent = Some(closed.grammar);
+        Ok(closed.history)
+    }
+}

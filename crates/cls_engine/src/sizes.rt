@@ -1,0 +1,61 @@
+ghost use Rattle.std.specs.Prelude.{◌≡◌, ◌↔◌, [], IfOk, IfErr, OnOk};
+ghost use Rattle.cls_base.specs.Ty.{type_of};
+ghost use Rattle.cls_finite.specs.declared.answer.FiniteAnswer.TheVariants.{Over};
+ghost use Rattle.cls_finite.specs.Answers.{IfFinite, IfInfinite, IsInfinite};
+ghost use Rattle.cls_finite.specs.Finiteness as book;
+ghost use Rattle.cls_grammar.specs.Grammars.{book_of};
+ghost use Rattle.cls_term.specs.Costs.{cost_of};
+ghost use Rattle.cls_engine.specs.Faults.{IsFaultOf, AreSilent, closure_faults};
+ghost use Rattle.cls_engine.specs.Sizes.{IsGreatest, IsGreatestOver, IsUnbounded, IsWalk};
+
+use crate::engine::Engine;
+use crate::fault::EngineFault;
+use cls_base::{Gate, OutOfMemory, Ty};
+use cls_finite::{FiniteAnswer, MAX_FINITE_SIZE, finite};
+use cls_grammar::Grammar;
+use std::alloc::Global;
+use std::sync::Wait;
+use std::thread::Threads;
+
+impl Engine {
+    /// How large the terms of the grammar's start are.
+    fn sizes_of(&self, alloc: Global, grammar: &Grammar) -> Result<FiniteAnswer, OutOfMemory>
+        ensures greatest { IfOk result (λ answer.
+            IfFinite answer (book.IsGreatest (book_of grammar.now) (cost_of self.now.costs))) }
+        ensures over { IfOk result (λ answer. (answer ≡ Over)
+            ↔ book.IsGreatestOver (book_of grammar.now) (cost_of self.now.costs) MAX_FINITE_SIZE) }
+        ensures infinite { IfOk result (λ answer. IsInfinite answer
+            ↔ book.IsUnbounded (book_of grammar.now) (cost_of self.now.costs) 0) }
+        ensures walk { IfOk result (λ answer.
+            IfInfinite answer (book.IsDetermined (book_of grammar.now) (cost_of self.now.costs) [] 0)) }
+    {
+        finite(alloc, grammar, &self.costs)
+    }
+
+    /// How large the terms of the type are. The steps of a walk are those of the grammar of the type's goal.
+    pub fn finite<R: Threads + Wait + Sync, T: Gate + Sync>(
+        &mut self,
+        rt: &R,
+        alloc: Global,
+        ty: &Ty,
+        gate: &T,
+    ) -> Result<FiniteAnswer, EngineFault>
+        ensures same { self.new ≡ self.old }
+        ensures greatest { IfOk result (λ answer.
+            IfFinite answer (IsGreatest self.old.library (cost_of self.old.costs) (type_of ty.now))) }
+        ensures over { IfOk result (λ answer. (answer ≡ Over)
+            ↔ IsGreatestOver self.old.library (cost_of self.old.costs) (type_of ty.now) MAX_FINITE_SIZE) }
+        ensures infinite { IfOk result (λ answer. IsInfinite answer
+            ↔ IsUnbounded self.old.library (cost_of self.old.costs) (type_of ty.now)) }
+        ensures walk { IfOk result (λ answer.
+            IfInfinite answer (IsWalk self.old.library (cost_of self.old.costs) (type_of ty.now))) }
+        ensures silent { OnOk result (AreSilent (closure_faults self.old.library self.old.options (type_of ty.now))) }
+        ensures fault { IfErr result
+            (IsFaultOf (closure_faults self.old.library self.old.options (type_of ty.now))) }
+    {
+        let grammar = self.closure(rt, alloc, ty, gate)?;
+        let answer = self.sizes_of(alloc, &grammar);
+        self.recent = Some(grammar);
+        Ok(answer?)
+    }
+}
