@@ -1,0 +1,16 @@
+pub mod Causes
+pub mod Lines
+pub mod Tables
+pub mod TypeMeanings
+pub mod KindTypes
+pub mod Wrong
+pub mod Changes
+pub mod Endings
+pub mod Taking
+pub mod AllLines
+pub mod Putting
+pub mod Spelled
+pub mod VarianceEntries
+pub mod KindLines
+pub mod TemplateTexts
+pub mod Findings
