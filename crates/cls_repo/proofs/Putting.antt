@@ -76,7 +76,7 @@ no_text : (w : Word) → name_text false w ≡ []
 no_text word.omega = refl
 no_text (name x) = refl
 no_text (number n) = refl
-no_text (sign kind) = refl
+no_text (sign s) = refl
 
 none_named : (ws : List Word) → HasNoDollar ws → variables_in false ws ≡ []
 none_named [] h = refl

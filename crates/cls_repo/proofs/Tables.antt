@@ -1,9 +1,10 @@
 -- Tables of names that grow: what is numbered keeps its number.
-use Rattle.std.proofs.Common.{◌≡◌, ℕ, ◌+◌, ◌≤◌, Bool, true, false, cond, not, List, [], ◌∷◌, ◌++◌, refl, sym, ap, ◌∙◌, subst, take, length, append_assoc, append-nil}
+use Rattle.std.proofs.Common.{◌≡◌, ℕ, ◌+◌, ◌≤◌, Bool, true, false, cond, not, List, [], ◌∷◌, ◌++◌, refl, sym, ap, ◌∙◌, subst, take, drop, length, append_assoc, append-nil}
 use Rattle.std.specs.Prelude.{if◌then◌else◌, ◌||◌, Contains}
 use Rattle.std.specs.List.{list_any, position_or_len, AllByRecursion}
 use Rattle.std.specs.Str.{bytes_eq}
 use Rattle.std.proofs.Math.Seq.{take-append_seam}
+use Rattle.std.proofs.lemmas.List.{take-append-drop}
 use Rattle.std.proofs.lemmas.Slice.Eq.{bytes_eq-Decides}
 use Rattle.cls_lexer.specs.Names.{number_of, with_text, with_texts}
 
@@ -19,7 +20,7 @@ pub record Grows (old new : List (List ℕ)) : Type 0 where
 pub grows_one : (texts : List (List ℕ)) (x : List ℕ) → Grows texts (with_text texts x)
 grows_one texts x = elim (list_any (bytes_eq x) texts) as (λ b. Grows texts (if b then texts else texts ++ x ∷ [])) [ true ↦ record { more = []; joined = sym (append-nil texts) } | false ↦ record { more = x ∷ []; joined = refl } ]
 
-grows_on : {a b c : List (List ℕ)} → Grows a b → Grows b c → Grows a c
+pub grows_on : {a b c : List (List ℕ)} → Grows a b → Grows b c → Grows a c
 grows_on {a} {b} {c} g h = record { more = g.more ++ h.more; joined = h.joined ∙ (ap (λ xs. xs ++ h.more) g.joined ∙ append_assoc a g.more h.more) }
 
 pub grows_all : (texts xs : List (List ℕ)) → Grows texts (with_texts texts xs)
@@ -29,6 +30,9 @@ grows_all texts (x ∷ xs) = grows_on (grows_one texts x) (grows_all (with_text 
 -- what stood in front stays there
 pub kept : {old new : List (List ℕ)} → Grows old new → take (length old) new ≡ old
 kept {old} {new} g = ap (take (length old)) g.joined ∙ take-append_seam old g.more
+
+pub grows_kept : {old new : List (List ℕ)} → take (length old) new ≡ old → Grows old new
+grows_kept {old} {new} e = record { more = drop (length old) new; joined = sym (take-append-drop (length old) new) ∙ ap (λ xs. xs ++ drop (length old) new) e }
 
 pub kept_one : (texts : List (List ℕ)) (x : List ℕ) → take (length texts) (with_text texts x) ≡ texts
 kept_one texts x = kept (grows_one texts x)

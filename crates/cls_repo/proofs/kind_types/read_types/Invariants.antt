@@ -10,10 +10,10 @@ use Rattle.cls_syntax.specs.Spans.{types_in}
 use Rattle.cls_repo.proofs.KindTypes.{IsReading, left_count}
 use Rattle.cls_repo.proofs.kind_types.read_types.Given as goal
 
-abbrev pub invariant-loop-current : goal.invariant-loop-current
-invariant-loop-current l =
-    let all = types_in Bar (words l.fn.tokens.now) in
+abbrev pub invariant-loop-left : goal.invariant-loop-left
+invariant-loop-left l =
+    let all = types_in Bar (words l.fn.tokens) in
     IsReading l.fn.names (with_texts l.fn.names (constructors_named (types_parts all))) all l.names (map type_of l.types.items) (option_copied l.left)
 
-abbrev pub decreases-loop-current : goal.decreases-loop-current
-decreases-loop-current l = left_count (option_copied l.left)
+abbrev pub decreases-loop-left : goal.decreases-loop-left
+decreases-loop-left l = left_count (option_copied l.left)

@@ -1,4 +1,4 @@
-use Rattle.std.proofs.Common.{ℕ, List, [], ◌∷◌, ◌++◌, ap, ◌∙◌, map}
+use Rattle.std.proofs.Common.{ℕ, List, [], ◌∷◌, ◌++◌, length, length-append, ap, ◌∙◌, map, arith}
 use Rattle.cls_base.specs.Schemas.{schema_of}
 use Rattle.cls_base.proofs.Lists.{map_last}
 use Rattle.cls_syntax.specs.SpelledTypes.{type_text}
@@ -17,3 +17,13 @@ returns-in-Ok-clause-put c =
     (c.in_ok-number_name.ensures.table ∙ with_new old.component_names x c.requires)
     c.in-Ok.ensures.schema c.in_ok-template.ensures
     (ap (map component_of) (c.push_reserved.ensures.items ∙ ap (λ (cs : List Component). cs ++ made ∷ []) c.in_ok-reserve.ensures.items) ∙ map_last component_of old.components.items made)
+
+pub invariant_of-self-in-Ok : goal.invariant_of-self-in-Ok
+invariant_of-self-in-Ok c =
+    let old = c.args.self.now in
+    let x = c.args.component.now in
+    let made : Component = record { schema = c.in-Ok.schema; line = c.args.line; template = c.in_ok-template.template; cost = 1 } in
+    let components = ap length (c.push_reserved.ensures.items ∙ ap (λ (cs : List Component). cs ++ made ∷ []) c.in_ok-reserve.ensures.items) ∙ length-append old.components.items (made ∷ []) in
+    let names = ap length (c.in_ok-number_name.ensures.table ∙ with_new old.component_names x c.requires) ∙ length-append old.component_names (x ∷ []) in
+    let before = old.counted in
+    record { counted = omega (arith, components, names, before) }
