@@ -1,13 +1,14 @@
 -- The text of a template in its line, and the places of its faults.
-use Rattle.std.proofs.Common.{◌≡◌, ℕ, ◌+◌, ◌-◌, ◌≤◌, ◌<◌, zero, suc, Bool, true, false, List, [], ◌∷◌, ◌++◌, refl, sym, ap, ◌∙◌, subst, arith, map, drop, length, length-append, length-drop, get_or}
-use Rattle.std.specs.Prelude.{◌==◌, ◌||◌, if◌then◌else◌, Option, Some, None, slice_get, IsUtf8}
+use Rattle.std.proofs.Common.{◌≡◌, ℕ, ◌+◌, ◌-◌, ◌≤◌, ◌<◌, zero, suc, Bool, true, false, List, [], ◌∷◌, ◌++◌, refl, sym, ap, ◌∙◌, subst, arith, map, drop, length, length-append, length-drop, get_or, Bor}
+use Rattle.std.specs.Prelude.{◌==◌, ◌||◌, ◌≢◌, if◌then◌else◌, Option, Some, None, MatchOption, slice_get, IsUtf8}
 use Rattle.std.specs.List.{AllByRecursion}
-use Rattle.std.specs.Option.{option_map, option_map_or}
+use Rattle.std.specs.Option.{option_map, option_map_or, unwrap_or}
 use Rattle.std.specs.Str.{IsCharBoundary}
-use Rattle.std.proofs.lemmas.Option.{slice_get-map}
+use Rattle.std.proofs.lemmas.Option.{slice_get-map, slice_get_past, slice_get_read}
 use Rattle.cls_assemble.specs.declared.fault.TemplateFault.{TemplateFault}
 use Rattle.cls_assemble.specs.declared.fault.TemplateFault.TheVariants.{BadHole, HoleZero, HoleOver16}
 use Rattle.cls_assemble.specs.Faults.{BeginsTemplate, IsFaultOf}
+use Rattle.cls_taxon.specs.DecisionLaws.{same_name}
 use Rattle.cls_lexer.specs.declared.token.Token.{Token}
 use Rattle.cls_lexer.specs.Tokens.{Located, tokens_of, located, end_of, IsCut}
 use Rattle.cls_lexer.proofs.TokenCuts.{tokens_cut}
@@ -17,6 +18,26 @@ use Rattle.cls_repo.specs.Declarations.{template_text, without_blank}
 without_shorter : (bs : List ℕ) → length (without_blank bs) ≤ length bs
 without_shorter [] = omega arith
 without_shorter (b ∷ bs) = elim ((b == 32) || (b == 9)) as (λ t. length (if t then bs else b ∷ bs) ≤ length (b ∷ bs)) [ true ↦ omega arith | false ↦ omega arith ]
+
+-- the text begins with a space, or with another byte
+pub behind_space : (bs rest : List ℕ) → bs ≡ 32 ∷ rest → rest ≡ without_blank bs
+behind_space bs rest is = sym (ap without_blank is)
+
+no_blank : (bs : List ℕ) → ((rest : List ℕ) → bs ≢ 32 ∷ rest) → ((rest : List ℕ) → bs ≢ 9 ∷ rest) → without_blank bs ≡ bs
+no_blank [] space tab = refl
+no_blank (b ∷ bs) space tab =
+    (elim (b == 32) as (λ t. (b == 32) ≡ t → (if t || (b == 9) then bs else b ∷ bs) ≡ b ∷ bs) [
+      | true ↦ λ e. absurd (space bs (ap (λ (n : ℕ). n ∷ bs) (same_name b 32 e)))
+      | false ↦ λ e. (elim (b == 9) as (λ t. (b == 9) ≡ t → (if t then bs else b ∷ bs) ≡ b ∷ bs) [
+        | true ↦ λ f. absurd (tab bs (ap (λ (n : ℕ). n ∷ bs) (same_name b 9 f)))
+        | false ↦ λ f. refl
+      ]) refl
+    ]) refl
+
+pub behind_tab : (bs : List ℕ) (stripped : Option (Bor (List ℕ))) (all : Bor (List ℕ)) → all.now ≡ bs → ((rest : List ℕ) → bs ≢ 32 ∷ rest)
+    → MatchOption stripped ((rest : List ℕ) → bs ≢ 9 ∷ rest) (λ x. bs ≡ 9 ∷ x.now) → (unwrap_or stripped all).now ≡ without_blank bs
+behind_tab bs (Some rest) all e space tab = sym (ap without_blank tab)
+behind_tab bs None all e space tab = e ∙ sym (no_blank bs space tab)
 
 abbrev behind : List ℕ → Option Located → List ℕ
 behind line o = option_map_or (λ token. drop (end_of token) line) o []
@@ -36,8 +57,8 @@ module _ (line : List ℕ) (tokens : List Token) (cut : map located tokens ≡ t
   pub behind_sign : (token : Token) → slice_get tokens 2 ≡ Some token → template_text line ≡ without_blank (drop (end_of (located token)) line)
   behind_sign token e = ap (λ (o : Option Located). without_blank (behind line o)) (third (Some token) e)
 
-  pub no_sign : slice_get tokens 2 ≡ None → template_text line ≡ []
-  no_sign e = ap (λ (o : Option Located). without_blank (behind line o)) (third None e)
+  pub no_sign : length tokens ≤ 2 → template_text line ≡ []
+  no_sign few = ap (λ (o : Option Located). without_blank (behind line o)) (third None (slice_get_past tokens 2 few))
 
   cut_at : (ls : List Located) (place : ℕ) (token : Located) → AllByRecursion (IsCut line) ls → slice_get ls place ≡ Some token → IsCut line token
   cut_at [] place token all e = absurd (cc)

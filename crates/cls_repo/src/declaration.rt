@@ -1,7 +1,7 @@
 //! What the lines of a repository declare, and what is wrong with what they say.
 ghost use Rattle.std.specs.Prelude.{◌≡◌, ◌+◌, ◌<◌, ◌≤◌, ◌^◌, List, length, map, IfErr, OnOk, OnErr};
 ghost use Rattle.cls_assemble.specs.Faults.{IsFaultOf};
-ghost use Rattle.std.specs.Option.{SomeIff};
+ghost use Rattle.std.specs.Option.{SomeIff, option_map};
 ghost use Rattle.cls_lexer.specs.Numerals.{number_value};
 ghost use Rattle.cls_lexer.specs.Tokens.{tokens_of, located};
 ghost use Rattle.cls_lexer.specs.Words.{Word, words, words_of};
@@ -57,10 +57,7 @@ pub(crate) fn declare(
 {
     match said {
         Directive::Sub(lower, upper) => Ok(draft.put_pair(alloc, lower, upper)?),
-        Directive::Kind(variable, None) => Err(empty_kind(alloc, draft, line, variable)),
-        Directive::Kind(variable, Some(types)) => {
-            declare_kind(alloc, draft, line, variable, types)
-        }
+        Directive::Kind(variable, types) => declare_choices(alloc, draft, line, variable, types),
         Directive::Comp(component, spelled) => {
             declare_component(alloc, draft, line, component, spelled)
         }
@@ -70,6 +67,27 @@ pub(crate) fn declare(
         Directive::Variance(constructor, word) => {
             declare_variance(alloc, draft, line, constructor, word)
         }
+    }
+}
+
+/// Declares the kind of a variable, if there is a type.
+fn declare_choices(
+    alloc: Global,
+    draft: &mut Draft,
+    line: &CutLine,
+    variable: &str,
+    types: Option<SpelledTypes>,
+) -> Result<(), FaultKind>
+    requires { WordsSay (kind variable.now (option_map types_text types)) (words_of line.now.text.now) }
+    ensures taken { let said = kind variable.now (option_map types_text types.entry) in OnOk result
+        (TakesDirective (draft_of draft.old) line.now.number line.now.text.now said (draft_of draft.new)) }
+    ensures fault { let said = kind variable.now (option_map types_text types.entry) in IfErr result
+        (IsFirst (directive_faults (draft_of draft.old) line.now.text.now said)) }
+    ensures unchanged { OnErr result (draft_of draft.new ≡ draft_of draft.old) }
+{
+    match types {
+        None => Err(empty_kind(alloc, draft, line, variable)),
+        Some(types) => declare_kind(alloc, draft, line, variable, types),
     }
 }
 
@@ -154,7 +172,7 @@ fn declare_template(
     let Some(number) = draft.component_names.find(component) else {
         return Err(FaultKind::UnknownComponent(String::from_str(alloc, component)?));
     };
-    let template = template_text(line);
+    let template = template_text(line.text, line.tokens);
     match Template::read(alloc, template) {
         Ok(template) => {
             draft.set_template(number, template);
@@ -164,12 +182,13 @@ fn declare_template(
     }
 }
 
-/// The text of the template: what stands behind the third token, without one space or tab in front.
-fn template_text<'a>(line: &CutLine<'_, 'a>) -> &'a str
-    ensures { result.now ≡ template_text line.now.text.now }
+/// The text of the template of a line with these tokens: what stands behind the third one, without one space or tab in front.
+fn template_text<'a>(line: &'a str, tokens: &[Token]) -> &'a str
+    requires { map located tokens.now ≡ tokens_of line.now }
+    ensures { result.now ≡ template_text line.now }
 {
-    match line.tokens.get(2) {
-        Some(sign) => without_blank(&line.text[sign.start as usize + sign.text.len()..]),
+    match tokens.get(2) {
+        Some(sign) => without_blank(&line[sign.start as usize + sign.text.len()..]),
         None => "",
     }
 }
@@ -178,10 +197,10 @@ fn template_text<'a>(line: &CutLine<'_, 'a>) -> &'a str
 fn without_blank(text: &str) -> &str
     ensures { result.now ≡ without_blank text.now }
 {
-    match text.as_bytes().first() {
-        Some(b' ' | b'\t') => &text[1..],
-        _ => text,
+    if let Some(rest) = text.strip_prefix(' ') {
+        return rest;
     }
+    text.strip_prefix('\t').unwrap_or(text)
 }
 
 /// The fault of a template, in front of which stand so many bytes of its line.
