@@ -5,6 +5,7 @@ pub mod TypeMeanings
 pub mod KindTypes
 pub mod Wrong
 pub mod Changes
+pub mod Columns
 pub mod Endings
 pub mod Taking
 pub mod AllLines

@@ -1,15 +1,18 @@
 -- The variances of a draft, as the map of the code has them.
-use Rattle.std.proofs.Common.{◌≡◌, ℕ, Bool, true, false, cond, List, [], ◌∷◌, ◌++◌, map, Some, refl, sym, ap, ◌∙◌, inl, inr}
+use Rattle.std.proofs.Common.{◌≡◌, ℕ, Bool, true, false, cond, List, [], ◌∷◌, ◌++◌, map, Some, refl, sym, ap, ◌∙◌, subst, inl, inr}
 use Rattle.std.specs.Prelude.{Contains, ◌==◌, ◌↔◌, IsTrue, is_some}
+use Rattle.std.specs.List.{IsDistinct}
 use Rattle.std.specs.Map.{lookup}
 use Rattle.std.proofs.lemmas.Bool.{true≢false}
 use Rattle.indexmap.specs.IndexMap.{insert_entry}
 use Rattle.cls_base.specs.declared.taxa.Variance.{Variance}
+use Rattle.cls_base.specs.declared.ty.Name.{Name}
+use Rattle.cls_base.specs.Lists.{AreDistinct}
 use Rattle.cls_base.specs.Taxonomies as taxonomies
 use Rattle.cls_base.specs.Taxa.{variance_of}
-use Rattle.cls_base.proofs.Lists.{Contains-nil, Contains-head, Contains-later, Contains-cases, Contains-map, map_last}
+use Rattle.cls_base.proofs.Lists.{Contains-nil, Contains-head, Contains-later, Contains-cases, Contains-map, map_last, AreDistinct-from_IsDistinct}
 use Rattle.cls_taxon.specs.DecisionLaws.{same_name, name_same}
-use Rattle.cls_taxon.specs.Variances.{entry_of}
+use Rattle.cls_taxon.specs.Variances.{declared_of, entry_of}
 use Rattle.cls_taxon.proofs.VarianceLaws.{insert-new}
 
 abbrev pub name_in : ℕ × taxonomies.Variance → ℕ
@@ -45,3 +48,18 @@ has_name entries n b e = ((λ t. found_held entries n (sym e ∙ t)), (λ c. e �
 pub one_more : (entries new : List (ℕ × Variance)) (n : ℕ) (v : Variance) → (Contains (names_in entries) n → ⊥) → new ≡ insert_entry (λ x y. x == y) entries n v
     → map entry_of new ≡ map entry_of entries ++ (n, variance_of v) ∷ []
 one_more entries new n v none is = ap (map entry_of) (is ∙ insert-new entries n v (λ w c. none (Contains-map name_in (map entry_of entries) (n, w) c))) ∙ map_last entry_of entries (n, v)
+
+declared_names : (declared : List (Name × Variance)) → map (λ d. d.0.0) declared ≡ map name_in (map declared_of declared)
+declared_names [] = refl
+declared_names (d ∷ declared) = ap (λ (ns : List ℕ). d.0.0 ∷ ns) (declared_names declared)
+
+entry_names : (entries : List (ℕ × Variance)) → names_in entries ≡ map (λ e. e.0) entries
+entry_names [] = refl
+entry_names (e ∷ entries) = ap (λ (ns : List ℕ). e.0 ∷ ns) (entry_names entries)
+
+-- the entries of the map as a list name no name twice
+pub named_once : (entries : List (ℕ × Variance)) (declared : List (Name × Variance)) → map declared_of declared ≡ map entry_of entries → IsDistinct (λ a b. a == b) (map (λ e. e.0) entries)
+    → AreDistinct (map (λ d. d.0.0) declared)
+named_once entries declared same once =
+    let names = declared_names declared ∙ (ap (map name_in) same ∙ entry_names entries) in
+    subst (λ (ns : List ℕ). AreDistinct ns) (sym names) (AreDistinct-from_IsDistinct (map (λ e. e.0) entries) once)
