@@ -7,6 +7,7 @@ pub mod Wrong
 pub mod Changes
 pub mod Columns
 pub mod Endings
+pub mod Building
 pub mod Taking
 pub mod AllLines
 pub mod Putting
