@@ -1,5 +1,5 @@
 -- How the columns of a draft change.
-use Rattle.std.proofs.Common.{◌≡◌, ℕ, suc, zero, ◌+◌, ◌<◌, ◌≤◌, List, [], ◌∷◌, ◌++◌, length, map, refl, sym, ap, ◌∙◌, subst, arith, get_or, cond, Bool, true, false}
+use Rattle.std.proofs.Common.{◌≡◌, ℕ, suc, zero, ◌<◌, List, [], ◌∷◌, length, refl, ap, arith, get_or}
 use Rattle.std.proofs.Math.ListN.{set}
 use Rattle.cls_repo.specs.Declarations.{changed_at}
 

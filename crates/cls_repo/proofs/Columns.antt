@@ -1,7 +1,6 @@
 -- Lists that are filled from another one, element by element.
-use Rattle.std.proofs.Common.{◌≡◌, ℕ, List, [], ◌∷◌, ◌++◌, map, ap, sym, ◌∙◌, append-nil, append_assoc}
-use Rattle.cls_base.specs.Schemas.{OpenType, schema_of}
-use Rattle.cls_assemble.specs.declared.piece.Piece.{Piece}
+use Rattle.std.proofs.Common.{◌≡◌, List, [], ◌∷◌, ◌++◌, map, ap, sym, ◌∙◌, append-nil, append_assoc}
+use Rattle.cls_base.specs.Schemas.{schema_of}
 use Rattle.cls_repo.specs.declared.repository.Columns as code
 use Rattle.cls_repo.specs.Drafts.{Component}
 use Rattle.cls_repo.specs.Written.{AreColumns}

@@ -1,16 +1,14 @@
 -- What is wrong with a repository once all its lines were taken.
-use Rattle.std.proofs.Common.{◌≡◌, ℕ, suc, zero, ◌+◌, ◌<◌, ◌≤◌, false, true, List, [], ◌∷◌, ◌++◌, length, map, refl, sym, ap, ◌∙◌, subst, arith, inl, inr, Contains, length-append}
+use Rattle.std.proofs.Common.{◌≡◌, ℕ, ◌<◌, false, true, List, ◌∷◌, length, refl, sym, ap, ◌∙◌, subst, arith, inl, inr, Contains, length-append}
 use Rattle.std.proofs.lemmas.List.{length-map}
 use Rattle.std.proofs.lemmas.List.Elements.{Contains-append_right}
-use Rattle.std.specs.Prelude.{codes, Option, Some, None, slice_get, slice_index_or}
+use Rattle.std.specs.Prelude.{codes, Option, Some, None, slice_get}
 use Rattle.cls_base.specs.Firsts.{IsSilent, First}
-use Rattle.cls_base.specs.Schemas.{OpenType}
 use Rattle.cls_taxon.specs.declared.fault.TaxonFault.{TaxonFault}
 use Rattle.cls_taxon.specs.declared.fault.TaxonFault.TheVariants.{Cycle, Mix, OutOfMemory}
 use Rattle.cls_taxon.specs.Faults.{IsFaultOf}
-use Rattle.cls_taxon.specs.Orders.{Declared, IsOrder, IsOnCycle, IsFirstMixed}
+use Rattle.cls_taxon.specs.Orders.{IsOrder, IsOnCycle}
 use Rattle.cls_library.specs.declared.fault.LibraryFault.{LibraryFault}
-use Rattle.cls_library.specs.declared.fault.LibraryKind.TheVariants as kinds
 use Rattle.cls_library.specs.Libraries.{Library}
 use Rattle.cls_library.specs.Refusals.{RefusesAt, IsLibraryOf}
 use Rattle.cls_library.proofs.LibraryLaws.{refusal-exact}

@@ -1,5 +1,5 @@
 -- What the tests of a line have found.
-use Rattle.std.proofs.Common.{◌≡◌, ℕ, ◌≤◌, ◌<◌, Bool, true, false, List, [], refl, sym, ap, ◌∙◌, subst, inl, inr, Contains, length}
+use Rattle.std.proofs.Common.{◌≡◌, ℕ, ◌≤◌, ◌<◌, Bool, true, false, List, [], refl, sym, ◌∙◌, subst, inl, inr, Contains, length}
 use Rattle.std.specs.Prelude.{◌↔◌, ◌≢◌, IsTrue, IsNone, IfSome, Option, Some, None, is_some, slice_get}
 use Rattle.std.proofs.lemmas.Bool.{true≢false, cases_lt}
 use Rattle.std.proofs.lemmas.Option.{slice_get_within}

@@ -1,12 +1,12 @@
 -- The words of a `kind` line behind its sign.
-use Rattle.std.proofs.Common.{◌≡◌, ℕ, ◌+◌, ◌≤◌, List, [], ◌∷◌, sym, ap, ◌∙◌, subst, arith, map, drop, length}
-use Rattle.std.specs.Prelude.{codes, IsTrue, Option, Some, None, position}
+use Rattle.std.proofs.Common.{◌≡◌, ℕ, ◌≤◌, List, ◌∷◌, sym, ap, ◌∙◌, subst, arith, drop, length}
+use Rattle.std.specs.Prelude.{codes, IsTrue, Some, None, position}
 use Rattle.std.proofs.lemmas.List.{length-map, drop-map}
 use Rattle.cls_lexer.specs.declared.token.Token.{Token}
 use Rattle.cls_lexer.specs.declared.token.TokenKind.TheVariants.{Bar, Equals}
 use Rattle.cls_lexer.specs.Words.{Word, name, sign, words, word_of, words_of}
 use Rattle.cls_syntax.specs.ClosedTypes.{HasNoDollar}
-use Rattle.cls_syntax.specs.Forms.{types, line_words}
+use Rattle.cls_syntax.specs.Forms.{types}
 use Rattle.cls_syntax.specs.Spans.{is_whole, types_in}
 use Rattle.cls_syntax.specs.TypeLists.{types_words, types_front}
 use Rattle.cls_syntax.specs.TypeSchemas.{is_dollar}

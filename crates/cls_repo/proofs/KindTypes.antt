@@ -1,5 +1,5 @@
 -- Reading the types of a kind, one after another.
-use Rattle.std.proofs.Common.{◌≡◌, ℕ, ◌+◌, ◌<◌, ◌≤◌, Bool, true, false, List, [], ◌∷◌, ◌++◌, refl, ap, sym, ◌∙◌, subst, append-nil, append_assoc, length, length-append, arith, map}
+use Rattle.std.proofs.Common.{◌≡◌, ℕ, ◌+◌, true, false, List, [], ◌∷◌, ◌++◌, refl, ap, sym, ◌∙◌, subst, append-nil, append_assoc, length, length-append, arith}
 use Rattle.std.specs.Prelude.{Result, Ok, Err, IsTrue, Option, Some, None, MatchOption, ◌||◌}
 use Rattle.std.specs.List.{list_any}
 use Rattle.cls_base.specs.Types.{ClosedType}
@@ -9,7 +9,7 @@ use Rattle.cls_lexer.specs.Names.{number_of, with_texts}
 use Rattle.std.proofs.lemmas.List.{length-map}
 use Rattle.cls_lexer.specs.Words.{Word, sign, words, word_of}
 use Rattle.cls_syntax.specs.ClosedTypes.{Spells, HasNoDollar}
-use Rattle.cls_syntax.specs.Faults.{Stop, stop}
+use Rattle.cls_syntax.specs.Faults.{Stop}
 use Rattle.cls_syntax.specs.Forms.{the_sign, Part, fixed, naming, numeral, type_parts, types_parts, constructors_named}
 use Rattle.cls_syntax.specs.LineReading.{item_front}
 use Rattle.cls_syntax.specs.Spans.{is_whole, read_or, omega_text, types_in}
@@ -20,7 +20,6 @@ use Rattle.cls_syntax.specs.TypeTexts.{TypeText, type_words, TypeList, last, mor
 use Rattle.cls_syntax.specs.declared.role.Role.TheVariants.{Constructor}
 use Rattle.cls_syntax.proofs.ItemFronts.{type_ok, type_again, types_ok, types_again, type_halts, item_ok}
 use Rattle.cls_syntax.proofs.PartNames.{type_constructors}
-use Rattle.cls_syntax.proofs.TypeListParts.{none_left}
 use Rattle.cls_repo.specs.Declarations.{AreSpelled}
 use Rattle.cls_repo.specs.Written.{FirstType, IsRest}
 use Rattle.cls_repo.proofs.Tables.{Grows, grows_on, grows_all, with_both}

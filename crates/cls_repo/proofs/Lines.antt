@@ -1,15 +1,15 @@
 -- What the words of a line say, and that nothing else is said of them.
-use Rattle.std.proofs.Common.{◌≡◌, ℕ, ◌-◌, ◌≤◌, ◌<◌, Bool, true, false, List, [], ◌∷◌, ◌++◌, refl, sym, ap, ◌∙◌, subst, arith, rules, inl, inr, length, length-append, append_assoc, append-nil}
-use Rattle.std.specs.Prelude.{◌⊎◌, Result, Ok, Err, is_ok, ◌&&◌}
+use Rattle.std.proofs.Common.{◌≡◌, ℕ, ◌-◌, Bool, List, [], ◌∷◌, refl, sym, ap, ◌∙◌, subst, rules, inl, inr, length, append_assoc, append-nil}
+use Rattle.std.specs.Prelude.{Result, Ok, Err, ◌&&◌}
 use Rattle.cls_lexer.specs.Tokens.{tokens_of, byte_at}
 use Rattle.cls_lexer.specs.Words.{Word, words_of}
-use Rattle.cls_syntax.specs.Faults.{Stop, stop, Says, Exactly, IsFault}
-use Rattle.cls_syntax.specs.LineGrammars.{Row, LineOf, row_words, RowStands, grammar_read, IsGoodGrammar}
+use Rattle.cls_syntax.specs.Faults.{Stop, stop, Exactly, IsFault}
+use Rattle.cls_syntax.specs.LineGrammars.{LineOf, row_words, RowStands, grammar_read, IsGoodGrammar}
 use Rattle.cls_syntax.specs.Sorts.{begins_reserved}
 use Rattle.cls_syntax.specs.SyntaxFaults.{LeavesAt}
 use Rattle.cls_syntax.proofs.GrammarFronts.{grammar_exactly, grammar_reads}
 use Rattle.cls_syntax.proofs.TypeFaults.{stops_at}
-use Rattle.cls_repo.specs.Directives.{Directive, sub, kind, comp, text, end, cost, variance, repository_rows, row_of, WordsSay, LineSays}
+use Rattle.cls_repo.specs.Directives.{Directive, sub, kind, comp, text, end, cost, variance, repository_rows, row_of, WordsSay}
 use Rattle.cls_repo.specs.LineFaults.{misspelled, spelling_words}
 
 repository_good : IsGoodGrammar repository_rows

@@ -1,5 +1,5 @@
 -- What the columns of a draft become by one declaration more.
-use Rattle.std.proofs.Common.{◌≡◌, ℕ, suc, zero, ◌+◌, ◌<◌, ◌≤◌, Bool, true, false, List, [], ◌∷◌, ◌++◌, length, map, refl, sym, ap, ◌∙◌, subst, arith, Contains, append-nil, get_or}
+use Rattle.std.proofs.Common.{◌≡◌, ℕ, ◌<◌, true, false, List, [], ◌∷◌, ◌++◌, length, map, refl, sym, ap, ◌∙◌, subst, Contains, append-nil, get_or}
 use Rattle.std.specs.Prelude.{Some, if◌then◌else◌, ◌||◌}
 use Rattle.std.specs.List.{list_any}
 use Rattle.std.specs.Str.{bytes_eq}
@@ -23,7 +23,7 @@ use Rattle.cls_syntax.specs.TypeSchemas.{type_schema, is_dollar, name_text, cons
 use Rattle.cls_syntax.specs.TypeTexts.{TypeText, TypeList, last, more, type_words}
 use Rattle.cls_syntax.specs.declared.role.Role.TheVariants.{Variable, NewVariable}
 use Rattle.cls_syntax.proofs.PartNames.{type_constructors, type_variables}
-use Rattle.cls_repo.specs.Declarations.{with_names, with_pair, with_kind, with_component, with_template, with_cost, with_variance, variance_named, changed_at, AreSpelled}
+use Rattle.cls_repo.specs.Declarations.{with_names, with_pair, with_kind, with_component, with_variance, variance_named, changed_at}
 use Rattle.cls_repo.specs.Directives.{sub, kind, comp, variance}
 use Rattle.cls_repo.specs.Drafts.{Component, Draft}
 use Rattle.cls_repo.proofs.Changes.{changed_set}

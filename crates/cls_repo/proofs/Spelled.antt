@@ -1,7 +1,7 @@
 -- The faults of the spelling of a line, and that a line without one has none.
 use Rattle.cls_base.specs.Limits.{max_type_depth}
 use Rattle.std.proofs.Common.{◌≡◌, ℕ, ◌-◌, ◌<◌, Bool, true, false, List, length, refl, sym, ap, ◌∙◌, subst, inl, inr}
-use Rattle.std.specs.Prelude.{codes, Err, ◌&&◌, IsTrue}
+use Rattle.std.specs.Prelude.{codes, Err, ◌&&◌}
 use Rattle.std.proofs.lemmas.Bool.{true≢false}
 use Rattle.cls_base.specs.Firsts.{IsSilent, First}
 use Rattle.cls_lexer.specs.Tokens.{tokens_of, byte_at}
@@ -11,7 +11,7 @@ use Rattle.cls_syntax.specs.Faults.{stop}
 use Rattle.cls_syntax.specs.LineGrammars.{grammar_read}
 use Rattle.cls_syntax.specs.Sorts.{begins_reserved}
 use Rattle.cls_repo.specs.Directives.{Directive, repository_rows, WordsSay, begins_word, begins_directive}
-use Rattle.cls_repo.specs.LineFaults.{unknown_directive, too_deep, misspelled, spelling_words}
+use Rattle.cls_repo.specs.LineFaults.{unknown_directive, too_deep, spelling_words}
 use Rattle.cls_repo.specs.Written.{spelling_faults}
 use Rattle.cls_repo.proofs.Causes.{each_silent}
 use Rattle.cls_repo.proofs.Lines.{not_misspelled, stopped}

@@ -1,13 +1,12 @@
 -- How a line is taken or refused, by what was found of it.
 use Rattle.cls_base.specs.Limits.{max_line_bytes}
-use Rattle.std.proofs.Common.{◌≡◌, ℕ, ◌≤◌, ◌<◌, ◌+◌, Bool, true, false, List, [], ◌∷◌, ◌++◌, length, refl, sym, ap, ◌∙◌, subst, arith, inl, inr, IsUtf8}
+use Rattle.std.proofs.Common.{◌≡◌, ℕ, ◌≤◌, ◌<◌, ◌+◌, Bool, true, false, List, [], ◌∷◌, ◌++◌, length, refl, sym, ◌∙◌, subst, arith, inl, inr, IsUtf8}
 use Rattle.std.specs.Prelude.{codes}
 use Rattle.cls_base.specs.Firsts.{IsSilent, First}
 use Rattle.cls_lexer.specs.Skipped.{IsText, IsSkipped}
 use Rattle.cls_lexer.specs.Words.{words_of}
 use Rattle.cls_repo.specs.declared.fault.FaultKind.{FaultKind}
 use Rattle.cls_repo.specs.declared.fault.FaultKind.TheVariants.{OutOfMemory}
-use Rattle.cls_repo.specs.Declarations.{Declares}
 use Rattle.cls_repo.specs.Directives.{Directive, WordsSay, LineSays, is_end}
 use Rattle.cls_repo.specs.Drafts.{Draft}
 use Rattle.cls_repo.specs.FaultWords.{fault_words, OnWords, IsFirst, IsSaid}

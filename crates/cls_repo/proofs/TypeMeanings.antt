@@ -1,5 +1,5 @@
 -- What a type spells stays the same while tables of names grow.
-use Rattle.std.proofs.Common.{◌≡◌, ℕ, List, [], ◌∷◌, ◌++◌, refl, sym, ap, ◌∙◌, subst}
+use Rattle.std.proofs.Common.{◌≡◌, ℕ, List, [], ◌∷◌, ◌++◌, refl, sym, ◌∙◌, subst}
 use Rattle.std.specs.List.{AllByRecursion}
 use Rattle.cls_base.specs.Schemas as schema
 use Rattle.cls_base.specs.Types.{ClosedType}
@@ -9,10 +9,9 @@ use Rattle.cls_lexer.specs.Words.{sign}
 use Rattle.cls_syntax.specs.declared.role.Role.TheVariants.{Constructor}
 use Rattle.cls_syntax.specs.ClosedTypes.{Spells}
 use Rattle.cls_syntax.specs.Forms.{Part, fixed, naming, numeral, type_parts, meet_parts, product_parts, atom_parts, constructors_named}
-use Rattle.cls_syntax.specs.TypeSchemas.{type_schema, meet_schema, product_schema, atom_schema, constructors_in}
+use Rattle.cls_syntax.specs.TypeSchemas.{type_schema, meet_schema, product_schema, atom_schema}
 use Rattle.cls_syntax.specs.TypeTexts.{TypeText, MeetText, ProductText, AtomText, only_meet, arrow, only_product, meet, only_atom, product, named, applied, variable, inside, type_words}
 use Rattle.cls_syntax.specs.TypeTexts as grammar
-use Rattle.cls_syntax.proofs.PartNames.{type_constructors}
 use Rattle.cls_repo.proofs.Tables.{Held, Grows, stays, held_all}
 
 module _ (f g : List ℕ → ℕ) where

@@ -1,10 +1,9 @@
 -- What is wrong with what a line says, form by form.
 use Rattle.cls_base.specs.Limits.{max_type_nodes}
-use Rattle.std.proofs.Common.{◌≡◌, ℕ, ◌+◌, ◌-◌, ◌≤◌, ◌<◌, List, [], ◌∷◌, ◌++◌, length, map, refl, sym, ap, ◌∙◌, subst, arith, inl, inr, Contains}
+use Rattle.std.proofs.Common.{◌≡◌, ℕ, ◌-◌, ◌≤◌, ◌<◌, List, [], ◌++◌, length, map, refl, sym, ap, ◌∙◌, arith, inl, inr, Contains}
 use Rattle.std.specs.Prelude.{◌≢◌, codes, Option, Some, None, position}
 use Rattle.std.specs.Fmt.{decimal}
 use Rattle.cls_assemble.specs.declared.fault.TemplateFault.{TemplateFault}
-use Rattle.cls_assemble.specs.declared.fault.TemplateFault.TheVariants.{OutOfMemory}
 use Rattle.cls_assemble.specs.declared.piece.Piece.{Piece}
 use Rattle.cls_assemble.specs.Faults.{IsFaultOf}
 use Rattle.cls_assemble.specs.Spelling.{IsTemplate}

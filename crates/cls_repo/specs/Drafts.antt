@@ -1,5 +1,5 @@
 -- What the lines of a repository have declared so far.
-use Rattle.std.specs.Prelude.{ℕ, List, [], ◌∷◌}
+use Rattle.std.specs.Prelude.{ℕ, List, []}
 use Rattle.cls_base.specs.Schemas.{OpenType}
 use Rattle.cls_base.specs.Taxonomies.{Variance}
 use Rattle.cls_base.specs.Types.{ClosedType}

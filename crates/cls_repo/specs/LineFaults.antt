@@ -17,7 +17,7 @@ use Rattle.cls_syntax.specs.TypeTexts.{type_nodes}
 use Rattle.cls_assemble.specs.declared.fault.TemplateFault.{TemplateFault}
 use Rattle.cls_assemble.specs.declared.fault.TemplateFault.TheVariants.{BadHole, HoleZero, HoleOver16, OutOfMemory}
 use Rattle.cls_assemble.specs.Faults.{IsFaultOf}
-use Rattle.cls_repo.specs.Directives.{Directive, sub, kind, comp, text, end, cost, variance, max_cost, repository_rows, begins_word, begins_directive, LineSays}
+use Rattle.cls_repo.specs.Directives.{Directive, kind, comp, text, cost, variance, max_cost, repository_rows, begins_word, begins_directive, LineSays}
 use Rattle.cls_repo.specs.Drafts.{Draft}
 use Rattle.cls_repo.specs.Declarations.{template_text}
 

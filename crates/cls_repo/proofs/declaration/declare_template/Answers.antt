@@ -1,4 +1,4 @@
-use Rattle.std.proofs.Common.{ℕ, List, ◌≤◌, ◌-◌, length, ap, subst, arith}
+use Rattle.std.proofs.Common.{ℕ, List, ◌-◌, length, ap, subst, arith}
 use Rattle.std.specs.Prelude.{Some, ◌≡◌}
 use Rattle.cls_assemble.specs.Faults.{IsFaultOf}
 use Rattle.cls_assemble.specs.Spelling.{IsTemplate}

@@ -1,7 +1,6 @@
-use Rattle.std.proofs.Common.{ℕ, ◌+◌, List, length, map}
-use Rattle.std.specs.Prelude.{Option, Some, None, option_copied}
+use Rattle.std.proofs.Common.{map}
+use Rattle.std.specs.Prelude.{option_copied}
 use Rattle.cls_base.specs.Ty.{type_of}
-use Rattle.cls_lexer.specs.declared.token.Token.{Token}
 use Rattle.cls_lexer.specs.declared.token.TokenKind.TheVariants.{Bar}
 use Rattle.cls_lexer.specs.Names.{with_texts}
 use Rattle.cls_lexer.specs.Words.{words}

@@ -1,4 +1,4 @@
-use Rattle.std.proofs.Common.{ℕ, ap, sym, ◌∙◌, subst}
+use Rattle.std.proofs.Common.{sym, subst}
 use Rattle.std.proofs.lemmas.Result.{err_from_is_err_and}
 use Rattle.cls_repo.specs.Written.{draft_of, directive_of, TakesLine}
 use Rattle.cls_repo.proofs.Taking.{spelling_refused, wrong_refused, line_taken}

@@ -1,6 +1,6 @@
 use Rattle.std.proofs.Common.{drop, ◌+◌, sym, ◌∙◌}
 use Rattle.std.proofs.lemmas.List.{drop_all}
-use Rattle.cls_repo.proofs.AllLines.{started, goes_on, all_taken, closing_fault, has_room, last_taken, last_closing, next_line}
+use Rattle.cls_repo.proofs.AllLines.{started, closing_fault, has_room, last_taken, last_closing, next_line}
 use Rattle.cls_repo.proofs.repository.feed_all.Goals as goal
 
 pub loop-line-init : goal.loop-line-init

@@ -1,4 +1,4 @@
-use Rattle.std.proofs.Common.{ℕ, ◌≡◌, subst}
+use Rattle.std.proofs.Common.{ℕ, subst}
 use Rattle.std.specs.Prelude.{◌↔◌, IsTrue, Contains}
 use Rattle.cls_repo.proofs.VarianceEntries.{names_in, has_name}
 use Rattle.cls_repo.proofs.draft.Draft.has_variance.Goals as goal

@@ -1,4 +1,4 @@
-use Rattle.std.proofs.Common.{ℕ, List, [], ◌∷◌, ◌++◌, sym, ap, ◌∙◌, map, subst, length, take}
+use Rattle.std.proofs.Common.{ℕ, List, [], ◌∷◌, ◌++◌, sym, ap, ◌∙◌, map, subst}
 use Rattle.cls_base.specs.Ty.{type_of}
 use Rattle.cls_base.specs.Types.{ClosedType}
 use Rattle.cls_lexer.specs.declared.token.TokenKind.TheVariants.{Bar}

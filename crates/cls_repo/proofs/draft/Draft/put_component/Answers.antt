@@ -1,4 +1,4 @@
-use Rattle.std.proofs.Common.{ℕ, List, [], ◌∷◌, ◌++◌, length, length-append, ap, ◌∙◌, map, arith}
+use Rattle.std.proofs.Common.{List, [], ◌∷◌, ◌++◌, length, length-append, ap, ◌∙◌, map, arith}
 use Rattle.cls_base.specs.Schemas.{schema_of}
 use Rattle.cls_base.proofs.Lists.{map_last}
 use Rattle.cls_syntax.specs.SpelledTypes.{type_text}

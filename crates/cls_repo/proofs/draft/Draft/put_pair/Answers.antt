@@ -1,4 +1,4 @@
-use Rattle.std.proofs.Common.{ℕ, List, [], ◌∷◌, ◌++◌, ap, ◌∙◌, map}
+use Rattle.std.proofs.Common.{List, [], ◌∷◌, ◌++◌, ap, ◌∙◌, map}
 use Rattle.cls_base.specs.declared.ty.Name.{Name}
 use Rattle.cls_base.proofs.Lists.{map_last}
 use Rattle.cls_taxon.specs.PairGraphs.{pair_of}
