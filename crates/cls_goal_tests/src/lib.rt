@@ -9,4 +9,6 @@ mod goals;
 #[cfg(test)]
 mod grammars;
 #[cfg(test)]
+mod repositories;
+#[cfg(test)]
 mod tests;

@@ -1,0 +1,10 @@
+pub mod Directives
+pub mod Drafts
+pub mod Declarations
+pub mod LineFaults
+pub mod EndFaults
+pub mod Readings
+pub mod FaultWords
+pub mod Written
+pub mod Repositories
+pub mod Stored

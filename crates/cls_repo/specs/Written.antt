@@ -1,0 +1,121 @@
+-- internal: what the code's values say, and what its parts do with a line
+use Rattle.std.specs.Prelude.{ℕ, ◌≡◌, ◌<◌, Bool, false, List, [], ◌∷◌, ◌++◌, map, length, codes, Option, Some, None, MatchOption, IsTrue}
+use Rattle.std.specs.Option.{option_map}
+use Rattle.cls_base.specs.Firsts.{IsSilent, First}
+use Rattle.cls_base.specs.Schemas.{schema_of}
+use Rattle.cls_base.specs.Types.{ClosedType}
+use Rattle.cls_lexer.specs.declared.token.Token.{Token}
+use Rattle.cls_lexer.specs.declared.token.TokenKind.TheVariants.{Bar}
+use Rattle.cls_lexer.specs.Names.{number_of, with_texts}
+use Rattle.cls_lexer.specs.Skipped.{IsSkipped}
+use Rattle.cls_lexer.specs.Words.{words}
+use Rattle.cls_syntax.specs.ClosedTypes.{Spells, HasNoDollar}
+use Rattle.cls_syntax.specs.SpelledTypes.{type_text, types_text}
+use Rattle.cls_syntax.specs.Spans.{is_whole, types_in}
+use Rattle.cls_syntax.specs.TypeLists.{types_front}
+use Rattle.cls_syntax.specs.TypeSchemas.{constructors_in}
+use Rattle.cls_syntax.specs.TypeTexts.{TypeText, TypeList, last, more, type_words}
+use Rattle.cls_taxon.specs.declared.fault.TaxonFault.{TaxonFault}
+use Rattle.cls_taxon.specs.declared.fault.TaxonFault.TheVariants.{Cycle, Mix, OutOfMemory}
+use Rattle.cls_taxon.specs.Faults.{IsFaultOf}
+use Rattle.cls_taxon.specs.PairGraphs.{pair_of}
+use Rattle.cls_taxon.specs.Variances.{entry_of}
+use Rattle.cls_repo.specs.declared.directive.Directive as code
+use Rattle.cls_repo.specs.declared.directive.Directive.TheVariants.{Sub, Kind, Comp, Text, End, Cost, Variance}
+use Rattle.cls_repo.specs.declared.draft.Component as code_component
+use Rattle.cls_repo.specs.declared.draft.Draft as code_draft
+use Rattle.cls_repo.specs.declared.repository.Columns as code_columns
+use Rattle.cls_repo.specs.Directives.{Directive, sub, kind, comp, text, end, cost, variance, LineSays, is_end}
+use Rattle.cls_repo.specs.Drafts.{Component, Draft}
+use Rattle.cls_repo.specs.Declarations.{with_names, with_kind, AreSpelled, Declares}
+use Rattle.cls_repo.specs.EndFaults.{declared_in, name_at}
+use Rattle.cls_repo.specs.LineFaults.{Fault, unknown_directive, too_deep, misspelled, directive_faults, line_faults}
+
+-- what the directive says
+abbrev pub directive_of : code.Directive → Directive
+directive_of (Sub a b) = sub a.now b.now
+directive_of (Kind x types) = kind x.now (option_map types_text types)
+directive_of (Comp x type) = comp x.now (type_text type)
+directive_of (Text x tokens) = text x.now (words tokens.now)
+directive_of End = end
+directive_of (Cost x digits) = cost x.now digits.text.now
+directive_of (Variance c word) = variance c.now word.now
+
+abbrev pub component_of : code_component.Component → Component
+component_of c = record { schema = schema_of c.schema; line = c.line; template = c.template; cost = c.cost }
+
+-- the draft that the fields hold
+abbrev pub draft_of : code_draft.Draft → Draft
+draft_of d = record {
+  names = d.names;
+  variables = d.variables;
+  component_names = d.component_names;
+  components = map component_of d.components.items;
+  pairs = map pair_of d.pairs.items;
+  variances = map entry_of d.variances.entries;
+  kinds = d.kinds;
+}
+
+-- the kind of the variable is put in, after the names of its line
+pub record PutsKind (old : code_draft.Draft) (x : List ℕ) (ts : TypeList) (new : code_draft.Draft) : Type 0 where
+  pub types : List ClosedType
+  pub spelled : AreSpelled (number_of (with_names (draft_of old) (kind x (Some ts))).names) ts types
+  pub put : draft_of new ≡ with_kind (with_names (draft_of old) (kind x (Some ts))) x types
+
+-- nothing differs but the tables of names and variables
+abbrev pub IsBesideTables : code_draft.Draft → code_draft.Draft → Type 0
+IsBesideTables old new = draft_of new ≡ record (draft_of old) { names = new.names; variables = new.variables }
+
+-- The rest are further types, fewer than before.
+pub record IsRest (tokens : List Token) (text : TypeText) (rest : List Token) : Type 0 where
+  pub list : types_in Bar (words tokens) ≡ more text (types_in Bar (words rest))
+  pub whole : IsTrue (is_whole (types_front Bar (words rest)))
+  pub closed : HasNoDollar (words rest)
+  pub fewer : length rest < length tokens
+
+-- The first of the types that tokens spell was read, and the tokens behind the bar are left if there are more types.
+pub record FirstType (tokens : List Token) (names : List (List ℕ)) (type : ClosedType) (rest : Option (List Token)) (new : List (List ℕ)) : Type 0 where
+  pub text : TypeText
+  pub spelled : Spells (number_of new) text type
+  pub table : new ≡ with_texts names (constructors_in false (type_words text))
+  pub left : MatchOption rest (types_in Bar (words tokens) ≡ last text) (IsRest tokens text)
+
+-- the faults of a line's words: no line of the table is spelled so
+abbrev pub spelling_faults : List ℕ → List Fault
+spelling_faults line = unknown_directive line ∷ too_deep line ∷ misspelled line ∷ []
+
+-- A line without a fault in what it says declares that.
+pub record TakesDirective (old : Draft) (n : ℕ) (line : List ℕ) (said : Directive) (new : Draft) : Type 0 where
+  pub declared : Declares old n line said new
+  pub silent : IsSilent (First (directive_faults old line said))
+
+-- The line of number n is taken, as a skipped one or with what it declares; `ended` says that it is the line `end`.
+pub data TakesLine (old : Draft) (n : ℕ) (line : List ℕ) (new : Draft) (ended : Bool) : Type 0 where
+  skipped : IsSkipped line → new ≡ old → ended ≡ false → TakesLine old n line new ended
+  declares :
+      (said : Directive) → LineSays line said → IsSilent (First (line_faults old line)) → Declares old n line said new
+      → ended ≡ is_end said → TakesLine old n line new ended
+
+-- The line isn't skipped, and these are the words of its first fault.
+pub record RefusesLine (old : Draft) (line words : List ℕ) : Type 0 where
+  pub unskipped : IsSkipped line → ⊥
+  pub first : First (line_faults old line) words
+
+-- The parts of the components, one list for each.
+pub record AreColumns (components : List Component) (columns : code_columns.Columns) : Type 0 where
+  pub schemas : map schema_of columns.schemas.items ≡ map (λ c. c.schema) components
+  pub lines : columns.lines.items ≡ map (λ c. c.line) components
+  pub templates : columns.templates.items ≡ map (λ c. c.template) components
+  pub costs : columns.costs.items ≡ map (λ c. c.cost) components
+
+-- the words of a fault of an order of names; out of memory has none
+abbrev pub order_words : List (List ℕ) → TaxonFault → Option (List ℕ)
+order_words names (Cycle a) = Some (codes "cycle " ++ name_at names a.0)
+order_words names (Mix a) = Some (codes "variance-mix " ++ name_at names a.0)
+order_words names OutOfMemory = None
+
+-- the declared order has a fault with these words
+pub record IsOrderFault (d : Draft) (words : List ℕ) : Type 0 where
+  pub fault : TaxonFault
+  pub is : IsFaultOf (declared_in d) fault
+  pub said : order_words d.names fault ≡ Some words

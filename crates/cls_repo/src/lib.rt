@@ -1,0 +1,23 @@
+//! Repositories: the lines that declare constructors, variables and components, and what they make.
+//!
+//! - [`RepoReader`] takes the lines of a repository one at a time, and at their end gives the [`Repository`].
+//!   [`Repository::read`] reads all lines at once.
+//! - [`RepoFault`] is the first fault of lines that are no repository, with its line; [`FaultKind`] says what is wrong.
+//! - `specs/` defines the lines (`Directives`), what each declares (`Declarations`), and the faults in their order
+//!   (`LineFaults`, `EndFaults`, `Readings`).
+#![tactic(auto)]
+
+mod declaration;
+mod directive;
+mod draft;
+mod fault;
+mod kind_types;
+mod numbering;
+mod reader;
+mod repository;
+mod spelling;
+
+pub use declaration::MAX_COST;
+pub use fault::{FaultKind, RepoFault};
+pub use reader::RepoReader;
+pub use repository::Repository;
