@@ -58,8 +58,8 @@ fn gather(
 }
 
 /// The arguments of the rule that the component makes by the cover of its arrows with `count` sources: for each place
-/// the normal form of the intersection of the sources there.
-pub(crate) fn arguments(
+/// the normal form of the intersection of the sources there. The only error is out of memory.
+pub fn arguments(
     alloc: Global,
     lib: &Library,
     x: u32,

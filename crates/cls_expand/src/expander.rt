@@ -130,8 +130,8 @@ fn head_rules(alloc: Global, spines: IndexSet<Spine>) -> Result<Rules<Nf>, OutOf
     Ok(Rules::new(rules))
 }
 
-/// For each path of the goal the positions of the arrows that lead to it.
-fn families_of(
+/// For each path of the goal the positions of the arrows that lead to it. The only error is out of memory.
+pub fn families_of(
     alloc: Global,
     lib: &Library,
     goal: &Nf,

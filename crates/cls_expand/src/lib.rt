@@ -2,6 +2,7 @@
 //!
 //! - [`Expander`] gives the rules of a goal, component by component and cover by cover: [`Expander::rules_of`] those of all
 //!   components, [`Expander::rules_by`] those of one. It is what the core machine works with.
+//! - [`families_of`] gives the families of a goal's paths, and [`arguments_of`] the arguments that a cover makes.
 //! - [`laws`] ties rules to typing.
 //! - [`Memo`] holds the answers of goals, and [`Store`] is one that holds each goal once. [`Stored`] is an expander that
 //!   asks a memo before it works on a goal.
@@ -18,7 +19,8 @@ mod spine;
 mod store;
 mod stored;
 
-pub use expander::Expander;
+pub use arguments::arguments as arguments_of;
+pub use expander::{Expander, families_of};
 pub use memo::Memo;
 pub use store::Store;
 pub use stored::Stored;

@@ -91,6 +91,92 @@ fn empty(
     Ok(Certificate::Empty(Members::new(members)))
 }
 
+/// Whether the certificate has these rows.
+pub fn has_rows(
+    alloc: Global,
+    names: &mut Names,
+    certificate: &Certificate,
+    rows: &[Row],
+) -> Result<bool, Fail> {
+    let Certificate::Inhabited(made) = certificate else {
+        return Ok(false);
+    };
+    let made = made.as_slice();
+    if made.len() != rows.len() {
+        return Ok(false);
+    }
+    for (i, (text, component, n, cover)) in rows.iter().enumerate() {
+        if text.len() > MAX_LINE_BYTES {
+            return Err("too long".into());
+        }
+        let goal = read_type(alloc, names, text)?;
+        let row = &made[i];
+        if !row.goal.order(&goal).is_eq() || row.component != *component || row.n != *n {
+            return Ok(false);
+        }
+        if row.cover.as_slice() != *cover {
+            return Ok(false);
+        }
+    }
+    Ok(true)
+}
+
+/// Whether the layer has these sets.
+fn has_sets(layer: &Layer, sets: &[&[u32]]) -> bool {
+    let made = layer.as_slice();
+    if made.len() != sets.len() {
+        return false;
+    }
+    for (i, set) in sets.iter().enumerate() {
+        if made[i].as_slice() != *set {
+            return false;
+        }
+    }
+    true
+}
+
+/// Whether the block is of component 0, over the arrows that take so many arguments, with these layers.
+fn has_layers(block: &Block, n: u32, layers: &[&[&[u32]]]) -> bool {
+    let made = block.layers.as_slice();
+    if block.component != 0 || block.n != n || made.len() != layers.len() {
+        return false;
+    }
+    for (i, sets) in layers.iter().enumerate() {
+        if !has_sets(&made[i], sets) {
+            return false;
+        }
+    }
+    true
+}
+
+/// Whether the certificate has one member with this goal, and with one block of these layers, or with no block if there
+/// are no layers.
+pub fn has_member(
+    alloc: Global,
+    names: &mut Names,
+    certificate: &Certificate,
+    text: &str,
+    n: u32,
+    layers: &[&[&[u32]]],
+) -> Result<bool, Fail>
+    requires { length text.now < 2 ^ 32 }
+{
+    let Certificate::Empty(made) = certificate else {
+        return Ok(false);
+    };
+    let [member] = made.as_slice() else {
+        return Ok(false);
+    };
+    if !member.goal.order(&read_type(alloc, names, text)?).is_eq() {
+        return Ok(false);
+    }
+    match member.blocks.as_slice() {
+        [] => Ok(layers.is_empty()),
+        [block] => Ok(has_layers(block, n, layers)),
+        _ => Ok(false),
+    }
+}
+
 /// What is found of the certificate for the goal that the text spells.
 fn verdict(
     alloc: Global,

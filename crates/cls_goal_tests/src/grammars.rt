@@ -3,11 +3,12 @@ ghost use Rattle.std.specs.Prelude.{◌≡◌, ◌<◌, ◌≤◌, length, IfOk,
 ghost use Rattle.cls_base.specs.Limits.{max_workers};
 ghost use Rattle.cls_base.specs.Ty.{type_of};
 ghost use Rattle.cls_syntax.specs.TypePrinting.{HasNamesBelow};
+ghost use Rattle.cls_cert.specs.Conditions.{IsGrammarOf};
 ghost use Rattle.cls_expand.specs.Answers.{IsReady};
 ghost use Rattle.cls_grammar.specs.GrammarTexts.{HasComponentBelow, HaveComponentsBelow, AreNamed};
 
 use cls_base::{OpenGate, Rule, Ty};
-use cls_core::laws::complete_histories_make_grammars;
+use cls_core::laws::{complete_histories_make_grammars, renumbered_rows_are_canonical};
 use cls_expand::Expander;
 use cls_grammar::Grammar;
 use cls_lexer::Names;
@@ -31,9 +32,11 @@ pub fn grammar<R: Threads + Wait + Sync>(
 ) -> Result<Grammar, Fail>
     requires ready { IsReady library.now goal }
     requires workers { (0 < workers) × (workers ≤ max_workers) }
+    ensures { IfOk result (IsGrammarOf library.now) }
 {
     // For the prover: what the rows of a complete history are.
     complete_histories_make_grammars::<Expander>();
+    renumbered_rows_are_canonical::<Expander>();
     let by = Expander::new(library);
     let limits = Limits {
         goals: 100,

@@ -1,13 +1,17 @@
 ghost use Rattle.std.specs.Prelude.{◌<◌, ◌^◌, length, IfOk};
 ghost use Rattle.cls_base.specs.Terms.{IsTermOver};
 
-use crate::certificates::{Row, Verdict, member_text, member_verdict, rows_verdict};
-use crate::goals::{declared, doubling, goal};
+use crate::certificates::{
+    Row, Verdict, has_member, has_rows, member_text, member_verdict, rows_verdict,
+};
+use crate::goals::{Declarations, declared, doubling, goal};
 use crate::grammars::{grammar, printed};
 use cls_base::Numbers;
+use cls_cert::certify;
 use cls_check::{Reason, has_type};
 use cls_finite::{FiniteAnswer, finite};
 use cls_lexer::Names;
+use cls_proof::Certificate;
 use cls_term::{Term, Terms, TokenFault, read_token};
 use std::alloc::Global;
 use std::sync::Wait;
@@ -113,6 +117,49 @@ fn members_are_checked(rt: HostRuntime) -> Result<(), Fail> {
     assert!(rt; member_verdict(alloc, "A -> A", "A", "A", 1, &[])? == Some((1, Reason::Unblocked)));
     let text = member_text(alloc, "A", 1, layers)?;
     assert!(rt; text.as_str() == "empty\nmember A\nblock f 1\nlayer\nset 0\nqed\n");
+    Ok(())
+}
+
+// The certificate that is made for the goal by the library.
+fn certificate<R: Threads + Wait + Sync>(
+    rt: &R,
+    alloc: Global,
+    given: &mut Declarations,
+    text: &str,
+) -> Result<Certificate, Fail>
+    requires { length text.now < 2 ^ 32 }
+{
+    let goal = goal(alloc, &given.library, &mut given.names, text)?;
+    let grammar = grammar(rt, alloc, &given.library, goal, 1)?;
+    Ok(certify(alloc, &given.library, &grammar)?)
+}
+
+// Whether the one member of that certificate has this goal and a block of these layers, or no block.
+fn makes_member<R: Threads + Wait + Sync>(
+    rt: &R,
+    lines: &[(&str, &str)],
+    text: &str,
+    n: u32,
+    layers: &[&[&[u32]]],
+) -> Result<bool, Fail>
+    requires { length text.now < 2 ^ 32 }
+{
+    let alloc = rt.alloc();
+    let mut given = declared(alloc, lines)?;
+    let made = certificate(rt, alloc, &mut given, text)?;
+    has_member(alloc, &mut given.names, &made, text, n, layers)
+}
+
+#[test]
+fn goals_have_certificates(rt: HostRuntime) -> Result<(), Fail> {
+    let alloc = rt.alloc();
+    let mut given = declared(alloc, &[("f", "(A -> C) & (B -> C)"), ("x", "A & B")])?;
+    let made = certificate(&rt, alloc, &mut given, "C")?;
+    let rows: &[Row] = &[("A", 1, 0, &[0]), ("B", 1, 0, &[1]), ("C", 0, 1, &[0])];
+    assert!(rt; has_rows(alloc, &mut given.names, &made, rows)?);
+    assert!(rt; makes_member(&rt, &[], "omega", 0, &[])?);
+    assert!(rt; makes_member(&rt, &[("f", "A -> A")], "A", 1, &[&[&[0]]])?);
+    assert!(rt; makes_member(&rt, &[("x", "A")], "A & B", 0, &[&[&[0]], &[]])?);
     Ok(())
 }
 

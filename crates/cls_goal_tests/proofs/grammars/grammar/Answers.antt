@@ -2,6 +2,7 @@ use Rattle.std.proofs.Common.{List, sym, subst}
 use Rattle.cls_path.specs.Paths.{TypePath}
 use Rattle.cls_core.specs.Rows.{Row}
 use Rattle.cls_core.specs.Grammar.{IsGrammar}
+use Rattle.cls_cert.proofs.Narrow.{renumbered_narrow}
 use Rattle.cls_goal_tests.proofs.grammars.grammar.Goals as goal
 
 pub of-requires : goal.of-requires

@@ -1,0 +1,4 @@
+use Rattle.cls_cert.proofs.making.certify.Goals as goal
+
+pub returns : goal.returns
+returns c = ?
