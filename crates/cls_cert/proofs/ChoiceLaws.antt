@@ -27,7 +27,7 @@ use Rattle.cls_expand.specs.Listing.{first_ones_from}
 use Rattle.cls_expand.specs.Determined.{made_same}
 use Rattle.cls_expand.specs.Making.{AreFamilies, choice_at}
 use Rattle.cls_expand.proofs.FamilyCovers.{covers_goal}
-use Rattle.cls_expand.proofs.RuleTyping.{columns_length, picked_from}
+use Rattle.cls_library.proofs.RuleTyping.{columns_length, picked_from}
 use Rattle.cls_proof.specs.Certificates.{ProofRow}
 use Rattle.cls_cert.specs.Making.{IsFirst, IsFirstChoice, goal_in, named, Ranked, IsLower, IsRuleRow, IsRowOf, IsRowFor}
 use Rattle.cls_cert.specs.Building.{IsFirstAt, goals_over, rule_over, GivesRule, IsGiven, HasLess}
