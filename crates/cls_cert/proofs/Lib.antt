@@ -8,6 +8,7 @@ pub mod MemberLaws
 pub mod Narrow
 pub mod Ranking
 pub mod RowLaws
+pub mod RowMaking
 pub mod Ruled
 pub mod Sources
 pub mod Unique

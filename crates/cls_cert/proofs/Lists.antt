@@ -2,7 +2,7 @@
 use Rattle.std.proofs.Common.{ℕ, zero, suc, ◌≡◌, ◌+◌, ◌<◌, ◌≤◌, refl, sym, ◌∙◌, subst, ap, ◌⊎◌, inl, inr, Bool, true, false, IsTrue, List, [], ◌∷◌, ◌++◌, length, take, get_or, arith, rules, Contains, Option, Some, None}
 use Rattle.std.specs.Prelude.{slice_get}
 use Rattle.std.proofs.lemmas.Option.{slice_get_within}
-use Rattle.cls_base.proofs.Lists.{Contains-nil, Contains-here, Contains-later, Contains-cases, take_next}
+use Rattle.cls_base.proofs.Lists.{Contains-nil, Contains-here, Contains-later, Contains-cases, Contains-at, take_next}
 use Rattle.std.proofs.lemmas.List.Elements.{Contains-push_cases}
 use Rattle.cls_cover.specs.Lists.{Rises}
 
@@ -48,6 +48,15 @@ is_true = search rules
 
 pub differs : false ≡ true → ⊥
 differs e = cc
+
+-- those that stand before an element of a rising list
+pub rises_before : {A : Type 0} (R : A → A → Type 0) (xs : List A) (i : ℕ) (x : A) → Rises R xs → slice_get xs i ≡ Some x → (y : A) → Contains (take i xs) y → R y x
+rises_before {A} R [] i x r e y m = absurd (let f : ◌≡◌ {A = Option A} None (Some x) = e in cc)
+rises_before R (z ∷ xs) zero x r e y m = absurd (Contains-nil y m)
+rises_before {A} R (z ∷ xs) (suc i) x r e y m = elim (Contains-cases z (take i xs) y m) [
+  | inl s ↦ subst (λ (w : A). R w x) (sym s) (r.0 x (Contains-at xs i x e))
+  | inr k ↦ rises_before R xs i x r.1 e y k
+]
 
 -- the element that a loop looks at
 pub item : {A : Type 0} (xs : List A) (k : ℕ) (x : A) → x ≡ get_or xs k x → k < length xs → Contains xs x
