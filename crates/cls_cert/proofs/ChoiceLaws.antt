@@ -23,7 +23,7 @@ use Rattle.cls_library.specs.Libraries.{Library, paths_at, arrows_at}
 use Rattle.cls_library.specs.Reaching.{CoversGoal, IsReduced, columns}
 use Rattle.cls_library.specs.Rules.{Choice, ComesBefore, IsChoice, IsRuleFor, IsRules}
 use Rattle.cls_library.proofs.ByCases.{At, got_at, Zip, zip_map, all_zip, zip_length, zip_right}
-use Rattle.cls_expand.specs.Listing.{first_ones_from}
+use Rattle.cls_library.proofs.FirstOnes.{first_ones_from}
 use Rattle.cls_expand.specs.Determined.{made_same}
 use Rattle.cls_expand.specs.Making.{AreFamilies, choice_at}
 use Rattle.cls_expand.proofs.FamilyCovers.{covers_goal}

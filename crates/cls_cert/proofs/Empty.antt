@@ -33,9 +33,9 @@ use Rattle.cls_library.specs.Libraries.{Library, IsLibrary, below_in, variances_
 use Rattle.cls_library.specs.Reaching.{PathLeIn, CoversGoal}
 use Rattle.cls_library.specs.Rules.{Choice, IsRules, IsChoice, IsRuleFor, omega_rules}
 use Rattle.cls_library.proofs.ByCases.{At, all_zip, zip_left, zip_right, some_at}
-use Rattle.cls_expand.specs.Listing.{first_ones_all}
+use Rattle.cls_library.proofs.FirstOnes.{first_ones_all}
 use Rattle.cls_library.proofs.Covering.{Lead, choose_minimal}
-use Rattle.cls_expand.proofs.LanguageTyping.{below_has}
+use Rattle.cls_library.proofs.RuleHeads.{below_has}
 use Rattle.cls_library.proofs.RuleTyping.{leads}
 use Rattle.cls_proof.specs.Certificates as proof
 use Rattle.cls_proof.specs.Certificates.{Block, empty}

@@ -19,8 +19,9 @@ use Rattle.cls_grammar.specs.Grammars.{book_of}
 use Rattle.cls_grammar.specs.Ranks.{HasTree, head_tree, any_tree, IsRank}
 use Rattle.cls_library.specs.Libraries.{Library, IsLibrary, variances_in, arrows_at}
 use Rattle.cls_library.specs.Reaching.{CoversGoal}
-use Rattle.cls_library.specs.Rules.{Choice, IsRules, IsRuleFor}
-use Rattle.cls_expand.proofs.LanguageTyping.{rule_declared}
+use Rattle.cls_library.specs.Rules.{Choice, IsChoice, IsRules, IsRuleFor}
+use Rattle.cls_library.specs.Arrows.{MultiArrow}
+use Rattle.cls_library.proofs.RuleHeads.{rule_declared}
 use Rattle.cls_proof.specs.Certificates.{ProofRow, inhabited}
 use Rattle.cls_check.specs.Arguments.{argument_type}
 use Rattle.cls_check.specs.Checking.{IsSubtype, PassesRow, IsAboveRow, PassRows, EndsBelow, Accepts, by_rows}
@@ -55,7 +56,7 @@ module _ (l : Library) (is : IsLibrary l) (rows : List (Row (List TypePath))) (h
   some_component zero i t = elim t [ ]
   some_component (suc k) i (head_tree {x = x} {ns = ns} r ts) =
       let u = ruled_node (suc k) i (head_tree r ts) in
-      let low = rule_declared l is (listed u.0) x (map (goal_in goals) ns) (map (named goals) (rules_at book i), u.1.rules, Contains-map (named goals) (rules_at book i) (Head x ns) r) in
+      let low = rule_declared l (listed u.0) x (map (goal_in goals) ns) (map (named goals) (rules_at book i), u.1.rules, Contains-map (named goals) (rules_at book i) (Head x ns) r) in
       omega arith
   some_component (suc k) i (any_tree {l = f} {m = m} r s t) = some_component k f s
 
@@ -91,8 +92,10 @@ module _ (l : Library) (is : IsLibrary l) (rows : List (Row (List TypePath))) (h
         c : Choice
         c = k.choice
 
+        chosen : IsChoice l (goal_in goals e.number) c
         chosen = k.first_choice.choice
 
+        arrows : List MultiArrow
         arrows = arrows_at l c.component c.places
 
         back : paths_of (variances_in l.taxonomy) (type_of_paths (goal_in goals e.number)) ≡ goal_in goals e.number

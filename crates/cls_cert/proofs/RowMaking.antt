@@ -1,5 +1,5 @@
 -- The row of a goal, by what the calls for it tell.
-use Rattle.std.proofs.Common.{ℕ, zero, suc, ◌≡◌, ◌<◌, ◌==◌, refl, sym, ◌∙◌, subst, ap, Bool, true, false, List, [], ◌∷◌, length, map, arith, rules, Contains, Option, Some, None}
+use Rattle.std.proofs.Common.{ℕ, zero, suc, ◌≡◌, ◌<◌, ◌==◌, refl, sym, ◌∙◌, subst, ap, Bool, true, false, List, [], ◌∷◌, length, map, get_or, arith, rules, Contains, Option, Some, None}
 use Rattle.std.specs.Prelude.{slice_get, option_map}
 use Rattle.std.proofs.lemmas.List.{length-map}
 use Rattle.std.proofs.lemmas.Option.{slice_get_within}
@@ -25,7 +25,8 @@ use Rattle.cls_cert.specs.Making.{IsFirst, IsFirstChoice, goal_in, named, Ranked
 use Rattle.cls_cert.specs.Building.{HasLess, IsGiven, rule_over}
 use Rattle.cls_cert.proofs.ChoiceLaws.{first_as, head_given, no_any, omega_row, rule_row, rules_told}
 use Rattle.cls_cert.proofs.Ranking.{rank_is, less_lower, lower_less, rule_found}
-use Rattle.cls_cert.proofs.Ruled.{ruled, told_form}
+use Rattle.cls_cert.proofs.Lists.{got_within}
+use Rattle.cls_cert.proofs.Ruled.{ruled, told_form, some_goal}
 
 -- whether a goal has a path
 pub empty_form : (ps g : List TypePath) (b : Bool) → ps ≡ g → b ≡ (length ps == 0) → b ≡ true → listed g ≡ none
@@ -99,3 +100,12 @@ module _ (l : Library) (rows : List (Row (List TypePath))) (is : IsGrammarOf l r
           first_choice = subst (λ (n : Paths). IsFirstChoice l n (rule_over (forms_of rows) x ns) (choice_at x (length ns) cover)) (sym form) chosen;
           row_is = λ i. record { goal = (s ∙ ap type_of_paths (sym form)) i; component = x; n = length ns; cover = cover };
         })
+
+-- the rank of goal 0
+pub first_rank : (l : Library) (rows : List (Row (List TypePath))) → IsGrammarOf l rows → (ranks xs : List (Option ℕ)) → AreRanks (book_of rows) ranks → xs ≡ ranks → (o : Option ℕ) → get_or xs 0 None ≡ o → slice_get ranks 0 ≡ Some o
+first_rank l rows h ranks xs are e o f =
+    let some = some_goal l rows h in
+    let n = are.count in
+    let m = length-map rows (λ (r : Row (List TypePath)). rules_of r.answer) in
+    let low : 0 < length ranks = omega arith in
+    got_within ranks 0 None low ∙ ap Some (ap (λ (ys : List (Option ℕ)). get_or ys 0 None) (sym e) ∙ f)

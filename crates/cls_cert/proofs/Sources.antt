@@ -10,7 +10,7 @@ use Rattle.cls_base.proofs.Lists.{Contains-here, Contains-later}
 use Rattle.cls_path.specs.Paths.{TypePath, Paths, none, PathsLe, append, paths_of, type_of_paths, SuitsAll}
 use Rattle.cls_path.proofs.RoundTrip.{paths_back}
 use Rattle.cls_path.proofs.Equivalence.{paths_sound}
-use Rattle.cls_cover.specs.Members.{Member}
+use Rattle.cls_cover.specs.Members.{Member, first, later}
 use Rattle.cls_cover.proofs.Lists.{contains_member, member_contains, get_member}
 use Rattle.cls_library.specs.Arrows.{MultiArrow}
 use Rattle.cls_library.specs.Libraries.{Library, IsLibrary, below_in, variances_in, arrows_at}
@@ -21,7 +21,7 @@ use Rattle.cls_check.specs.Checking.{IsSubtype}
 use Rattle.cls_check.proofs.Order.{reflexive, transitive}
 use Rattle.cls_expand.specs.Making.{no_arrow, picked_of, gathered}
 use Rattle.cls_cert.proofs.ChoiceLaws.{rule_length}
-use Rattle.cls_expand.proofs.Sources.{AreArrows, library_arrows, picked_arrows, picked_in, columns_at, columns_length, source_in}
+use Rattle.cls_expand.proofs.Sources.{AreArrows, library_arrows, picked_arrows, picked_in, columns_at, columns_length}
 
 -- the arrows that are picked
 picked_same : (arrows : List MultiArrow) (cover : List ℕ) (picked : List MultiArrow) → AllZip (λ i a. slice_get arrows i ≡ Some a) cover picked → picked ≡ picked_of arrows cover
@@ -40,6 +40,12 @@ picked_below arrows cover picked h i m = by cover picked h (member_contains m)
     by (j ∷ cover) [] h c = absurd h
     by (j ∷ cover) (a ∷ picked) h (zero, l, e) = subst (λ (k : ℕ). k < length arrows) e (slice_get_within arrows j a h.0)
     by (j ∷ cover) (a ∷ picked) h (suc k, l, e) = by cover picked h.1 (k, (omega arith), e)
+
+-- what holds of each source, and of none where there is no source
+source_in : (ns : List Paths) (place : ℕ) (P : Paths → Type 0) → P none → ((n : Paths) → Member ns n → P n) → P (get_or ns place none)
+source_in [] place P h f = h
+source_in (n ∷ ns) zero P h f = f n first
+source_in (n ∷ ns) (suc place) P h f = source_in ns place P h (λ m k. f m (later k))
 
 module _ (l : Library) (is : IsLibrary l) where
   -- the sources of an arrow suit the variances
@@ -71,7 +77,7 @@ module _ (l : Library) (is : IsLibrary l) where
         let count = argument_count in
         let long : length (columns c.places u.picked) ≡ length u.arguments = length_all_zip (IsReduced l) (columns c.places u.picked) u.arguments u.reduced in
         let at = AllZip-get_or (IsReduced l) (columns c.places u.picked) u.arguments i none none u.reduced (omega arith) in
-        let column = ap (λ (as : List MultiArrow). get_or (columns c.places as) i none) same ∙ columns_at c.places i (picked_of (arrows_for l c) c.cover) picked.long in
+        let column = ap (λ (arrows : List MultiArrow). get_or (columns c.places arrows) i none) same ∙ columns_at c.places i (picked_of (arrows_for l c) c.cover) picked.long in
         let paths = argument_paths c.places (arrows_for l c) arrows c.cover i (λ j m. below j (contains_member c.cover j m)) in
         subst (λ (m : Paths). IsReduced l m (get_or u.arguments i none)) (column ∙ sym paths) at
 

@@ -95,6 +95,8 @@ pub(crate) fn rows(
     requires ranked { slice_get ranks.now 0 ≡ Some (Some rank) }
     ensures { IfOk result (AreRows lib.now (forms_of grammar.now) (book_of grammar.now)) }
 {
+    // For the prover: the number of goals is one of 32 bits.
+    let _count = grammar.count();
     let buckets = by_rank(alloc, ranks, rank)?;
     let mut rows = Vec::new(alloc);
     for lower in 0..rank {

@@ -1,17 +1,14 @@
 ghost use Rattle.std.specs.Prelude.{◌<◌, ◌^◌, length, IfOk};
 ghost use Rattle.cls_base.specs.Terms.{IsTermOver};
 
-use crate::certificates::{
-    Row, Verdict, has_member, has_rows, member_text, member_verdict, rows_verdict,
-};
-use crate::goals::{Declarations, declared, doubling, goal};
+use crate::certificates::{Finding, found, is_said, printed_again};
+use crate::goals::{declared, doubling, goal};
 use crate::grammars::{grammar, printed};
 use cls_base::Numbers;
 use cls_cert::certify;
 use cls_check::{Reason, has_type};
 use cls_finite::{FiniteAnswer, finite};
 use cls_lexer::Names;
-use cls_proof::Certificate;
 use cls_term::{Term, Terms, TokenFault, read_token};
 use std::alloc::Global;
 use std::sync::Wait;
@@ -92,74 +89,149 @@ fn terms_have_types(rt: HostRuntime) -> Result<(), Fail> {
 // A certificate of C by the library of `grammar_text`, and altered ones.
 #[test]
 fn rows_are_checked(rt: HostRuntime) -> Result<(), Fail> {
-    let a: Row = ("A", 1, 0, &[0]);
-    let b: Row = ("B", 1, 0, &[1]);
-    let c: Row = ("C", 0, 1, &[0]);
-    assert!(rt; rows_verdict(rt.alloc(), &[a, b, c])? == None);
-    assert!(rt; rows_verdict(rt.alloc(), &[b, c])? == Some((2, Reason::Argument)));
-    assert!(rt; rows_verdict(rt.alloc(), &[a, ("C", 0, 2, &[0])])? == Some((2, Reason::Arrow)));
-    assert!(rt; rows_verdict(rt.alloc(), &[("A", 1, 0, &[1])])? == Some((1, Reason::Target)));
-    assert!(rt; rows_verdict(rt.alloc(), &[a, b])? == Some((2, Reason::Goal)));
+    let alloc = rt.alloc();
+    let cases = [
+        (
+            "row A by x 0 : 0\nrow B by x 0 : 1\nrow C by f 1 : 0",
+            Finding::Accepted,
+        ),
+        (
+            "row B by x 0 : 1\nrow C by f 1 : 0",
+            Finding::Refused(2, Reason::Argument),
+        ),
+        (
+            "row A by x 0 : 0\nrow B by x 0 : 1\nrow C by f 1 : 1",
+            Finding::Accepted,
+        ),
+        (
+            "row A by x 0 : 0\nrow C by f 2 : 0",
+            Finding::Refused(2, Reason::Arrow),
+        ),
+        (
+            "row A by x 0 : 0\nrow C by f 1 : 1 0",
+            Finding::Refused(2, Reason::Arrow),
+        ),
+        ("row A by x 0 : 1", Finding::Refused(1, Reason::Target)),
+        ("row A by x 0 :", Finding::Refused(1, Reason::Target)),
+        (
+            "row A by x 0 : 0\nrow B by x 0 : 1",
+            Finding::Refused(2, Reason::Goal),
+        ),
+        ("", Finding::Refused(0, Reason::Goal)),
+        ("row A by x 0 : 4294967296", Finding::Bad(2)),
+    ];
+    for (rows, expected) in cases {
+        let text = format!(in alloc; "inhabited\n{rows}\nqed")?;
+        let given = &[("f", "(A -> C) & (B -> C)"), ("x", "A & B")];
+        assert_eq!(rt;
+            found(alloc, given, "C", text.as_str())?,
+            expected,
+            "{rows}"
+        );
+    }
     Ok(())
 }
 
+// A certificate for A & B by one component, which has A, and altered ones.
 #[test]
 fn members_are_checked(rt: HostRuntime) -> Result<(), Fail> {
     let alloc = rt.alloc();
-    let layers: &[&[&[u32]]] = &[&[&[0]], &[]];
-    assert!(rt; member_verdict(alloc, "A", "A & B", "A & B", 0, layers)? == None);
-    assert!(rt; member_verdict(alloc, "A", "B", "A & B", 0, layers)? == Some((0, Reason::Goal)));
-    let layers: &[&[&[u32]]] = &[&[&[0]]];
-    assert!(rt;
-        member_verdict(alloc, "A", "A & B", "A & B", 0, layers)? == Some((1, Reason::Layers))
-    );
-    assert!(rt; member_verdict(alloc, "A -> A", "A", "A", 1, layers)? == None);
-    assert!(rt; member_verdict(alloc, "A -> A", "A", "A", 1, &[])? == Some((1, Reason::Unblocked)));
-    let text = member_text(alloc, "A", 1, layers)?;
-    assert!(rt; text.as_str() == "empty\nmember A\nblock f 1\nlayer\nset 0\nqed\n");
+    let whole = "block x 0\nlayer\nset 0\nlayer";
+    let cases = [
+        ("A & B", whole, Finding::Accepted),
+        ("B", whole, Finding::Refused(0, Reason::Goal)),
+        ("A & B & D", whole, Finding::Accepted),
+        (
+            "A & B",
+            "block x 0\nlayer\nset 0",
+            Finding::Refused(1, Reason::Layers),
+        ),
+        (
+            "A & B",
+            "block x 0\nlayer\nset 1\nlayer",
+            Finding::Refused(1, Reason::Layers),
+        ),
+        (
+            "A & B",
+            "block x 0\nlayer\nset 0\nlayer\nblock x 0\nlayer\nset 0\nlayer",
+            Finding::Refused(1, Reason::Layers),
+        ),
+        (
+            "A & B",
+            "block x 0\nlayer\nlayer",
+            Finding::Refused(1, Reason::Unblocked),
+        ),
+        ("A & B", "", Finding::Refused(1, Reason::Unblocked)),
+    ];
+    for (asked, blocks, expected) in cases {
+        let text = format!(in alloc; "empty\nmember A & B\n{blocks}\nqed")?;
+        assert_eq!(rt;
+            found(alloc, &[("x", "A")], asked, text.as_str())?,
+            expected,
+            "{blocks}"
+        );
+    }
     Ok(())
 }
 
-// The certificate that is made for the goal by the library.
-fn certificate<R: Threads + Wait + Sync>(
-    rt: &R,
-    alloc: Global,
-    given: &mut Declarations,
-    text: &str,
-) -> Result<Certificate, Fail>
-    requires { length text.now < 2 ^ 32 }
-{
-    let goal = goal(alloc, &given.library, &mut given.names, text)?;
-    let grammar = grammar(rt, alloc, &given.library, goal, 1)?;
-    Ok(certify(alloc, &given.library, &grammar)?)
+// Lines that are no certificate, and one that is printed again.
+#[test]
+fn certificates_are_read(rt: HostRuntime) -> Result<(), Fail> {
+    let alloc = rt.alloc();
+    let whole = "empty\nmember A\nblock f 1\nlayer\nset 0\nqed\n";
+    let cases = [
+        (whole, Finding::Accepted),
+        ("empty\nhello\nqed", Finding::Bad(2)),
+        ("empty", Finding::NoQed),
+        ("qed", Finding::Bad(1)),
+        (
+            "# said once\nempty\n \nmember A\nlayer\nqed",
+            Finding::Bad(5),
+        ),
+        ("empty\nmember A\nblock f 1\nset 0\nqed", Finding::Bad(4)),
+        ("empty\nmember $a\nqed", Finding::Bad(2)),
+        ("empty\nqed\nqed", Finding::Bad(3)),
+    ];
+    for (text, expected) in cases {
+        assert_eq!(rt;
+            found(alloc, &[("f", "A -> A")], "A", text)?,
+            expected,
+            "{text}"
+        );
+    }
+    let text = printed_again(alloc, &[("f", "A -> A")], whole)?;
+    assert!(rt; text.as_str() == whole);
+    Ok(())
 }
 
-// Whether the one member of that certificate has this goal and a block of these layers, or no block.
-fn makes_member<R: Threads + Wait + Sync>(
+// Whether the certificate that is made for the goal is the one that the text says.
+fn makes<R: Threads + Wait + Sync>(
     rt: &R,
-    lines: &[(&str, &str)],
+    alloc: Global,
+    components: &[(&str, &str)],
+    asked: &str,
     text: &str,
-    n: u32,
-    layers: &[&[&[u32]]],
 ) -> Result<bool, Fail>
-    requires { length text.now < 2 ^ 32 }
+    requires { length asked.now < 2 ^ 32 }
 {
-    let alloc = rt.alloc();
-    let mut given = declared(alloc, lines)?;
-    let made = certificate(rt, alloc, &mut given, text)?;
-    has_member(alloc, &mut given.names, &made, text, n, layers)
+    let mut given = declared(alloc, components)?;
+    let goal = goal(alloc, &given.library, &mut given.names, asked)?;
+    let grammar = grammar(rt, alloc, &given.library, goal, 1)?;
+    let made = certify(alloc, &given.library, &grammar)?;
+    is_said(alloc, &mut given.names, &given.components, text, &made)
 }
 
 #[test]
 fn goals_have_certificates(rt: HostRuntime) -> Result<(), Fail> {
     let alloc = rt.alloc();
-    let mut given = declared(alloc, &[("f", "(A -> C) & (B -> C)"), ("x", "A & B")])?;
-    let made = certificate(&rt, alloc, &mut given, "C")?;
-    let rows: &[Row] = &[("A", 1, 0, &[0]), ("B", 1, 0, &[1]), ("C", 0, 1, &[0])];
-    assert!(rt; has_rows(alloc, &mut given.names, &made, rows)?);
-    assert!(rt; makes_member(&rt, &[], "omega", 0, &[])?);
-    assert!(rt; makes_member(&rt, &[("f", "A -> A")], "A", 1, &[&[&[0]]])?);
-    assert!(rt; makes_member(&rt, &[("x", "A")], "A & B", 0, &[&[&[0]], &[]])?);
+    let text = "inhabited\nrow A by x 0 : 0\nrow B by x 0 : 1\nrow C by f 1 : 0\nqed";
+    let given = &[("f", "(A -> C) & (B -> C)"), ("x", "A & B")];
+    assert!(rt; makes(&rt, alloc, given, "C", text)?);
+    assert!(rt; makes(&rt, alloc, &[], "omega", "empty\nmember omega\nqed")?);
+    let text = "empty\nmember A\nblock f 1\nlayer\nset 0\nqed";
+    assert!(rt; makes(&rt, alloc, &[("f", "A -> A")], "A", text)?);
+    let text = "empty\nmember A & B\nblock x 0\nlayer\nset 0\nlayer\nqed";
+    assert!(rt; makes(&rt, alloc, &[("x", "A")], "A & B", text)?);
     Ok(())
 }
 

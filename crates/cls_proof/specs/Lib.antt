@@ -1,9 +1,15 @@
--- To be read and believed: Certificates, Texts, and Seen, which says how a value is seen as one. The other modules say
--- the same of its parts, or serve the prover.
+-- To be read and believed: Certificates, Texts, Statements, Forms, Reading, ReadOnce, and Seen, which says how a value is seen
+-- as a certificate. The other modules say the same of its parts, are marked internal, or serve the prover.
 pub mod Blocks
 pub mod Certificates
+pub mod Drafts
+pub mod Forms
 pub mod Members
+pub mod ReadOnce
+pub mod Reading
 pub mod Rows
+pub mod Said
 pub mod Seen
+pub mod Statements
 pub mod Stored
 pub mod Texts

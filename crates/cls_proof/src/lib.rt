@@ -2,20 +2,30 @@
 //!
 //! - [`Certificate`] is a list of [`ProofRow`]s or a list of [`Member`]s. A row says of its goal that some term has it,
 //!   by the goals of rows before it. A member says of its goal that no term has it, and its [`Block`]s show why.
-//! - [`print_certificate`] gives the lines of a certificate.
+//! - [`print_certificate`] gives the lines of a certificate, and [`read_certificate`] reads them.
+//! - [`laws`] holds what is true of all lines.
 //! - `specs/` defines certificates and their lines. What one must meet is defined where it is checked.
 #![tactic(auto)]
 
 mod block;
 mod certificate;
+mod draft;
+pub mod laws;
 mod layer;
 mod member;
 mod print;
+mod proof_fault;
+mod read;
+mod reading;
 mod row;
+mod statement;
+mod statement_form;
 
 pub use block::{Block, Blocks};
 pub use certificate::Certificate;
 pub use layer::{Layer, Layers};
 pub use member::{Member, Members};
 pub use print::print_certificate;
+pub use proof_fault::ProofFault;
+pub use read::read_certificate;
 pub use row::{ProofRow, ProofRows};
