@@ -10,7 +10,7 @@ use Rattle.cls_base.specs.Types.{ClosedType}
 use Rattle.cls_base.specs.declared.rule.Rule.{Rule}
 use Rattle.cls_base.specs.declared.rule.Rule.TheVariants.{Head, Any}
 use Rattle.cls_base.proofs.Lists.{Contains-nil, Contains-here, Contains-later, Contains-cases, Contains-map}
-use Rattle.cls_path.specs.Paths.{TypePath, Paths, none, more, paths_of, listed, type_of_paths}
+use Rattle.cls_path.specs.Paths.{TypePath, Paths, none, more, SuitsAll, paths_of, listed, type_of_paths}
 use Rattle.cls_path.proofs.RoundTrip.{paths_back}
 use Rattle.cls_cover.specs.Lists.{Rises}
 use Rattle.cls_core.specs.Arguments.{arguments_of_rule}
@@ -101,7 +101,7 @@ module _ (l : Library) (is : IsLibrary l) (rows : List (Row (List TypePath))) (h
         back : paths_of (variances_in l.taxonomy) (type_of_paths (goal_in goals e.number)) ≡ goal_in goals e.number
         back =
             let u = ruled_node e.rank e.number ranked.tree in
-            paths_back (goal_in goals e.number) (variances_in l.taxonomy) (subst _ (sym u.1.goal) u.1.ready.normal.suits)
+            paths_back (goal_in goals e.number) (variances_in l.taxonomy) (subst (λ (n : Paths). SuitsAll (variances_in l.taxonomy) n) (sym u.1.goal) u.1.ready.normal.suits)
 
         given : (i : ℕ) → i < c.places → IsAboveRow l earlier (argument_type arrows c.cover i)
         given i j =
