@@ -1,16 +1,16 @@
 -- The blocks of a member, place after place.
 use Rattle.std.proofs.Common.{ℕ, zero, suc, ◌≡◌, ◌+◌, ◌<◌, ◌≤◌, ◌↔◌, ◌==◌, refl, sym, ◌∙◌, subst, ap, ◌⊎◌, inl, inr, Bool, false, not, IsTrue, List, [], ◌∷◌, ◌++◌, length, take, get_or, arith, rules, Contains, Option, Some, None, All}
-use Rattle.std.specs.Prelude.{map, slice_get, IsSomeAnd}
+use Rattle.std.specs.Prelude.{map, slice_get}
 use Rattle.std.proofs.lemmas.List.Elements.{Contains-push, Contains-push_cases, Contains-append_left, All-take}
 use Rattle.std.proofs.lemmas.Option.{slice_get_within, get_or_from_slice_get}
 use Rattle.cls_base.specs.Lists.{AreDistinct}
 use Rattle.cls_base.proofs.Lists.{Contains-nil, Contains-here, Contains-later, Contains-head, map_last}
 use Rattle.cls_path.specs.Paths.{TypePath, Paths, none, more, listed, type_of_paths}
-use Rattle.cls_cover.specs.Lists.{Rises, IsAscending, Sublist, ends, drops}
+use Rattle.cls_cover.specs.Lists.{IsAscending, Sublist, ends, drops}
 use Rattle.cls_cover.specs.Covers.{IsMinimal, AreMinimal, MeetsEach, AreCovers, HaveMore, AreWithinLimit}
 use Rattle.cls_library.specs.Arrows.{MultiArrow, arity_of}
 use Rattle.cls_library.specs.Libraries.{Library, paths_at, arrows_at}
-use Rattle.cls_library.specs.Reaching.{PathLeIn, CoversGoal}
+use Rattle.cls_library.specs.Reaching.{CoversGoal}
 use Rattle.cls_library.specs.Rules.{IsWide, by_covers, max_covers}
 use Rattle.cls_expand.specs.Making.{AreFamilies}
 use Rattle.cls_expand.proofs.FamilyCovers.{covers_goal, many_from}

@@ -1,36 +1,33 @@
 -- A rule of a goal, and the first choice that gives it.
-use Rattle.std.proofs.Common.{ℕ, zero, suc, ◌≡◌, ◌+◌, ◌<◌, ◌≤◌, ◌↔◌, refl, sym, ◌∙◌, subst, ap, ◌⊎◌, inl, inr, List, [], ◌∷◌, length, map, take, get_or, arith, Contains, Option, Some, None}
+use Rattle.std.proofs.Common.{ℕ, zero, suc, ◌≡◌, ◌<◌, ◌≤◌, ◌↔◌, sym, ◌∙◌, subst, ap, ◌⊎◌, inl, inr, List, [], ◌∷◌, length, map, arith, Contains, Option, Some, None}
 use Rattle.std.specs.Prelude.{slice_get, option_map}
-use Rattle.std.specs.List.{AllZip}
 use Rattle.std.proofs.lemmas.List.{length-map}
-use Rattle.std.proofs.lemmas.Option.{slice_get_within}
 use Rattle.cls_base.specs.declared.rule.Rule.{Rule}
 use Rattle.cls_base.specs.declared.rule.Rule.TheVariants.{Head, Any}
 use Rattle.cls_base.specs.Languages.{rules_at}
 use Rattle.cls_base.specs.Terms.{Precedes}
-use Rattle.cls_base.proofs.Lists.{Contains-nil, Contains-here, Contains-later, Contains-cases, Contains-at, Contains-place, Contains-map}
-use Rattle.cls_path.specs.Paths.{TypePath, Paths, none, more, listed, type_of_paths}
+use Rattle.cls_base.proofs.Lists.{Contains-at, Contains-place, Contains-map}
+use Rattle.cls_path.specs.Paths.{TypePath, Paths, none, more, type_of_paths}
 use Rattle.cls_cover.specs.Lists.{Rises}
-use Rattle.cls_cover.specs.Covers.{AreCovers, AreMinimal}
+use Rattle.cls_cover.specs.Covers.{AreMinimal}
 use Rattle.cls_cover.proofs.Lists.{contains_member, member_contains}
-use Rattle.cls_core.specs.Arguments.{arguments_of_rule, rules_of}
+use Rattle.cls_core.specs.Arguments.{rules_of}
 use Rattle.cls_core.specs.Rows.{Row}
 use Rattle.cls_core.specs.declared.answer.Answer.{Answer}
 use Rattle.cls_core.specs.declared.answer.Answer.TheVariants.{Rules}
 use Rattle.cls_grammar.specs.Grammars.{book_of}
 use Rattle.cls_library.specs.Arrows.{arity_of}
 use Rattle.cls_library.specs.Libraries.{Library, paths_at, arrows_at}
-use Rattle.cls_library.specs.Reaching.{CoversGoal, IsReduced, columns}
+use Rattle.cls_library.specs.Reaching.{CoversGoal, columns}
 use Rattle.cls_library.specs.Rules.{Choice, ComesBefore, IsChoice, IsRuleFor, IsRules}
 use Rattle.cls_library.proofs.ByCases.{At, got_at, Zip, zip_map, all_zip, zip_length, zip_right}
 use Rattle.cls_library.proofs.FirstOnes.{first_ones_from}
 use Rattle.cls_expand.specs.Determined.{made_same}
-use Rattle.cls_expand.specs.Making.{AreFamilies, choice_at}
-use Rattle.cls_expand.proofs.FamilyCovers.{covers_goal}
+use Rattle.cls_expand.specs.Making.{choice_at}
 use Rattle.cls_library.proofs.RuleTyping.{columns_length, picked_from}
 use Rattle.cls_proof.specs.Certificates.{ProofRow}
-use Rattle.cls_cert.specs.Making.{IsFirst, IsFirstChoice, goal_in, named, Ranked, IsLower, IsRuleRow, IsRowOf, IsRowFor}
-use Rattle.cls_cert.specs.Building.{IsFirstAt, goals_over, rule_over, GivesRule, IsGiven, HasLess}
+use Rattle.cls_cert.specs.Making.{IsFirst, IsFirstChoice, goal_in, named, Ranked, IsRuleRow, IsRowOf, IsRowFor}
+use Rattle.cls_cert.specs.Building.{IsFirstAt, goals_over, rule_over, GivesRule, IsGiven}
 
 -- the first element, by another property of the same elements
 pub first_as : {A : Type 0} (P Q : A → Type 0) (xs ys : List A) (x : A) → ((y : A) → P y → Q y) → ((y : A) → Q y → P y) → xs ≡ ys → IsFirst P xs x → IsFirst Q ys x

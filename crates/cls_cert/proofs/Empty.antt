@@ -1,7 +1,6 @@
 -- What is made for an unproductive goal is accepted.
-use Rattle.std.proofs.Common.{ℕ, zero, suc, ◌≡◌, ◌+◌, ◌<◌, ◌≤◌, ◌==◌, ◌&&◌, max, refl, sym, ◌∙◌, subst, ap, ◌⊎◌, inl, inr, Bool, true, false, cond, List, [], ◌∷◌, ◌++◌, length, get_or, arith, Contains, Option, Some, None}
+use Rattle.std.proofs.Common.{ℕ, zero, suc, ◌≡◌, ◌+◌, ◌<◌, ◌==◌, ◌&&◌, max, refl, sym, ◌∙◌, subst, ap, ◌⊎◌, inl, inr, Bool, true, false, cond, List, [], ◌∷◌, length, get_or, arith, Contains, Some}
 use Rattle.std.specs.Prelude.{All, map, slice_get, IsSomeAnd}
-use Rattle.std.specs.List.{AllZip}
 use Rattle.std.specs.List.Sorted.{IsStrictlyIncreasing}
 use Rattle.std.proofs.lemmas.List.{length-map}
 use Rattle.std.proofs.lemmas.List.Elements.{Contains-get_or}
@@ -16,22 +15,22 @@ use Rattle.cls_base.specs.declared.rule.Rule.{Rule}
 use Rattle.cls_base.specs.declared.rule.Rule.TheVariants.{Head, Any}
 use Rattle.cls_base.proofs.Lists.{Contains-nil, Contains-here, Contains-later, Contains-cases, Contains-place, Contains-from_map}
 use Rattle.cls_path.specs.Paths.{TypePath, Paths, none, more, InPaths, first_in, later_in, PathsLe, append, paths_of, listed, type_of_paths, SuitsAll}
-use Rattle.cls_path.specs.NormalForms.{IsNormal, IsNormalForm}
-use Rattle.cls_path.proofs.Completeness.{in_append, covers_refl, suits_append}
+use Rattle.cls_path.specs.NormalForms.{IsNormal}
+use Rattle.cls_path.proofs.Completeness.{in_append, covers_refl}
 use Rattle.cls_path.proofs.RoundTrip.{paths_back, append_none, append_assoc}
 use Rattle.cls_cover.specs.Lists.{Rises, IsAscending, Sublist}
 use Rattle.cls_cover.specs.Covers.{IsMinimal, AreMinimal}
 use Rattle.cls_cover.specs.Members.{Member}
 use Rattle.cls_cover.proofs.Lists.{contains_member, member_contains, decide_member, without, sublist_none, member_append_left}
-use Rattle.cls_core.specs.Arguments.{arguments_of_rule, map_rule}
+use Rattle.cls_core.specs.Arguments.{arguments_of_rule}
 use Rattle.cls_core.specs.Rows.{Row}
 use Rattle.cls_grammar.specs.Grammars.{book_of}
 use Rattle.cls_grammar.specs.Ranks.{HasTree, HaveTrees, head_tree, any_tree, no_trees, more_trees, IsProductiveIn}
 use Rattle.cls_grammar.proofs.Trees.{tree_up, trees_up}
-use Rattle.cls_library.specs.Arrows.{MultiArrow, arity_of}
-use Rattle.cls_library.specs.Libraries.{Library, IsLibrary, below_in, variances_in, paths_at, arrows_at}
+use Rattle.cls_library.specs.Arrows.{MultiArrow}
+use Rattle.cls_library.specs.Libraries.{Library, IsLibrary, below_in, variances_in, arrows_at}
 use Rattle.cls_library.specs.Reaching.{PathLeIn, CoversGoal}
-use Rattle.cls_library.specs.Rules.{Choice, IsRules, IsChoice, IsRuleFor, omega_rules}
+use Rattle.cls_library.specs.Rules.{Choice, IsRules, IsRuleFor}
 use Rattle.cls_library.proofs.ByCases.{At, all_zip, zip_left, zip_right, some_at}
 use Rattle.cls_library.proofs.FirstOnes.{first_ones_all}
 use Rattle.cls_library.proofs.Covering.{Lead, choose_minimal}
@@ -43,9 +42,9 @@ use Rattle.cls_check.specs.Arguments.{argument_type}
 use Rattle.cls_check.specs.Checking.{path_total, empty_layers, place_of, layers_for, ArePositions, IsPartOf, IsSubtype, IsForm, LeadsTo, IsPlace, IsBlocked, Steps, BlockedFrom, IsFormed, PassesLayers, PassesUnblocked, PassesMember, IsBelowMember, Accepts, by_members}
 use Rattle.cls_check.proofs.Order.{reflexive, transitive}
 use Rattle.cls_cert.specs.Conditions.{forms_of, IsGrammarOf}
-use Rattle.cls_cert.specs.Making.{front_of, path_count, goal_in, named, BlockBefore, HasFirst, AreLayers, IsMemberFor, AreMembers}
+use Rattle.cls_cert.specs.Making.{front_of, path_count, goal_in, named, BlockBefore, AreLayers, IsMemberFor, AreMembers}
 use Rattle.cls_cert.proofs.BlockLaws.{first_place}
-use Rattle.cls_cert.proofs.Ruled.{named_arguments, argument_at, IsRuled, ruled_within, some_goal}
+use Rattle.cls_cert.proofs.Ruled.{named_arguments, argument_at, ruled_within, some_goal}
 use Rattle.cls_cert.proofs.Sources.{argument_count, argument_upper}
 
 pub all_from : {A : Type 0} (P : A → Type 0) (xs : List A) → ((x : A) → Contains xs x → P x) → All P xs
@@ -74,10 +73,11 @@ same_not a b c d e f p = elim p [ inl l ↦ omega arith | inr r ↦ elim r.1 [ i
 
 different : (blocks : List Block) → Rises BlockBefore blocks → AreDistinct (map place_of blocks)
 different [] r = tt
-different (b ∷ blocks) r =
-    ((λ m. let u = Contains-from_map place_of blocks (place_of b) m in
-        same_not b.component b.n u.0.component u.0.n (ap (λ (p : ℕ × ℕ). p.0) u.2) (ap (λ (p : ℕ × ℕ). p.1) u.2) (r.0 u.0 u.1)),
-    different blocks r.1)
+different (b ∷ blocks) r = (
+  (λ m. let u = Contains-from_map place_of blocks (place_of b) m in
+      same_not b.component b.n u.0.component u.0.n (ap (λ (p : ℕ × ℕ). p.0) u.2) (ap (λ (p : ℕ × ℕ). p.1) u.2) (r.0 u.0 u.1)),
+  different blocks r.1,
+)
 
 -- the layers of a place are those of its block, or there is none
 abbrev HasLayers : List Block → ℕ → ℕ → ℕ → Type 0
@@ -115,10 +115,13 @@ has_layers (b ∷ blocks) k x n = go ((x == b.component) && (n == b.n)) refl (ha
         let u = both_true (x == b.component) (n == b.n) e in
         inl (b, Contains-here b blocks, sym (test_same x b.component u.0), sym (test_same n b.n u.1), here true e)
     go false e (inl h) = inl (h.0, Contains-later h.0 b blocks h.1, h.2, h.3, here false e ∙ h.4)
-    go false e (inr h) = inr ((λ c m p q. elim (Contains-cases b blocks c m) [
-      | inl s ↦ not_this e (ap (λ (d : Block). d.component) (sym s) ∙ p) (ap (λ (d : Block). d.n) (sym s) ∙ q)
-      | inr j ↦ h.0 c j p q
-    ]), here false e ∙ h.1)
+    go false e (inr h) = inr (
+      (λ c m p q. elim (Contains-cases b blocks c m) [
+        | inl s ↦ not_this e (ap (λ (d : Block). d.component) (sym s) ∙ p) (ap (λ (d : Block). d.n) (sym s) ∙ q)
+        | inr j ↦ h.0 c j p q
+      ]),
+      here false e ∙ h.1,
+    )
 
 module _ (l : Library) where
   -- the numbers of a minimal cover are positions
@@ -165,9 +168,9 @@ module _ (l : Library) where
     blocked_from (more q rest) taken sets (layer ∷ ls) suits f c z last = (
       all_from (λ s. IsBlocked l IsBelow arrows n s ⊎ Steps l arrows layer q s) sets (λ s m. inr (λ i leads. step s (f s m) i leads)),
       blocked_from rest (append taken (more q none)) layer ls (subst (λ g. SuitsAll (variances_in l.taxonomy) g) (sym whole) suits) (λ s m. (first.exactly s).0 m)
-      (let e : suc (length ls) ≡ suc (path_count rest) = c in omega arith)
-      (λ j later e. subst (λ g. AreMinimal (CoversGoal l arrows g) later) (sym (append_assoc taken (more q none) (front_of (suc j) rest))) (z (suc j) later e))
-      (λ s m. last s (subst (λ g. IsMinimal (CoversGoal l arrows g) s) whole m)),
+          (let e : suc (length ls) ≡ suc (path_count rest) = c in omega arith)
+          (λ j later e. subst (λ g. AreMinimal (CoversGoal l arrows g) later) (sym (append_assoc taken (more q none) (front_of (suc j) rest))) (z (suc j) later e))
+          (λ s m. last s (subst (λ g. IsMinimal (CoversGoal l arrows g) s) whole m)),
     )
       where
         whole : append (append taken (more q none)) rest ≡ append taken (more q rest)

@@ -1,14 +1,14 @@
 -- What is made for a productive goal is accepted.
-use Rattle.std.proofs.Common.{ℕ, zero, suc, ◌≡◌, ◌+◌, ◌<◌, ◌≤◌, refl, sym, ◌∙◌, subst, ap, ◌⊎◌, inl, inr, List, [], ◌∷◌, ◌++◌, length, get_or, arith, Contains, Option, Some, None}
-use Rattle.std.specs.Prelude.{All, map, slice_get, IsSomeAnd}
+use Rattle.std.proofs.Common.{ℕ, zero, suc, ◌≡◌, ◌<◌, refl, sym, ◌∙◌, subst, ap, ◌⊎◌, inl, inr, List, [], ◌∷◌, ◌++◌, length, get_or, arith, Contains}
+use Rattle.std.specs.Prelude.{map}
 use Rattle.std.specs.List.{AllZip}
 use Rattle.std.proofs.lemmas.List.{length-map, get_or_default}
-use Rattle.std.proofs.lemmas.List.Elements.{Contains-get_or, Contains-push, Contains-push_cases, Contains-append_left}
+use Rattle.std.proofs.lemmas.List.Elements.{Contains-get_or, Contains-push, Contains-append_left}
 use Rattle.cls_base.specs.Languages.{NodeRule, rules_at}
 use Rattle.cls_base.specs.Subtyping.{reflexivity}
 use Rattle.cls_base.specs.Types.{ClosedType}
 use Rattle.cls_base.specs.declared.rule.Rule.{Rule}
-use Rattle.cls_base.specs.declared.rule.Rule.TheVariants.{Head, Any}
+use Rattle.cls_base.specs.declared.rule.Rule.TheVariants.{Head}
 use Rattle.cls_base.proofs.Lists.{Contains-nil, Contains-here, Contains-later, Contains-cases, Contains-map}
 use Rattle.cls_path.specs.Paths.{TypePath, Paths, none, more, SuitsAll, paths_of, listed, type_of_paths}
 use Rattle.cls_path.proofs.RoundTrip.{paths_back}
@@ -16,17 +16,17 @@ use Rattle.cls_cover.specs.Lists.{Rises}
 use Rattle.cls_core.specs.Arguments.{arguments_of_rule}
 use Rattle.cls_core.specs.Rows.{Row}
 use Rattle.cls_grammar.specs.Grammars.{book_of}
-use Rattle.cls_grammar.specs.Ranks.{HasTree, head_tree, any_tree, IsRank}
+use Rattle.cls_grammar.specs.Ranks.{HasTree, head_tree, any_tree}
 use Rattle.cls_library.specs.Libraries.{Library, IsLibrary, variances_in, arrows_at}
 use Rattle.cls_library.specs.Reaching.{CoversGoal}
-use Rattle.cls_library.specs.Rules.{Choice, IsChoice, IsRules, IsRuleFor}
+use Rattle.cls_library.specs.Rules.{Choice, IsChoice}
 use Rattle.cls_library.specs.Arrows.{MultiArrow}
 use Rattle.cls_library.proofs.RuleHeads.{rule_declared}
 use Rattle.cls_proof.specs.Certificates.{ProofRow, inhabited}
 use Rattle.cls_check.specs.Arguments.{argument_type}
 use Rattle.cls_check.specs.Checking.{IsSubtype, PassesRow, IsAboveRow, PassRows, EndsBelow, Accepts, by_rows}
 use Rattle.cls_cert.specs.Conditions.{forms_of, IsGrammarOf}
-use Rattle.cls_cert.specs.Making.{goal_in, named, Ranked, ComesEarlier, IsRanked, IsLower, IsRuleRow, IsRowOf, IsRowFor, AreRows}
+use Rattle.cls_cert.specs.Making.{goal_in, named, Ranked, ComesEarlier, IsRanked, IsRuleRow, IsRowOf, IsRowFor, AreRows}
 use Rattle.cls_cert.proofs.Empty.{increasing, all_below, minimal_positions}
 use Rattle.cls_cert.proofs.Ranking.{tree_below}
 use Rattle.cls_cert.proofs.Ruled.{named_arguments, argument_at, IsRuled, ruled_within}
@@ -187,8 +187,8 @@ module _ (l : Library) (is : IsLibrary l) (rows : List (Row (List TypePath))) (h
   rows_accepted new a =
       let last : Ranked = record { number = 0; rank = a.rank } in
       let order = ordered last a.is_rank a.earlier [] (λ e m. ((a.exactly e).0 m).0) a.in_order
-          (λ e d m k j. inr ((a.exactly d).1 (k, lower e d m j)))
-          (λ d k j. inr ((a.exactly d).1 (k, j))) in
+      (λ e d m k j. inr ((a.exactly d).1 (k, lower e d m j)))
+      (λ d k j. inr ((a.exactly d).1 (k, j))) in
       by_rows (all_rows [] (a.earlier ++ last ∷ []) [] new order (λ e m. absurd (Contains-nil e m)) a.made) (ends a.earlier last new (type_of_paths (goal_in goals 0)) a.made refl)
     where
       lower : (e d : Ranked) → Contains a.earlier e → d.rank < e.rank → d.rank < a.rank

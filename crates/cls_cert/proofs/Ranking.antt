@@ -1,16 +1,13 @@
 -- Ranks of goals, and the rules by which they have them.
-use Rattle.std.proofs.Common.{ℕ, zero, suc, ◌≡◌, ◌<◌, ◌≤◌, ◌↔◌, refl, sym, ◌∙◌, subst, ap, ◌⊎◌, inl, inr, true, false, List, [], ◌∷◌, length, get_or, arith, Contains, Option, Some, None}
+use Rattle.std.proofs.Common.{ℕ, zero, suc, ◌≡◌, ◌<◌, ◌≤◌, refl, sym, ◌∙◌, subst, ap, inl, inr, true, false, List, [], ◌∷◌, length, get_or, arith, Contains, Option, Some, None}
 use Rattle.std.specs.Prelude.{slice_get, is_some}
 use Rattle.std.proofs.lemmas.List.{get_or_past}
-use Rattle.std.proofs.lemmas.Option.{slice_get_within}
 use native.Mathlib.Decide.{dec_lt}
 use Rattle.cls_base.specs.declared.rule.Rule.{Rule}
 use Rattle.cls_base.specs.declared.rule.Rule.TheVariants.{Head, Any}
 use Rattle.cls_base.specs.Languages.{NodeRule, rules_at}
-use Rattle.cls_base.proofs.Lists.{Contains-nil, Contains-here, Contains-later, Contains-cases, Contains-place}
-use Rattle.cls_core.specs.Arguments.{arguments_of_rule}
-use Rattle.cls_grammar.specs.Ranks.{HasTree, HaveTrees, head_tree, any_tree, no_trees, more_trees, IsProductiveIn, IsRank, IsRankIn, AreRanks}
-use Rattle.cls_cert.specs.Making.{IsFirst}
+use Rattle.cls_base.proofs.Lists.{Contains-nil, Contains-cases, Contains-place}
+use Rattle.cls_grammar.specs.Ranks.{HasTree, HaveTrees, head_tree, any_tree, no_trees, more_trees, IsProductiveIn, IsRank, AreRanks}
 use Rattle.cls_cert.specs.Building.{HaveLess, HasLess}
 use Rattle.cls_cert.proofs.Lists.{got_within}
 

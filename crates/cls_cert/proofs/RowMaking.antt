@@ -1,5 +1,5 @@
 -- The row of a goal, by what the calls for it tell.
-use Rattle.std.proofs.Common.{ℕ, zero, suc, ◌≡◌, ◌<◌, ◌==◌, refl, sym, ◌∙◌, subst, ap, Bool, true, false, List, [], ◌∷◌, length, map, get_or, arith, rules, Contains, Option, Some, None}
+use Rattle.std.proofs.Common.{ℕ, zero, suc, ◌≡◌, ◌<◌, ◌==◌, sym, ◌∙◌, subst, ap, Bool, true, false, List, [], ◌∷◌, length, map, get_or, arith, rules, Contains, Option, Some, None}
 use Rattle.std.specs.Prelude.{slice_get, option_map}
 use Rattle.std.proofs.lemmas.List.{length-map}
 use Rattle.std.proofs.lemmas.Option.{slice_get_within}
@@ -19,7 +19,6 @@ use Rattle.cls_library.specs.Libraries.{Library}
 use Rattle.cls_library.specs.Rules.{IsRules}
 use Rattle.cls_rulebook.specs.Books.{HasNodesBelow, HaveNodesBelow}
 use Rattle.cls_expand.specs.Making.{choice_at}
-use Rattle.cls_proof.specs.Certificates.{ProofRow}
 use Rattle.cls_cert.specs.Conditions.{forms_of, IsGrammarOf}
 use Rattle.cls_cert.specs.Making.{IsFirst, IsFirstChoice, goal_in, named, Ranked, IsLower, IsRowFor}
 use Rattle.cls_cert.specs.Building.{HasLess, IsGiven, rule_over}

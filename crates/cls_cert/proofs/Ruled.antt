@@ -1,5 +1,5 @@
 -- What a grammar by the rules of a library says of each goal.
-use Rattle.std.proofs.Common.{ℕ, zero, suc, ◌≡◌, ◌+◌, ◌<◌, refl, sym, ◌∙◌, subst, ap, ◌⊎◌, inl, inr, Bool, List, [], ◌∷◌, ◌++◌, length, get_or, arith, Contains, Option, Some, None}
+use Rattle.std.proofs.Common.{ℕ, zero, suc, ◌≡◌, ◌<◌, refl, sym, ◌∙◌, subst, ap, inl, inr, List, [], ◌∷◌, length, get_or, arith, Contains, Option, Some, None}
 use Rattle.std.specs.Prelude.{map, slice_get, option_map}
 use Rattle.std.specs.Ordering.{eq_by_cmp}
 use Rattle.std.specs.List.{position_or_len}
@@ -10,7 +10,7 @@ use Rattle.cls_base.specs.declared.rule.Rule.{Rule}
 use Rattle.cls_base.specs.declared.rule.Rule.TheVariants.{Head, Any}
 use Rattle.cls_base.specs.Languages.{rules_at}
 use Rattle.cls_base.proofs.Lists.{Contains-nil, Contains-here, Contains-later, Contains-cases, Contains-at, Contains-from_map}
-use Rattle.cls_path.specs.Paths.{TypePath, Paths, none, listed}
+use Rattle.cls_path.specs.Paths.{TypePath, Paths, listed}
 use Rattle.cls_path.specs.PathOrder.{list_order}
 use Rattle.cls_path.specs.OrderLaws.{list_same, list_equal}
 use Rattle.cls_core.specs.declared.answer.Answer.{Answer}
@@ -21,7 +21,7 @@ use Rattle.cls_core.specs.Machine.{numbered}
 use Rattle.cls_core.specs.Rows.{Row}
 use Rattle.cls_core.proofs.Grammar.{canonical-closure}
 use Rattle.cls_core.proofs.Renumbering.{place-is}
-use Rattle.cls_grammar.specs.Grammars.{book_of, first_wide}
+use Rattle.cls_grammar.specs.Grammars.{book_of}
 use Rattle.cls_grammar.proofs.Places.{wide-has}
 use Rattle.cls_library.specs.Libraries.{Library}
 use Rattle.cls_library.specs.Rules.{IsRules, IsWide}

@@ -1,19 +1,18 @@
 -- What arrows take over a cover: as a type, and as an argument of the rule of the cover.
-use Rattle.std.proofs.Common.{ℕ, zero, suc, ◌≡◌, ◌<◌, ◌≤◌, refl, sym, ◌∙◌, subst, ap, List, [], ◌∷◌, length, get_or, arith, Contains, Option, Some, None}
+use Rattle.std.proofs.Common.{ℕ, zero, suc, ◌≡◌, ◌<◌, refl, sym, ◌∙◌, subst, ap, List, [], ◌∷◌, length, get_or, arith, Contains, Some}
 use Rattle.std.specs.Prelude.{slice_get}
 use Rattle.std.specs.List.{AllZip}
 use Rattle.std.proofs.lemmas.List.Elements.{AllZip-get_or, length_all_zip}
 use Rattle.std.proofs.lemmas.Option.{get_or_from_slice_get, slice_get_within}
-use Rattle.cls_base.specs.Types.{ClosedType}
 use Rattle.cls_base.specs.declared.rule.Rule.{Rule}
 use Rattle.cls_base.proofs.Lists.{Contains-here, Contains-later}
-use Rattle.cls_path.specs.Paths.{TypePath, Paths, none, PathsLe, append, paths_of, type_of_paths, SuitsAll}
+use Rattle.cls_path.specs.Paths.{Paths, none, PathsLe, append, paths_of, type_of_paths, SuitsAll}
 use Rattle.cls_path.proofs.RoundTrip.{paths_back}
 use Rattle.cls_path.proofs.Equivalence.{paths_sound}
 use Rattle.cls_cover.specs.Members.{Member, first, later}
 use Rattle.cls_cover.proofs.Lists.{contains_member, member_contains, get_member}
 use Rattle.cls_library.specs.Arrows.{MultiArrow}
-use Rattle.cls_library.specs.Libraries.{Library, IsLibrary, below_in, variances_in, arrows_at}
+use Rattle.cls_library.specs.Libraries.{Library, IsLibrary, below_in, variances_in}
 use Rattle.cls_library.specs.Reaching.{IsReduced, columns}
 use Rattle.cls_library.specs.Rules.{Choice, arrows_for, IsRuleFor}
 use Rattle.cls_check.specs.Arguments.{argument_type}
@@ -21,7 +20,7 @@ use Rattle.cls_check.specs.Checking.{IsSubtype}
 use Rattle.cls_check.proofs.Order.{reflexive, transitive}
 use Rattle.cls_expand.specs.Making.{no_arrow, picked_of, gathered}
 use Rattle.cls_cert.proofs.ChoiceLaws.{rule_length}
-use Rattle.cls_expand.proofs.Sources.{AreArrows, library_arrows, picked_arrows, picked_in, columns_at, columns_length}
+use Rattle.cls_expand.proofs.Sources.{AreArrows, library_arrows, picked_arrows, columns_at}
 
 -- the arrows that are picked
 picked_same : (arrows : List MultiArrow) (cover : List ℕ) (picked : List MultiArrow) → AllZip (λ i a. slice_get arrows i ≡ Some a) cover picked → picked ≡ picked_of arrows cover

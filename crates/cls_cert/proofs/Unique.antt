@@ -1,26 +1,22 @@
 -- For one grammar one certificate is made.
-use Rattle.std.proofs.Common.{ℕ, zero, suc, ◌≡◌, ◌+◌, ◌<◌, ◌≤◌, ◌↔◌, refl, sym, ◌∙◌, subst, ap, ◌⊎◌, inl, inr, List, [], ◌∷◌, ◌++◌, length, arith, Contains, Option, Some, None}
-use Rattle.std.specs.Prelude.{slice_get, map}
+use Rattle.std.proofs.Common.{ℕ, suc, ◌≡◌, ◌<◌, refl, sym, ◌∙◌, subst, ap, inl, inr, List, [], ◌∷◌, ◌++◌, length, arith, Contains, Option, Some}
+use Rattle.std.specs.Prelude.{slice_get}
 use Rattle.std.specs.List.{AllZip}
-use Rattle.cls_base.specs.Languages.{NodeRule, rules_at}
+use Rattle.cls_base.specs.Languages.{rules_at}
 use Rattle.cls_base.specs.Terms.{Precedes}
 use Rattle.cls_base.specs.declared.rule.Rule.{Rule}
-use Rattle.cls_path.specs.Paths.{TypePath, Paths, none, more, type_of_paths}
+use Rattle.cls_path.specs.Paths.{Paths, none, more, type_of_paths}
 use Rattle.cls_cover.specs.Lists.{Rises, IsAscending}
 use Rattle.cls_cover.specs.Covers.{AreMinimal}
 use Rattle.cls_cover.specs.Members as members
 use Rattle.cls_cover.proofs.Lists.{contains_member, member_contains, rises_unique, precedes_not, precedes_same}
-use Rattle.cls_grammar.specs.Grammars.{book_of}
-use Rattle.cls_grammar.specs.Ranks.{IsRank, IsProductiveIn}
-use Rattle.cls_core.specs.Rows.{Row}
 use Rattle.cls_library.specs.Libraries.{Library, arrows_at}
 use Rattle.cls_library.specs.Reaching.{CoversGoal}
-use Rattle.cls_library.specs.Rules.{Choice, ComesBefore, code_of_choice}
+use Rattle.cls_library.specs.Rules.{Choice, code_of_choice}
 use Rattle.cls_library.proofs.ByCases.{all_zip, zip_unique}
 use Rattle.cls_proof.specs.Certificates as proof
 use Rattle.cls_proof.specs.Certificates.{ProofRow, Block, Certificate, inhabited, empty}
-use Rattle.cls_cert.specs.Conditions.{forms_of}
-use Rattle.cls_cert.specs.Making.{IsFirst, IsFirstChoice, front_of, path_count, goal_in, named, Ranked, ComesEarlier, BlockBefore, HasFirst, AreLayers, IsMemberFor, IsRanked, IsLower, IsRuleRow, IsRowOf, IsRowFor, AreRows, AreMembers, IsMade}
+use Rattle.cls_cert.specs.Making.{IsFirst, IsFirstChoice, front_of, goal_in, named, Ranked, ComesEarlier, BlockBefore, AreLayers, IsMemberFor, IsRanked, IsLower, IsRuleRow, IsRowOf, IsRowFor, AreRows, AreMembers, IsMade}
 use Rattle.cls_cert.proofs.Ranking.{rank_same}
 
 rising : {A : Type 0} (R : A → A → Type 0) (xs : List A) → Rises R xs → members.Rises R xs

@@ -1,5 +1,5 @@
 -- internal: how the parts of a certificate are made one after another
-use Rattle.std.specs.Prelude.{ℕ, suc, ◌≡◌, ◌<◌, ◌≤◌, ◌⊎◌, ◌↔◌, List, [], ◌∷◌, ◌++◌, length, map, take, Option, Some, Contains, slice_get, slice_index_or}
+use Rattle.std.specs.Prelude.{ℕ, suc, ◌≡◌, ◌<◌, ◌⊎◌, ◌↔◌, List, [], ◌∷◌, ◌++◌, length, map, take, Option, Some, Contains, slice_get, slice_index_or}
 use Rattle.std.specs.List.{AllZip}
 use Rattle.cls_base.specs.declared.rule.Rule.{Rule}
 use Rattle.cls_base.specs.declared.rule.Rule.TheVariants.{Head}

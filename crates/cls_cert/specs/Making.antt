@@ -2,7 +2,7 @@
 --
 -- If goal 0 is productive, it is a list of rows: the goals whose rank is less than that of goal 0, by rank and then by
 -- number, and then goal 0. Otherwise it is a list of members, the unproductive goals by number.
-use Rattle.std.specs.Prelude.{ℕ, zero, suc, ◌≡◌, ◌≤◌, ◌<◌, ◌⊎◌, ◌↔◌, List, [], ◌∷◌, ◌++◌, length, map, Some, Contains, slice_get, slice_index_or, IsSomeAnd}
+use Rattle.std.specs.Prelude.{ℕ, zero, suc, ◌≡◌, ◌≤◌, ◌<◌, ◌⊎◌, ◌↔◌, List, [], ◌∷◌, ◌++◌, length, Some, Contains, slice_get, slice_index_or, IsSomeAnd}
 use Rattle.std.specs.List.{AllZip}
 use Rattle.cls_base.specs.Languages.{NodeRule, rules_at}
 use Rattle.cls_base.specs.Terms.{Precedes}

@@ -3,7 +3,7 @@ use Rattle.cls_path.specs.Paths.{listed}
 use Rattle.cls_library.specs.Libraries.{arrows_at}
 use Rattle.cls_expand.specs.Making.{AreFamilies}
 use Rattle.cls_expand.proofs.Places.{families_ascend}
-use Rattle.cls_cert.specs.Building.{with_block, without_block}
+use Rattle.cls_cert.specs.Building.{without_block}
 use Rattle.cls_cert.proofs.BlockLaws.{few_covers, has_first, has_no_first, layers_are, block_added}
 use Rattle.cls_cert.proofs.Lists.{differs}
 use Rattle.cls_cert.proofs.blocks.add_block.Goals as goal

@@ -1,4 +1,4 @@
-use Rattle.std.proofs.Common.{◌≡◌, ◌≤◌, ◌+◌, arith}
+use Rattle.std.proofs.Common.{◌≤◌, arith}
 use Rattle.std.specs.Prelude.{map}
 use Rattle.std.proofs.lemmas.List.Elements.{All-get_or}
 use Rattle.cls_base.specs.Limits.{max_arity}

@@ -1,8 +1,7 @@
-use Rattle.std.proofs.Common.{◌≡◌, ap, ℕ, subst, arith, length}
+use Rattle.std.proofs.Common.{ap}
 use Rattle.std.specs.Prelude.{map}
 use Rattle.cls_path.specs.Paths.{listed}
 use Rattle.cls_proof.specs.Blocks.{block_of}
-use Rattle.cls_cert.specs.Building.{AreBlocks}
 use Rattle.cls_cert.proofs.BlockLaws.{no_blocks}
 use Rattle.cls_cert.proofs.blocks.blocks_of.Goals as goal
 

@@ -1,4 +1,4 @@
-use Rattle.std.proofs.Common.{◌≡◌, ap, sym, ◌∙◌, ℕ, List, Some, length}
+use Rattle.std.proofs.Common.{ap, sym, ◌∙◌, ℕ, List, length}
 use Rattle.std.specs.Bool.{◌==◌}
 use Rattle.cls_cert.proofs.BlockLaws.{first_some}
 use Rattle.cls_cert.proofs.blocks.has_first.Goals as goal

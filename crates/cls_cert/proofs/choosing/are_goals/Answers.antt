@@ -35,14 +35,16 @@ returns-then-ne c =
     let i = c.loop-i.i in
     let low : i < length c.args.goals.now = (let t = c.loop-i-test.true in let u = c.if-numbers-goals.false in omega arith) in
     let n = get_or c.args.numbers.now i 0 in
-    let form : goal_in (forms_of c.args.grammar.now) n ≡ listed b = told_form c.args.grammar.now n b c.goal.ensures in
-    ((λ t. absurd (not_false t)), (λ e.
-      let at = argument_at (forms_of c.args.grammar.now) c.args.numbers.now i n none c.loop-i-test.true (get_or_default c.args.numbers.now i n 0 c.loop-i-test.true) in
-      let same : listed a ≡ listed b = sym (image_at c.args.goals.now i a c.index-goals-i.is low) ∙ (ap (λ (ps : List Paths). get_or ps i none) e ∙ (at ∙ form)) in
-      let one : a ≡ b = listed_one a b same in
-      let equal : eq_by_cmp list_order a b ≡ true = subst (λ (x : List TypePath). eq_by_cmp list_order a x ≡ true) one (list_equal.refl a) in
-      let ne : not (eq_by_cmp list_order a b) ≡ true = sym c.ne.ensures ∙ c.if-ne.true in
-      absurd (differs (sym (ap not equal) ∙ ne))))
+    let form : goal_in (forms_of c.args.grammar.now) n ≡ listed b = told_form c.args.grammar.now n b c.goal.ensures in (
+      (λ t. absurd (not_false t)),
+      (λ e.
+          let at = argument_at (forms_of c.args.grammar.now) c.args.numbers.now i n none c.loop-i-test.true (get_or_default c.args.numbers.now i n 0 c.loop-i-test.true) in
+          let same : listed a ≡ listed b = sym (image_at c.args.goals.now i a c.index-goals-i.is low) ∙ (ap (λ (ps : List Paths). get_or ps i none) e ∙ (at ∙ form)) in
+          let one : a ≡ b = listed_one a b same in
+          let equal : eq_by_cmp list_order a b ≡ true = subst (λ (x : List TypePath). eq_by_cmp list_order a x ≡ true) one (list_equal.refl a) in
+          let ne : not (eq_by_cmp list_order a b) ≡ true = sym c.ne.ensures ∙ c.if-ne.true in
+          absurd (differs (sym (ap not equal) ∙ ne))),
+    )
 
 pub loop-i-preserved : goal.loop-i-preserved
 loop-i-preserved c =

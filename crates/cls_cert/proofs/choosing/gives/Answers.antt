@@ -1,4 +1,4 @@
-use Rattle.std.proofs.Common.{◌≡◌, ap, sym, ◌∙◌}
+use Rattle.std.proofs.Common.{ap, sym, ◌∙◌}
 use Rattle.std.specs.Prelude.{map}
 use Rattle.cls_path.specs.Paths.{listed}
 use Rattle.cls_cert.specs.Conditions.{forms_of}

@@ -1,4 +1,4 @@
-use Rattle.std.proofs.Common.{◌≡◌, ◌↔◌, List}
+use Rattle.std.proofs.Common.{◌↔◌, List}
 use Rattle.cls_path.specs.Paths.{TypePath, type_of_paths}
 use Rattle.cls_core.specs.Rows.{Row}
 use Rattle.cls_grammar.specs.Grammars.{book_of}

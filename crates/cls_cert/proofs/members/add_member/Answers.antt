@@ -1,9 +1,9 @@
-use Rattle.std.proofs.Common.{ℕ, ◌≡◌, ◌<◌, sym, ◌∙◌, subst, Option, Some, None, List, length, map, get_or, arith}
+use Rattle.std.proofs.Common.{◌<◌, sym, ◌∙◌, subst, None, List, length, map, get_or, arith}
 use Rattle.std.proofs.lemmas.List.{length-map}
 use Rattle.cls_core.specs.Arguments.{rules_of}
 use Rattle.cls_core.specs.Rows.{Row}
 use Rattle.cls_cert.proofs.Lists.{got_within}
-use Rattle.cls_path.specs.Paths.{TypePath, Paths, listed}
+use Rattle.cls_path.specs.Paths.{TypePath, Paths}
 use Rattle.cls_grammar.specs.Grammars.{book_of}
 use Rattle.cls_proof.specs.Members.{member_of}
 use Rattle.cls_cert.specs.Conditions.{forms_of}

@@ -1,4 +1,4 @@
-use Rattle.std.proofs.Common.{ℕ, ◌≡◌, ap, ◌∙◌, sym, arith, length, List, subst}
+use Rattle.std.proofs.Common.{ap, sym, arith, List, subst}
 use Rattle.std.specs.Prelude.{map}
 use Rattle.std.proofs.lemmas.List.{length-map}
 use Rattle.cls_path.specs.Paths.{TypePath, listed}

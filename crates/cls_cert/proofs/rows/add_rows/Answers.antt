@@ -1,4 +1,4 @@
-use Rattle.std.proofs.Common.{ℕ, ◌<◌, List, length, map, take, get_or, sym, subst, arith}
+use Rattle.std.proofs.Common.{ℕ, ◌<◌, List, map, take, get_or, sym, subst}
 use Rattle.std.proofs.lemmas.List.Elements.{Contains-get_or}
 use Rattle.std.proofs.lemmas.Option.{slice_get_within}
 use Rattle.cls_base.proofs.Lists.{take_next, take_whole}

@@ -1,4 +1,4 @@
-use Rattle.std.proofs.Common.{ℕ, ◌∙◌, List, sym, subst, arith, length}
+use Rattle.std.proofs.Common.{ℕ, ◌∙◌, List, sym, subst, arith}
 use Rattle.cls_base.specs.Ty.{type_of}
 use Rattle.cls_base.specs.declared.rule.Rule.{Rule}
 use Rattle.cls_base.specs.declared.rule.Rule.TheVariants.{Head}
@@ -53,7 +53,7 @@ arity-arity-requires c =
     let x = c.in-Some-Head.component in
     let ns = c.as_slice-args.result.now in
     let first = subst (λ (ms : List ℕ). IsFirst (HasLess c.args.ranks.now c.args.rank) rs (Head x ms)) (sym c.as_slice-args.ensures)
-        (subst (λ (r : Rule ℕ). IsFirst (HasLess c.args.ranks.now c.args.rank) rs r) c.in-Some-Head.field-0-is c.in-Some-Head.ensures) in
+    (subst (λ (r : Rule ℕ). IsFirst (HasLess c.args.ranks.now c.args.rank) rs r) c.in-Some-Head.field-0-is c.in-Some-Head.ensures) in
     given_declared c.args.lib.now (forms_of c.args.grammar.now) (listed g) x ns (given c.args.lib.now c.args.grammar.now c.requires.grammar c.args.ranks.now c.requires.ranks c.args.number c.args.rank c.requires.ranked g c.goal-goal.ensures rs c.rules.ensures.rules p.0 p.1 p.2 x ns first)
 
 pub first_cover-requires-clause-args : goal.first_cover-requires-clause-args
@@ -63,7 +63,7 @@ first_cover-requires-clause-args c =
     let x = c.in-Some-Head.component in
     let ns = c.as_slice-args.result.now in
     let first = subst (λ (ms : List ℕ). IsFirst (HasLess c.args.ranks.now c.args.rank) rs (Head x ms)) (sym c.as_slice-args.ensures)
-        (subst (λ (r : Rule ℕ). IsFirst (HasLess c.args.ranks.now c.args.rank) rs r) c.in-Some-Head.field-0-is c.in-Some-Head.ensures) in
+    (subst (λ (r : Rule ℕ). IsFirst (HasLess c.args.ranks.now c.args.rank) rs r) c.in-Some-Head.field-0-is c.in-Some-Head.ensures) in
     below c.args.lib.now c.args.grammar.now c.requires.grammar c.args.ranks.now c.requires.ranks c.args.number c.args.rank c.requires.ranked g c.goal-goal.ensures rs c.rules.ensures.rules x ns c.rules.ensures.within first
 
 pub first_cover-requires-clause-short : goal.first_cover-requires-clause-short
@@ -74,7 +74,7 @@ first_cover-requires-clause-short c =
     let x = c.in-Some-Head.component in
     let ns = c.as_slice-args.result.now in
     let first = subst (λ (ms : List ℕ). IsFirst (HasLess c.args.ranks.now c.args.rank) rs (Head x ms)) (sym c.as_slice-args.ensures)
-        (subst (λ (r : Rule ℕ). IsFirst (HasLess c.args.ranks.now c.args.rank) rs r) c.in-Some-Head.field-0-is c.in-Some-Head.ensures) in
+    (subst (λ (r : Rule ℕ). IsFirst (HasLess c.args.ranks.now c.args.rank) rs r) c.in-Some-Head.field-0-is c.in-Some-Head.ensures) in
     let within = given_within c.args.lib.now (forms_of c.args.grammar.now) (listed g) x ns (given c.args.lib.now c.args.grammar.now c.requires.grammar c.args.ranks.now c.requires.ranks c.args.number c.args.rank c.requires.ranked g c.goal-goal.ensures rs c.rules.ensures.rules p.0 p.1 p.2 x ns first) in
     let arity = c.arity-arity.ensures in
     let few = c.arity-arity.type_inv in
@@ -88,7 +88,7 @@ first_cover-requires-clause-given c =
     let x = c.in-Some-Head.component in
     let ns = c.as_slice-args.result.now in
     let first = subst (λ (ms : List ℕ). IsFirst (HasLess c.args.ranks.now c.args.rank) rs (Head x ms)) (sym c.as_slice-args.ensures)
-        (subst (λ (r : Rule ℕ). IsFirst (HasLess c.args.ranks.now c.args.rank) rs r) c.in-Some-Head.field-0-is c.in-Some-Head.ensures) in
+    (subst (λ (r : Rule ℕ). IsFirst (HasLess c.args.ranks.now c.args.rank) rs r) c.in-Some-Head.field-0-is c.in-Some-Head.ensures) in
     given c.args.lib.now c.args.grammar.now c.requires.grammar c.args.ranks.now c.requires.ranks c.args.number c.args.rank c.requires.ranked g c.goal-goal.ensures rs c.rules.ensures.rules p.0 p.1 p.2 x ns first
 
 pub returns : goal.returns
@@ -99,5 +99,5 @@ returns c =
     let x = c.in-Some-Head.component in
     let ns = c.as_slice-args.result.now in
     let first = subst (λ (ms : List ℕ). IsFirst (HasLess c.args.ranks.now c.args.rank) rs (Head x ms)) (sym c.as_slice-args.ensures)
-        (subst (λ (r : Rule ℕ). IsFirst (HasLess c.args.ranks.now c.args.rank) rs r) c.in-Some-Head.field-0-is c.in-Some-Head.ensures) in
+    (subst (λ (r : Rule ℕ). IsFirst (HasLess c.args.ranks.now c.args.rank) rs r) c.in-Some-Head.field-0-is c.in-Some-Head.ensures) in
     row_made c.args.lib.now c.args.grammar.now c.requires.grammar c.args.ranks.now c.requires.ranks c.args.number c.args.rank c.requires.ranked g c.goal-goal.ensures rs c.rules.ensures.rules p.0 p.1 p.2 x ns c.in_ok-cover-in-Some-Head.cover first c.in_ok-cover-in-Some-Head.ensures (type_of c.in_ok-ty.ty) c.in_ok-ty.ensures
