@@ -4,6 +4,7 @@ ghost use Rattle.cls_proof.specs.Seen.{certificate_of};
 ghost use Rattle.cls_proof.specs.Texts.{IsHeld};
 ghost use Rattle.cls_check.specs.Verdicts.{rows_in};
 
+use crate::comparisons::are_same;
 use crate::goals::{declared, goal};
 use cls_check::{CheckFault, Reason, check};
 use cls_lexer::{Line, Names};
@@ -102,5 +103,19 @@ pub fn printed_again(
             Ok(text)
         }
         Err(_) => Err("no certificate".into()),
+    }
+}
+
+/// Whether the text says this certificate.
+pub fn is_said(
+    alloc: Global,
+    names: &mut Names,
+    components: &Names,
+    text: &str,
+    made: &Certificate,
+) -> Result<bool, Fail> {
+    match certificate(alloc, names, components, text)? {
+        Ok(said) => Ok(are_same(&said, made)),
+        Err(_) => Ok(false),
     }
 }

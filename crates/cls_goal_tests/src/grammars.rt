@@ -1,10 +1,11 @@
 //! Grammars of goals.
-ghost use Rattle.std.specs.Prelude.{◌<◌, ◌≤◌};
+ghost use Rattle.std.specs.Prelude.{◌<◌, ◌≤◌, IfOk};
 ghost use Rattle.cls_base.specs.Limits.{max_workers};
+ghost use Rattle.cls_cert.specs.Conditions.{IsGrammarOf};
 ghost use Rattle.cls_expand.specs.Answers.{IsReady};
 
 use cls_base::OpenGate;
-use cls_core::laws::complete_histories_make_grammars;
+use cls_core::laws::{complete_histories_make_grammars, renumbered_rows_are_canonical};
 use cls_expand::Expander;
 use cls_grammar::Grammar;
 use cls_library::Library;
@@ -26,9 +27,11 @@ pub fn grammar<R: Threads + Wait + Sync>(
 ) -> Result<Grammar, Fail>
     requires ready { IsReady library.now goal }
     requires workers { (0 < workers) × (workers ≤ max_workers) }
+    ensures { IfOk result (IsGrammarOf library.now) }
 {
     // For the prover: what the rows of a complete history are.
     complete_histories_make_grammars::<Expander>();
+    renumbered_rows_are_canonical::<Expander>();
     let by = Expander::new(library);
     let limits = Limits {
         goals: 100,

@@ -5,6 +5,8 @@
 #[cfg(test)]
 mod certificates;
 #[cfg(test)]
+mod comparisons;
+#[cfg(test)]
 mod goals;
 #[cfg(test)]
 mod grammars;

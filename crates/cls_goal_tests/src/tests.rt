@@ -1,10 +1,11 @@
 ghost use Rattle.std.specs.Prelude.{◌<◌, ◌^◌, length, IfOk};
 ghost use Rattle.cls_base.specs.Terms.{IsTermOver};
 
-use crate::certificates::{Finding, found, printed_again};
+use crate::certificates::{Finding, found, is_said, printed_again};
 use crate::goals::{declared, doubling, goal};
 use crate::grammars::grammar;
 use cls_base::Numbers;
+use cls_cert::certify;
 use cls_check::{Reason, has_type};
 use cls_finite::{FiniteAnswer, finite};
 use cls_lexer::Names;
@@ -200,6 +201,37 @@ fn certificates_are_read(rt: HostRuntime) -> Result<(), Fail> {
     }
     let text = printed_again(alloc, &[("f", "A -> A")], whole)?;
     assert!(rt; text.as_str() == whole);
+    Ok(())
+}
+
+// Whether the certificate that is made for the goal is the one that the text says.
+fn makes<R: Threads + Wait + Sync>(
+    rt: &R,
+    alloc: Global,
+    components: &[(&str, &str)],
+    asked: &str,
+    text: &str,
+) -> Result<bool, Fail>
+    requires { length asked.now < 2 ^ 32 }
+{
+    let mut given = declared(alloc, components)?;
+    let goal = goal(alloc, &given.library, &mut given.names, asked)?;
+    let grammar = grammar(rt, alloc, &given.library, goal, 1)?;
+    let made = certify(alloc, &given.library, &grammar)?;
+    is_said(alloc, &mut given.names, &given.components, text, &made)
+}
+
+#[test]
+fn goals_have_certificates(rt: HostRuntime) -> Result<(), Fail> {
+    let alloc = rt.alloc();
+    let text = "inhabited\nrow A by x 0 : 0\nrow B by x 0 : 1\nrow C by f 1 : 0\nqed";
+    let given = &[("f", "(A -> C) & (B -> C)"), ("x", "A & B")];
+    assert!(rt; makes(&rt, alloc, given, "C", text)?);
+    assert!(rt; makes(&rt, alloc, &[], "omega", "empty\nmember omega\nqed")?);
+    let text = "empty\nmember A\nblock f 1\nlayer\nset 0\nqed";
+    assert!(rt; makes(&rt, alloc, &[("f", "A -> A")], "A", text)?);
+    let text = "empty\nmember A & B\nblock x 0\nlayer\nset 0\nlayer\nqed";
+    assert!(rt; makes(&rt, alloc, &[("x", "A")], "A & B", text)?);
     Ok(())
 }
 

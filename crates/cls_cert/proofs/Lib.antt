@@ -1,0 +1,14 @@
+pub mod BlockLaws
+pub mod BucketLaws
+pub mod ChoiceLaws
+pub mod Empty
+pub mod Inhabited
+pub mod Lists
+pub mod MemberLaws
+pub mod Narrow
+pub mod Ranking
+pub mod RowLaws
+pub mod RowMaking
+pub mod Ruled
+pub mod Sources
+pub mod Unique

@@ -1,0 +1,74 @@
+//! The members of a certificate: the unproductive goals of a grammar.
+ghost use Rattle.std.specs.Prelude.{◌+◌, ◌<◌, IfOk, OnOk, length, map};
+ghost use Rattle.cls_path.specs.Paths.{listed};
+ghost use Rattle.cls_library.specs.Rules.{IsWide};
+ghost use Rattle.cls_grammar.specs.Grammars.{book_of};
+ghost use Rattle.cls_grammar.specs.Ranks.{AreRanks};
+ghost use Rattle.cls_expand.specs.Answers.{IsReady};
+ghost use Rattle.cls_proof.specs.Members.{member_of};
+ghost use Rattle.cls_cert.specs.Conditions.{forms_of, IsGrammarOf};
+ghost use Rattle.cls_cert.specs.Making.{IsMemberFor, AreMembers};
+ghost use Rattle.cls_cert.specs.Building.{AreMembersTo};
+
+use crate::blocks::blocks_of;
+use cls_base::OutOfMemory;
+use cls_grammar::Grammar;
+use cls_library::Library;
+use cls_norm::type_of;
+use cls_path::Nf;
+use cls_proof::{Member, Members};
+use std::alloc::Global;
+
+/// The member of a goal.
+fn member(alloc: Global, lib: &Library, goal: &Nf) -> Result<Member, OutOfMemory>
+    requires ready { IsReady lib.now goal.now }
+    requires narrow { IsWide lib.now (listed goal.now) → ⊥ }
+    ensures { IfOk result (λ member. IsMemberFor lib.now (listed goal.now) (member_of member)) }
+{
+    let blocks = blocks_of(alloc, lib, goal)?;
+    Ok(Member {
+        goal: type_of(alloc, goal)?,
+        blocks,
+    })
+}
+
+/// Adds the member of the goal with this number, if it has no rank.
+fn add_member(
+    alloc: Global,
+    lib: &Library,
+    grammar: &Grammar,
+    ranks: &[Option<u32>],
+    i: u32,
+    members: &mut Vec<Member>,
+) -> Result<(), OutOfMemory>
+    requires grammar { IsGrammarOf lib.now grammar.now }
+    requires ranks { AreRanks (book_of grammar.now) ranks.now }
+    requires within { i < length grammar.now }
+    ensures { OnOk result
+        (AreMembersTo lib.now (forms_of grammar.now) (book_of grammar.now) i (map member_of members.old.items)
+        → AreMembersTo lib.now (forms_of grammar.now) (book_of grammar.now) (i + 1) (map member_of members.new.items)) }
+{
+    if ranks[i as usize].is_some() {
+        return Ok(());
+    }
+    members.push(member(alloc, lib, grammar.goal(i))?)?;
+    Ok(())
+}
+
+/// The members for the goals without a rank.
+pub(crate) fn members(
+    alloc: Global,
+    lib: &Library,
+    grammar: &Grammar,
+    ranks: &[Option<u32>],
+) -> Result<Members, OutOfMemory>
+    requires grammar { IsGrammarOf lib.now grammar.now }
+    requires ranks { AreRanks (book_of grammar.now) ranks.now }
+    ensures { IfOk result (AreMembers lib.now (forms_of grammar.now) (book_of grammar.now)) }
+{
+    let mut members = Vec::new(alloc);
+    for i in 0..grammar.count() {
+        add_member(alloc, lib, grammar, ranks, i, &mut members)?;
+    }
+    Ok(Members::new(members))
+}
