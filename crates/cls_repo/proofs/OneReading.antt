@@ -84,8 +84,8 @@ refuses_one old line said other p q =
     let words = fault_one old.draft line said.1 other.1 p.first q.first in
     λ i. (number i, words i)
 
-on_and_over : (r : Reading) → r.ended ≡ true → r.ended ≡ false → ⊥
-on_and_over r e f = true≢false (sym e ∙ f)
+not_both : (r : Reading) → r.ended ≡ true → r.ended ≡ false → ⊥
+not_both r e f = true≢false (sym e ∙ f)
 
 -- how it goes on behind a line that is taken
 abbrev Ends : List (List ℕ) → Reading → Reading → Type 0
@@ -97,20 +97,20 @@ Faulty lines said next = ((next.ended ≡ true) × First (closing_faults next) s
 module _ (next : Reading) (lines : List (List ℕ)) where
   ends_one : (a b : Reading) → (TakesAll next lines a → TakesAll next lines b → a ≡ b) → Ends lines a next → Ends lines b next → a ≡ b
   ends_one a b one (inl e) (inl f) = e.1 ∙ sym f.1
-  ends_one a b one (inl e) (inr f) = absurd (on_and_over next e.0 f.0)
-  ends_one a b one (inr e) (inl f) = absurd (on_and_over next f.0 e.0)
+  ends_one a b one (inl e) (inr f) = absurd (not_both next e.0 f.0)
+  ends_one a b one (inr e) (inl f) = absurd (not_both next f.0 e.0)
   ends_one a b one (inr e) (inr f) = one e.1 f.1
 
   closing_behind : (new : Reading) (said : ℕ × List ℕ) → (TakesAll next lines new → FirstFault next lines said → First (closing_faults new) said) → Ends lines new next → Faulty lines said next → First (closing_faults new) said
   closing_behind new said on (inl e) (inl f) = subst (λ (r : Reading). First (closing_faults r) said) (sym e.1) f.1
-  closing_behind new said on (inl e) (inr f) = absurd (on_and_over next e.0 f.0)
-  closing_behind new said on (inr e) (inl f) = absurd (on_and_over next f.0 e.0)
+  closing_behind new said on (inl e) (inr f) = absurd (not_both next e.0 f.0)
+  closing_behind new said on (inr e) (inl f) = absurd (not_both next f.0 e.0)
   closing_behind new said on (inr e) (inr f) = on e.1 f.1
 
   faulty_one : (said other : ℕ × List ℕ) → (FirstFault next lines said → FirstFault next lines other → said ≡ other) → Faulty lines said next → Faulty lines other next → said ≡ other
   faulty_one said other one (inl e) (inl f) = closing_one next said other e.1 f.1
-  faulty_one said other one (inl e) (inr f) = absurd (on_and_over next e.0 f.0)
-  faulty_one said other one (inr e) (inl f) = absurd (on_and_over next f.0 e.0)
+  faulty_one said other one (inl e) (inr f) = absurd (not_both next e.0 f.0)
+  faulty_one said other one (inr e) (inl f) = absurd (not_both next f.0 e.0)
   faulty_one said other one (inr e) (inr f) = one e.1 f.1
 
 -- lines are read in one way

@@ -13,7 +13,8 @@ LinesSayOneThing = (line : List ℕ) (said other : Directive) → LineSays line 
 -- Lines that are taken in turn are taken in one way.
 abbrev pub ReadingsAreDetermined : Type 0
 ReadingsAreDetermined =
-    (old : Reading) (lines : List (List ℕ)) (new other : Reading) → TakesAll old lines new → TakesAll old lines other → new ≡ other
+    (old : Reading) (lines : List (List ℕ)) (new other : Reading)
+    → TakesAll old lines new → TakesAll old lines other → new ≡ other
 
 -- Of lines no two first faults are said.
 abbrev pub FaultsAreDetermined : Type 0
