@@ -11,6 +11,4 @@ mod goals;
 #[cfg(test)]
 mod grammars;
 #[cfg(test)]
-mod repositories;
-#[cfg(test)]
 mod tests;

@@ -1,5 +1,5 @@
-//! Tests of what stands below the answer of a goal: normal forms, instances, covers, libraries, and the rules of goals. There is
-//! nothing here but tests.
+//! Tests of what stands below the answer of a goal: normal forms, instances, covers, libraries, repositories, and the rules of goals.
+//! There is nothing here but tests.
 #![tactic(auto)]
 
 #[cfg(test)]
@@ -8,6 +8,8 @@ mod cover_lists;
 mod libraries;
 #[cfg(test)]
 mod normal_forms;
+#[cfg(test)]
+mod repositories;
 #[cfg(test)]
 mod rule_counts;
 #[cfg(test)]

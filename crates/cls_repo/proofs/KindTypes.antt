@@ -179,8 +179,8 @@ module _ (old final : List (List ℕ)) (all : TypeList) (names : List (List ℕ)
   read_on rest f = by_rest rest f.text f.spelled f.table f.left
 
 -- all types were read
-pub all_read : (old final : List (List ℕ)) (all : TypeList) (names : List (List ℕ)) (types : List ClosedType) → IsReading old final all names types None → AreSpelled (number_of names) all types × (names ≡ final)
-all_read old final all names types i =
+pub all_read : {old final : List (List ℕ)} {all : TypeList} {names : List (List ℕ)} {types : List ClosedType} → IsReading old final all names types None → AreSpelled (number_of names) all types × (names ≡ final)
+all_read {old} {final} {all} {names} {types} i =
     (subst (λ (ns : List (List ℕ)). AreSpelled (number_of ns) all types) i.table (subst (λ us. AreSpelled (number_of final) all us) (append-nil types) (i.spelled [] refl)), sym i.table)
 
 -- how many tokens are left, and one more

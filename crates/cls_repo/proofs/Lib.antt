@@ -9,6 +9,12 @@ pub mod Columns
 pub mod Endings
 pub mod Building
 pub mod Taking
+pub mod OnePlace
+pub mod OneFault
+pub mod OneRefusal
+pub mod OneEnding
+pub mod OneReading
+pub mod RepositoryLaws
 pub mod AllLines
 pub mod Putting
 pub mod Spelled

@@ -23,6 +23,9 @@ use Rattle.cls_syntax.specs.TypeSchemas.{type_schema, is_dollar, name_text, cons
 use Rattle.cls_syntax.specs.TypeTexts.{TypeText, TypeList, last, more, type_words}
 use Rattle.cls_syntax.specs.declared.role.Role.TheVariants.{Variable, NewVariable}
 use Rattle.cls_syntax.proofs.PartNames.{type_constructors, type_variables}
+use Rattle.cls_repo.specs.declared.draft.Component as code_component
+use Rattle.cls_repo.specs.declared.draft.Draft as code_draft
+use Rattle.cls_repo.specs.Written.{component_of}
 use Rattle.cls_repo.specs.Declarations.{with_names, with_pair, with_kind, with_component, with_variance, variance_named, changed_at}
 use Rattle.cls_repo.specs.Directives.{sub, kind, comp, variance}
 use Rattle.cls_repo.specs.Drafts.{Component, Draft}
@@ -117,3 +120,10 @@ kind_put d names variables x ts n types kinds closed e f g h =
 module _ {X : Type 0} (view : X → Component) (xs : List X) (n : ℕ) (there : n < length xs) (change : Component → Component) where
   pub changed_view : (x d : X) → view x ≡ change (view (get_or xs n d)) → map view (set xs n x) ≡ changed_at n change (map view xs)
   changed_view x d e = map-set view xs n x ∙ (ap (set (map view xs) n) (e ∙ ap change (sym (get_or-map view xs n d))) ∙ sym (changed_set n change (map view xs) (view d) (subst (λ k. n < k) (sym (length-map xs view)) there)))
+
+pub component_changed : (old : code_draft.Draft) (n : ℕ) (x : List ℕ) (change : Component → Component) (was new : code_component.Component) → n < length old.component_names → n ≡ number_of old.component_names x
+    → was ≡ get_or old.components.items n was → component_of new ≡ change (component_of was)
+    → map component_of (set old.components.items n new) ≡ changed_at (number_of old.component_names x) change (map component_of old.components.items)
+component_changed old n x change was new l is at changed =
+    let there = subst (λ (m : ℕ). n < m) (sym old.counted) l in
+    changed_view component_of old.components.items n there change new was (changed ∙ ap (λ (k : code_component.Component). change (component_of k)) at) ∙ ap (λ (m : ℕ). changed_at m change (map component_of old.components.items)) is

@@ -15,7 +15,7 @@ use Rattle.cls_assemble.specs.declared.piece.Piece.{Piece}
 use Rattle.cls_assemble.specs.declared.piece.Piece.TheVariants.{Byte}
 use Rattle.cls_assemble.specs.Spelling.{IsTemplate}
 use Rattle.cls_repo.specs.Directives.{Directive, sub, kind, comp, text, end, cost, variance, parts_of}
-use Rattle.cls_repo.specs.Drafts.{Draft}
+use Rattle.cls_repo.specs.Drafts.{Component, Draft}
 
 -- One space or tab in front is left out.
 abbrev pub without_blank : List ℕ → List ℕ
@@ -47,7 +47,8 @@ with_names d said = record d {
 abbrev pub AreSpelled : (List ℕ → ℕ) → TypeList → List ClosedType → Type 0
 AreSpelled number (last t) types = (type : ClosedType) × Spells number t type × (types ≡ type ∷ [])
 AreSpelled number (more t ts) types =
-    (type : ClosedType) × (rest : List ClosedType) × Spells number t type × AreSpelled number ts rest × (types ≡ type ∷ rest)
+    (type : ClosedType) × (rest : List ClosedType)
+    × Spells number t type × AreSpelled number ts rest × (types ≡ type ∷ rest)
 
 abbrev pub AreChoices : (List ℕ → ℕ) → Option TypeList → List ClosedType → Type 0
 AreChoices number None types = types ≡ []
@@ -76,11 +77,14 @@ with_component d n x t = record d {
 -- with another template of the component
 abbrev pub with_template : Draft → (component : List ℕ) → List Piece → Draft
 with_template d x pieces =
-    record d { components = changed_at (number_of d.component_names x) (λ c. record c { template = pieces }) d.components }
+    let change = λ (c : Component). record c { template = pieces } in
+    record d { components = changed_at (number_of d.component_names x) change d.components }
 
 -- with another cost of the component
 abbrev pub with_cost : Draft → (component : List ℕ) → ℕ → Draft
-with_cost d x n = record d { components = changed_at (number_of d.component_names x) (λ c. record c { cost = n }) d.components }
+with_cost d x n =
+    let change = λ (c : Component). record c { cost = n } in
+    record d { components = changed_at (number_of d.component_names x) change d.components }
 
 -- with the variance of a constructor
 abbrev pub with_variance : Draft → (constructor word : List ℕ) → Draft

@@ -13,8 +13,8 @@ pub record Component : Type 0 where
   pub template : List Piece
   pub cost : ℕ
 
--- The tables have constructors, variables and components by their numbers. Pairs, variances and kinds name constructors and
--- variables by number.
+-- The tables have constructors, variables and components by their numbers. Pairs, variances and kinds name constructors
+-- and variables by number.
 pub record Draft : Type 0 where
   pub names : List (List ℕ)
   pub variables : List (List ℕ)
@@ -26,4 +26,12 @@ pub record Draft : Type 0 where
 
 -- the draft of no lines
 abbrev pub no_draft : Draft
-no_draft = record { names = []; variables = []; component_names = []; components = []; pairs = []; variances = []; kinds = [] }
+no_draft = record {
+  names = [];
+  variables = [];
+  component_names = [];
+  components = [];
+  pairs = [];
+  variances = [];
+  kinds = [];
+}

@@ -42,7 +42,8 @@ cycle d n said = (a : ℕ) × IsLeastOnCycle d.pairs a × (said ≡ (n, codes "c
 
 -- A name is below one of another variance.
 abbrev pub variance_mix : Draft → ℕ → Fault
-variance_mix d n said = (a : ℕ) × IsFirstMixed (declared_in d) a × (said ≡ (n, codes "variance-mix " ++ name_at d.names a))
+variance_mix d n said =
+    (a : ℕ) × IsFirstMixed (declared_in d) a × (said ≡ (n, codes "variance-mix " ++ name_at d.names a))
 
 -- A component is refused. The fault stands at the line of the component.
 abbrev pub refused_component : Draft → Fault

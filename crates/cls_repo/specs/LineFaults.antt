@@ -40,7 +40,9 @@ unknown_directive line words = (begins_directive (words_of line) ≡ false) × (
 -- Too many parentheses are open at once. Those of a `text` line don't count.
 abbrev pub too_deep : List ℕ → Fault
 too_deep line words =
-    (begins_word (codes "text") (words_of line) ≡ false) × (max_type_depth < most_open 0 0 (words_of line)) × (words ≡ codes "deep")
+    (begins_word (codes "text") (words_of line) ≡ false)
+    × (max_type_depth < most_open 0 0 (words_of line))
+    × (words ≡ codes "deep")
 
 -- The line leaves the table at this byte. `reserved` says that `omega` stands there and a name could.
 abbrev pub spelling_words : ℕ → (reserved : Bool) → List ℕ
@@ -68,7 +70,8 @@ duplicate_component d _ words = ⊥
 
 -- A `kind` line names a variable that has a kind.
 abbrev pub duplicate_kind : Draft → Directive → Fault
-duplicate_kind d (kind x ts) words = (kind_of d.kinds (number_of d.variables x) ≢ []) × (words ≡ codes "duplicate-kind " ++ x)
+duplicate_kind d (kind x ts) words =
+    (kind_of d.kinds (number_of d.variables x) ≢ []) × (words ≡ codes "duplicate-kind " ++ x)
 duplicate_kind d _ words = ⊥
 
 -- Nothing stands behind the sign of a `kind` line.
@@ -79,7 +82,8 @@ empty_kind _ words = ⊥
 -- A `$` stands in a `kind` line, the first one at this place among its words.
 abbrev pub kind_variable : List ℕ → Directive → Fault
 kind_variable line (kind x ts) words =
-    (place : ℕ) × (position is_dollar (words_of line) ≡ Some place) × (words ≡ codes "kind-variable " ++ decimal (byte_at line place))
+    (place : ℕ) × (position is_dollar (words_of line) ≡ Some place)
+    × (words ≡ codes "kind-variable " ++ decimal (byte_at line place))
 kind_variable line _ words = ⊥
 
 -- A `text` or a `cost` line names a component that isn't declared.

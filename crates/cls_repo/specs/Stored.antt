@@ -30,4 +30,7 @@ schema_from-code_schema (meet s t) = λ i. meet (schema_from-code_schema s i) (s
 schema_from-code_schema (variable v) = refl
 
 abbrev pub coded_schema : Coded OpenType
-coded_schema = record { code = code_schema; inj = λ s t e. sym (schema_from-code_schema s) ∙ ap schema_from e ∙ schema_from-code_schema t }
+coded_schema = record {
+  code = code_schema;
+  inj = λ s t e. sym (schema_from-code_schema s) ∙ ap schema_from e ∙ schema_from-code_schema t;
+}

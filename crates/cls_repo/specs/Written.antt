@@ -74,7 +74,9 @@ pub record IsRest (tokens : List Token) (text : TypeText) (rest : List Token) : 
   pub fewer : length rest < length tokens
 
 -- The first of the types that tokens spell was read, and the tokens behind the bar are left if there are more types.
-pub record FirstType (tokens : List Token) (names : List (List ℕ)) (type : ClosedType) (rest : Option (List Token)) (new : List (List ℕ)) : Type 0 where
+pub record FirstType
+    (tokens : List Token) (names : List (List ℕ)) (type : ClosedType) (rest : Option (List Token)) (new : List (List ℕ))
+    : Type 0 where
   pub text : TypeText
   pub spelled : Spells (number_of new) text type
   pub table : new ≡ with_texts names (constructors_in false (type_words text))

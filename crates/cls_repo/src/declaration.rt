@@ -40,8 +40,8 @@ pub(crate) struct CutLine<'t, 'a> {
     ghost says: { words tokens.now ≡ words_of text.now },
 }
 
-/// Declares what the line says. The faults are those of the kinds from `TooManyNodes` to `DuplicateVariance`, in their order. After
-/// a fault the draft is as before.
+/// Declares what the line says. The faults are those of the kinds from `TooManyNodes` to `DuplicateVariance`, in their
+/// order. After a fault the draft is as before.
 pub(crate) fn declare(
     alloc: Global,
     draft: &mut Draft,
@@ -49,8 +49,8 @@ pub(crate) fn declare(
     said: Directive,
 ) -> Result<(), FaultKind>
     requires { WordsSay (directive_of said) (words_of line.now.text.now) }
-    ensures taken { OnOk result
-        (TakesDirective (draft_of draft.old) line.now.number line.now.text.now (directive_of said.entry) (draft_of draft.new)) }
+    ensures taken { let says = directive_of said.entry in OnOk result
+        (TakesDirective (draft_of draft.old) line.now.number line.now.text.now says (draft_of draft.new)) }
     ensures fault { IfErr result
         (IsFirst (directive_faults (draft_of draft.old) line.now.text.now (directive_of said.entry))) }
     ensures unchanged { OnErr result (draft_of draft.new ≡ draft_of draft.old) }
@@ -163,8 +163,8 @@ fn declare_template(
     line: &CutLine,
     component: &str,
 ) -> Result<(), FaultKind>
-    ensures taken { (ws : List Word) → OnOk result
-        (TakesDirective (draft_of draft.old) line.now.number line.now.text.now (text component.now ws) (draft_of draft.new)) }
+    ensures taken { (ws : List Word) → let said = text component.now ws in OnOk result
+        (TakesDirective (draft_of draft.old) line.now.number line.now.text.now said (draft_of draft.new)) }
     ensures fault { (ws : List Word) → IfErr result
         (IsFirst (directive_faults (draft_of draft.old) line.now.text.now (text component.now ws))) }
     ensures unchanged { OnErr result (draft_of draft.new ≡ draft_of draft.old) }
@@ -182,7 +182,8 @@ fn declare_template(
     }
 }
 
-/// The text of the template of a line with these tokens: what stands behind the third one, without one space or tab in front.
+/// The text of the template of a line with these tokens: what stands behind the third one, without one space or tab in
+/// front.
 fn template_text<'a>(line: &'a str, tokens: &[Token]) -> &'a str
     requires { map located tokens.now ≡ tokens_of line.now }
     ensures { result.now ≡ template_text line.now }

@@ -21,7 +21,8 @@ use cls_syntax::{
 pub(crate) enum Directive<'t, 'a> {
     /// `sub NAME NAME`: the first constructor is below the second.
     Sub(&'a str, &'a str),
-    /// `kind NAME = TYPE | TYPE ..`: a variable and the types that it stands for, None if nothing stands behind the sign.
+    /// `kind NAME = TYPE | TYPE ..`: a variable and the types that it stands for, None if nothing stands behind the
+    /// sign.
     Kind(&'a str, Option<SpelledTypes<'t, 'a>>),
     /// `comp NAME : TYPE`: a component and its type.
     Comp(&'a str, SpelledType<'t, 'a>),
@@ -145,7 +146,8 @@ fn template_form<'t, 'a>(
 }
 
 fn cost_form<'t, 'a>(tokens: &'t [Token<'a>]) -> Result<(&'a str, Numeral<'a>), Stop<'t, 'a>>
-    ensures { Reads (a_name Component ⨾ a_number 1 max_cost ⨾ nothing) tokens.now result (λ x. (x.0.now, (x.1.text.now, tt))) }
+    ensures { Reads (a_name Component ⨾ a_number 1 max_cost ⨾ nothing) tokens.now result
+        (λ x. (x.0.now, (x.1.text.now, tt))) }
 {
     let (component, rest) = name_at(tokens, Role::Component)?;
     let (cost, rest) = number_at(rest)?;

@@ -1,5 +1,5 @@
-//! What the lines of a repository have declared so far. Each call puts one declaration in, or is out of memory and leaves all as
-//! before.
+//! What the lines of a repository have declared so far. Each call puts one declaration in, or is out of memory and
+//! leaves all as before.
 ghost use Rattle.std.specs.Prelude.{◌≡◌, length};
 ghost use Rattle.cls_base.specs.Taxa.{variance_of};
 ghost use Rattle.cls_repo.specs.Declarations.{variance_named};
@@ -111,9 +111,10 @@ impl Draft {
         constructor: &str,
         word: &str,
     ) -> Result<(), OutOfMemory>
-        requires { Contains (map (λ v. v.0) (draft_of self.old).variances) (number_of self.old.names constructor.now) → ⊥ }
-        ensures put { let said = variance constructor.now word.now in
-            OnOk result (draft_of self.new ≡ with_variance (with_names (draft_of self.old) said) constructor.now word.now) }
+        requires { Contains
+            (map (λ v. v.0) (draft_of self.old).variances) (number_of self.old.names constructor.now) → ⊥ }
+        ensures put { let named = with_names (draft_of self.old) (variance constructor.now word.now) in
+            OnOk result (draft_of self.new ≡ with_variance named constructor.now word.now) }
         ensures unchanged { OnErr result (draft_of self.new ≡ draft_of self.old) }
     {
         let count = self.names.len();
@@ -127,7 +128,8 @@ impl Draft {
         }
     }
 
-    /// Declares a component that isn't declared, at the line of this number. Its template is its name, and its cost is 1.
+    /// Declares a component that isn't declared, at the line of this number. Its template is its name, and its cost is
+    /// 1.
     pub(crate) fn put_component(
         &mut self,
         alloc: Global,
@@ -136,8 +138,9 @@ impl Draft {
         spelled: SpelledType,
     ) -> Result<(), OutOfMemory>
         requires { Contains self.old.component_names component.now → ⊥ }
-        ensures put { let t = type_text spelled.entry in let said = comp component.now t in
-            OnOk result (draft_of self.new ≡ with_component (with_names (draft_of self.old) said) line component.now t) }
+        ensures put { let t = type_text spelled.entry in
+            let named = with_names (draft_of self.old) (comp component.now t) in
+            OnOk result (draft_of self.new ≡ with_component named line component.now t) }
         ensures unchanged { OnErr result (draft_of self.new ≡ draft_of self.old) }
     {
         let template = Template::of_name(alloc, component)?;

@@ -11,15 +11,15 @@ use thiserror::Error;
 #[derive(Debug, Drop, Error)]
 #[error("line {line} is at fault: {kind}")]
 pub struct RepoFault {
-    /// The number of the line, from 1. A repository without the line `end` is at fault at its last line, which has number 0
-    /// if there is none.
+    /// The number of the line, from 1. A repository without the line `end` is at fault at its last line, which has
+    /// number 0 if there is none.
     pub line: u32,
     /// What is wrong.
     pub kind: FaultKind,
 }
 
-/// What is wrong with a line or with a repository. The kinds of a line are listed in the order in which they are tested, and
-/// then those of a repository.
+/// What is wrong with a line or with a repository. The kinds of a line are listed in the order in which they are
+/// tested, and then those of a repository.
 #[derive(Debug, Drop, Error)]
 pub enum FaultKind {
     /// The line has more than [`MAX_LINE_BYTES`](cls_base::limits::MAX_LINE_BYTES) bytes.
@@ -58,7 +58,8 @@ pub enum FaultKind {
     /// No component of this name is declared.
     #[error("component {0} is not declared")]
     UnknownComponent(String),
-    /// A brace or a backslash of a template begins nothing that a template may have. It stands at this byte of the line.
+    /// A brace or a backslash of a template begins nothing that a template may have. It stands at this byte of the
+    /// line.
     #[error("a brace or a backslash stands alone at byte {0}")]
     BadHole(u32),
     /// The hole at this byte of the line has the number 0.

@@ -16,8 +16,8 @@ use cls_lexer::{Names, Token, TokenKind};
 use cls_syntax::{sign_at, type_at};
 use std::alloc::Global;
 
-/// The types, one or more with bars between them, that the tokens spell. They have no variable. Their names are numbered in the
-/// order of their tokens. The only error is out of memory, after which the table may have grown.
+/// The types, one or more with bars between them, that the tokens spell. They have no variable. Their names are
+/// numbered in the order of their tokens. The only error is out of memory, after which the table may have grown.
 pub(crate) fn read_types(
     alloc: Global,
     names: &mut Names,
@@ -25,8 +25,10 @@ pub(crate) fn read_types(
 ) -> Result<Vec<Ty>, OutOfMemory>
     requires whole { IsTrue (is_whole (types_front Bar (words tokens.now))) }
     requires closed { HasNoDollar (words tokens.now) }
-    ensures types { IfOk result (λ tys. AreSpelled (number_of names.new) (types_in Bar (words tokens.now)) (map type_of tys.items)) }
-    ensures table { OnOk result (names.new ≡ with_texts names.old (constructors_named (types_parts (types_in Bar (words tokens.now))))) }
+    ensures types { IfOk result (λ types.
+        AreSpelled (number_of names.new) (types_in Bar (words tokens.now)) (map type_of types.items)) }
+    ensures table { let texts = constructors_named (types_parts (types_in Bar (words tokens.now))) in
+        OnOk result (names.new ≡ with_texts names.old texts) }
     ensures kept { take (length names.old) names.new ≡ names.old }
 {
     let mut types = Vec::new(alloc);

@@ -3,6 +3,7 @@
 //! - [`RepoReader`] takes the lines of a repository one at a time, and at their end gives the [`Repository`].
 //!   [`Repository::read`] reads all lines at once.
 //! - [`RepoFault`] is the first fault of lines that are no repository, with its line; [`FaultKind`] says what is wrong.
+//! - [`laws`] holds what is true of all lines.
 //! - `specs/` defines the lines (`Directives`), what each declares (`Declarations`), and the faults in their order
 //!   (`LineFaults`, `EndFaults`, `Readings`).
 #![tactic(auto)]
@@ -12,6 +13,7 @@ mod directive;
 mod draft;
 mod fault;
 mod kind_types;
+pub mod laws;
 mod numbering;
 mod reader;
 mod repository;

@@ -16,8 +16,8 @@ use cls_lexer::{Line, TextFault, tokens};
 use std::alloc::Global;
 use std::marker::Model;
 
-/// A reader of the lines of a repository, seen as what it has read: what the lines declare, how many they are, and whether `end` was
-/// one of them.
+/// A reader of the lines of a repository, seen as what it has read: what the lines declare, how many they are, and
+/// whether `end` was one of them.
 #[derive(Drop)]
 pub struct RepoReader {
     draft: Draft,
@@ -53,8 +53,8 @@ impl RepoReader {
 
     /// Takes the next line, and says whether it is the line `end`, after which no further line is to be fed.
     ///
-    /// The fault is the first one of the line, in the order in which [`FaultKind`] lists them, or out of memory. After it the reader
-    /// is as before.
+    /// The fault is the first one of the line, in the order in which [`FaultKind`] lists them, or out of memory. After
+    /// it the reader is as before.
     pub fn feed(&mut self, alloc: Global, line: &Line) -> Result<bool, RepoFault>
         requires going { self.old.ended ≡ false }
         requires room { self.old.lines + 1 < 2 ^ 32 }
@@ -76,8 +76,9 @@ impl RepoReader {
 
     /// The repository of the lines that were fed.
     ///
-    /// The fault is `NoEnd` if no line was `end`. Otherwise it is the first one of the repository: `Cycle`, `VarianceMix`, or that of
-    /// the first component that is refused, with the line of the component. Otherwise it is out of memory.
+    /// The fault is `NoEnd` if no line was `end`. Otherwise it is the first one of the repository: `Cycle`,
+    /// `VarianceMix`, or that of the first component that is refused, with the line of the component. Otherwise it is out
+    /// of memory.
     pub fn finish(self, alloc: Global) -> Result<Repository, RepoFault>
         ensures repository { IfOk result (IsRepositoryOf self.draft) }
         ensures silent { OnOk result (IsSilent (First (closing_faults self))) }

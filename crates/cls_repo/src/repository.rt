@@ -43,8 +43,8 @@ pub struct Repository {
 impl Repository {
     /// The repository of the lines up to the line `end`. Later lines are not read.
     ///
-    /// The fault is the first one: of the first line that is at fault, otherwise `NoEnd`, and otherwise that of the repository. It
-    /// may be out of memory.
+    /// The fault is the first one: of the first line that is at fault, otherwise `NoEnd`, and otherwise that of the
+    /// repository. It may be out of memory.
     pub fn read(alloc: Global, lines: &[Line]) -> Result<Repository, RepoFault>
         requires { length lines.now < 2 ^ 32 }
         ensures repository { IfOk result (IsReadFrom lines.now) }

@@ -20,9 +20,9 @@ use cls_syntax::{Stop, deepest, is_name};
 
 /// What the tokens of the line say.
 ///
-/// The fault is `UnknownDirective`, otherwise `TooDeep` in a line other than `text`, otherwise at the first token with which no line
-/// of a repository goes on, or at the line's length, `ReservedName` if `omega` stands there and a name could, and `Unexpected` if
-/// not.
+/// The fault is `UnknownDirective`, otherwise `TooDeep` in a line other than `text`, otherwise at the first token with
+/// which no line of a repository goes on, or at the line's length, `ReservedName` if `omega` stands there and a name
+/// could, and `Unexpected` if not.
 pub(crate) fn read_directive<'t, 'a>(
     text: &str,
     tokens: &'t [Token<'a>],

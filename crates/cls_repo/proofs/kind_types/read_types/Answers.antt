@@ -1,5 +1,5 @@
 use Rattle.std.proofs.Common.{List, sym, ap, ◌∙◌, subst, map}
-use Rattle.std.specs.Prelude.{Some, None, option_copied}
+use Rattle.std.specs.Prelude.{Some, option_copied}
 use Rattle.cls_base.specs.Ty.{type_of}
 use Rattle.cls_base.specs.Types.{ClosedType}
 use Rattle.cls_base.proofs.Lists.{map_last}
@@ -39,20 +39,10 @@ loop-left-preserved c =
     (read_on names final all c.loop-left.names read c.in-Some.current.now (type_of c.in_ok-ty.ty) c.first_type.new.names so_far (option_copied c.in_ok-ty.rest) c.in_ok-ty.ensures.first)
 
 pub returns-clause-types : goal.returns-clause-types
-returns-clause-types c =
-    let names = c.args.names.now in
-    let all = types_in Bar (words c.args.tokens.now) in
-    let final = with_texts names (constructors_named (types_parts all)) in
-    let done : IsReading names final all c.loop-left.names (map type_of c.loop-left.types.items) None = rw c.in_default.is at c.loop-left.invariant in
-    (all_read names final all c.loop-left.names (map type_of c.loop-left.types.items) done).0
+returns-clause-types c = (all_read (rw c.in_default.is at c.loop-left.invariant)).0
 
 pub returns-clause-table : goal.returns-clause-table
-returns-clause-table c =
-    let names = c.args.names.now in
-    let all = types_in Bar (words c.args.tokens.now) in
-    let final = with_texts names (constructors_named (types_parts all)) in
-    let done : IsReading names final all c.loop-left.names (map type_of c.loop-left.types.items) None = rw c.in_default.is at c.loop-left.invariant in
-    (all_read names final all c.loop-left.names (map type_of c.loop-left.types.items) done).1
+returns-clause-table c = (all_read (rw c.in_default.is at c.loop-left.invariant)).1
 
 pub returns-clause-kept : goal.returns-clause-kept
 returns-clause-kept c = kept c.loop-left.invariant.grown

@@ -1,19 +1,11 @@
-use Rattle.std.proofs.Common.{ℕ, ◌<◌, ap, sym, ◌∙◌, map, subst}
-use Rattle.cls_repo.specs.declared.draft.Component as code
-use Rattle.cls_repo.specs.Declarations.{changed_at}
+use Rattle.std.proofs.Common.{refl}
 use Rattle.cls_repo.specs.Drafts.{Component}
-use Rattle.cls_repo.specs.Written.{component_of, draft_of}
-use Rattle.cls_repo.proofs.Putting.{changed_view}
+use Rattle.cls_repo.specs.Written.{draft_of}
+use Rattle.cls_repo.proofs.Putting.{component_changed}
 use Rattle.cls_repo.proofs.draft.Draft.set_cost.Goals as goal
 
 pub returns : goal.returns
 returns c x is =
-    let old = c.args.self.now in
-    let n = c.args.component.0 in
-    let change = λ (k : Component). record k { cost = c.args.cost } in
     let was = c.index_mut-component.result.now in
-    let there = subst (λ (m : ℕ). n < m) (sym old.counted) c.requires in
-    let new : code.Component = record was { cost = c.args.cost } in
-    let put = changed_view component_of old.components.items n there change new was (ap (λ (k : code.Component). change (component_of k)) c.index_mut-component.ensures.value) in
-    let all = put ∙ ap (λ (m : ℕ). changed_at m change (map component_of old.components.items)) is in
-    λ i. record (draft_of old) { components = all i }
+    let all = component_changed c.args.self.now c.args.component.0 x (λ (k : Component). record k { cost = c.args.cost }) was (record was { cost = c.args.cost }) c.requires is c.index_mut-component.ensures.value refl in
+    λ i. record (draft_of c.args.self.now) { components = all i }
