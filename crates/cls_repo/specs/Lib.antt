@@ -9,3 +9,4 @@ pub mod Written
 pub mod Repositories
 pub mod Stored
 pub mod Laws
+pub mod Sound
