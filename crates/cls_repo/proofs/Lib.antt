@@ -16,3 +16,4 @@ pub mod VarianceEntries
 pub mod KindLines
 pub mod TemplateTexts
 pub mod Findings
+pub mod Soundness

@@ -8,3 +8,4 @@ pub mod FaultWords
 pub mod Written
 pub mod Repositories
 pub mod Stored
+pub mod Sound

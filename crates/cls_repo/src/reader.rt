@@ -5,6 +5,7 @@ ghost use Rattle.cls_lexer.specs.Skipped.{IsText, IsSkipped};
 ghost use Rattle.cls_repo.specs.FaultWords.{IsSaid, OnWords};
 ghost use Rattle.cls_repo.specs.Readings.{no_reading, Takes, Refuses, closing_faults};
 ghost use Rattle.cls_repo.specs.Repositories.{IsRepositoryOf};
+ghost use Rattle.cls_repo.specs.Sound.{IsWhole};
 ghost use Rattle.cls_repo.specs.Written.{draft_of, TakesLine, RefusesLine};
 
 use crate::declaration::{CutLine, declare};
@@ -29,6 +30,7 @@ impl Model for RepoReader {
     ghost use Rattle.std.specs.Coded.{codes};
     ghost use Rattle.cls_kind.specs.Stored.{coded_type};
     ghost use Rattle.cls_repo.specs.Readings.{Reading};
+    ghost use Rattle.cls_repo.specs.Sound.{IsSound};
     ghost use Rattle.cls_repo.specs.Stored.{coded_schema};
     ghost use Rattle.cls_repo.specs.Written.{draft_of};
 
@@ -37,6 +39,8 @@ impl Model for RepoReader {
     ghost coded = { Prim.hlevel (codes, coded_schema, coded_type) };
 
     ghost view = { λ r. record { draft = draft_of r.draft; lines = r.lines; ended = r.ended } };
+
+    ghost invariant = { λ r. IsSound (draft_of r.draft) };
 }
 
 impl RepoReader {
@@ -80,6 +84,7 @@ impl RepoReader {
     /// the first component that is refused, with the line of the component. Otherwise it is out of memory.
     pub fn finish(self, alloc: Global) -> Result<Repository, RepoFault>
         ensures repository { IfOk result (IsRepositoryOf self.draft) }
+        ensures whole { IfOk result IsWhole }
         ensures silent { OnOk result (IsSilent (First (closing_faults self))) }
         ensures fault { IfErr result (IsSaid (First (closing_faults self))) }
     {
