@@ -1,3 +1,4 @@
+pub mod Certified
 pub mod Closing
 pub mod Conversions
 pub mod Engines

@@ -114,8 +114,15 @@ fn types_are_compared(rt: HostRuntime) -> Result<(), Fail> {
     assert!(rt; matches!(engine.typed(alloc, &term, &lower), Ok(false)));
     let goal = read_type(alloc, &mut names, "A")?;
     let certificate = certificate(alloc, goal)?;
-    if let Certificate::Inhabited(rows) = &certificate && rows.as_slice().len() < 9 {
-        assert!(rt; matches!(engine.verify(alloc, &upper, &certificate), Ok(Verdict::Accepted)));
+    if let Certificate::Inhabited(rows) = &certificate
+        && rows.as_slice().len() < 9
+    {
+        assert!(rt;
+            matches!(
+                engine.verify(alloc, &upper, &certificate),
+                Ok(Verdict::Accepted)
+            )
+        );
     }
     Ok(())
 }
