@@ -1,6 +1,6 @@
 -- Causes in two lists, one after the other.
 use Rattle.std.proofs.Common.{List, [], ◌∷◌, ◌++◌, inl, inr}
-use Rattle.cls_base.specs.Firsts.{Cause, First, IsSilent}
+use Rattle.cls_base.specs.Firsts.{Cause, First, IsSilent, EachCause}
 
 module _ {T : Type 0} where
   others_silent : (says : Cause T) (causes : List (Cause T)) → IsSilent (First (says ∷ causes)) → IsSilent (First causes)
@@ -24,3 +24,8 @@ module _ {T : Type 0} where
   pub fourth_silent : (a b c d : Cause T) (rest : List (Cause T)) → IsSilent (First (a ∷ b ∷ c ∷ d ∷ rest)) → IsSilent d
   fourth_silent a b c d rest n =
       head_silent d rest (others_silent c (d ∷ rest) (others_silent b (c ∷ d ∷ rest) (others_silent a (b ∷ c ∷ d ∷ rest) n)))
+
+  -- where none applies, each is silent
+  pub each_silent : (causes : List (Cause T)) → IsSilent (First causes) → EachCause IsSilent causes
+  each_silent [] n = tt
+  each_silent (says ∷ causes) n = (head_silent says causes n, each_silent causes (others_silent says causes n))

@@ -7,6 +7,7 @@ pub mod Numbering
 pub mod PartSearches
 pub mod QueryErrors
 pub mod QueryLines
+pub mod Readable
 pub mod RowParts
 pub mod Searches
 pub mod TablePlaces

@@ -1,10 +1,12 @@
 //! Reads the line of a query.
-ghost use Rattle.std.specs.Prelude.{◌≡◌, IfOk, IfErr, IfSome, OnOk, OnErr};
+ghost use Rattle.std.specs.Prelude.{◌≡◌, ◌↔◌, true, length, codes, IfOk, IfErr, IfSome, OnOk, OnErr};
 ghost use Rattle.cls_base.specs.Firsts.{First};
 ghost use Rattle.cls_lexer.specs.Skipped.{IsText};
+ghost use Rattle.cls_lexer.specs.Words.{words_of};
 ghost use Rattle.cls_query.specs.Queries.{tables_of};
 ghost use Rattle.cls_query.specs.QueryErrors.{line_errors};
 ghost use Rattle.cls_query.specs.ReadQueries.{fault_words, asked_of, ReadsQuery};
+ghost use Rattle.cls_query.specs.Readable.{IsReadable, IsVerify, begins_with};
 ghost use Rattle.cls_query.specs.Steps.{text_errors, Tests};
 
 use crate::fault::LineFault;
@@ -28,6 +30,10 @@ pub fn read_query<'a>(
     ensures fault { IfErr result (λ fault. IfSome (fault_words fault)
         (First (line_errors (tables_of constructors.old components.now) line.now))) }
     ensures stay { OnErr result (constructors.new ≡ constructors.old) }
+    ensures readable { IfOk result (λ query. IsReadable (length components.now) (asked_of query)) }
+    ensures verify { IfOk result (λ query.
+        IsVerify (asked_of query) ↔ (begins_with (codes "verify") (words_of line.now) ≡ true)) }
+    ensures text { OnOk result (IsText line.now) }
 {
     let text = text_of(line)?;
     let tokens = tokens(alloc, text)?;

@@ -12,6 +12,7 @@ use Rattle.cls_query.specs.ReadQueries.{fault_words}
 use Rattle.cls_query.specs.Steps.{spelling_errors, type_errors, value_errors}
 use Rattle.cls_query.proofs.ClosedTypes.{closed_row}
 use Rattle.cls_query.proofs.LineSteps.{by_spelling, by_types, by_values, all_silent}
+use Rattle.cls_query.proofs.Readable.{query_readable, query_verify}
 use Rattle.cls_query.proofs.reader.read_query.Goals as goal
 
 pub returns-in_err-form-clause-fault : goal.returns-in_err-form-clause-fault
@@ -64,3 +65,9 @@ returns-clause-query c =
       asked = c.in_ok-query.ensures.query ∙ ap (λ (names : List (List ℕ)). query_of (tables_of names c.args.components.now) said) c.in_ok-query.ensures.constructors;
       numbered = c.in_ok-query.ensures.constructors;
     }
+
+pub returns-clause-readable : goal.returns-clause-readable
+returns-clause-readable c = query_readable (returns-clause-query c)
+
+pub returns-clause-verify : goal.returns-clause-verify
+returns-clause-verify c = query_verify (returns-clause-query c)
