@@ -16,8 +16,6 @@ mod listing;
 mod options;
 mod questions;
 mod sizes;
-#[cfg(test)]
-mod tests;
 mod verdict;
 mod verify;
 
