@@ -1,4 +1,4 @@
-use Rattle.std.proofs.Common.{subst, sym, ◌∙◌, rules, List, Option}
+use Rattle.std.proofs.Common.{subst, sym, ◌∙◌, List, Option}
 use Rattle.std.specs.Prelude.{IfSome}
 use Rattle.cls_core.specs.Rows.{Row}
 use Rattle.cls_path.specs.OrderLaws.{list_same}
@@ -17,5 +17,5 @@ returns-clause-known c = elim c.if-eq.branch [
       (sym c.take.ensures.value ∙ c.in_ok-grammar.was) c.self.invariant.known in
       let known = subst (λ (e : EngineSeen). (start : Goal) × IsKnown e.library e.options start grammar) c.self.view_is kept in
       rw w.result-is (recent-known c.args.self.now.library c.args.self.now.options grammar known c.goal.result.now c.args.goal.now c.goal.ensures (list_same _ _ (sym c.eq.ensures ∙ w.if-eq.true)))
-  | else-eq w ↦ search rules
+  | else-eq w ↦ rw w.result-is tt
 ]
