@@ -38,14 +38,16 @@ module _ (lib : Library) (o : Options) (cost : ℕ → ℕ) (t : ClosedType) (ro
   type-greatest (Infinite w) h = tt
 
   pub type-over : (limit : ℕ) → book.IsGreatestOver (book_of rows) cost limit ↔ IsGreatestOver lib cost t limit
-  type-over limit =
-      ((λ h. (h.0, greatest_to cost Listed (λ e. HasTypeIn lib e t) (language lib o t rows k) h.0 h.1, h.2)),
-       (λ h. (h.0, greatest_to cost (λ e. HasTypeIn lib e t) Listed back h.0 h.1, h.2)))
+  type-over limit = (
+    (λ h. (h.0, greatest_to cost Listed (λ e. HasTypeIn lib e t) (language lib o t rows k) h.0 h.1, h.2)),
+    (λ h. (h.0, greatest_to cost (λ e. HasTypeIn lib e t) Listed back h.0 h.1, h.2)),
+  )
 
   pub type-unbounded : book.IsUnbounded (book_of rows) cost 0 ↔ IsUnbounded lib cost t
-  type-unbounded =
-      ((λ h n. let u = h n in (u.0, (language lib o t rows k u.0).0 u.1, u.2)),
-       (λ h n. let u = h n in (u.0, (language lib o t rows k u.0).1 u.1, u.2)))
+  type-unbounded = (
+    (λ h n. let u = h n in (u.0, (language lib o t rows k u.0).0 u.1, u.2)),
+    (λ h n. let u = h n in (u.0, (language lib o t rows k u.0).1 u.1, u.2)),
+  )
 
   pub type-walk : (a : FiniteAnswer) → IfInfinite a (book.IsDetermined (book_of rows) cost [] 0) → IfInfinite a (IsWalk lib cost t)
   type-walk (Finite n) h = tt

@@ -13,8 +13,8 @@ use std::alloc::Global;
 use std::sync::Wait;
 use std::thread::Threads;
 
-/// The claims after it was asked whether the type has a term: the engine was asked so once more, for a history and for
-/// the grammar. None if the answers aren't those of A.
+/// The claims after it was asked whether the type has a term, once more the same, for a history, and for the grammar.
+/// None if the answers aren't those for A.
 pub fn claims_of_queries<R: Threads + Wait + Sync>(
     rt: &R,
     alloc: Global,
@@ -33,8 +33,8 @@ pub fn claims_of_queries<R: Threads + Wait + Sync>(
     if right { Ok(Some(claims)) } else { Ok(None) }
 }
 
-/// The claims after a page of 3 terms and after the sizes, if the page is full and ends the type's terms up to this size,
-/// and the sizes have no bound.
+/// The claims after a page of terms up to the size 3 and after the sizes. None if the page doesn't have 3 terms and ends
+/// there, or the sizes have a bound.
 pub fn claims_of_page<R: Threads + Wait + Sync>(
     rt: &R,
     alloc: Global,

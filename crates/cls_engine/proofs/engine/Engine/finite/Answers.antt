@@ -8,7 +8,7 @@ use Rattle.cls_engine.proofs.engine.Engine.finite.Goals as goal
 pub returns-clause-greatest : goal.returns-clause-greatest
 returns-clause-greatest g c =
     type-greatest c.args.self.now.library c.args.self.now.options (cost_of c.args.self.now.costs) (type_of c.args.ty.now) _ c.in_ok-grammar.ensures.known _
-      (rw c.closure.ensures.same at c.in_ok-answer.ensures.greatest)
+    (rw c.closure.ensures.same at c.in_ok-answer.ensures.greatest)
 
 pub returns-clause-over : goal.returns-clause-over
 returns-clause-over g c =
@@ -25,7 +25,7 @@ returns-clause-infinite g c =
 pub returns-clause-walk : goal.returns-clause-walk
 returns-clause-walk g c =
     type-walk c.args.self.now.library c.args.self.now.options (cost_of c.args.self.now.costs) (type_of c.args.ty.now) _ c.in_ok-grammar.ensures.known _
-      (rw c.closure.ensures.same at c.in_ok-answer.ensures.walk)
+    (rw c.closure.ensures.same at c.in_ok-answer.ensures.walk)
 
 pub returns-clause-silent : goal.returns-clause-silent
 returns-clause-silent g c =
