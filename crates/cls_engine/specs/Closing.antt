@@ -39,7 +39,8 @@ module _ (lib : Library) (o : Options) where
   abbrev pub IsClosingFault : Goal → EngineFault → Type 0
   IsClosingFault start TooLarge = IsLargeFrom start
   IsClosingFault start (Wide g) =
-      (IsLargeFrom start → ⊥) × (rows : List (Row Goal)) × IsCanonical same (IsAnswer lib) start rows × (first_wide rows ≡ Some g)
+      (IsLargeFrom start → ⊥)
+      × (rows : List (Row Goal)) × IsCanonical same (IsAnswer lib) start rows × (first_wide rows ≡ Some g)
   IsClosingFault start OutOfMemory = Unit {0}
   IsClosingFault start Size = ⊥
   IsClosingFault start TooManyTerms = ⊥

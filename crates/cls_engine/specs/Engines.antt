@@ -17,8 +17,8 @@ pub record EngineSeen : Type 0 where
 abbrev pub seen_as : Library → List ℕ → Options → EngineSeen
 seen_as lib costs o = record { library = lib; costs = costs; options = o }
 
--- What holds of each engine. The answers that it keeps are those of its library, and the grammar that it keeps is that of
--- a goal, within the options.
+-- What holds of each engine. The answers that it keeps are those of its library, and the grammar that it keeps is that
+-- of a goal, within the options.
 pub record IsEngine (e : EngineSeen) (kept_by : Library) (recent : Option (List (Row Goal))) : Type 0 where
   pub in_range : AreInRange e.options
   pub costly : (x : ℕ) → 0 < cost_of e.costs x

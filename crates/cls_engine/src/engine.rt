@@ -21,8 +21,8 @@ use cls_path::Nf;
 use std::alloc::Global;
 use std::marker::Model;
 
-/// Answers queries by a library that it owns, with workers and within bounds. It is seen as the library, the costs of the
-/// components and the options.
+/// Answers queries by a library that it owns, with workers and within bounds. It is seen as the library, the costs of
+/// the components and the options.
 ///
 /// It keeps the answers of the goals of earlier queries, and the grammar of the goal that it was asked for last: if a
 /// query has the same goal again, nothing is worked out anew.
@@ -77,7 +77,8 @@ impl Engine {
         &self.expander.library
     }
 
-    /// Does nothing, and says what holds of each engine: its options are in their ranges, and each component costs at least 1.
+    /// Does nothing, and says what holds of each engine: its options are in their ranges, and each component costs at
+    /// least 1.
     pub fn facts(&self)
         ensures in_range { AreInRange self.now.options }
         ensures costs { (x : ℕ) → 0 < cost_of self.now.costs x }
@@ -118,10 +119,7 @@ impl Engine {
         ensures known { IfSome result (IsKnown self.old.library self.old.options goal.now) }
     {
         let grammar = self.recent.take()?;
-        if grammar.goal(0) == goal {
-            Some(grammar)
-        } else {
-            None
-        }
+        let asked = grammar.goal(0) == goal;
+        if asked { Some(grammar) } else { None }
     }
 }

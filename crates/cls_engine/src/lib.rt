@@ -1,9 +1,10 @@
 //! What a session asks of a library.
 //!
-//! - [`Engine`] owns a library and answers queries about types: subtyping, typing, certificates, whether a type has terms,
-//!   its grammar, its history and its terms page by page. It keeps answers from query to query.
-//! - [`Options`] bound its work, [`Verdict`] is what it finds of a certificate, and [`EngineFault`] is why a query isn't
-//!   answered.
+//! - [`Engine`] owns a library and answers queries about types: subtyping, typing, certificates, whether a type has
+//!   terms, how large they are, its grammar, its history, and its terms page by page. It keeps answers from query to
+//!   query.
+//! - [`Options`] bound its work, [`Verdict`] is what it finds of a certificate, and [`EngineFault`] is why a query
+//!   isn't answered.
 #![tactic(auto)]
 
 mod closing;
@@ -16,8 +17,6 @@ mod listing;
 mod options;
 mod questions;
 mod sizes;
-#[cfg(test)]
-mod tests;
 mod verdict;
 mod verify;
 

@@ -46,8 +46,9 @@ impl Engine {
         page(alloc, grammar, &self.costs, after, max, take, pool)
     }
 
-    /// The first `take` terms of the type that come after the cursor, if there is one, and have at most the size `max` and
-    /// the length 64, in the order by size and code; and whether there is a further one. The cursor needn't have the type.
+    /// The first `take` terms of the type that come after the cursor, if there is one, and have at most the size `max`
+    /// and the length 64, in the order by size and code; and whether there is a further one. The cursor needn't have
+    /// the type.
     pub fn list<R: Threads + Wait + Sync, T: Gate + Sync>(
         &mut self,
         rt: &R,

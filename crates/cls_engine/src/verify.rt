@@ -15,8 +15,8 @@ use cls_proof::Certificate;
 use std::alloc::Global;
 
 impl Engine {
-    /// Whether the certificate is accepted for the type, and otherwise which of its rows or members fails which test. It
-    /// has less than 2^32 rows or members, and its types have a spread that callers keep at 16,384 or below.
+    /// Whether the certificate is accepted for the type, and otherwise which of its rows or members fails which test.
+    /// It has less than 2^32 rows or members, and its types have a spread that callers keep at 16,384 or below.
     pub fn verify(
         &self,
         alloc: Global,
