@@ -1,5 +1,5 @@
--- To be read and believed: Certificates, Texts, Statements, Forms, Reading, ReadOnce, and Seen, which says how a value is seen
--- as a certificate. The other modules say the same of its parts, are marked internal, or serve the prover.
+-- To be read and believed: Certificates, Texts, Statements, Forms, Reading, ReadOnce, RoundTrips, and Seen, which says how a
+-- value is seen as a certificate. The other modules say the same of its parts, are marked internal, or serve the prover.
 pub mod Blocks
 pub mod Certificates
 pub mod Drafts
@@ -7,6 +7,7 @@ pub mod Forms
 pub mod Members
 pub mod ReadOnce
 pub mod Reading
+pub mod RoundTrips
 pub mod Rows
 pub mod Said
 pub mod Seen
