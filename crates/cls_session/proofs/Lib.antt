@@ -1,3 +1,5 @@
+pub mod Lengths
+pub mod CommandWords
 pub mod LastLines
 pub mod Pools
 pub mod Counts
