@@ -90,23 +90,6 @@ pub data Continuation (lines : List (List ℕ)) (text : List ℕ) : Type 0 where
   refused : (more : List ℕ) → IsRefused lines (text ++ more) → Continuation lines text
   stands : (more : List ℕ) → Transcript lines (text ++ more) → Continuation lines text
 
--- a first fault stays the first
-pub IsRefused-append : (lines more : List (List ℕ)) (text : List ℕ) → IsRefused lines text → IsRefused (lines ++ more) text
-IsRefused-append lines more text r = record {
-  place = r.place;
-  fault = (let f = r.fault in record {
-    before = f.before;
-    line = f.line;
-    after = f.after ++ more;
-    split = ap (λ (xs : List (List ℕ)). xs ++ more) f.split ∙ append_assoc f.before (f.line ∷ f.after) more;
-    number = f.number;
-    so_far = f.so_far;
-    no_end = f.no_end;
-    no_repository = f.no_repository;
-  });
-  written = r.written;
-}
-
 answers_on : (ds : List Declaration) (lines more : List (List ℕ)) (text : List ℕ) → IsAnswered lines ds text → (rest : List ℕ) × IsAnswered (lines ++ more) ds (text ++ rest)
 answers_on ds lines [] text a = ([], subst (λ (x : List ℕ). IsAnswered (lines ++ []) ds x) (sym (append-nil text)) (subst (λ (xs : List (List ℕ)). IsAnswered xs ds text) (sym (append-nil lines)) a))
 answers_on ds lines (line ∷ more) text a =
