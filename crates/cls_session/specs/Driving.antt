@@ -51,8 +51,8 @@ pub record RefusesLine (sink sink' : SinkSeen) (session : Standing) (line : List
 -- The run stopped before the line was answered or refused: nothing was written for it, or what was written begins what may
 -- stand written for it.
 pub data BreaksLine (sink sink' : SinkSeen) (session : Standing) (line : List ℕ) : Type 0 where
-  unanswered : Writes sink sink' [] → BreaksLine sink sink' session line
-  within : ((o : Options) (lines : List (List ℕ)) (written : List ℕ) → Stands o lines written session
+  before_line : Writes sink sink' [] → BreaksLine sink sink' session line
+  within_line : ((o : Options) (lines : List (List ℕ)) (written : List ℕ) → Stands o lines written session
       → (reply : List ℕ) × IsWritten o (lines ++ line ∷ []) (written ++ reply) × WritesFront sink sink' reply)
       → BreaksLine sink sink' session line
 
@@ -113,8 +113,8 @@ pub record EndsOutput (sink sink' : SinkSeen) (session : Standing) (text : List 
 -- The run stopped at one of them, or at the end: nothing was written for them, or what was written begins what may stand
 -- written for all of them.
 pub data BreaksLast (sink sink' : SinkSeen) (session : Standing) (text : List ℕ) : Type 0 where
-  unanswered : Writes sink sink' [] → BreaksLast sink sink' session text
-  within : ((o : Options) (lines : List (List ℕ)) (written : List ℕ) → Stands o lines written session
+  before_last : Writes sink sink' [] → BreaksLast sink sink' session text
+  within_last : ((o : Options) (lines : List (List ℕ)) (written : List ℕ) → Stands o lines written session
       → (reply : List ℕ) × IsEnded o (lines ++ lines_of text) (written ++ reply) × WritesFront sink sink' reply)
       → BreaksLast sink sink' session text
 

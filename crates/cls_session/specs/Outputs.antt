@@ -31,17 +31,17 @@ pub data Output (words : List (List ℕ)) (bytes text : List ℕ) (status : Stat
 -- What a session may have written when some first lines that count are answered or one of them is refused, or when the output
 -- is ended.
 pub data SessionText (o : Options) (bytes text : List ℕ) : Type 0 where
-  answered : (first others : List (List ℕ)) → lines_read bytes ≡ first ++ others → Transcript o first text
+  after_lines : (first others : List (List ℕ)) → lines_read bytes ≡ first ++ others → Transcript o first text
       → SessionText o bytes text
-  refused : (first others : List (List ℕ)) → lines_read bytes ≡ first ++ others → IsRefused first text
+  after_refusal : (first others : List (List ℕ)) → lines_read bytes ≡ first ++ others → IsRefused first text
       → SessionText o bytes text
-  ended : (status : Status) → length bytes ≤ max_input_bytes → Ending o (lines_of bytes) text status → SessionText o bytes text
+  after_end : (status : Status) → length bytes ≤ max_input_bytes → Ending o (lines_of bytes) text status → SessionText o bytes text
 
 -- What may stand written at one time or another in a run with these words over these bytes. A run that breaks off has written
 -- a front of such a text.
 pub data MayStand (words : List (List ℕ)) (bytes text : List ℕ) : Type 0 where
-  no_command : AsksNothing words → text ≡ usage → MayStand words bytes text
-  of_session : (o : Options) → Asks words (Session o) → SessionText o bytes text → MayStand words bytes text
+  of_usage : AsksNothing words → text ≡ usage → MayStand words bytes text
+  of_text : (o : Options) → Asks words (Session o) → SessionText o bytes text → MayStand words bytes text
 
 -- the statuses of a run without fault and with memory
 abbrev pub IsWhole : Status → Type 0
