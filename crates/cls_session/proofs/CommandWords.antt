@@ -290,6 +290,13 @@ one_command words (Session o) (Session p) h k =
     let same : h.settings ≡ k.settings = split ∙ (ap (λ (ss : List Setting). k.settings ++ ss) (nothing_more more spelled) ∙ append-nil k.settings) in
     ap Session (h.options ∙ (ap options_in same ∙ sym k.options))
 
+abbrev session_options : Command → Options
+session_options (Session o) = o
+
+-- and so for one session
+pub session_one : (words : List (List ℕ)) (o p : Options) → Asks words (Session o) → Asks words (Session p) → o ≡ p
+session_one words o p h k = ap session_options (one_command words (Session o) (Session p) h k)
+
 pub commands_are_one : CommandsAreOne
 commands_are_one = record { one = one_command; in_range = in_range }
 

@@ -16,3 +16,4 @@ pub mod Driving
 pub mod LineForms
 pub mod Outputs
 pub mod InputLoop
+pub mod GoingOn

@@ -2,7 +2,6 @@ ghost use Rattle.std.specs.Prelude.{◌≡◌, ◌≢◌, ℕ, List};
 ghost use Rattle.std.specs.Io.KnownBytes.{IsAtEnd, Keeps};
 ghost use Rattle.cls_base.specs.Outside.{HasRisen};
 ghost use Rattle.cls_session.specs.Commands.{texts_of, Asks, AsksSession};
-ghost use Rattle.cls_session.specs.declared.words.Command.TheVariants.{Session};
 ghost use Rattle.cls_session.specs.Outputs.{IsWhole, IsBrokenOff, IsCutOff, HasRoom};
 ghost use Rattle.cls_session.specs.Outputs.{Answers, BeginsAnswers, AnswersTaken, BeginsTaken, KeepsPace};
 ghost use Rattle.cls_session.specs.Stops.{status_of};
@@ -88,19 +87,19 @@ fn answer_input<S: Source, K: Sink>(
     source: &mut S,
     sink: &mut K,
 ) -> Status
-    requires room { (words : List (List ℕ)) × Asks words (Session options)
+    requires room { (words : List (List ℕ)) × Asks words (Command.Session options)
         × HasRoom words (S.seen source.old) (K.seen sink.old) }
 
-    ensures output { (words : List (List ℕ)) → Asks words (Session options) → IsWhole result
+    ensures output { (words : List (List ℕ)) → Asks words (Command.Session options) → IsWhole result
         → Answers words (S.seen source.old) (K.seen sink.old) (K.seen sink.new) result }
     ensures read_whole { result ≡ Done → IsAtEnd (S.seen source.new).left }
     ensures never_usage { result ≢ Usage }
 
-    ensures none_waits { (words : List (List ℕ)) → Asks words (Session options) → result ≡ ReadFault
+    ensures none_waits { (words : List (List ℕ)) → Asks words (Command.Session options) → result ≡ ReadFault
         → AnswersTaken words (S.seen source.old) (S.seen source.new) (K.seen sink.old) (K.seen sink.new) }
-    ensures begins { (words : List (List ℕ)) → Asks words (Session options) → IsCutOff result
+    ensures begins { (words : List (List ℕ)) → Asks words (Command.Session options) → IsCutOff result
         → BeginsAnswers words (S.seen source.old) (K.seen sink.old) (K.seen sink.new) }
-    ensures keeps_pace { (words : List (List ℕ)) → Asks words (Session options) → IsBrokenOff result
+    ensures keeps_pace { (words : List (List ℕ)) → Asks words (Command.Session options) → IsBrokenOff result
         → KeepsPace words (S.seen source.old) (S.seen source.new) (K.seen sink.old) (K.seen sink.new) }
 
     ensures read_fault { result ≡ ReadFault → HasRisen (S.seen source.old).faults (S.seen source.new).faults }
