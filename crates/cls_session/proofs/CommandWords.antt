@@ -318,3 +318,7 @@ is_taken v w e t n = some_of v t (e ∙ n)
 -- as many texts as words
 pub length-texts_of : {A : Type 0} (words : List (String A)) → length (texts_of words) ≡ length words
 length-texts_of words = length-map words string_bytes
+
+-- a command is a session with its options
+pub session_asked : (words : List (List ℕ)) (c : Command) → Asks words c → (o : Options) × (c ≡ Session o) × SetsOptions words o
+session_asked words (Session o) h = (o, refl, h)

@@ -106,8 +106,8 @@ pub keeps_pace : (o : Options) (words : List (List ℕ)) → Asks words (Session
     → Consumes source.left source'.left (before ++ last) → length last ≤ max_read_bytes → Transcript o (ended_lines before) text → Appends sink.held sink'.held (text ++ more) → KeepsPace words source source' sink sink'
 keeps_pace o words asks sink sink' source source' before last text more consumes short t w = λ p asked.
     subst (λ (q : Options). IfTold source.left source'.left (λ bytes rest. AnswersBeforeLast q bytes rest sink sink')) (session_one words o p asks asked)
-        (if_told source.left source'.left (before ++ last) (λ all rest. AnswersBeforeLast o all rest sink sink') consumes (λ all rest e.
-        record { before = before; last = last; text = text; more = more; taken = e; short = short; transcript = t; written = w }))
+    (if_told source.left source'.left (before ++ last) (λ all rest. AnswersBeforeLast o all rest sink sink') consumes (λ all rest e.
+    record { before = before; last = last; text = text; more = more; taken = e; short = short; transcript = t; written = w }))
 
 -- nothing was taken for the usage line
 pub usage_keeps_pace : (words : List (List ℕ)) (source : SourceSeen) (sink sink' : SinkSeen) → AsksNothing words → KeepsPace words source source sink sink'

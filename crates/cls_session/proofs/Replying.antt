@@ -72,7 +72,7 @@ module _ (options : Options) (names : List (List ℕ)) (count : ℕ) (ended : Bo
   answers line reply e q =
       let reply_is : (ds : List Declaration) → names ≡ names_of ds → Reply o ds line reply = λ ds n. subst (λ (p : Options). Reply p ds line reply) same (q ds n) in
       subst (λ (b : Bool). Stands o (lines ++ line ∷ []) (written ++ reply) record { options = options; components = names; lines = count + 1; ended = b }) (sym e)
-          (kept (lines ++ line ∷ []) (written ++ reply) names (count + 1) true (Stands-reply o lines written line names count reply (is_querying e) reply_is))
+      (kept (lines ++ line ∷ []) (written ++ reply) names (count + 1) true (Stands-reply o lines written line names count reply (is_querying e) reply_is))
 
   -- the end of the input within the repository
   pub ends_reading : (last : List ℕ) → ended ≡ false → last ≡ refusal count → Ending o lines (written ++ last) Refused

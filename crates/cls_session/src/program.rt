@@ -7,8 +7,8 @@ ghost use Rattle.cls_session.specs.Outputs.{Answers, BeginsAnswers, AnswersTaken
 ghost use Rattle.cls_session.specs.Stops.{status_of};
 ghost use Rattle.cls_session.specs.declared.status.Status.TheVariants.{Done, Usage, ReadFault, WriteFault};
 
-use crate::options::Options;
 use crate::driver::{Stop, answer_lines, finish, write_all};
+use crate::options::Options;
 use crate::session::Session;
 use crate::status::Status;
 use crate::words::{Command, read_words};
