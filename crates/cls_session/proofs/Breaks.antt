@@ -1,5 +1,5 @@
 -- If a run stops at a failed write or out of memory, what was written begins what may stand written for some first lines.
-use Rattle.std.proofs.Common.{◌≡◌, ℕ, List, [], ◌∷◌, ◌++◌, sym, subst, inl, inr, append_assoc, append-nil}
+use Rattle.std.proofs.Common.{◌≡◌, ℕ, List, [], ◌∷◌, ◌++◌, subst, inl, inr, append_assoc}
 use Rattle.std.specs.Prelude.{Err}
 use Rattle.cls_base.specs.Outside.{SinkSeen}
 use Rattle.cls_lexer.specs.Lines.{CutsLine, lines_of}

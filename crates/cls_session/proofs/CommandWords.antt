@@ -1,7 +1,7 @@
 -- The settings that the words of a command line spell.
-use Rattle.std.proofs.Common.{◌≡◌, ℕ, zero, suc, ◌<◌, ◌≤◌, List, [], ◌∷◌, ◌++◌, length, map, codes, get_or, drop, refl, sym, ap, ◌∙◌, subst, inl, inr, arith, append_assoc, append-nil, Bool, true, false}
-use Rattle.std.specs.Prelude.{Option, None, Some, is_some, IsTrue, Contains, bytes_eq, unwrap_or, String, string_bytes, if◌then◌else◌, ◌==◌, ◌&&◌, ◌≢◌, not}
-use Rattle.std.specs.List.{flat_map, AllByRecursion, list_all}
+use Rattle.std.proofs.Common.{◌≡◌, ℕ, zero, suc, ◌<◌, List, [], ◌∷◌, ◌++◌, length, map, codes, get_or, drop, refl, sym, ap, ◌∙◌, subst, inl, inr, arith, append_assoc, append-nil, true, false}
+use Rattle.std.specs.Prelude.{Option, None, Some, is_some, Contains, bytes_eq, unwrap_or, String, string_bytes, if◌then◌else◌, ◌==◌}
+use Rattle.std.specs.List.{flat_map, AllByRecursion}
 use Rattle.std.proofs.lemmas.Bool.Decides.{eqb_tells}
 use Rattle.std.proofs.lemmas.Grind.{flat_map-append}
 use Rattle.std.proofs.lemmas.List.{length-map}

@@ -1,6 +1,5 @@
 -- How the answer to the line that is left at the end of the input ends the output.
-use Rattle.std.proofs.Common.{◌≡◌, ℕ, List, [], ◌∷◌, ◌++◌, length, sym, subst, inl, inr, arith, append_assoc, append-nil, length-append}
-use Rattle.std.specs.Prelude.{Option, None, Some}
+use Rattle.std.proofs.Common.{◌≡◌, ℕ, List, [], ◌∷◌, ◌++◌, length, sym, subst, inl, inr, append_assoc, append-nil}
 use Rattle.cls_base.specs.Outside.{SinkSeen, Holds}
 use Rattle.cls_lexer.specs.Lines.{lines_of}
 use Rattle.cls_session.specs.declared.options.Options.{Options}

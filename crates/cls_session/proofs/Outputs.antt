@@ -4,14 +4,13 @@ use Rattle.std.specs.Prelude.{Option, None, Some, IfSome, if◌then◌else◌}
 use Rattle.std.proofs.Math.Seq.{take-append-add, take-append_seam}
 use Rattle.std.proofs.lemmas.Bool.{cases_lt, le-ltb, lt-ltb}
 use Rattle.std.specs.Io.KnownBytes.{Appends, Consumes}
-use Rattle.std.proofs.KnownBytes.{Consumes-nil}
 use Rattle.cls_base.specs.Limits.{max_input_bytes, max_read_bytes}
 use Rattle.cls_base.specs.Outside.{SourceSeen, SinkSeen, Holds}
 use Rattle.cls_lexer.specs.Lines.{lines_of, ended_lines, HasNoFeed}
 use Rattle.cls_lexer.proofs.LinePieces.{lines_of-ended_lines, lines_of-CutsLine, ended_lines-CutsLine, CutsLine-append, ended_lines-HasNoFeed}
 use Rattle.cls_session.specs.declared.options.Options.{Options}
 use Rattle.cls_session.specs.declared.status.Status.{Status}
-use Rattle.cls_session.specs.declared.status.Status.TheVariants.{Usage, Refused, TooLong}
+use Rattle.cls_session.specs.declared.status.Status.TheVariants.{Refused, TooLong}
 use Rattle.cls_session.specs.declared.words.Command.TheVariants.{Session}
 use Rattle.cls_session.specs.Commands.{Asks, AsksNothing, usage}
 use Rattle.cls_session.specs.Driving.{CutsLines, Writes, WritesFront, IsWritten, IsEnded}

@@ -1,5 +1,5 @@
 -- The output of a run.
-use Rattle.std.specs.Prelude.{ℕ, ◌≡◌, ◌≤◌, ◌<◌, List, [], ◌++◌, length, take, nat_lt, if◌then◌else◌, Option, Some, None, IfSome}
+use Rattle.std.specs.Prelude.{ℕ, ◌≡◌, ◌≤◌, ◌<◌, List, ◌++◌, length, take, nat_lt, if◌then◌else◌, Option, Some, None, IfSome}
 use Rattle.std.specs.Io.KnownBytes.{Appends}
 use Rattle.cls_base.specs.Limits.{max_input_bytes, max_read_bytes}
 use Rattle.cls_base.specs.Outside.{SourceSeen, SinkSeen}
@@ -8,7 +8,7 @@ use Rattle.cls_session.specs.declared.options.Options.{Options}
 use Rattle.cls_session.specs.declared.status.Status.{Status}
 use Rattle.cls_session.specs.declared.status.Status.TheVariants.{Done, Usage, Refused, ReadFault, WriteFault, NoMemory, TooLong}
 use Rattle.cls_session.specs.declared.words.Command.TheVariants.{Session}
-use Rattle.cls_session.specs.Commands.{Asks, AsksSession, AsksNothing, usage}
+use Rattle.cls_session.specs.Commands.{Asks, AsksNothing, usage}
 use Rattle.cls_session.specs.Transcripts.{Transcript, IsRefused, Ending}
 
 -- The lines that count: if more than `max_input_bytes` come, those that end within the first `max_input_bytes`.

@@ -1,4 +1,4 @@
-use Rattle.std.proofs.Common.{◌≡◌, length, ◌<◌, arith, ◌∙◌, sym, ap}
+use Rattle.std.proofs.Common.{arith, ◌∙◌, sym}
 use Rattle.cls_session.specs.declared.words.Command.TheVariants.{Session}
 use Rattle.cls_session.specs.Commands.{texts_of}
 use Rattle.cls_session.specs.Settings.{options_of}
