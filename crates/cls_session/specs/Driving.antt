@@ -35,8 +35,8 @@ IsWritten o lines text = Transcript o lines text ⊎ IsRefused lines text
 abbrev pub IsEnded : Options → List (List ℕ) → List ℕ → Type 0
 IsEnded o lines text = IsWritten o lines text ⊎ ((status : Status) × Ending o lines text status)
 
--- ONE LINE. For each of these words the session has the options `o`, `lines` were fed to it, and `written` is what was written
--- for them. The reply goes on with it.
+-- ONE LINE. In each of these words the session has the options `o`, `lines` were fed to it, and `written` is what was
+-- written for them. The reply goes on with it.
 
 -- The line was answered.
 pub record AnswersLine (sink sink' : SinkSeen) (session session' : Standing) (line : List ℕ) : Type 0 where
@@ -48,8 +48,8 @@ pub record RefusesLine (sink sink' : SinkSeen) (session : Standing) (line : List
   pub reply : (o : Options) (lines : List (List ℕ)) (written : List ℕ) → Stands o lines written session
       → (reply : List ℕ) × IsRefused (lines ++ line ∷ []) (written ++ reply) × Writes sink sink' reply
 
--- The run stopped before the line was answered or refused: nothing was written for it, or what was written begins what may
--- stand written for it.
+-- The run stopped before the line was answered or refused: nothing was written for it, or what was written begins what
+-- may stand written for it.
 pub data BreaksLine (sink sink' : SinkSeen) (session : Standing) (line : List ℕ) : Type 0 where
   before_line : Writes sink sink' [] → BreaksLine sink sink' session line
   within_line : ((o : Options) (lines : List (List ℕ)) (written : List ℕ) → Stands o lines written session
@@ -62,7 +62,8 @@ pub record FitsLine (sink : SinkSeen) (session : Standing) (line : List ℕ) : T
   pub lines : List (List ℕ)
   pub written : List ℕ
   pub stands : Stands options lines written session
-  pub fits : (reply : List ℕ) → IsWritten options (lines ++ line ∷ []) (written ++ reply) → Holds sink.room (length reply)
+  pub fits : (reply : List ℕ) → IsWritten options (lines ++ line ∷ []) (written ++ reply)
+      → Holds sink.room (length reply)
 
 -- THE LINES THAT END IN A TEXT, of which the rest is without a line feed.
 
@@ -110,8 +111,8 @@ pub record EndsOutput (sink sink' : SinkSeen) (session : Standing) (text : List 
   pub reply : (o : Options) (lines : List (List ℕ)) (written : List ℕ) → Stands o lines written session
       → (reply : List ℕ) × Ending o (lines ++ lines_of text) (written ++ reply) status × Writes sink sink' reply
 
--- The run stopped at one of them, or at the end: nothing was written for them, or what was written begins what may stand
--- written for all of them.
+-- The run stopped at one of them, or at the end: nothing was written for them, or what was written begins what may
+-- stand written for all of them.
 pub data BreaksLast (sink sink' : SinkSeen) (session : Standing) (text : List ℕ) : Type 0 where
   before_last : Writes sink sink' [] → BreaksLast sink sink' session text
   within_last : ((o : Options) (lines : List (List ℕ)) (written : List ℕ) → Stands o lines written session
@@ -124,7 +125,8 @@ pub record FitsLast (sink : SinkSeen) (session : Standing) (text : List ℕ) : T
   pub lines : List (List ℕ)
   pub written : List ℕ
   pub stands : Stands options lines written session
-  pub fits : (reply : List ℕ) → IsEnded options (lines ++ lines_of text) (written ++ reply) → Holds sink.room (length reply)
+  pub fits : (reply : List ℕ) → IsEnded options (lines ++ lines_of text) (written ++ reply)
+      → Holds sink.room (length reply)
 
 -- A fact for each way in which a step ends: it went well, the repository was refused, or the step broke off at a failed
 -- write or out of memory.

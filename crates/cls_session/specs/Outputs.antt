@@ -26,19 +26,21 @@ pub data SessionOutput (o : Options) (bytes text : List ℕ) (status : Status) :
 -- With these words of the command line and these bytes to read, a run may write this text and end with this status.
 pub data Output (words : List (List ℕ)) (bytes text : List ℕ) (status : Status) : Type 0 where
   no_command : AsksNothing words → text ≡ usage → status ≡ Usage → Output words bytes text status
-  of_session : (o : Options) → Asks words (Session o) → SessionOutput o bytes text status → Output words bytes text status
+  of_session : (o : Options) → Asks words (Session o) → SessionOutput o bytes text status
+      → Output words bytes text status
 
--- What a session may have written when some first lines that count are answered or one of them is refused, or when the output
--- is ended.
+-- What a session may have written when some first lines that count are answered or one of them is refused, or when the
+-- output is ended.
 pub data SessionText (o : Options) (bytes text : List ℕ) : Type 0 where
   after_lines : (first others : List (List ℕ)) → lines_read bytes ≡ first ++ others → Transcript o first text
       → SessionText o bytes text
   after_refusal : (first others : List (List ℕ)) → lines_read bytes ≡ first ++ others → IsRefused first text
       → SessionText o bytes text
-  after_end : (status : Status) → length bytes ≤ max_input_bytes → Ending o (lines_of bytes) text status → SessionText o bytes text
+  after_end : (status : Status) → length bytes ≤ max_input_bytes → Ending o (lines_of bytes) text status
+      → SessionText o bytes text
 
--- What may stand written at one time or another in a run with these words over these bytes. A run that breaks off has written
--- a front of such a text.
+-- What may stand written at one time or another in a run with these words over these bytes. A run that breaks off has
+-- written a front of such a text.
 pub data MayStand (words : List (List ℕ)) (bytes text : List ℕ) : Type 0 where
   of_usage : AsksNothing words → text ≡ usage → MayStand words bytes text
   of_text : (o : Options) → Asks words (Session o) → SessionText o bytes text → MayStand words bytes text
@@ -90,18 +92,19 @@ pub record BeginsText (words : List (List ℕ)) (bytes : List ℕ) (sink sink' :
   pub text : MayStand words bytes (front ++ rest)
   pub written : Appends sink.held sink'.held front
 
--- If the source tells its bytes, what the sink was given begins a text that may stand written for some first lines of them.
+-- If the source tells its bytes, what the sink was given begins a text that may stand written for some first lines of
+-- them.
 abbrev pub BeginsAnswers : List (List ℕ) → SourceSeen → SinkSeen → SinkSeen → Type 0
 BeginsAnswers words source sink sink' = IfSome source.left (λ bytes. BeginsText words bytes sink sink')
 
--- n bytes are enough for each text that may stand written for some first lines of the bytes that the source tells. Otherwise
--- no number is sure to be.
+-- n bytes are enough for each text that may stand written for some first lines of the bytes that the source tells.
+-- Otherwise no number is sure to be.
 abbrev pub IsEnoughRoom : List (List ℕ) → Option (List ℕ) → ℕ → Type 0
 IsEnoughRoom words None n = ⊥
 IsEnoughRoom words (Some bytes) n = (text : List ℕ) → MayStand words bytes text → length text ≤ n
 
--- The room that the sink tells is enough for each text that may stand written for some first lines of the bytes that the source
--- tells.
+-- The room that the sink tells is enough for each text that may stand written for some first lines of the bytes that the
+-- source tells.
 abbrev pub HasRoom : List (List ℕ) → SourceSeen → SinkSeen → Type 0
 HasRoom words source sink = IfSome sink.room (λ n. IsEnoughRoom words source.left n)
 
@@ -128,13 +131,15 @@ pub record AnswersTaken (words : List (List ℕ)) (source source' : SourceSeen) 
   pub asked : Asks words (Session options)
   pub answered : IfTold source.left source'.left (λ bytes rest. AnswersEnded options bytes rest sink sink')
 
--- What was taken of the bytes, and that what the sink was given begins a text that may stand written for some first lines of it.
+-- What was taken of the bytes, and that what the sink was given begins a text that may stand written for some first lines
+-- of it.
 pub record BeginsForTaken (words : List (List ℕ)) (bytes rest : List ℕ) (sink sink' : SinkSeen) : Type 0 where
   pub taken : List ℕ
   pub split : bytes ≡ taken ++ rest
   pub begins : BeginsText words taken sink sink'
 
--- If a read failed: what was written begins a text that may stand written for some first lines of the bytes that were taken.
+-- If a read failed: what was written begins a text that may stand written for some first lines of the bytes that were
+-- taken.
 abbrev pub BeginsTaken : List (List ℕ) → SourceSeen → SourceSeen → SinkSeen → SinkSeen → Type 0
 BeginsTaken words source source' sink sink' =
     IfTold source.left source'.left (λ bytes rest. BeginsForTaken words bytes rest sink sink')
@@ -151,8 +156,9 @@ pub record AnswersBeforeLast (o : Options) (bytes rest : List ℕ) (sink sink' :
   pub transcript : Transcript o (ended_lines before) text
   pub written : Appends sink.held sink'.held (text ++ more)
 
--- If a run broke off that was asked for a session: all lines that had come whole before the last `max_read_bytes` that it took,
--- or fewer, were answered. Any write may be the one that fails, so a run that reads on before it has answered doesn't keep pace.
+-- If a run broke off that was asked for a session: all lines that had come whole before the last `max_read_bytes` that it
+-- took, or fewer, were answered. Any write may be the one that fails, so a run that reads on before it has answered doesn't
+-- keep pace.
 abbrev pub KeepsPace : List (List ℕ) → SourceSeen → SourceSeen → SinkSeen → SinkSeen → Type 0
 KeepsPace words source source' sink sink' = (o : Options) → Asks words (Session o)
     → IfTold source.left source'.left (λ bytes rest. AnswersBeforeLast o bytes rest sink sink')
@@ -160,7 +166,8 @@ KeepsPace words source source' sink sink' = (o : Options) → Asks words (Sessio
 -- What is written goes on to an output.
 pub record TranscriptsGoOn : Type 0 where
   -- What is written for the whole lines of a text that isn't too long is the beginning of an output for it.
-  pub whole_lines : (o : Options) (bytes text : List ℕ) → length bytes ≤ max_input_bytes → Transcript o (ended_lines bytes) text
+  pub whole_lines : (o : Options) (bytes text : List ℕ) → length bytes ≤ max_input_bytes
+      → Transcript o (ended_lines bytes) text
       → (more : List ℕ) × (status : Status) × SessionOutput o bytes (text ++ more) status
   -- What may stand written for some first lines is.
   pub first_lines : (words : List (List ℕ)) (bytes text : List ℕ) → MayStand words bytes text

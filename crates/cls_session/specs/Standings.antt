@@ -15,6 +15,8 @@ pub record Standing : Type 0 where
 -- The session has these options and was fed these lines, and this text is what is written for them.
 pub data Stands (o : Options) (lines : List (List ℕ)) (text : List ℕ) (s : Standing) : Type 0 where
   opening : (declared : List Declaration) → IsRepository lines declared → text ≡ []
-      → s ≡ record { options = o; components = names_of declared; lines = length lines; ended = false } → Stands o lines text s
+      → s ≡ record { options = o; components = names_of declared; lines = length lines; ended = false }
+      → Stands o lines text s
   answering : (declared : List Declaration) → IsAnswered o lines declared text
-      → s ≡ record { options = o; components = names_of declared; lines = length lines; ended = true } → Stands o lines text s
+      → s ≡ record { options = o; components = names_of declared; lines = length lines; ended = true }
+      → Stands o lines text s

@@ -39,4 +39,5 @@ pub record IsRefused (lines : List (List ℕ)) (text : List ℕ) : Type 0 where
 pub data Ending (o : Options) (lines : List (List ℕ)) (text : List ℕ) (status : Status) : Type 0 where
   without_end : (declared : List Declaration) → IsRepository lines declared → text ≡ refusal (length lines)
       → status ≡ Refused → Ending o lines text status
-  complete : (declared : List Declaration) → IsAnswered o lines declared text → status ≡ Done → Ending o lines text status
+  complete : (declared : List Declaration) → IsAnswered o lines declared text → status ≡ Done
+      → Ending o lines text status

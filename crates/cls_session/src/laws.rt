@@ -3,8 +3,8 @@ ghost use Rattle.cls_session.specs.Commands.{CommandsAreOne};
 ghost use Rattle.cls_session.specs.Outputs.{TranscriptsGoOn};
 ghost use Rattle.cls_session.specs.Replies.{ListingsAreDecided};
 
-/// What is written for the whole lines of an input is the beginning of an output for it, and so is what may stand written for
-/// some first lines.
+/// What is written for the whole lines of an input is the beginning of an output for it, and so is what may stand
+/// written for some first lines.
 pub fn transcripts_go_on()
     ensures { TranscriptsGoOn }
 {}

@@ -37,8 +37,8 @@ pub struct Outcome {
 
 /// Reads a repository and answers queries, a line at a time.
 ///
-/// It is seen as what it keeps: the options, the names of the components, the number of lines, and whether `end` was among
-/// them.
+/// It is seen as what it keeps: the options, the names of the components, the number of lines, and whether `end` was
+/// among them.
 #[derive(Drop)]
 pub struct Session {
     options: Options,
