@@ -16,7 +16,7 @@ pub record IsRun (words : List (List ℕ)) (source source' : SourceSeen) (sink s
   pub none_waits : status ≡ ReadFault → AnswersTaken words source source' sink sink'
   pub begins_taken : status ≡ ReadFault → BeginsTaken words source source' sink sink'
   pub begins : IsCutOff status → BeginsAnswers words source sink sink'
-  pub keeps_pace : IsBrokenOff status → KeepsPace source source' sink sink'
+  pub keeps_pace : IsBrokenOff status → KeepsPace words source source' sink sink'
   pub read_fault : status ≡ ReadFault → HasRisen source.faults source'.faults
   pub write_fault : status ≡ WriteFault → HasRisen sink.faults sink'.faults
   pub no_read_fault : IsWhole status → source'.faults ≡ source.faults

@@ -1,4 +1,4 @@
--- How long an output for a few short lines is at most.
+-- How long what may stand written for a few short lines is at most.
 use Rattle.std.proofs.Common.{◌≡◌, ℕ, zero, suc, ◌+◌, ◌-◌, ◌*◌, ◌<◌, ◌≤◌, List, [], ◌∷◌, ◌++◌, length, map, refl, sym, ap, ◌∙◌, subst, arith, length-append, Bool, true, false, get_or}
 use Rattle.std.specs.Prelude.{All, codes, bytes_eq, if◌then◌else◌}
 use Rattle.std.specs.List.{flat_map, AllByRecursion}
@@ -16,15 +16,15 @@ use Rattle.cls_lexer.specs.Words as word
 use Rattle.cls_lexer.specs.Words.{Word, name, reserved_name, word_from, said, words_of}
 use Rattle.cls_lexer.proofs.TokenPlaces.{tokens_longest}
 use Rattle.cls_term.specs.Texts.{name_at, text_of, open_text}
+use Rattle.cls_session.specs.declared.options.Options.{Options}
 use Rattle.cls_session.specs.declared.status.Status.{Status}
 use Rattle.cls_session.specs.Declarations.{Declaration, names_of}
 use Rattle.cls_session.specs.Forms.{IsDeclaration}
-use Rattle.cls_session.specs.Outputs.{Output, lines_read}
-use Rattle.cls_session.specs.Outputs as outputs
+use Rattle.cls_session.specs.Outputs.{lines_read, SessionText, after_lines, after_refusal, after_end, MayStand, of_usage, of_text}
 use Rattle.cls_session.specs.Replies.{term_line, page_text, Reply, Answered, Replies}
 use Rattle.cls_session.specs.Replies as replies
 use Rattle.cls_session.specs.Repositories.{Declared, skipped, declares, Declares}
-use Rattle.cls_session.specs.Transcripts.{IsAnswered, refusal, without_end, complete}
+use Rattle.cls_session.specs.Transcripts.{IsAnswered, Transcript, opening, answering, refusal, Ending, without_end, complete}
 use Rattle.cls_session.proofs.Outputs.{lines_read-short}
 
 -- the line or the name has at most 24 bytes
@@ -128,8 +128,8 @@ module _ (names : ℕ → List ℕ) (short : (x : ℕ) → IsShort (names x)) wh
       let b = term_lines-length es h in
       omega arith
 
-module _ (ds : List Declaration) (short : (x : ℕ) → IsShort (name_in ds x)) where
-  reply_length : (line text : List ℕ) → Reply ds line text → length text ≤ 17310005
+module _ (o : Options) (ds : List Declaration) (short : (x : ℕ) → IsShort (name_in ds x)) where
+  reply_length : (line text : List ℕ) → Reply o ds line text → length text ≤ 17310005
   reply_length line text (replies.skipped s e) = let a = ap length e in omega arith
   reply_length line text (replies.unbuilt s n e) = let a = ap length e in omega arith
   reply_length line text (replies.too_many max count q p) = let a = ap length p.written in omega arith
@@ -143,10 +143,10 @@ module _ (ds : List Declaration) (short : (x : ℕ) → IsShort (name_in ds x)) 
       let d = q.take_within in
       omega (arith, a, b, c, d.1)
 
-  answered_query_length : (query : List (List ℕ)) (text : List ℕ) → Answered ds query text → length text ≤ 17310005 * length query
+  answered_query_length : (query : List (List ℕ)) (text : List ℕ) → Answered o ds query text → length text ≤ 17310005 * length query
   answered_query_length query text (replies.of_line line e p) = let a = ap length e in let b = reply_length line text p in omega arith
 
-  replies_length : (lines : List (List ℕ)) (text : List ℕ) → Replies ds lines text → length text ≤ 17310005 * length lines
+  replies_length : (lines : List (List ℕ)) (text : List ℕ) → Replies o ds lines text → length text ≤ 17310005 * length lines
   replies_length lines text (replies.none l e) = let a = ap length e in omega arith
   replies_length lines text (replies.next query others first rest l p ps e) =
       let a = ap length e in
@@ -158,10 +158,10 @@ module _ (ds : List Declaration) (short : (x : ℕ) → IsShort (name_in ds x)) 
       omega arith
   replies_length lines text (replies.begun b e) = let a = ap length e in omega arith
 
-answered_length : (lines : List (List ℕ)) (ds : List Declaration) (text : List ℕ) → AllByRecursion IsShort lines → IsAnswered lines ds text → length text ≤ 17310005 * length lines
-answered_length lines ds text h a =
+answered_length : (o : Options) (lines : List (List ℕ)) (ds : List Declaration) (text : List ℕ) → AllByRecursion IsShort lines → IsAnswered o lines ds text → length text ≤ 17310005 * length lines
+answered_length o lines ds text h a =
     let front = front_short a.repository (a.end ∷ a.queries) (subst (λ (ls : List (List ℕ)). AllByRecursion IsShort ls) a.split h) in
-    let b = replies_length ds (names_short a.repository ds front a.reads.declared) a.queries text a.replies in
+    let b = replies_length o ds (names_short a.repository ds front a.reads.declared) a.queries text a.replies in
     let c = ap length a.split in
     let d = length-append a.repository (a.end ∷ a.queries) in
     omega arith
@@ -174,24 +174,45 @@ refusal_length place few =
     let c = length-append (decimal place) (codes " unbuilt") in
     omega arith
 
--- four lines of at most 24 bytes have no longer output
-pub output_length : (bytes text : List ℕ) (status : Status) → length bytes ≤ max_input_bytes → AllByRecursion IsShort (lines_of bytes) → length (lines_of bytes) ≤ 4 → Output [] bytes text status → length text ≤ 69240020
-output_length bytes text status small short few (outputs.no_session n e s) = absurd (n refl)
-output_length bytes text status small short few (outputs.refused a r s) =
-    let split = ap length (sym (lines_read-short bytes small) ∙ r.fault.split) in
-    let b = length-append r.fault.before (r.fault.line ∷ r.fault.after) in
-    let n = r.fault.number in
-    let w = ap length r.written in
-    let l = refusal_length r.place (omega arith) in
-    omega arith
-output_length bytes text status small short few (outputs.ended a l (without_end ds r w s)) =
+transcript_length : (o : Options) (lines : List (List ℕ)) (text : List ℕ) → AllByRecursion IsShort lines → Transcript o lines text → length text ≤ 17310005 * length lines
+transcript_length o lines text h (opening ds r e) = let a = ap length e in omega arith
+transcript_length o lines text h (answering ds a) = answered_length o lines ds text h a
+
+ending_length : (o : Options) (lines : List (List ℕ)) (text : List ℕ) (status : Status) → AllByRecursion IsShort lines → length lines ≤ 4 → Ending o lines text status → length text ≤ 69240020
+ending_length o lines text status h few (without_end ds r w s) =
     let e = ap length w in
-    let f = refusal_length (length (lines_of bytes)) (omega arith) in
+    let f = refusal_length (length lines) (omega arith) in
     omega arith
-output_length bytes text status small short few (outputs.ended a l (complete ds r s)) =
-    let b = answered_length (lines_of bytes) ds text short r in
-    omega arith
-output_length bytes text status small short few (outputs.too_long a l t s) = absurd (omega arith)
+ending_length o lines text status h few (complete ds r s) = let b = answered_length o lines ds text h r in omega arith
+
+-- what may stand written for four lines of at most 24 bytes is no longer
+module _ (bytes : List ℕ) (small : length bytes ≤ max_input_bytes) (short : AllByRecursion IsShort (lines_of bytes)) (few : length (lines_of bytes) ≤ 4) where
+  first_lines : (first others : List (List ℕ)) → lines_read bytes ≡ first ++ others → AllByRecursion IsShort first × (length first ≤ 4)
+  first_lines first others e =
+      let split : lines_of bytes ≡ first ++ others = sym (lines_read-short bytes small) ∙ e in
+      let a = ap length split in
+      let b = length-append first others in
+      (front_short first others (subst (λ (ls : List (List ℕ)). AllByRecursion IsShort ls) split short), omega arith)
+
+  session_length : (o : Options) (text : List ℕ) → SessionText o bytes text → length text ≤ 69240020
+  session_length o text (after_lines first others e t) =
+      let f = first_lines first others e in
+      let b = transcript_length o first text f.0 t in
+      let k = f.1 in
+      omega arith
+  session_length o text (after_refusal first others e r) =
+      let k = (first_lines first others e).1 in
+      let split = ap length r.fault.split in
+      let b = length-append r.fault.before (r.fault.line ∷ r.fault.after) in
+      let n = r.fault.number in
+      let w = ap length r.written in
+      let l = refusal_length r.place (omega arith) in
+      omega arith
+  session_length o text (after_end status l r) = ending_length o (lines_of bytes) text status short few r
+
+  pub text_length : (words : List (List ℕ)) (text : List ℕ) → MayStand words bytes text → length text ≤ 69240020
+  text_length words text (of_usage n e) = let a = ap length e in omega arith
+  text_length words text (of_text o asks t) = session_length o text t
 
 -- the lines `comp x : A`, `comp y : B`, `end` and `list omega max 2 take 10`
 abbrev pub two_components : List ℕ
@@ -201,7 +222,7 @@ two_components-short : AllByRecursion IsShort (lines_of two_components) × (leng
 unfolding lines_of
 two_components-short = ((omega arith, (omega arith, (omega arith, (omega arith, tt)))), omega arith)
 
-pub two_components-output : (text : List ℕ) (status : Status) → Output [] two_components text status → length text ≤ 70000000
-two_components-output text status o =
-    let l = output_length two_components text status (omega arith) two_components-short.0 two_components-short.1 o in
+pub two_components-text : (words : List (List ℕ)) (text : List ℕ) → MayStand words two_components text → length text ≤ 70000000
+two_components-text words text t =
+    let l = text_length two_components (omega arith) two_components-short.0 two_components-short.1 words text t in
     omega arith

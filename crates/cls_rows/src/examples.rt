@@ -18,6 +18,10 @@ pub const TWO_COMPONENTS: &[u8] = b"comp x : A\ncomp y : B\nend\nlist omega max 
 
 pub const SIX_TERMS: &str = "term x\nterm y\nterm x(x)\nterm x(y)\nterm y(x)\nterm y(y)\ndone\n";
 
+/// What is written if the words ask for nothing.
+pub const USAGE: &str =
+    "usage: clsynth [--workers N] [--max-goals N] [--max-rules N] [--pool N] [generate N]\n";
+
 /// The name of an example, an input, and what is written for it.
 pub type Example<'a> = (&'a str, &'a [u8], &'a str);
 

@@ -1,17 +1,20 @@
-use crate::examples::{Outside, SIX_TERMS, TWO_COMPONENTS, outcome};
+use crate::examples::{Outside, SIX_TERMS, TWO_COMPONENTS, USAGE, outcome};
 use cls_base::{OpenGate, SureSink, SureSource};
 use cls_session::{Status, run};
 use std::test::Fail;
 
-const USAGE: &str =
-    "usage: clsynth [--workers N] [--max-goals N] [--max-rules N] [--pool N] [generate N]\n";
-
 /// Words and inputs, the one reply to them, and the status.
-const REPLIES: [(&[&str], &[u8], &str, Status); 4] = [
+const REPLIES: [(&[&str], &[u8], &str, Status); 5] = [
     (&[], TWO_COMPONENTS, SIX_TERMS, Status::Done),
     (&[], b"wrong", "refused 1 unbuilt\n", Status::Refused),
     (&[], b"", "refused 0 unbuilt\n", Status::Refused),
     (&["--"], b"", USAGE, Status::Usage),
+    (
+        &["--pool", "5"],
+        TWO_COMPONENTS,
+        "error too-many-terms\n",
+        Status::Done,
+    ),
 ];
 
 /// Two queries, the first whole with 51 bytes and the second with 75.
@@ -31,28 +34,6 @@ fn no_read_and_no_write_can_fail(rt: HostRuntime) -> Result<(), Fail> {
     let status = run(&rt, rt.alloc(), &[], &mut source, &mut sink, &OpenGate);
     assert_eq!(rt; str::from_utf8(sink.held())?, SIX_TERMS);
     assert_eq!(rt; status, Status::Done);
-    Ok(())
-}
-
-#[test]
-fn words_are_answered_by_the_usage(rt: HostRuntime) -> Result<(), Fail> {
-    let first_read_fails = Outside {
-        chunk: 7,
-        failing_reads: &[1],
-        failing_writes: &[],
-    };
-    let usages: [&[&str]; 5] = [
-        &["--workers", "0"],
-        &["generate", "5"],
-        &["--"],
-        &["--pool", "5", "--pool", "5"],
-        &[""],
-    ];
-    for words in usages {
-        let (status, output) = outcome(&rt, rt.alloc(), words, TWO_COMPONENTS, &first_read_fails)?;
-        assert_eq!(rt; output.as_str(), USAGE, "{words:?}");
-        assert_eq!(rt; status, Status::Usage, "{words:?}");
-    }
     Ok(())
 }
 

@@ -13,6 +13,8 @@ mod limits;
 #[cfg(test)]
 mod listings;
 #[cfg(test)]
+mod options;
+#[cfg(test)]
 mod pieces;
 #[cfg(test)]
 mod queries;

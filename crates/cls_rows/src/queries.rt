@@ -64,7 +64,10 @@ fn errors_have_their_words(rt: HostRuntime) -> Result<(), Fail> {
         ("list A max 1 take 1 after f(x, g(g))", "error token 31"),
         ("list $a max 0 take 1 after g", "error variable 5"),
         ("  inhabit A -> ", "error syntax 15"),
-        ("list A max 00000000000000000000000000000000000000000000000001024 take 01", "read"),
+        (
+            "list A max 00000000000000000000000000000000000000000000000001024 take 01",
+            "read",
+        ),
     ] {
         assert_eq!(rt; words(rt.alloc(), line)?.as_str(), expected, "in {line}");
     }
@@ -94,7 +97,12 @@ fn names_are_numbered_where_no_error_comes(rt: HostRuntime) -> Result<(), Fail> 
     assert!(rt; read_query(alloc, &mut constructors, &components, &refused).is_err());
     assert_eq!(rt; constructors.len(), 1);
     let line = Line::new(alloc, b"sub C(B) <= A & B")?;
-    assert!(rt; matches!(read_query(alloc, &mut constructors, &components, &line), Ok(Query::Sub(..))));
+    assert!(rt;
+        matches!(
+            read_query(alloc, &mut constructors, &components, &line),
+            Ok(Query::Sub(..))
+        )
+    );
     assert_eq!(rt; constructors.len(), 3);
     assert_eq!(rt; constructors.find("B").map(|name| name.0), Some(2));
     Ok(())

@@ -1,6 +1,7 @@
 -- How answers to single lines make the answer to the lines of a piece.
 use Rattle.std.proofs.Common.{◌≡◌, ℕ, ◌+◌, ◌≤◌, List, [], ◌∷◌, ◌++◌, length, refl, sym, ap, subst, inl, inr, arith, append_assoc, append-nil, length-append}
 use Rattle.std.specs.Prelude.{Err}
+use Rattle.cls_session.specs.declared.options.Options.{Options}
 use Rattle.cls_session.specs.declared.driver.Stop.{Stop}
 use Rattle.cls_session.specs.declared.driver.Stop.TheVariants as stops
 use Rattle.cls_base.specs.Outside.{SinkSeen, Holds}
@@ -13,13 +14,13 @@ use Rattle.cls_session.proofs.Writing.{Holds-rest, Writes-none, Writes-trans}
 
 -- a reply that is answered fits the room
 pub text_fits : {sink : SinkSeen} {old new : Standing} {line reply : List ℕ} → FitsLine sink old line
-    → ((lines : List (List ℕ)) (written : List ℕ) → Stands lines written old → Stands (lines ++ line ∷ []) (written ++ reply) new) → Holds sink.room (length reply)
-text_fits {new = new} {line = line} {reply = reply} f h = f.fits reply (inl (Stands-transcript (f.lines ++ line ∷ []) (f.written ++ reply) new (h f.lines f.written f.stands)))
+    → ((o : Options) (lines : List (List ℕ)) (written : List ℕ) → Stands o lines written old → Stands o (lines ++ line ∷ []) (written ++ reply) new) → Holds sink.room (length reply)
+text_fits {new = new} {line = line} {reply = reply} f h = f.fits reply (inl (Stands-transcript f.options (f.lines ++ line ∷ []) (f.written ++ reply) new (h f.options f.lines f.written f.stands)))
 
 -- a refusal fits it too
 pub refusal_fits : {sink : SinkSeen} {old : Standing} {line reply : List ℕ} → FitsLine sink old line
-    → ((lines : List (List ℕ)) (written : List ℕ) → Stands lines written old → IsRefused (lines ++ line ∷ []) (written ++ reply)) → Holds sink.room (length reply)
-refusal_fits {reply = reply} f h = f.fits reply (inr (h f.lines f.written f.stands))
+    → ((o : Options) (lines : List (List ℕ)) (written : List ℕ) → Stands o lines written old → IsRefused (lines ++ line ∷ []) (written ++ reply)) → Holds sink.room (length reply)
+refusal_fits {reply = reply} f h = f.fits reply (inr (h f.options f.lines f.written f.stands))
 
 pub CutsLines-push : (text mid after line : List ℕ) (lines : List (List ℕ)) → CutsLines text lines mid → CutsLine mid line after → CutsLines text (lines ++ line ∷ []) after
 CutsLines-push text mid after line [] e c = (after, subst (λ (x : List ℕ). CutsLine x line after) (sym e) c, refl)
@@ -36,33 +37,35 @@ CutLine-shorter text line rest c = (let w = ap length c.whole in let a = length-
 -- the first line that is cut off fits
 pub line_fits : {sink : SinkSeen} {old : Standing} {mid line after : List ℕ} → FitsLines sink old mid → CutsLine mid line after → FitsLine sink old line
 line_fits {line = line} {after = after} f cut = record {
+  options = f.options;
   lines = f.lines;
   written = f.written;
   stands = f.stands;
   fits = λ reply w. f.fits (line ∷ []) after reply (after, cut, refl) w;
 }
 
-written_on : (lines more : List (List ℕ)) (line written reply rest : List ℕ) → IsWritten ((lines ++ line ∷ []) ++ more) ((written ++ reply) ++ rest) → IsWritten (lines ++ line ∷ more) (written ++ (reply ++ rest))
-written_on lines more line written reply rest w =
-    subst (λ (x : List ℕ). IsWritten (lines ++ line ∷ more) x) (append_assoc written reply rest) (subst (λ (xs : List (List ℕ)). IsWritten xs ((written ++ reply) ++ rest)) (append_assoc lines (line ∷ []) more) w)
+written_on : (o : Options) (lines more : List (List ℕ)) (line written reply rest : List ℕ) → IsWritten o ((lines ++ line ∷ []) ++ more) ((written ++ reply) ++ rest) → IsWritten o (lines ++ line ∷ more) (written ++ (reply ++ rest))
+written_on o lines more line written reply rest w =
+    subst (λ (x : List ℕ). IsWritten o (lines ++ line ∷ more) x) (append_assoc written reply rest) (subst (λ (xs : List (List ℕ)). IsWritten o xs ((written ++ reply) ++ rest)) (append_assoc lines (line ∷ []) more) w)
 
 -- what follows the line fits the room that is left
 pub rest_fits : {sink sink' : SinkSeen} {old new : Standing} {mid line after : List ℕ} → FitsLines sink old mid → CutsLine mid line after → AnswersLine sink sink' old new line → FitsLines sink' new after
 rest_fits {line = line} {after = after} f cut a =
-    let (reply, next, writes) = a.reply f.lines f.written f.stands in
+    let (reply, next, writes) = a.reply f.options f.lines f.written f.stands in
     record {
+      options = f.options;
       lines = f.lines ++ line ∷ [];
       written = f.written ++ reply;
       stands = next;
       fits = λ more rest further cuts w.
-          Holds-rest further writes (f.fits (line ∷ more) rest (reply ++ further) (after, cut, cuts) (written_on f.lines more line f.written reply further w));
+          Holds-rest further writes (f.fits (line ∷ more) rest (reply ++ further) (after, cut, cuts) (written_on f.options f.lines more line f.written reply further w));
     }
 
 -- no line was answered yet
 pub answers_none : (sink : SinkSeen) (s : Standing) (text : List ℕ) → AnswersLines sink sink s s text text
 answers_none sink s text = record {
-  reply = λ lines written stands.
-      ([], [], refl, subst (λ (x : List ℕ). Stands (lines ++ []) x s) (sym (append-nil written)) (subst (λ (xs : List (List ℕ)). Stands xs written s) (sym (append-nil lines)) stands), Writes-none sink);
+  reply = λ o lines written stands.
+      ([], [], refl, subst (λ (x : List ℕ). Stands o (lines ++ []) x s) (sym (append-nil written)) (subst (λ (xs : List (List ℕ)). Stands o xs written s) (sym (append-nil lines)) stands), Writes-none sink);
 }
 
 -- what an error says of the one call it says of the call around it
@@ -77,13 +80,13 @@ module _ {a b : SinkSeen} {first mid : Standing} {text between line after : List
   -- it is answered
   pub answers_more : {c : SinkSeen} {last : Standing} → AnswersLine b c mid last line → AnswersLines a c first last text after
   answers_more {last = last} h = record {
-    reply = λ lines written stands.
-        let (more, reply, cuts, next, writes) = so_far.reply lines written stands in
-        let (further, end, wrote) = h.reply (lines ++ more) (written ++ reply) next in (
+    reply = λ o lines written stands.
+        let (more, reply, cuts, next, writes) = so_far.reply o lines written stands in
+        let (further, end, wrote) = h.reply o (lines ++ more) (written ++ reply) next in (
           more ++ line ∷ [],
           reply ++ further,
           CutsLines-push text between after line more cuts cut,
-          subst (λ (x : List ℕ). Stands (lines ++ (more ++ line ∷ [])) x last) (append_assoc written reply further) (subst (λ (xs : List (List ℕ)). Stands xs ((written ++ reply) ++ further) last) (append_assoc lines more (line ∷ [])) end),
+          subst (λ (x : List ℕ). Stands o (lines ++ (more ++ line ∷ [])) x last) (append_assoc written reply further) (subst (λ (xs : List (List ℕ)). Stands o xs ((written ++ reply) ++ further) last) (append_assoc lines more (line ∷ [])) end),
           Writes-trans writes wrote,
         );
   }
@@ -91,9 +94,9 @@ module _ {a b : SinkSeen} {first mid : Standing} {text between line after : List
   -- it is refused
   pub refuses_more : {c : SinkSeen} → RefusesLine b c mid line → RefusesLines a c first text
   refuses_more h = record {
-    reply = λ lines written stands.
-        let (more, reply, cuts, next, writes) = so_far.reply lines written stands in
-        let (further, end, wrote) = h.reply (lines ++ more) (written ++ reply) next in (
+    reply = λ o lines written stands.
+        let (more, reply, cuts, next, writes) = so_far.reply o lines written stands in
+        let (further, end, wrote) = h.reply o (lines ++ more) (written ++ reply) next in (
           more ++ line ∷ [],
           after,
           reply ++ further,

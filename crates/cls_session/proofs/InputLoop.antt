@@ -1,29 +1,31 @@
 -- How the input is answered while it comes.
-use Rattle.std.proofs.Common.{◌≡◌, ℕ, zero, suc, true, false, length-take-le, ◌+◌, ◌<◌, ◌≤◌, List, [], ◌∷◌, ◌++◌, length, take, drop, refl, sym, ap, ◌∙◌, subst, inl, inr, arith, append_assoc, append-nil, length-append, take-append-drop}
-use Rattle.std.specs.Prelude.{◌⊎◌, ◌==◌, Option, None, Some, Err}
-use Rattle.std.proofs.lemmas.Bool.Decides.{nat_tests}
-use Rattle.std.specs.Io.KnownBytes.{Consumes, Keeps, IsAtEnd}
+use Rattle.std.proofs.Common.{◌≡◌, ℕ, length-take-le, ◌+◌, ◌<◌, ◌≤◌, List, [], ◌++◌, length, take, drop, refl, sym, ap, ◌∙◌, subst, inl, inr, arith, append_assoc, append-nil, length-append, take-append-drop}
+use Rattle.std.specs.Prelude.{◌⊎◌, Option, None, Some, Err}
+use Rattle.std.specs.Io.KnownBytes.{Appends, Consumes, Keeps, IsAtEnd}
 use Rattle.std.proofs.KnownBytes.{Appends-trans, Consumes-nil, Consumes-trans, Consumes-kept}
 use Rattle.cls_base.specs.Limits.{max_input_bytes, max_read_bytes}
 use Rattle.cls_base.specs.Outside.{SourceSeen, SinkSeen}
 use Rattle.cls_lexer.specs.Lines.{HasNoFeed, lines_of, ended_lines}
 use Rattle.cls_lexer.proofs.LinePieces.{ended_lines-HasNoFeed}
+use Rattle.cls_session.specs.declared.options.Options.{Options}
 use Rattle.cls_session.specs.declared.driver.Stop.{Stop}
 use Rattle.cls_session.specs.declared.driver.Stop.TheVariants as stops
 use Rattle.cls_session.specs.declared.status.Status.{Status}
 use Rattle.cls_session.specs.declared.status.Status.TheVariants as status
-use Rattle.cls_session.specs.Driving.{CutsLines, Writes, FitsLines, FitsLast, AnswersLines, RefusesLines, BreaksLines, RefusesLast, BreaksLast, IsEnded, EndsOutput, MatchStop}
-use Rattle.cls_session.specs.Outputs.{Output, IsWhole, IsCutOff, IsBrokenOff, Answers, BeginsAnswers, AnswersTaken, KeepsPace, HasRoom}
+use Rattle.cls_session.specs.Driving.{CutsLines, Writes, FitsLines, FitsLast, AnswersLines, RefusesLines, BreaksLines, RefusesLast, BreaksLast, before_last, within_last, IsWritten, IsEnded, EndsOutput, MatchStop}
+use Rattle.cls_session.specs.declared.words.Command.TheVariants.{Session}
+use Rattle.cls_session.specs.Commands.{Asks}
+use Rattle.cls_session.specs.Outputs.{Output, of_session, MayStand, of_text, IsWhole, IsCutOff, IsBrokenOff, Answers, BeginsAnswers, AnswersTaken, KeepsPace, HasRoom}
 use Rattle.cls_session.specs.Standings.{Standing, Stands}
 use Rattle.cls_session.specs.Stops.{status_of}
 use Rattle.cls_session.specs.Transcripts.{Transcript, IsRefused, Ending, without_end, complete}
 use Rattle.cls_session.proofs.Driving.{CutsLines-trans}
-use Rattle.cls_session.proofs.Outputs.{Begins, IsWholly, CutsLines-append, ended_lines-CutsLines, told, told_front, answers_ended, keeps_pace, room_left, output_goes_on, output_refused, output_refused_last, output_ended, output_too_long}
+use Rattle.cls_session.proofs.Outputs.{Begins, IsWholly, CutsLines-append, ended_lines-CutsLines, told, told_front, answers_ended, keeps_pace, room_left, text_stands, last_stands, output_refused, output_refused_last, output_ended, output_too_long}
 use Rattle.cls_session.proofs.Standings.{Stands-transcript}
 use Rattle.cls_session.proofs.Writing.{Writes-none, Writes-trans}
 
 -- So many bytes were read: the lines that end in them were answered, and the reader holds the rest.
-pub record IsUnderWay (source source' : SourceSeen) (sink sink' : SinkSeen) (session : Standing) (reader : List ℕ) (taken : ℕ) : Type 0 where
+pub record IsUnderWay (o : Options) (source source' : SourceSeen) (sink sink' : SinkSeen) (session : Standing) (reader : List ℕ) (taken : ℕ) : Type 0 where
   pub bytes : List ℕ
   pub lines : List (List ℕ)
   pub written : List ℕ
@@ -31,7 +33,7 @@ pub record IsUnderWay (source source' : SourceSeen) (sink sink' : SinkSeen) (ses
   pub consumes : Consumes source.left source'.left bytes
   pub cuts : CutsLines bytes lines reader
   pub no_feed : HasNoFeed reader
-  pub stands : Stands lines written session
+  pub stands : Stands o lines written session
   pub writes : Writes sink sink' written
 
 Consumes-begins : (a b : Option (List ℕ)) (front : List ℕ) → Consumes a b front → Begins a front
@@ -49,8 +51,8 @@ Begins-front None front more b = tt
 Begins-front (Some x) front more (tail, e) = (more ++ tail, e ∙ append_assoc front more tail)
 
 -- nothing was read
-pub none_read : (source : SourceSeen) (sink : SinkSeen) (session : Standing) (reader : List ℕ) → Stands [] [] session → reader ≡ [] → IsUnderWay source source sink sink session reader 0
-none_read source sink session reader s e = record {
+pub none_read : (o : Options) (source : SourceSeen) (sink : SinkSeen) (session : Standing) (reader : List ℕ) → Stands o [] [] session → reader ≡ [] → IsUnderWay o source source sink sink session reader 0
+none_read o source sink session reader s e = record {
   bytes = [];
   lines = [];
   written = [];
@@ -63,8 +65,8 @@ none_read source sink session reader s e = record {
 }
 
 -- the end of the input was read
-pub none_more : {source source' : SourceSeen} {sink sink' : SinkSeen} {session : Standing} {reader : List ℕ} {taken : ℕ} (source'' : SourceSeen) (count : ℕ) (buffer : List ℕ)
-    → IsUnderWay source source' sink sink' session reader taken → count ≡ 0 → Consumes source'.left source''.left (take count buffer) → IsUnderWay source source'' sink sink' session reader taken
+pub none_more : {o : Options} {source source' : SourceSeen} {sink sink' : SinkSeen} {session : Standing} {reader : List ℕ} {taken : ℕ} (source'' : SourceSeen) (count : ℕ) (buffer : List ℕ)
+    → IsUnderWay o source source' sink sink' session reader taken → count ≡ 0 → Consumes source'.left source''.left (take count buffer) → IsUnderWay o source source'' sink sink' session reader taken
 none_more {source = source} {source' = source'} source'' count buffer u none consumes = record {
   bytes = u.bytes;
   lines = u.lines;
@@ -92,22 +94,6 @@ cut_piece source source' buffer piece over count place front back consumes withi
       consumes = subst (λ (x : List ℕ). Consumes source.left source'.left x) (sym joined) consumes;
       lengths = sym (length-append piece over) ∙ (ap length joined ∙ length-take-le count buffer within);
     }
-
--- a length that isn't 0
-pub some_over : (n : ℕ) → false ≡ (n == 0) → 0 < n
-some_over zero e = false_differs e
-  where
-    false_differs : false ≡ true → 0 < 0
-    false_differs e = cc
-some_over (suc n) e = omega arith
-
-is_none : (n : ℕ) → true ≡ (n == 0) → n ≡ 0
-is_none n e = grind (arith, nat_tests)
-
--- a text of length 0 is empty
-pub none_over : (over : List ℕ) → true ≡ (length over == 0) → over ≡ []
-none_over [] e = refl
-none_over (x ∷ over) e = absurd (let n = is_none (length (x ∷ over)) e in omega arith)
 
 -- if a run stops early, only a refusal is whole
 stopped : (A : Type 0) (stop : Stop) (end : Status) (Well : A → Type 0) (Refuses Breaks : Type 0) (Claim : Status → Type 0)
@@ -156,29 +142,33 @@ pub end_is_no_usage : (end : Status) → IsEndStatus end → end ≡ status.Usag
 end_is_no_usage end (inl e) u = done_differs (sym e ∙ u)
 end_is_no_usage end (inr e) u = refused_differs (sym e ∙ u)
 
-Ending-status : (lines : List (List ℕ)) (text : List ℕ) (end : Status) → Ending lines text end → IsEndStatus end
-Ending-status lines text end (without_end ds r t s) = inr s
-Ending-status lines text end (complete ds a s) = inl s
+Ending-status : (o : Options) (lines : List (List ℕ)) (text : List ℕ) (end : Status) → Ending o lines text end → IsEndStatus end
+Ending-status o lines text end (without_end ds r t s) = inr s
+Ending-status o lines text end (complete ds a s) = inl s
+
+-- bytes that are the whole begin it
+begins_wholly : (front bytes : List ℕ) → IsWholly (Some bytes) front → Begins (Some bytes) front
+begins_wholly front bytes e = ([], e ∙ sym (append-nil front))
 
 -- The input is read, and so many bytes of it were taken.
-module _ {source source' : SourceSeen} {sink sink' : SinkSeen} {session : Standing} {reader : List ℕ} {taken : ℕ}
-    (u : IsUnderWay source source' sink sink' session reader taken) where
+module _ {o : Options} {source source' : SourceSeen} {sink sink' : SinkSeen} {session : Standing} {reader : List ℕ} {taken : ℕ}
+    (u : IsUnderWay o source source' sink sink' session reader taken) (words : List (List ℕ)) (asks : Asks words (Session o)) where
   -- the lines that end in the bytes are those that were answered
   all_ended : ended_lines u.bytes ≡ u.lines
   all_ended = ended_lines-CutsLines u.bytes reader u.lines u.cuts ∙ (ap (λ (xs : List (List ℕ)). u.lines ++ xs) (ended_lines-HasNoFeed reader u.no_feed) ∙ append-nil u.lines)
 
-  transcript : Transcript (ended_lines u.bytes) u.written
-  transcript = subst (λ (xs : List (List ℕ)). Transcript xs u.written) (sym all_ended) (Stands-transcript u.lines u.written session u.stands)
+  transcript : Transcript o (ended_lines u.bytes) u.written
+  transcript = subst (λ (xs : List (List ℕ)). Transcript o xs u.written) (sym all_ended) (Stands-transcript o u.lines u.written session u.stands)
 
   pub end_status : {sink'' : SinkSeen} {end : Status} → EndsOutput sink' sink'' session reader end → IsEndStatus end
   end_status {end = end} h =
-      let (reply, ends, writes) = h.reply u.lines u.written u.stands in
-      Ending-status (u.lines ++ lines_of reader) (u.written ++ reply) end ends
+      let (reply, ends, writes) = h.reply o u.lines u.written u.stands in
+      Ending-status o (u.lines ++ lines_of reader) (u.written ++ reply) end ends
 
   -- a read failed
-  pub answers_taken : (source'' : SourceSeen) → taken ≤ max_input_bytes → Keeps source'.left source''.left → AnswersTaken [] source source'' sink sink'
+  pub answers_taken : (source'' : SourceSeen) → taken ≤ max_input_bytes → Keeps source'.left source''.left → AnswersTaken words source source'' sink sink'
   answers_taken source'' short keeps =
-      answers_ended source source'' u.bytes u.written (Consumes-kept source.left source'.left source''.left u.bytes u.consumes keeps) transcript (let k = u.count in omega arith) u.writes
+      answers_ended o words asks source source'' u.bytes u.written (Consumes-kept source.left source'.left source''.left u.bytes u.consumes keeps) transcript (let k = u.count in omega arith) u.writes
 
   -- The end of the input was reached.
   module _ (short : taken ≤ max_input_bytes) (at_end : IsAtEnd source'.left) where
@@ -188,71 +178,80 @@ module _ {source source' : SourceSeen} {sink sink' : SinkSeen} {session : Standi
     few : length u.bytes ≤ max_input_bytes
     few = (let k = u.count in omega arith)
 
-    refused_output : (reply bytes : List ℕ) → source.left ≡ Some bytes → IsRefused (u.lines ++ lines_of reader) (u.written ++ reply) → Output [] bytes (u.written ++ reply) status.Refused
-    refused_output reply bytes e r = output_refused_last u.bytes reader (u.written ++ reply) u.lines u.cuts few bytes (wholly bytes e) r
+    refused_output : (reply bytes : List ℕ) → source.left ≡ Some bytes → IsRefused (u.lines ++ lines_of reader) (u.written ++ reply) → Output words bytes (u.written ++ reply) status.Refused
+    refused_output reply bytes e r = of_session o asks (output_refused_last o u.bytes reader (u.written ++ reply) u.lines u.cuts few bytes (wholly bytes e) r)
 
-    ended_output : (reply : List ℕ) (end : Status) (bytes : List ℕ) → source.left ≡ Some bytes → Ending (u.lines ++ lines_of reader) (u.written ++ reply) end → Output [] bytes (u.written ++ reply) end
-    ended_output reply end bytes e r = output_ended u.bytes reader (u.written ++ reply) u.lines u.cuts few bytes end (wholly bytes e) r
+    ended_output : (reply : List ℕ) (end : Status) (bytes : List ℕ) → source.left ≡ Some bytes → Ending o (u.lines ++ lines_of reader) (u.written ++ reply) end → Output words bytes (u.written ++ reply) end
+    ended_output reply end bytes e r = of_session o asks (output_ended o u.bytes reader (u.written ++ reply) u.lines u.cuts few bytes end (wholly bytes e) r)
 
-    without_more : (reply bytes : List ℕ) (end : Status) → Output [] bytes (u.written ++ reply) end → (more : List ℕ) × (end : Status) × Output [] bytes ((u.written ++ reply) ++ more) end
-    without_more reply bytes end o = ([], end, subst (λ (x : List ℕ). Output [] bytes x end) (sym (append-nil (u.written ++ reply))) o)
+    -- what stands written at the end of the input
+    last_text : (text bytes : List ℕ) → source.left ≡ Some bytes → IsEnded o (u.lines ++ lines_of reader) text → MayStand words bytes text
+    last_text text bytes e w = of_text o asks (last_stands o u.bytes reader text u.lines u.cuts few bytes (wholly bytes e) w)
 
-    -- the room is enough for what ends the output
-    pub last_has_room : HasRoom [] source sink → FitsLast sink' session reader
+    -- the room is enough for it
+    pub last_has_room : HasRoom words source sink → FitsLast sink' session reader
     last_has_room h = record {
+      options = o;
       lines = u.lines;
       written = u.written;
       stands = u.stands;
-      refused = λ reply r. room_left source u.written reply h u.writes (λ bytes e. without_more reply bytes status.Refused (refused_output reply bytes e r));
-      ended = λ reply end r. room_left source u.written reply h u.writes (λ bytes e. without_more reply bytes end (ended_output reply end bytes e r));
+      fits = λ reply w. room_left words source u.written reply h u.writes (λ bytes e. last_text (u.written ++ reply) bytes e w);
     }
 
     -- if the last line is answered the output is complete
-    pub answers_end : {sink'' : SinkSeen} {end : Status} → EndsOutput sink' sink'' session reader end → Answers [] source sink sink'' end
+    pub answers_end : {sink'' : SinkSeen} {end : Status} → EndsOutput sink' sink'' session reader end → Answers words source sink sink'' end
     answers_end {end = end} h =
-        let (reply, ends, writes) = h.reply u.lines u.written u.stands in
-        told source (u.written ++ reply) end (Writes-trans u.writes writes) (λ bytes e. ended_output reply end bytes e ends)
+        let (reply, ends, writes) = h.reply o u.lines u.written u.stands in
+        told words source (u.written ++ reply) end (Writes-trans u.writes writes) (λ bytes e. ended_output reply end bytes e ends)
 
-    answers_last_refused : {sink'' : SinkSeen} → RefusesLast sink' sink'' session reader → Answers [] source sink sink'' status.Refused
+    answers_last_refused : {sink'' : SinkSeen} → RefusesLast sink' sink'' session reader → Answers words source sink sink'' status.Refused
     answers_last_refused h =
-        let (reply, refused, writes) = h.reply u.lines u.written u.stands in
-        told source (u.written ++ reply) status.Refused (Writes-trans u.writes writes) (λ bytes e. refused_output reply bytes e refused)
+        let (reply, refused, writes) = h.reply o u.lines u.written u.stands in
+        told words source (u.written ++ reply) status.Refused (Writes-trans u.writes writes) (λ bytes e. refused_output reply bytes e refused)
 
-    -- an end that was reached is an output
-    output_of_end : (reply bytes : List ℕ) → source.left ≡ Some bytes → IsEnded (u.lines ++ lines_of reader) (u.written ++ reply) → (end : Status) × Output [] bytes (u.written ++ reply) end
-    output_of_end reply bytes e (inl r) = (status.Refused, refused_output reply bytes e r)
-    output_of_end reply bytes e (inr (end, r)) = (end, ended_output reply end bytes e r)
+    -- what was written for the lines before, and no more, may stand
+    lines_text : (bytes : List ℕ) → source.left ≡ Some bytes → MayStand words bytes (u.written ++ [])
+    lines_text bytes e =
+        let w : IsWritten o u.lines (u.written ++ []) = inl (subst (λ (x : List ℕ). Transcript o u.lines x) (sym (append-nil u.written)) (Stands-transcript o u.lines u.written session u.stands)) in
+        of_text o asks (text_stands o u.bytes reader (u.written ++ []) u.lines u.cuts few bytes (begins_wholly u.bytes bytes (wholly bytes e)) w)
 
-    begins_last : {sink'' : SinkSeen} → BreaksLast sink' sink'' session reader → BeginsAnswers [] source sink sink''
-    begins_last {sink'' = sink''} h =
-        let (reply, ended, f) = h.reply u.lines u.written u.stands in
-        told_front sink sink'' source (u.written ++ f.front) f.rest (Appends-trans sink.held sink'.held sink''.held u.written f.front u.writes.held f.held)
-        (λ bytes e. let (end, output) = output_of_end reply bytes e ended in
-        ([], end, subst (λ (x : List ℕ). Output [] bytes x end) (ap (λ (x : List ℕ). u.written ++ x) f.split ∙ (sym (append_assoc u.written f.front f.rest) ∙ sym (append-nil ((u.written ++ f.front) ++ f.rest)))) output))
+    begins_last : {sink'' : SinkSeen} → BreaksLast sink' sink'' session reader → BeginsAnswers words source sink sink''
+    begins_last {sink'' = sink''} (before_last none) =
+        let w = Writes-trans u.writes none in
+        told_front words sink sink'' source u.written [] (subst (λ (x : List ℕ). Appends sink.held sink''.held x) (append-nil u.written) w.held) lines_text
+    begins_last {sink'' = sink''} (within_last h) =
+        let (reply, ended, f) = h o u.lines u.written u.stands in
+        told_front words sink sink'' source (u.written ++ f.front) f.rest (Appends-trans sink.held sink'.held sink''.held u.written f.front u.writes.held f.held)
+        (λ bytes e. subst (λ (x : List ℕ). MayStand words bytes x) (ap (λ (x : List ℕ). u.written ++ x) f.split ∙ sym (append_assoc u.written f.front f.rest)) (last_text (u.written ++ reply) bytes e ended))
 
-    last_keeps_pace : {sink'' : SinkSeen} → BreaksLast sink' sink'' session reader → KeepsPace source source' sink sink''
-    last_keeps_pace {sink'' = sink''} h =
-        let (reply, ended, f) = h.reply u.lines u.written u.stands in
-        keeps_pace sink sink'' source source' u.bytes [] u.written f.front (subst (λ (x : List ℕ). Consumes source.left source'.left x) (sym (append-nil u.bytes)) u.consumes) (omega arith) transcript
-        (Appends-trans sink.held sink'.held sink''.held u.written f.front u.writes.held f.held)
+    -- more than what was written for the lines before, and all bytes
+    pace : (sink'' : SinkSeen) (more : List ℕ) → Appends sink.held sink''.held (u.written ++ more) → KeepsPace words source source' sink sink''
+    pace sink'' more w =
+        keeps_pace o words asks sink sink'' source source' u.bytes [] u.written more (subst (λ (x : List ℕ). Consumes source.left source'.left x) (sym (append-nil u.bytes)) u.consumes) (omega arith) transcript w
+
+    last_keeps_pace : {sink'' : SinkSeen} → BreaksLast sink' sink'' session reader → KeepsPace words source source' sink sink''
+    last_keeps_pace {sink'' = sink''} (before_last none) = (let w = Writes-trans u.writes none in pace sink'' [] w.held)
+    last_keeps_pace {sink'' = sink''} (within_last h) =
+        let (reply, ended, f) = h o u.lines u.written u.stands in
+        pace sink'' f.front (Appends-trans sink.held sink'.held sink''.held u.written f.front u.writes.held f.held)
 
     -- The last line stopped the run.
     module _ (sink'' : SinkSeen) (stop : Stop) (end : Status)
         (h : MatchStop {A = Status} (Err stop) (EndsOutput sink' sink'' session reader) (RefusesLast sink' sink'' session reader) (BreaksLast sink' sink'' session reader)) (is : end ≡ status_of stop) where
       -- what was written is an output if anything was refused
-      pub answers_last_stopped : IsWhole end → Answers [] source sink sink'' end
+      pub answers_last_stopped : IsWhole end → Answers words source sink sink'' end
       answers_last_stopped = stopped Status stop end (EndsOutput sink' sink'' session reader) (RefusesLast sink' sink'' session reader) (BreaksLast sink' sink'' session reader)
-          (λ x. Answers [] source sink sink'' x) h is answers_last_refused
+          (λ x. Answers words source sink sink'' x) h is answers_last_refused
 
       -- otherwise it begins one
-      pub begins_last_stopped : IsCutOff end → BeginsAnswers [] source sink sink''
+      pub begins_last_stopped : IsCutOff end → BeginsAnswers words source sink sink''
       begins_last_stopped = cut_off Status stop end (EndsOutput sink' sink'' session reader) (RefusesLast sink' sink'' session reader) (BreaksLast sink' sink'' session reader)
-          (BeginsAnswers [] source sink sink'') h is begins_last
+          (BeginsAnswers words source sink sink'') h is begins_last
 
       -- and all lines that came whole were answered
-      pub last_stopped_keeps_pace : IsBrokenOff end → KeepsPace source source' sink sink''
+      pub last_stopped_keeps_pace : IsBrokenOff end → KeepsPace words source source' sink sink''
       last_stopped_keeps_pace = broken_off Status stop end (EndsOutput sink' sink'' session reader) (RefusesLast sink' sink'' session reader) (BreaksLast sink' sink'' session reader)
-          (KeepsPace source source' sink sink'') h is last_keeps_pace
+          (KeepsPace words source source' sink sink'') h is last_keeps_pace
 
   -- A further piece was read, and bytes that are too many.
   module _ {source'' : SourceSeen} {piece over : List ℕ} {count : ℕ} (p : IsPiece source' source'' piece over count) (short : taken + length piece ≤ max_input_bytes) where
@@ -271,33 +270,36 @@ module _ {source source' : SourceSeen} {sink sink' : SinkSeen} {session : Standi
     cuts_on : (more : List (List ℕ)) (rest : List ℕ) → CutsLines (reader ++ piece) more rest → CutsLines (u.bytes ++ piece) (u.lines ++ more) rest
     cuts_on more rest cs = CutsLines-trans (u.bytes ++ piece) (reader ++ piece) rest u.lines more (CutsLines-append u.bytes reader piece u.lines u.cuts) cs
 
-    -- the room is enough for the replies to the lines of the piece
-    pub piece_has_room : HasRoom [] source sink → FitsLines sink' session (reader ++ piece)
+    -- what stands written for lines of the piece
+    piece_text : (more : List (List ℕ)) (rest text bytes : List ℕ) → CutsLines (reader ++ piece) more rest → source.left ≡ Some bytes → IsWritten o (u.lines ++ more) text → MayStand words bytes text
+    piece_text more rest text bytes cs e w = of_text o asks (text_stands o (u.bytes ++ piece) rest text (u.lines ++ more) (cuts_on more rest cs) few_bytes bytes (begins bytes e) w)
+
+    -- the room is enough for it
+    pub piece_has_room : HasRoom words source sink → FitsLines sink' session (reader ++ piece)
     piece_has_room h = record {
+      options = o;
       lines = u.lines;
       written = u.written;
       stands = u.stands;
-      fits = λ more rest reply cs w.
-          room_left source u.written reply h u.writes (λ bytes e. output_goes_on (u.bytes ++ piece) rest (u.written ++ reply) (u.lines ++ more) (cuts_on more rest cs) few_bytes bytes (begins bytes e) w);
+      fits = λ more rest reply cs w. room_left words source u.written reply h u.writes (λ bytes e. piece_text more rest (u.written ++ reply) bytes cs e w);
     }
 
-    answers_refused : {sink'' : SinkSeen} → RefusesLines sink' sink'' session (reader ++ piece) → Answers [] source sink sink'' status.Refused
+    answers_refused : {sink'' : SinkSeen} → RefusesLines sink' sink'' session (reader ++ piece) → Answers words source sink sink'' status.Refused
     answers_refused h =
-        let (more, rest, reply, cs, refused, writes) = h.reply u.lines u.written u.stands in
-        told source (u.written ++ reply) status.Refused (Writes-trans u.writes writes)
-        (λ bytes e. output_refused (u.bytes ++ piece) rest (u.written ++ reply) (u.lines ++ more) (cuts_on more rest cs) few_bytes bytes (begins bytes e) refused)
+        let (more, rest, reply, cs, refused, writes) = h.reply o u.lines u.written u.stands in
+        told words source (u.written ++ reply) status.Refused (Writes-trans u.writes writes)
+        (λ bytes e. of_session o asks (output_refused o (u.bytes ++ piece) rest (u.written ++ reply) (u.lines ++ more) (cuts_on more rest cs) few_bytes bytes (begins bytes e) refused))
 
-    begins_lines : {sink'' : SinkSeen} → BreaksLines sink' sink'' session (reader ++ piece) → BeginsAnswers [] source sink sink''
+    begins_lines : {sink'' : SinkSeen} → BreaksLines sink' sink'' session (reader ++ piece) → BeginsAnswers words source sink sink''
     begins_lines {sink'' = sink''} h =
-        let (more, rest, reply, cs, w, f) = h.reply u.lines u.written u.stands in
-        told_front sink sink'' source (u.written ++ f.front) f.rest (Appends-trans sink.held sink'.held sink''.held u.written f.front u.writes.held f.held)
-        (λ bytes e. let (on, end, output) = output_goes_on (u.bytes ++ piece) rest (u.written ++ reply) (u.lines ++ more) (cuts_on more rest cs) few_bytes bytes (begins bytes e) w in
-        (on, end, subst (λ (x : List ℕ). Output [] bytes (x ++ on) end) (ap (λ (x : List ℕ). u.written ++ x) f.split ∙ sym (append_assoc u.written f.front f.rest)) output))
+        let (more, rest, reply, cs, w, f) = h.reply o u.lines u.written u.stands in
+        told_front words sink sink'' source (u.written ++ f.front) f.rest (Appends-trans sink.held sink'.held sink''.held u.written f.front u.writes.held f.held)
+        (λ bytes e. subst (λ (x : List ℕ). MayStand words bytes x) (ap (λ (x : List ℕ). u.written ++ x) f.split ∙ sym (append_assoc u.written f.front f.rest)) (piece_text more rest (u.written ++ reply) bytes cs e w))
 
-    lines_keep_pace : {sink'' : SinkSeen} → count ≤ max_read_bytes → BreaksLines sink' sink'' session (reader ++ piece) → KeepsPace source source'' sink sink''
+    lines_keep_pace : {sink'' : SinkSeen} → count ≤ max_read_bytes → BreaksLines sink' sink'' session (reader ++ piece) → KeepsPace words source source'' sink sink''
     lines_keep_pace {sink'' = sink''} most h =
-        let (more, rest, reply, cs, w, f) = h.reply u.lines u.written u.stands in
-        keeps_pace sink sink'' source source'' u.bytes (piece ++ over) u.written f.front (subst (λ (x : List ℕ). Consumes source.left source''.left x) (append_assoc u.bytes piece over) read)
+        let (more, rest, reply, cs, w, f) = h.reply o u.lines u.written u.stands in
+        keeps_pace o words asks sink sink'' source source'' u.bytes (piece ++ over) u.written f.front (subst (λ (x : List ℕ). Consumes source.left source''.left x) (append_assoc u.bytes piece over) read)
         (let a = length-append piece over in let b = p.lengths in omega arith) transcript (Appends-trans sink.held sink'.held sink''.held u.written f.front u.writes.held f.held)
 
     -- A line of the piece stopped the run.
@@ -305,34 +307,34 @@ module _ {source source' : SourceSeen} {sink sink' : SinkSeen} {session : Standi
         (h : MatchStop {A = A} (Err stop) (λ _. AnswersLines sink' sink'' session session' (reader ++ piece) reader') (RefusesLines sink' sink'' session (reader ++ piece)) (BreaksLines sink' sink'' session (reader ++ piece)))
         (is : end ≡ status_of stop) where
       -- what was written is an output if anything was refused
-      pub answers_stopped : IsWhole end → Answers [] source sink sink'' end
+      pub answers_stopped : IsWhole end → Answers words source sink sink'' end
       answers_stopped = stopped A stop end (λ _. AnswersLines sink' sink'' session session' (reader ++ piece) reader') (RefusesLines sink' sink'' session (reader ++ piece)) (BreaksLines sink' sink'' session (reader ++ piece))
-          (λ x. Answers [] source sink sink'' x) h is answers_refused
+          (λ x. Answers words source sink sink'' x) h is answers_refused
 
       -- otherwise it begins one
-      pub begins_stopped : IsCutOff end → BeginsAnswers [] source sink sink''
+      pub begins_stopped : IsCutOff end → BeginsAnswers words source sink sink''
       begins_stopped = cut_off A stop end (λ _. AnswersLines sink' sink'' session session' (reader ++ piece) reader') (RefusesLines sink' sink'' session (reader ++ piece)) (BreaksLines sink' sink'' session (reader ++ piece))
-          (BeginsAnswers [] source sink sink'') h is begins_lines
+          (BeginsAnswers words source sink sink'') h is begins_lines
 
       -- and all lines that had come whole before the piece were answered
-      pub stopped_keeps_pace : count ≤ max_read_bytes → IsBrokenOff end → KeepsPace source source'' sink sink''
+      pub stopped_keeps_pace : count ≤ max_read_bytes → IsBrokenOff end → KeepsPace words source source'' sink sink''
       stopped_keeps_pace most = broken_off A stop end (λ _. AnswersLines sink' sink'' session session' (reader ++ piece) reader') (RefusesLines sink' sink'' session (reader ++ piece)) (BreaksLines sink' sink'' session (reader ++ piece))
-          (KeepsPace source source'' sink sink'') h is (lines_keep_pace most)
+          (KeepsPace words source source'' sink sink'') h is (lines_keep_pace most)
 
     -- The lines of the piece were answered.
     module _ {sink'' : SinkSeen} {session' : Standing} {reader' : List ℕ} (answers : AnswersLines sink' sink'' session session' (reader ++ piece) reader') (free : HasNoFeed reader') where
       -- if bytes are too many, the replies to the lines that count are an output
-      pub answers_too_long : taken + length piece ≡ max_input_bytes → 0 < length over → Answers [] source sink sink'' status.TooLong
+      pub answers_too_long : taken + length piece ≡ max_input_bytes → 0 < length over → Answers words source sink sink'' status.TooLong
       answers_too_long full some =
-          let (more, reply, cs, next, writes) = answers.reply u.lines u.written u.stands in
+          let (more, reply, cs, next, writes) = answers.reply o u.lines u.written u.stands in
           let all : length (u.bytes ++ piece) ≡ max_input_bytes = (let k = u.count in let a = length-append u.bytes piece in omega arith) in
-          told source (u.written ++ reply) status.TooLong (Writes-trans u.writes writes)
-          (λ bytes e. output_too_long (u.bytes ++ piece) reader' (u.written ++ reply) (u.lines ++ more) (cuts_on more reader' cs) few_bytes bytes over (begins_over bytes e) all some free (Stands-transcript (u.lines ++ more) (u.written ++ reply) session' next))
+          told words source (u.written ++ reply) status.TooLong (Writes-trans u.writes writes)
+          (λ bytes e. of_session o asks (output_too_long o (u.bytes ++ piece) reader' (u.written ++ reply) (u.lines ++ more) (cuts_on more reader' cs) few_bytes bytes over (begins_over bytes e) all some free (Stands-transcript o (u.lines ++ more) (u.written ++ reply) session' next)))
 
       -- if none is too many, the run goes on
-      pub piece_answered : over ≡ [] → IsUnderWay source source'' sink sink'' session' reader' (taken + length piece)
+      pub piece_answered : over ≡ [] → IsUnderWay o source source'' sink sink'' session' reader' (taken + length piece)
       piece_answered none =
-          let (more, reply, cs, next, writes) = answers.reply u.lines u.written u.stands in
+          let (more, reply, cs, next, writes) = answers.reply o u.lines u.written u.stands in
           record {
             bytes = u.bytes ++ piece;
             lines = u.lines ++ more;

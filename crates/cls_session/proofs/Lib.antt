@@ -1,3 +1,5 @@
+pub mod Lengths
+pub mod CommandWords
 pub mod LastLines
 pub mod Pools
 pub mod Counts
@@ -14,3 +16,4 @@ pub mod Driving
 pub mod LineForms
 pub mod Outputs
 pub mod InputLoop
+pub mod GoingOn

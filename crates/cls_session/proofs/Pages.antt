@@ -1,12 +1,12 @@
 -- The terms of a page of omega, as their texts are made.
 use Rattle.std.proofs.Common.{◌≡◌, ℕ, ◌<◌, List, length, sym, ap, ◌∙◌, subst, arith, Bool, get_or}
 use Rattle.std.specs.Prelude.{All, codes}
-use Rattle.cls_base.specs.Limits.{max_pool}
 use Rattle.cls_base.specs.Types as types
 use Rattle.cls_base.specs.Terms.{Applicative, component, apply, IsTermOver}
 use Rattle.cls_base.specs.Pages.{IsPage}
 use Rattle.cls_term.specs.Components.{greatest_of}
 use Rattle.cls_term.specs.Texts.{name_at}
+use Rattle.cls_session.specs.declared.options.Options.{Options}
 use Rattle.cls_session.specs.Declarations.{Declaration, names_of}
 use Rattle.cls_session.specs.Listings.{omega_request, AreFew, AreMany}
 use Rattle.cls_session.specs.Replies.{reply_line, page_text, IsOmega, ListsOmega, HasTooMany}
@@ -24,7 +24,7 @@ pub at_place : (P : Applicative → Type 0) (es : List Applicative) (i : ℕ) (e
 at_place P es i e all l is = subst P (sym is) (all i e l)
 
 -- The names are those of the components.
-module _ (names : List (List ℕ)) (declared : List Declaration) (is : names ≡ names_of declared) (max take : ℕ) where
+module _ (o : Options) (names : List (List ℕ)) (declared : List Declaration) (is : names ≡ names_of declared) (max take : ℕ) where
   typed : (e : Applicative) → IsTermOver (length names) e → IsOmega declared e
   typed e o = typed_from_over declared e (subst (λ k. IsTermOver k e) (ap length is ∙ length-names_of declared) o)
 
@@ -33,15 +33,15 @@ module _ (names : List (List ℕ)) (declared : List Declaration) (is : names ≡
 
   -- the text that lists the page
   pub lists_page : (text : List ℕ) (es : List Applicative) (more : Bool) → IsPage (IsTermOver (length names)) (omega_request max take) es more
-      → AreFew (IsTermOver (length names)) max take max_pool → text ≡ page_text (name_at names) es more → ListsOmega declared max take text
+      → AreFew (IsTermOver (length names)) max take o.pool → text ≡ page_text (name_at names) es more → ListsOmega o declared max take text
   lists_page text es more p f e = record {
     terms = es;
     more = more;
     page = page_to (IsTermOver (length names)) (IsOmega declared) (omega_request max take) typed over es more p;
-    few = few_to (IsTermOver (length names)) (IsOmega declared) typed over max take max_pool f;
+    few = few_to (IsTermOver (length names)) (IsOmega declared) typed over max take o.pool f;
     written = e ∙ ap (λ (table : List (List ℕ)). page_text (name_at table) es more) is;
   }
 
   -- the text that says that there are too many terms
-  pub has_too_many : (text : List ℕ) → AreMany (IsTermOver (length names)) max take max_pool → text ≡ reply_line (codes "error too-many-terms") → HasTooMany declared max take text
-  has_too_many text m e = record { many = many_to (IsTermOver (length names)) (IsOmega declared) typed over max take max_pool m; written = e }
+  pub has_too_many : (text : List ℕ) → AreMany (IsTermOver (length names)) max take o.pool → text ≡ reply_line (codes "error too-many-terms") → HasTooMany o declared max take text
+  has_too_many text m e = record { many = many_to (IsTermOver (length names)) (IsOmega declared) typed over max take o.pool m; written = e }

@@ -6,6 +6,7 @@ use Rattle.std.proofs.lemmas.Map.Views.{Contains-from_any}
 use Rattle.cls_base.specs.Limits.{max_components}
 use Rattle.cls_lexer.specs.Skipped.{IsSkipped}
 use Rattle.cls_syntax.specs.LineGrammars.{row_words}
+use Rattle.cls_session.specs.declared.options.Options.{Options}
 use Rattle.cls_session.specs.declared.status.Status.TheVariants.{Done, Refused}
 use Rattle.cls_session.specs.Declarations.{Declaration, names_of}
 use Rattle.cls_session.specs.Forms.{IsDeclaration, IsEnd, declaration_line, end_line, repository_rows}
@@ -15,58 +16,71 @@ use Rattle.cls_session.specs.Standings.{Standing, Stands}
 use Rattle.cls_lexer.specs.Names.{with_text}
 use Rattle.std.proofs.lemmas.Bool.{cases_lt}
 use Rattle.cls_session.proofs.Decisions.{same_bytes, contains_decided}
-use Rattle.cls_session.proofs.Standings.{reading, querying, IsFaulty, repeated, full, Stands-skip, Stands-declare, Stands-end, Stands-refused, Stands-reply, Ending-reading, Ending-querying}
+use Rattle.cls_session.proofs.Standings.{reading, querying, IsFaulty, repeated, full, Stands-options, Stands-skip, Stands-declare, Stands-end, Stands-refused, Stands-reply, Ending-reading, Ending-querying}
 
--- The session s keeps these names, this count and this mark.
-module _ (names : List (List ℕ)) (count : ℕ) (ended : Bool) (s : Standing) (is : record { components = names; lines = count; ended = ended } ≡ s)
-    (lines : List (List ℕ)) (written : List ℕ) (stands : Stands lines written s) where
-  is_reading : ended ≡ false → Stands lines written (reading names count)
-  is_reading e = subst (λ (x : Standing). Stands lines written x) (sym is ∙ (λ i. record { components = names; lines = count; ended = e i })) stands
+-- The session s keeps these options, names, this count and this mark.
+module _ (options : Options) (names : List (List ℕ)) (count : ℕ) (ended : Bool) (s : Standing) (is : record { options = options; components = names; lines = count; ended = ended } ≡ s)
+    (o : Options) (lines : List (List ℕ)) (written : List ℕ) (stands : Stands o lines written s) where
+  same : options ≡ o
+  same = ap (λ (x : Standing). x.options) is ∙ Stands-options o lines written s stands
 
-  is_querying : ended ≡ true → Stands lines written (querying names count)
-  is_querying e = subst (λ (x : Standing). Stands lines written x) (sym is ∙ (λ i. record { components = names; lines = count; ended = e i })) stands
+  -- the options are those that the session keeps
+  kept : (ls : List (List ℕ)) (text : List ℕ) (more : List (List ℕ)) (n : ℕ) (b : Bool) → Stands o ls text record { options = o; components = more; lines = n; ended = b }
+      → Stands o ls text record { options = options; components = more; lines = n; ended = b }
+  kept ls text more n b h = subst (λ (p : Options). Stands o ls text record { options = p; components = more; lines = n; ended = b }) (sym same) h
+
+  is_reading : ended ≡ false → Stands o lines written (reading o names count)
+  is_reading e = subst (λ (x : Standing). Stands o lines written x) (sym is ∙ (λ i. record { options = same i; components = names; lines = count; ended = e i })) stands
+
+  is_querying : ended ≡ true → Stands o lines written (querying o names count)
+  is_querying e = subst (λ (x : Standing). Stands o lines written x) (sym is ∙ (λ i. record { options = same i; components = names; lines = count; ended = e i })) stands
 
   reads : s.ended ≡ false → ended ≡ false
   reads e = ap (λ (x : Standing). x.ended) is ∙ e
 
-  silent : (ls : List (List ℕ)) (reply : List ℕ) (x : Standing) → reply ≡ [] → Stands ls (written ++ []) x → Stands ls (written ++ reply) x
-  silent ls reply x e h = subst (λ (t : List ℕ). Stands ls (written ++ t) x) (sym e) h
+  silent : (ls : List (List ℕ)) (reply : List ℕ) (x : Standing) → reply ≡ [] → Stands o ls (written ++ []) x → Stands o ls (written ++ reply) x
+  silent ls reply x e h = subst (λ (t : List ℕ). Stands o ls (written ++ t) x) (sym e) h
 
-  still : (ls : List (List ℕ)) (reply : List ℕ) (more : List (List ℕ)) (n : ℕ) → ended ≡ false → Stands ls (written ++ reply) (reading more n) → Stands ls (written ++ reply) record { components = more; lines = n; ended = ended }
-  still ls reply more n e h = subst (λ (b : Bool). Stands ls (written ++ reply) record { components = more; lines = n; ended = b }) (sym e) h
+  still : (ls : List (List ℕ)) (reply : List ℕ) (more : List (List ℕ)) (n : ℕ) → ended ≡ false → Stands o ls (written ++ reply) (reading o more n)
+      → Stands o ls (written ++ reply) record { options = options; components = more; lines = n; ended = ended }
+  still ls reply more n e h = subst (λ (b : Bool). Stands o ls (written ++ reply) record { options = options; components = more; lines = n; ended = b }) (sym e) (kept ls (written ++ reply) more n false h)
 
   -- a line of the repository that is skipped
-  pub skips : (line reply : List ℕ) → s.ended ≡ false → reply ≡ [] → IsSkipped line → Stands (lines ++ line ∷ []) (written ++ reply) record { components = names; lines = count + 1; ended = ended }
-  skips line reply r e q = still (lines ++ line ∷ []) reply names (count + 1) (reads r) (silent (lines ++ line ∷ []) reply _ e (Stands-skip lines written line names count (is_reading (reads r)) q))
+  pub skips : (line reply : List ℕ) → s.ended ≡ false → reply ≡ [] → IsSkipped line → Stands o (lines ++ line ∷ []) (written ++ reply) record { options = options; components = names; lines = count + 1; ended = ended }
+  skips line reply r e q = still (lines ++ line ∷ []) reply names (count + 1) (reads r) (silent (lines ++ line ∷ []) reply _ e (Stands-skip o lines written line names count (is_reading (reads r)) q))
 
   -- the line that ends the repository
-  pub ends : (line reply : List ℕ) → s.ended ≡ false → reply ≡ [] → IsEnd line → Stands (lines ++ line ∷ []) (written ++ reply) (querying names (count + 1))
-  ends line reply r e q = silent (lines ++ line ∷ []) reply (querying names (count + 1)) e (Stands-end lines written line names count (is_reading (reads r)) q)
+  pub ends : (line reply : List ℕ) → s.ended ≡ false → reply ≡ [] → IsEnd line → Stands o (lines ++ line ∷ []) (written ++ reply) record { options = options; components = names; lines = count + 1; ended = true }
+  ends line reply r e q =
+      kept (lines ++ line ∷ []) (written ++ reply) names (count + 1) true (silent (lines ++ line ∷ []) reply (querying o names (count + 1)) e (Stands-end o lines written line names count (is_reading (reads r)) q))
 
   -- a line that declares a component
   pub declares : (line reply name type : List ℕ) (grown : List (List ℕ)) → s.ended ≡ false → reply ≡ [] → IsDeclaration line record { component = name; type = type }
-      → (Contains names name → ⊥) → length names < max_components → grown ≡ names ++ name ∷ [] → Stands (lines ++ line ∷ []) (written ++ reply) record { components = grown; lines = count + 1; ended = ended }
+      → (Contains names name → ⊥) → length names < max_components → grown ≡ names ++ name ∷ [] → Stands o (lines ++ line ∷ []) (written ++ reply) record { options = options; components = grown; lines = count + 1; ended = ended }
   declares line reply name type grown r e q new few g =
       let d : Declaration = record { component = name; type = type } in
-      let h = Stands-declare lines written line names count d (is_reading (reads r)) q new few in
-      still (lines ++ line ∷ []) reply grown (count + 1) (reads r) (subst (λ (xs : List (List ℕ)). Stands (lines ++ line ∷ []) (written ++ reply) (reading xs (count + 1))) (sym g) (silent (lines ++ line ∷ []) reply _ e h))
+      let h = Stands-declare o lines written line names count d (is_reading (reads r)) q new few in
+      still (lines ++ line ∷ []) reply grown (count + 1) (reads r) (subst (λ (xs : List (List ℕ)). Stands o (lines ++ line ∷ []) (written ++ reply) (reading o xs (count + 1))) (sym g) (silent (lines ++ line ∷ []) reply _ e h))
 
   -- a line that is the first fault
   pub refuses : (line reply : List ℕ) → s.ended ≡ false → reply ≡ refusal (count + 1) → IsFaulty names line → (IsEnd line → ⊥) → IsRefused (lines ++ line ∷ []) (written ++ reply)
-  refuses line reply r e f n = subst (λ (t : List ℕ). IsRefused (lines ++ line ∷ []) (written ++ t)) (sym e) (Stands-refused lines written line names count (is_reading (reads r)) f n)
+  refuses line reply r e f n = subst (λ (t : List ℕ). IsRefused (lines ++ line ∷ []) (written ++ t)) (sym e) (Stands-refused o lines written line names count (is_reading (reads r)) f n)
 
   -- a line after the repository
-  pub answers : (line reply : List ℕ) → ended ≡ true → ((ds : List Declaration) → names ≡ names_of ds → Reply ds line reply) → Stands (lines ++ line ∷ []) (written ++ reply) record { components = names; lines = count + 1; ended = ended }
+  pub answers : (line reply : List ℕ) → ended ≡ true → ((ds : List Declaration) → names ≡ names_of ds → Reply options ds line reply)
+      → Stands o (lines ++ line ∷ []) (written ++ reply) record { options = options; components = names; lines = count + 1; ended = ended }
   answers line reply e q =
-      subst (λ (b : Bool). Stands (lines ++ line ∷ []) (written ++ reply) record { components = names; lines = count + 1; ended = b }) (sym e) (Stands-reply lines written line names count reply (is_querying e) q)
+      let reply_is : (ds : List Declaration) → names ≡ names_of ds → Reply o ds line reply = λ ds n. subst (λ (p : Options). Reply p ds line reply) same (q ds n) in
+      subst (λ (b : Bool). Stands o (lines ++ line ∷ []) (written ++ reply) record { options = options; components = names; lines = count + 1; ended = b }) (sym e)
+      (kept (lines ++ line ∷ []) (written ++ reply) names (count + 1) true (Stands-reply o lines written line names count reply (is_querying e) reply_is))
 
   -- the end of the input within the repository
-  pub ends_reading : (last : List ℕ) → ended ≡ false → last ≡ refusal count → Ending lines (written ++ last) Refused
-  ends_reading last e l = Ending-reading names count lines written last l (is_reading e)
+  pub ends_reading : (last : List ℕ) → ended ≡ false → last ≡ refusal count → Ending o lines (written ++ last) Refused
+  ends_reading last e l = Ending-reading o names count lines written last l (is_reading e)
 
   -- the end of the input after it
-  pub ends_querying : (last : List ℕ) → ended ≡ true → last ≡ [] → Ending lines (written ++ last) Done
-  ends_querying last e l = Ending-querying names count lines written last l (is_querying e)
+  pub ends_querying : (last : List ℕ) → ended ≡ true → last ≡ [] → Ending o lines (written ++ last) Done
+  ends_querying last e l = Ending-querying o names count lines written last l (is_querying e)
 
 -- a new text goes last
 pub new_text : (table : List (List ℕ)) (text : List ℕ) → (Contains table text → ⊥) → with_text table text ≡ table ++ text ∷ []

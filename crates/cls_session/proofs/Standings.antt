@@ -4,6 +4,7 @@ use Rattle.std.specs.Prelude.{Contains}
 use Rattle.std.proofs.lemmas.List.{length_push}
 use Rattle.cls_base.specs.Limits.{max_components}
 use Rattle.cls_lexer.specs.Skipped.{IsSkipped}
+use Rattle.cls_session.specs.declared.options.Options.{Options}
 use Rattle.cls_session.specs.Declarations.{Declaration, names_of}
 use Rattle.cls_session.specs.Forms.{IsDeclaration, IsEnd}
 use Rattle.cls_session.specs.Repositories.{Declared, skipped, declares, IsRepository}
@@ -57,105 +58,128 @@ IsRepository-none lines line ds r f cs q =
     let is : cs ≡ ds ++ p.1 = p.4 ∙ ap (λ (xs : List Declaration). xs ++ p.1) same in
     entry_of ds line p.1 f p.3 (subst (λ (xs : List Declaration). AreDistinct (names_of xs)) is q.different) (subst (λ (xs : List Declaration). length xs ≤ max_components) is q.few)
 
-pub Replies-push : (ds : List Declaration) (lines : List (List ℕ)) (line text reply : List ℕ) → Replies ds lines text → Reply ds line reply → Replies ds (lines ++ line ∷ []) (text ++ reply)
-Replies-push ds lines line text reply (none l t) q =
-    next (line ∷ []) [] reply [] (ap (λ (xs : List (List ℕ)). xs ++ line ∷ []) l) (of_line line refl q) (none refl refl) (ap (λ (x : List ℕ). x ++ reply) t ∙ sym (append-nil reply))
-Replies-push ds lines line text reply (next query others a b l p ps t) q =
-    next query (others ++ line ∷ []) a (b ++ reply) (ap (λ (xs : List (List ℕ)). xs ++ line ∷ []) l ∙ append_assoc query others (line ∷ [])) p (Replies-push ds others line b reply ps q)
-    (ap (λ (x : List ℕ). x ++ reply) t ∙ append_assoc a b reply)
-Replies-push ds lines line text reply (begun b t) q = absurd b
-
-pub IsAnswered-push : (lines : List (List ℕ)) (line text reply : List ℕ) (ds : List Declaration) → IsAnswered lines ds text → Reply ds line reply → IsAnswered (lines ++ line ∷ []) ds (text ++ reply)
-IsAnswered-push lines line text reply ds a q = record {
-  repository = a.repository;
-  end = a.end;
-  queries = a.queries ++ line ∷ [];
-  split = ap (λ (xs : List (List ℕ)). xs ++ line ∷ []) a.split ∙ append_assoc a.repository (a.end ∷ a.queries) (line ∷ []);
-  ends = a.ends;
-  reads = a.reads;
-  replies = Replies-push ds a.queries line text reply a.replies q;
+-- a first fault stays the first
+pub IsRefused-append : (lines more : List (List ℕ)) (text : List ℕ) → IsRefused lines text → IsRefused (lines ++ more) text
+IsRefused-append lines more text r = record {
+  place = r.place;
+  fault = (let f = r.fault in record {
+    before = f.before;
+    line = f.line;
+    after = f.after ++ more;
+    split = ap (λ (xs : List (List ℕ)). xs ++ more) f.split ∙ append_assoc f.before (f.line ∷ f.after) more;
+    number = f.number;
+    so_far = f.so_far;
+    no_end = f.no_end;
+    no_repository = f.no_repository;
+  });
+  written = r.written;
 }
 
-pub IsAnswered-end : (lines : List (List ℕ)) (line : List ℕ) (ds : List Declaration) → IsRepository lines ds → IsEnd line → IsAnswered (lines ++ line ∷ []) ds []
-IsAnswered-end lines line ds r e = record { repository = lines; end = line; queries = []; split = refl; ends = e; reads = r; replies = none refl refl }
+-- WHAT IS WRITTEN WITH THESE OPTIONS
+module _ (o : Options) where
+  pub Replies-push : (ds : List Declaration) (lines : List (List ℕ)) (line text reply : List ℕ) → Replies o ds lines text → Reply o ds line reply → Replies o ds (lines ++ line ∷ []) (text ++ reply)
+  Replies-push ds lines line text reply (none l t) q =
+      next (line ∷ []) [] reply [] (ap (λ (xs : List (List ℕ)). xs ++ line ∷ []) l) (of_line line refl q) (none refl refl) (ap (λ (x : List ℕ). x ++ reply) t ∙ sym (append-nil reply))
+  Replies-push ds lines line text reply (next query others a b l p ps t) q =
+      next query (others ++ line ∷ []) a (b ++ reply) (ap (λ (xs : List (List ℕ)). xs ++ line ∷ []) l ∙ append_assoc query others (line ∷ [])) p (Replies-push ds others line b reply ps q)
+      (ap (λ (x : List ℕ). x ++ reply) t ∙ append_assoc a b reply)
+  Replies-push ds lines line text reply (begun b t) q = absurd b
 
--- what a session that reads the repository holds
-abbrev pub reading : List (List ℕ) → ℕ → Standing
-reading names count = record { components = names; lines = count; ended = false }
+  pub IsAnswered-push : (lines : List (List ℕ)) (line text reply : List ℕ) (ds : List Declaration) → IsAnswered o lines ds text → Reply o ds line reply → IsAnswered o (lines ++ line ∷ []) ds (text ++ reply)
+  IsAnswered-push lines line text reply ds a q = record {
+    repository = a.repository;
+    end = a.end;
+    queries = a.queries ++ line ∷ [];
+    split = ap (λ (xs : List (List ℕ)). xs ++ line ∷ []) a.split ∙ append_assoc a.repository (a.end ∷ a.queries) (line ∷ []);
+    ends = a.ends;
+    reads = a.reads;
+    replies = Replies-push ds a.queries line text reply a.replies q;
+  }
 
-abbrev pub querying : List (List ℕ) → ℕ → Standing
-querying names count = record { components = names; lines = count; ended = true }
+  pub IsAnswered-end : (lines : List (List ℕ)) (line : List ℕ) (ds : List Declaration) → IsRepository lines ds → IsEnd line → IsAnswered o (lines ++ line ∷ []) ds []
+  IsAnswered-end lines line ds r e = record { repository = lines; end = line; queries = []; split = refl; ends = e; reads = r; replies = none refl refl }
 
-ended_differs : {P : Type 0} → false ≡ true → P
-ended_differs e = cc
+  -- what a session that reads the repository holds
+  abbrev pub reading : List (List ℕ) → ℕ → Standing
+  reading names count = record { options = o; components = names; lines = count; ended = false }
 
--- a session that reads the repository has written nothing
-pub Stands-reading : (lines : List (List ℕ)) (text : List ℕ) (names : List (List ℕ)) (count : ℕ) → Stands lines text (reading names count)
-    → (ds : List Declaration) × IsRepository lines ds × (text ≡ []) × (names ≡ names_of ds) × (count ≡ length lines)
-Stands-reading lines text names count (standings.opening ds r t e) = (ds, r, t, ap (λ (s : Standing). s.components) e, ap (λ (s : Standing). s.lines) e)
-Stands-reading lines text names count (standings.answering ds a e) = ended_differs (ap (λ (s : Standing). s.ended) e)
+  abbrev pub querying : List (List ℕ) → ℕ → Standing
+  querying names count = record { options = o; components = names; lines = count; ended = true }
 
-pub Stands-querying : (lines : List (List ℕ)) (text : List ℕ) (names : List (List ℕ)) (count : ℕ) → Stands lines text (querying names count)
-    → (ds : List Declaration) × IsAnswered lines ds text × (names ≡ names_of ds) × (count ≡ length lines)
-Stands-querying lines text names count (standings.opening ds r t e) = ended_differs (sym (ap (λ (s : Standing). s.ended) e))
-Stands-querying lines text names count (standings.answering ds a e) = (ds, a, ap (λ (s : Standing). s.components) e, ap (λ (s : Standing). s.lines) e)
+  ended_differs : {P : Type 0} → false ≡ true → P
+  ended_differs e = cc
 
-pub Stands-transcript : (lines : List (List ℕ)) (text : List ℕ) (s : Standing) → Stands lines text s → Transcript lines text
-Stands-transcript lines text s (standings.opening ds r t e) = opening ds r t
-Stands-transcript lines text s (standings.answering ds a e) = answering ds a
+  -- a session that reads the repository has written nothing
+  pub Stands-reading : (lines : List (List ℕ)) (text : List ℕ) (names : List (List ℕ)) (count : ℕ) → Stands o lines text (reading names count)
+      → (ds : List Declaration) × IsRepository lines ds × (text ≡ []) × (names ≡ names_of ds) × (count ≡ length lines)
+  Stands-reading lines text names count (standings.opening ds r t e) = (ds, r, t, ap (λ (s : Standing). s.components) e, ap (λ (s : Standing). s.lines) e)
+  Stands-reading lines text names count (standings.answering ds a e) = ended_differs (ap (λ (s : Standing). s.ended) e)
 
-pub Stands-counted : (lines : List (List ℕ)) (text : List ℕ) (s : Standing) → Stands lines text s → s.lines ≡ length lines
-Stands-counted lines text s (standings.opening ds r t e) = ap (λ (x : Standing). x.lines) e
-Stands-counted lines text s (standings.answering ds a e) = ap (λ (x : Standing). x.lines) e
+  pub Stands-querying : (lines : List (List ℕ)) (text : List ℕ) (names : List (List ℕ)) (count : ℕ) → Stands o lines text (querying names count)
+      → (ds : List Declaration) × IsAnswered o lines ds text × (names ≡ names_of ds) × (count ≡ length lines)
+  Stands-querying lines text names count (standings.opening ds r t e) = ended_differs (sym (ap (λ (s : Standing). s.ended) e))
+  Stands-querying lines text names count (standings.answering ds a e) = (ds, a, ap (λ (s : Standing). s.components) e, ap (λ (s : Standing). s.lines) e)
 
-module _ (lines : List (List ℕ)) (text line : List ℕ) (names : List (List ℕ)) (count : ℕ) where
-  pub Stands-skip : Stands lines text (reading names count) → IsSkipped line → Stands (lines ++ line ∷ []) (text ++ []) (reading names (count + 1))
-  Stands-skip h s =
+  pub Stands-transcript : (lines : List (List ℕ)) (text : List ℕ) (s : Standing) → Stands o lines text s → Transcript o lines text
+  Stands-transcript lines text s (standings.opening ds r t e) = opening ds r t
+  Stands-transcript lines text s (standings.answering ds a e) = answering ds a
+
+  pub Stands-options : (lines : List (List ℕ)) (text : List ℕ) (s : Standing) → Stands o lines text s → s.options ≡ o
+  Stands-options lines text s (standings.opening ds r t e) = ap (λ (x : Standing). x.options) e
+  Stands-options lines text s (standings.answering ds a e) = ap (λ (x : Standing). x.options) e
+
+  pub Stands-counted : (lines : List (List ℕ)) (text : List ℕ) (s : Standing) → Stands o lines text s → s.lines ≡ length lines
+  Stands-counted lines text s (standings.opening ds r t e) = ap (λ (x : Standing). x.lines) e
+  Stands-counted lines text s (standings.answering ds a e) = ap (λ (x : Standing). x.lines) e
+
+  module _ (lines : List (List ℕ)) (text line : List ℕ) (names : List (List ℕ)) (count : ℕ) where
+    pub Stands-skip : Stands o lines text (reading names count) → IsSkipped line → Stands o (lines ++ line ∷ []) (text ++ []) (reading names (count + 1))
+    Stands-skip h s =
+        let (ds, r, t, n, c) = Stands-reading lines text names count h in
+        standings.opening ds (IsRepository-skip lines line ds r s) (append-nil text ∙ t) (λ i. reading (n i) ((ap (λ k. k + 1) c ∙ sym (length_push lines line)) i))
+
+    pub Stands-declare : (d : Declaration) → Stands o lines text (reading names count) → IsDeclaration line d → (Contains names d.component → ⊥) → length names < max_components
+        → Stands o (lines ++ line ∷ []) (text ++ []) (reading (names ++ d.component ∷ []) (count + 1))
+    Stands-declare d h s new few =
+        let (ds, r, t, n, c) = Stands-reading lines text names count h in
+        let grown : names ++ d.component ∷ [] ≡ names_of (ds ++ d ∷ []) = ap (λ (xs : List (List ℕ)). xs ++ d.component ∷ []) n ∙ sym (names_of-append ds (d ∷ [])) in
+        let absent : Contains (names_of ds) d.component → ⊥ = λ k. new (subst (λ (xs : List (List ℕ)). Contains xs d.component) (sym n) k) in
+        let room : length ds < max_components = (let a = length-names_of ds in let b = ap length n in omega arith) in
+        standings.opening (ds ++ d ∷ []) (IsRepository-declare lines line ds d r s absent room) (append-nil text ∙ t) (λ i. reading (grown i) ((ap (λ k. k + 1) c ∙ sym (length_push lines line)) i))
+
+    pub Stands-end : Stands o lines text (reading names count) → IsEnd line → Stands o (lines ++ line ∷ []) (text ++ []) (querying names (count + 1))
+    Stands-end h e =
+        let (ds, r, t, n, c) = Stands-reading lines text names count h in
+        let a : IsAnswered o (lines ++ line ∷ []) ds (text ++ []) = subst (λ (x : List ℕ). IsAnswered o (lines ++ line ∷ []) ds (x ++ [])) (sym t) (IsAnswered-end lines line ds r e) in
+        standings.answering ds a (λ i. querying (n i) ((ap (λ k. k + 1) c ∙ sym (length_push lines line)) i))
+
+    pub Stands-refused : Stands o lines text (reading names count) → IsFaulty names line → (IsEnd line → ⊥) → IsRefused (lines ++ line ∷ []) (text ++ refusal (count + 1))
+    Stands-refused h f e =
+        let (ds, r, t, n, c) = Stands-reading lines text names count h in
+        record {
+          place = count + 1;
+          fault = record { before = lines; line = line; after = []; split = refl; number = ap (λ k. k + 1) c; so_far = (ds, r); no_end = e; no_repository = IsRepository-none lines line ds r (subst (λ (xs : List (List ℕ)). IsFaulty xs line) n f) };
+          written = ap (λ (x : List ℕ). x ++ refusal (count + 1)) t;
+        }
+
+    pub Stands-reply : (reply : List ℕ) → Stands o lines text (querying names count) → ((ds : List Declaration) → names ≡ names_of ds → Reply o ds line reply)
+        → Stands o (lines ++ line ∷ []) (text ++ reply) (querying names (count + 1))
+    Stands-reply reply h q =
+        let (ds, a, n, c) = Stands-querying lines text names count h in
+        standings.answering ds (IsAnswered-push lines line text reply ds a (q ds n)) (λ i. querying (n i) ((ap (λ k. k + 1) c ∙ sym (length_push lines line)) i))
+
+  -- no line is the repository without components
+  pub Stands-nothing : Stands o [] [] (reading [] 0)
+  Stands-nothing = standings.opening [] record { declared = refl; different = tt; few = omega arith } refl refl
+
+  -- what ends the output of a session that reads the repository
+  pub Ending-reading : (names : List (List ℕ)) (count : ℕ) (lines : List (List ℕ)) (text last : List ℕ) → last ≡ refusal count → Stands o lines text (reading names count) → Ending o lines (text ++ last) Refused
+  Ending-reading names count lines text last e h =
       let (ds, r, t, n, c) = Stands-reading lines text names count h in
-      standings.opening ds (IsRepository-skip lines line ds r s) (append-nil text ∙ t) (λ i. reading (n i) ((ap (λ k. k + 1) c ∙ sym (length_push lines line)) i))
+      without_end ds r (ap (λ (x : List ℕ). x ++ last) t ∙ (e ∙ ap refusal c)) refl
 
-  pub Stands-declare : (d : Declaration) → Stands lines text (reading names count) → IsDeclaration line d → (Contains names d.component → ⊥) → length names < max_components
-      → Stands (lines ++ line ∷ []) (text ++ []) (reading (names ++ d.component ∷ []) (count + 1))
-  Stands-declare d h s new few =
-      let (ds, r, t, n, c) = Stands-reading lines text names count h in
-      let grown : names ++ d.component ∷ [] ≡ names_of (ds ++ d ∷ []) = ap (λ (xs : List (List ℕ)). xs ++ d.component ∷ []) n ∙ sym (names_of-append ds (d ∷ [])) in
-      let absent : Contains (names_of ds) d.component → ⊥ = λ k. new (subst (λ (xs : List (List ℕ)). Contains xs d.component) (sym n) k) in
-      let room : length ds < max_components = (let a = length-names_of ds in let b = ap length n in omega arith) in
-      standings.opening (ds ++ d ∷ []) (IsRepository-declare lines line ds d r s absent room) (append-nil text ∙ t) (λ i. reading (grown i) ((ap (λ k. k + 1) c ∙ sym (length_push lines line)) i))
-
-  pub Stands-end : Stands lines text (reading names count) → IsEnd line → Stands (lines ++ line ∷ []) (text ++ []) (querying names (count + 1))
-  Stands-end h e =
-      let (ds, r, t, n, c) = Stands-reading lines text names count h in
-      let a : IsAnswered (lines ++ line ∷ []) ds (text ++ []) = subst (λ (x : List ℕ). IsAnswered (lines ++ line ∷ []) ds (x ++ [])) (sym t) (IsAnswered-end lines line ds r e) in
-      standings.answering ds a (λ i. querying (n i) ((ap (λ k. k + 1) c ∙ sym (length_push lines line)) i))
-
-  pub Stands-refused : Stands lines text (reading names count) → IsFaulty names line → (IsEnd line → ⊥) → IsRefused (lines ++ line ∷ []) (text ++ refusal (count + 1))
-  Stands-refused h f e =
-      let (ds, r, t, n, c) = Stands-reading lines text names count h in
-      record {
-        place = count + 1;
-        fault = record { before = lines; line = line; after = []; split = refl; number = ap (λ k. k + 1) c; so_far = (ds, r); no_end = e; no_repository = IsRepository-none lines line ds r (subst (λ (xs : List (List ℕ)). IsFaulty xs line) n f) };
-        written = ap (λ (x : List ℕ). x ++ refusal (count + 1)) t;
-      }
-
-  pub Stands-reply : (reply : List ℕ) → Stands lines text (querying names count) → ((ds : List Declaration) → names ≡ names_of ds → Reply ds line reply)
-      → Stands (lines ++ line ∷ []) (text ++ reply) (querying names (count + 1))
-  Stands-reply reply h q =
+  -- what ends the output of a session that answers queries
+  pub Ending-querying : (names : List (List ℕ)) (count : ℕ) (lines : List (List ℕ)) (text last : List ℕ) → last ≡ [] → Stands o lines text (querying names count) → Ending o lines (text ++ last) Done
+  Ending-querying names count lines text last e h =
       let (ds, a, n, c) = Stands-querying lines text names count h in
-      standings.answering ds (IsAnswered-push lines line text reply ds a (q ds n)) (λ i. querying (n i) ((ap (λ k. k + 1) c ∙ sym (length_push lines line)) i))
-
--- no line is the repository without components
-pub Stands-nothing : Stands [] [] (reading [] 0)
-Stands-nothing = standings.opening [] record { declared = refl; different = tt; few = omega arith } refl refl
-
--- what ends the output of a session that reads the repository
-pub Ending-reading : (names : List (List ℕ)) (count : ℕ) (lines : List (List ℕ)) (text last : List ℕ) → last ≡ refusal count → Stands lines text (reading names count) → Ending lines (text ++ last) Refused
-Ending-reading names count lines text last e h =
-    let (ds, r, t, n, c) = Stands-reading lines text names count h in
-    without_end ds r (ap (λ (x : List ℕ). x ++ last) t ∙ (e ∙ ap refusal c)) refl
-
--- what ends the output of a session that answers queries
-pub Ending-querying : (names : List (List ℕ)) (count : ℕ) (lines : List (List ℕ)) (text last : List ℕ) → last ≡ [] → Stands lines text (querying names count) → Ending lines (text ++ last) Done
-Ending-querying names count lines text last e h =
-    let (ds, a, n, c) = Stands-querying lines text names count h in
-    complete ds (subst (λ (x : List ℕ). IsAnswered lines ds x) (sym (ap (λ (x : List ℕ). text ++ x) e ∙ append-nil text)) a) refl
+      complete ds (subst (λ (x : List ℕ). IsAnswered o lines ds x) (sym (ap (λ (x : List ℕ). text ++ x) e ∙ append-nil text)) a) refl

@@ -76,9 +76,9 @@ part_stays {a = a} {b = b} {c = c} {rest = rest} p k = record { front = p.front;
 pub whole_front : {a b : SinkSeen} {text : List ℕ} → Writes a b text → WritesFront a b text
 whole_front {text = text} w = record { front = text; rest = []; split = sym (append-nil text); held = w.held }
 
--- nothing of it was
-pub no_front : (sink : SinkSeen) (text : List ℕ) → WritesFront sink sink text
-no_front sink text = record { front = []; rest = text; split = refl; held = Appends-nil sink.held }
+-- nothing more was written
+pub written_front : {a b : SinkSeen} {text : List ℕ} → Writes a b (text ++ []) → WritesFront a b text
+written_front {a = a} {b = b} {text = text} w = whole_front (subst (λ (x : List ℕ). Writes a b x) (append-nil text) w)
 
 -- a front was written after a text
 pub front_after : {a b c : SinkSeen} {text next : List ℕ} → Writes a b text → WritesFront b c next → WritesFront a c (text ++ next)
@@ -88,7 +88,3 @@ front_after {a = a} {b = b} {c = c} {text = text} w f = record {
   split = ap (λ (x : List ℕ). text ++ x) f.split ∙ sym (append_assoc text f.front f.rest);
   held = Appends-trans a.held b.held c.held text f.front w.held f.held;
 }
-
--- more is to follow the text
-pub front_of_more : {a b : SinkSeen} {text : List ℕ} (more : List ℕ) → WritesFront a b text → WritesFront a b (text ++ more)
-front_of_more more f = record { front = f.front; rest = f.rest ++ more; split = ap (λ (x : List ℕ). x ++ more) f.split ∙ append_assoc f.front f.rest more; held = f.held }

@@ -3,6 +3,7 @@ use Rattle.std.specs.Prelude.{ℕ, ◌≡◌, ◌⊎◌, List, [], ◌∷◌, �
 use Rattle.std.specs.Io.KnownBytes.{Appends}
 use Rattle.cls_base.specs.Outside.{SinkSeen, Fills, HasRisen, Holds}
 use Rattle.cls_lexer.specs.Lines.{CutsLine, lines_of}
+use Rattle.cls_session.specs.declared.options.Options.{Options}
 use Rattle.cls_session.specs.declared.status.Status.{Status}
 use Rattle.cls_session.specs.declared.driver.Stop.{Stop}
 use Rattle.cls_session.specs.declared.driver.Stop.TheVariants as stops
@@ -27,96 +28,104 @@ pub record WritesFront (sink sink' : SinkSeen) (text : List ℕ) : Type 0 where
   pub held : Appends sink.held sink'.held front
 
 -- What may stand written for the lines. The last of them may be the one at which the repository is refused.
-abbrev pub IsWritten : List (List ℕ) → List ℕ → Type 0
-IsWritten lines text = Transcript lines text ⊎ IsRefused lines text
+abbrev pub IsWritten : Options → List (List ℕ) → List ℕ → Type 0
+IsWritten o lines text = Transcript o lines text ⊎ IsRefused lines text
 
--- What may stand written at the end of these lines. The last of them may be the one at which the repository is refused.
-abbrev pub IsEnded : List (List ℕ) → List ℕ → Type 0
-IsEnded lines text = IsRefused lines text ⊎ ((status : Status) × Ending lines text status)
+-- What may stand written for the lines if no more follow: the same, or what ends the output.
+abbrev pub IsEnded : Options → List (List ℕ) → List ℕ → Type 0
+IsEnded o lines text = IsWritten o lines text ⊎ ((status : Status) × Ending o lines text status)
 
--- ONE LINE. In each record `lines` were fed to the session and `written` is what was written for them. The reply goes on
--- with it.
+-- ONE LINE. In each of these words the session has the options `o`, `lines` were fed to it, and `written` is what was
+-- written for them. The reply goes on with it.
 
 -- The line was answered.
 pub record AnswersLine (sink sink' : SinkSeen) (session session' : Standing) (line : List ℕ) : Type 0 where
-  pub reply : (lines : List (List ℕ)) (written : List ℕ) → Stands lines written session
-      → (reply : List ℕ) × Stands (lines ++ line ∷ []) (written ++ reply) session' × Writes sink sink' reply
+  pub reply : (o : Options) (lines : List (List ℕ)) (written : List ℕ) → Stands o lines written session
+      → (reply : List ℕ) × Stands o (lines ++ line ∷ []) (written ++ reply) session' × Writes sink sink' reply
 
 -- The line was refused, and the refusal was written.
 pub record RefusesLine (sink sink' : SinkSeen) (session : Standing) (line : List ℕ) : Type 0 where
-  pub reply : (lines : List (List ℕ)) (written : List ℕ) → Stands lines written session
+  pub reply : (o : Options) (lines : List (List ℕ)) (written : List ℕ) → Stands o lines written session
       → (reply : List ℕ) × IsRefused (lines ++ line ∷ []) (written ++ reply) × Writes sink sink' reply
 
--- The run stopped before the line was answered or refused: what was written begins what may stand written for it.
-pub record BreaksLine (sink sink' : SinkSeen) (session : Standing) (line : List ℕ) : Type 0 where
-  pub reply : (lines : List (List ℕ)) (written : List ℕ) → Stands lines written session
-      → (reply : List ℕ) × IsWritten (lines ++ line ∷ []) (written ++ reply) × WritesFront sink sink' reply
+-- The run stopped before the line was answered or refused: nothing was written for it, or what was written begins what
+-- may stand written for it.
+pub data BreaksLine (sink sink' : SinkSeen) (session : Standing) (line : List ℕ) : Type 0 where
+  before_line : Writes sink sink' [] → BreaksLine sink sink' session line
+  within_line : ((o : Options) (lines : List (List ℕ)) (written : List ℕ) → Stands o lines written session
+      → (reply : List ℕ) × IsWritten o (lines ++ line ∷ []) (written ++ reply) × WritesFront sink sink' reply)
+      → BreaksLine sink sink' session line
 
 -- The room, if it is told, is enough for whatever is to be written for the line.
 pub record FitsLine (sink : SinkSeen) (session : Standing) (line : List ℕ) : Type 0 where
+  pub options : Options
   pub lines : List (List ℕ)
   pub written : List ℕ
-  pub stands : Stands lines written session
-  pub fits : (reply : List ℕ) → IsWritten (lines ++ line ∷ []) (written ++ reply) → Holds sink.room (length reply)
+  pub stands : Stands options lines written session
+  pub fits : (reply : List ℕ) → IsWritten options (lines ++ line ∷ []) (written ++ reply)
+      → Holds sink.room (length reply)
 
 -- THE LINES THAT END IN A TEXT, of which the rest is without a line feed.
 
 -- They were answered.
 pub record AnswersLines (sink sink' : SinkSeen) (session session' : Standing) (text rest : List ℕ) : Type 0 where
-  pub reply : (lines : List (List ℕ)) (written : List ℕ) → Stands lines written session
+  pub reply : (o : Options) (lines : List (List ℕ)) (written : List ℕ) → Stands o lines written session
       → (more : List (List ℕ)) × (reply : List ℕ) × CutsLines text more rest
-      × Stands (lines ++ more) (written ++ reply) session' × Writes sink sink' reply
+      × Stands o (lines ++ more) (written ++ reply) session' × Writes sink sink' reply
 
 -- One of them was refused, and all replies up to the refusal were written.
 pub record RefusesLines (sink sink' : SinkSeen) (session : Standing) (text : List ℕ) : Type 0 where
-  pub reply : (lines : List (List ℕ)) (written : List ℕ) → Stands lines written session
+  pub reply : (o : Options) (lines : List (List ℕ)) (written : List ℕ) → Stands o lines written session
       → (more : List (List ℕ)) × (rest reply : List ℕ) × CutsLines text more rest
       × IsRefused (lines ++ more) (written ++ reply) × Writes sink sink' reply
 
--- The run stopped at one of them, or between two: what was written begins what may stand written for them.
+-- The run stopped at one of them, or between two: what was written begins what may stand written for some first ones.
 pub record BreaksLines (sink sink' : SinkSeen) (session : Standing) (text : List ℕ) : Type 0 where
-  pub reply : (lines : List (List ℕ)) (written : List ℕ) → Stands lines written session
+  pub reply : (o : Options) (lines : List (List ℕ)) (written : List ℕ) → Stands o lines written session
       → (more : List (List ℕ)) × (rest reply : List ℕ) × CutsLines text more rest
-      × IsWritten (lines ++ more) (written ++ reply) × WritesFront sink sink' reply
+      × IsWritten o (lines ++ more) (written ++ reply) × WritesFront sink sink' reply
 
--- The room, if it is told, is enough for whatever is to be written for them.
+-- The room, if it is told, is enough for whatever is to be written for some first ones.
 pub record FitsLines (sink : SinkSeen) (session : Standing) (text : List ℕ) : Type 0 where
+  pub options : Options
   pub lines : List (List ℕ)
   pub written : List ℕ
-  pub stands : Stands lines written session
+  pub stands : Stands options lines written session
   pub fits : (more : List (List ℕ)) (rest reply : List ℕ) → CutsLines text more rest
-      → IsWritten (lines ++ more) (written ++ reply) → Holds sink.room (length reply)
+      → IsWritten options (lines ++ more) (written ++ reply) → Holds sink.room (length reply)
 
 -- THE LINES OF A TEXT THAT ENDS THE INPUT.
 
 -- They were answered.
 pub record AnswersLast (sink sink' : SinkSeen) (session session' : Standing) (text : List ℕ) : Type 0 where
-  pub reply : (lines : List (List ℕ)) (written : List ℕ) → Stands lines written session
-      → (reply : List ℕ) × Stands (lines ++ lines_of text) (written ++ reply) session' × Writes sink sink' reply
+  pub reply : (o : Options) (lines : List (List ℕ)) (written : List ℕ) → Stands o lines written session
+      → (reply : List ℕ) × Stands o (lines ++ lines_of text) (written ++ reply) session' × Writes sink sink' reply
 
 -- One of them was refused.
 pub record RefusesLast (sink sink' : SinkSeen) (session : Standing) (text : List ℕ) : Type 0 where
-  pub reply : (lines : List (List ℕ)) (written : List ℕ) → Stands lines written session
+  pub reply : (o : Options) (lines : List (List ℕ)) (written : List ℕ) → Stands o lines written session
       → (reply : List ℕ) × IsRefused (lines ++ lines_of text) (written ++ reply) × Writes sink sink' reply
 
 -- They were answered, and the output was ended with this status.
 pub record EndsOutput (sink sink' : SinkSeen) (session : Standing) (text : List ℕ) (status : Status) : Type 0 where
-  pub reply : (lines : List (List ℕ)) (written : List ℕ) → Stands lines written session
-      → (reply : List ℕ) × Ending (lines ++ lines_of text) (written ++ reply) status × Writes sink sink' reply
+  pub reply : (o : Options) (lines : List (List ℕ)) (written : List ℕ) → Stands o lines written session
+      → (reply : List ℕ) × Ending o (lines ++ lines_of text) (written ++ reply) status × Writes sink sink' reply
 
--- The run stopped at one of them, or at the end: what was written begins what ends the output.
-pub record BreaksLast (sink sink' : SinkSeen) (session : Standing) (text : List ℕ) : Type 0 where
-  pub reply : (lines : List (List ℕ)) (written : List ℕ) → Stands lines written session
-      → (reply : List ℕ) × IsEnded (lines ++ lines_of text) (written ++ reply) × WritesFront sink sink' reply
+-- The run stopped at one of them, or at the end: nothing was written for them, or what was written begins what may
+-- stand written for all of them.
+pub data BreaksLast (sink sink' : SinkSeen) (session : Standing) (text : List ℕ) : Type 0 where
+  before_last : Writes sink sink' [] → BreaksLast sink sink' session text
+  within_last : ((o : Options) (lines : List (List ℕ)) (written : List ℕ) → Stands o lines written session
+      → (reply : List ℕ) × IsEnded o (lines ++ lines_of text) (written ++ reply) × WritesFront sink sink' reply)
+      → BreaksLast sink sink' session text
 
--- The room, if it is told, is enough for whatever ends the output.
+-- The room, if it is told, is enough for whatever is to be written for them, the end of the output too.
 pub record FitsLast (sink : SinkSeen) (session : Standing) (text : List ℕ) : Type 0 where
+  pub options : Options
   pub lines : List (List ℕ)
   pub written : List ℕ
-  pub stands : Stands lines written session
-  pub refused : (reply : List ℕ) → IsRefused (lines ++ lines_of text) (written ++ reply)
-      → Holds sink.room (length reply)
-  pub ended : (reply : List ℕ) (status : Status) → Ending (lines ++ lines_of text) (written ++ reply) status
+  pub stands : Stands options lines written session
+  pub fits : (reply : List ℕ) → IsEnded options (lines ++ lines_of text) (written ++ reply)
       → Holds sink.room (length reply)
 
 -- A fact for each way in which a step ends: it went well, the repository was refused, or the step broke off at a failed

@@ -8,6 +8,7 @@ pub mod Outputs
 pub mod Replies
 pub mod Repositories
 pub mod Sessions
+pub mod Settings
 pub mod Standings
 pub mod Stops
 pub mod Transcripts

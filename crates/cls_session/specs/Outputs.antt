@@ -1,12 +1,14 @@
 -- The output of a run.
-use Rattle.std.specs.Prelude.{ℕ, ◌≡◌, ◌≤◌, ◌<◌, List, [], ◌++◌, length, take, nat_lt, if◌then◌else◌, Option, Some, None, IfSome}
+use Rattle.std.specs.Prelude.{ℕ, ◌≡◌, ◌≤◌, ◌<◌, List, ◌++◌, length, take, nat_lt, if◌then◌else◌, Option, Some, None, IfSome}
 use Rattle.std.specs.Io.KnownBytes.{Appends}
 use Rattle.cls_base.specs.Limits.{max_input_bytes, max_read_bytes}
 use Rattle.cls_base.specs.Outside.{SourceSeen, SinkSeen}
 use Rattle.cls_lexer.specs.Lines.{lines_of, ended_lines}
+use Rattle.cls_session.specs.declared.options.Options.{Options}
 use Rattle.cls_session.specs.declared.status.Status.{Status}
 use Rattle.cls_session.specs.declared.status.Status.TheVariants.{Done, Usage, Refused, ReadFault, WriteFault, NoMemory, TooLong}
-use Rattle.cls_session.specs.Commands.{AsksSession, usage}
+use Rattle.cls_session.specs.declared.words.Command.TheVariants.{Session}
+use Rattle.cls_session.specs.Commands.{Asks, AsksNothing, usage}
 use Rattle.cls_session.specs.Transcripts.{Transcript, IsRefused, Ending}
 
 -- The lines that count: if more than `max_input_bytes` come, those that end within the first `max_input_bytes`.
@@ -14,14 +16,34 @@ abbrev pub lines_read : List ℕ → List (List ℕ)
 lines_read bytes =
     if nat_lt max_input_bytes (length bytes) then ended_lines (take max_input_bytes bytes) else lines_of bytes
 
+-- With these options and these bytes to read, a session may write this text and end with this status.
+pub data SessionOutput (o : Options) (bytes text : List ℕ) (status : Status) : Type 0 where
+  refused : IsRefused (lines_read bytes) text → status ≡ Refused → SessionOutput o bytes text status
+  ended : length bytes ≤ max_input_bytes → Ending o (lines_of bytes) text status → SessionOutput o bytes text status
+  too_long : max_input_bytes < length bytes → Transcript o (lines_read bytes) text → status ≡ TooLong
+      → SessionOutput o bytes text status
+
 -- With these words of the command line and these bytes to read, a run may write this text and end with this status.
 pub data Output (words : List (List ℕ)) (bytes text : List ℕ) (status : Status) : Type 0 where
-  no_session : (AsksSession words → ⊥) → text ≡ usage → status ≡ Usage → Output words bytes text status
-  refused : AsksSession words → IsRefused (lines_read bytes) text → status ≡ Refused → Output words bytes text status
-  ended : AsksSession words → length bytes ≤ max_input_bytes → Ending (lines_of bytes) text status
+  no_command : AsksNothing words → text ≡ usage → status ≡ Usage → Output words bytes text status
+  of_session : (o : Options) → Asks words (Session o) → SessionOutput o bytes text status
       → Output words bytes text status
-  too_long : AsksSession words → max_input_bytes < length bytes → Transcript (lines_read bytes) text → status ≡ TooLong
-      → Output words bytes text status
+
+-- What a session may have written when some first lines that count are answered or one of them is refused, or when the
+-- output is ended.
+pub data SessionText (o : Options) (bytes text : List ℕ) : Type 0 where
+  after_lines : (first others : List (List ℕ)) → lines_read bytes ≡ first ++ others → Transcript o first text
+      → SessionText o bytes text
+  after_refusal : (first others : List (List ℕ)) → lines_read bytes ≡ first ++ others → IsRefused first text
+      → SessionText o bytes text
+  after_end : (status : Status) → length bytes ≤ max_input_bytes → Ending o (lines_of bytes) text status
+      → SessionText o bytes text
+
+-- What may stand written at one time or another in a run with these words over these bytes. A run that breaks off has
+-- written a front of such a text.
+pub data MayStand (words : List (List ℕ)) (bytes text : List ℕ) : Type 0 where
+  of_usage : AsksNothing words → text ≡ usage → MayStand words bytes text
+  of_text : (o : Options) → Asks words (Session o) → SessionText o bytes text → MayStand words bytes text
 
 -- the statuses of a run without fault and with memory
 abbrev pub IsWhole : Status → Type 0
@@ -63,24 +85,26 @@ pub record GivesOutput (words : List (List ℕ)) (bytes : List ℕ) (sink sink' 
 abbrev pub Answers : List (List ℕ) → SourceSeen → SinkSeen → SinkSeen → Status → Type 0
 Answers words source sink sink' status = IfSome source.left (λ bytes. GivesOutput words bytes sink sink' status)
 
--- What the sink was given begins an output for the bytes.
-pub record BeginsOutput (words : List (List ℕ)) (bytes : List ℕ) (sink sink' : SinkSeen) : Type 0 where
+-- What the sink was given begins a text that may stand written for some first lines of the bytes.
+pub record BeginsText (words : List (List ℕ)) (bytes : List ℕ) (sink sink' : SinkSeen) : Type 0 where
   pub front : List ℕ
   pub rest : List ℕ
-  pub status : Status
-  pub output : Output words bytes (front ++ rest) status
+  pub text : MayStand words bytes (front ++ rest)
   pub written : Appends sink.held sink'.held front
 
--- If the source tells its bytes, what the sink was given begins an output for them.
+-- If the source tells its bytes, what the sink was given begins a text that may stand written for some first lines of
+-- them.
 abbrev pub BeginsAnswers : List (List ℕ) → SourceSeen → SinkSeen → SinkSeen → Type 0
-BeginsAnswers words source sink sink' = IfSome source.left (λ bytes. BeginsOutput words bytes sink sink')
+BeginsAnswers words source sink sink' = IfSome source.left (λ bytes. BeginsText words bytes sink sink')
 
--- n bytes are enough for each output for the bytes that the source tells. Otherwise no number is sure to be.
+-- n bytes are enough for each text that may stand written for some first lines of the bytes that the source tells.
+-- Otherwise no number is sure to be.
 abbrev pub IsEnoughRoom : List (List ℕ) → Option (List ℕ) → ℕ → Type 0
 IsEnoughRoom words None n = ⊥
-IsEnoughRoom words (Some bytes) n = (text : List ℕ) (status : Status) → Output words bytes text status → length text ≤ n
+IsEnoughRoom words (Some bytes) n = (text : List ℕ) → MayStand words bytes text → length text ≤ n
 
--- The room that the sink tells is enough for each output for the bytes that the source tells.
+-- The room that the sink tells is enough for each text that may stand written for some first lines of the bytes that the
+-- source tells.
 abbrev pub HasRoom : List (List ℕ) → SourceSeen → SinkSeen → Type 0
 HasRoom words source sink = IfSome sink.room (λ n. IsEnoughRoom words source.left n)
 
@@ -93,49 +117,58 @@ IfTold (Some bytes) (Some rest) P = P bytes rest
 
 -- What was taken of the bytes, and a text that is exactly what the lines ask for that were taken whole: no fault of the
 -- repository stands in these, and no reply to one of them is missing. The text is what the sink was given.
-pub record AnswersEnded (bytes rest : List ℕ) (sink sink' : SinkSeen) : Type 0 where
+pub record AnswersEnded (o : Options) (bytes rest : List ℕ) (sink sink' : SinkSeen) : Type 0 where
   pub taken : List ℕ
   pub text : List ℕ
   pub split : bytes ≡ taken ++ rest
   pub short : length taken ≤ max_input_bytes
-  pub transcript : Transcript (ended_lines taken) text
+  pub transcript : Transcript o (ended_lines taken) text
   pub written : Appends sink.held sink'.held text
 
 -- If a read failed: the words ask for a session, and the lines that were taken whole are answered, all of them.
 pub record AnswersTaken (words : List (List ℕ)) (source source' : SourceSeen) (sink sink' : SinkSeen) : Type 0 where
-  pub asked : AsksSession words
-  pub answered : IfTold source.left source'.left (λ bytes rest. AnswersEnded bytes rest sink sink')
+  pub options : Options
+  pub asked : Asks words (Session options)
+  pub answered : IfTold source.left source'.left (λ bytes rest. AnswersEnded options bytes rest sink sink')
 
--- What was taken of the bytes, and that what the sink was given begins an output for it.
+-- What was taken of the bytes, and that what the sink was given begins a text that may stand written for some first lines
+-- of it.
 pub record BeginsForTaken (words : List (List ℕ)) (bytes rest : List ℕ) (sink sink' : SinkSeen) : Type 0 where
   pub taken : List ℕ
   pub split : bytes ≡ taken ++ rest
-  pub begins : BeginsOutput words taken sink sink'
+  pub begins : BeginsText words taken sink sink'
 
--- If a read failed: what was written begins an output for the bytes that were taken.
+-- If a read failed: what was written begins a text that may stand written for some first lines of the bytes that were
+-- taken.
 abbrev pub BeginsTaken : List (List ℕ) → SourceSeen → SourceSeen → SinkSeen → SinkSeen → Type 0
 BeginsTaken words source source' sink sink' =
     IfTold source.left source'.left (λ bytes rest. BeginsForTaken words bytes rest sink sink')
 
 -- Of the bytes `before` were taken and then `last`, which are at most `max_read_bytes`. All replies to the lines that end in
 -- `before` stand written, and more may follow them.
-pub record AnswersBeforeLast (bytes rest : List ℕ) (sink sink' : SinkSeen) : Type 0 where
+pub record AnswersBeforeLast (o : Options) (bytes rest : List ℕ) (sink sink' : SinkSeen) : Type 0 where
   pub before : List ℕ
   pub last : List ℕ
   pub text : List ℕ
   pub more : List ℕ
   pub taken : bytes ≡ before ++ last ++ rest
   pub short : length last ≤ max_read_bytes
-  pub transcript : Transcript (ended_lines before) text
+  pub transcript : Transcript o (ended_lines before) text
   pub written : Appends sink.held sink'.held (text ++ more)
 
--- If a run broke off: all lines that had come whole before the last `max_read_bytes` that it took, or fewer, were answered.
--- Any write may be the one that fails, so a run that reads on before it has answered doesn't keep pace.
-abbrev pub KeepsPace : SourceSeen → SourceSeen → SinkSeen → SinkSeen → Type 0
-KeepsPace source source' sink sink' =
-    IfTold source.left source'.left (λ bytes rest. AnswersBeforeLast bytes rest sink sink')
+-- If a run broke off that was asked for a session: all lines that had come whole before the last `max_read_bytes` that it
+-- took, or fewer, were answered. Any write may be the one that fails, so a run that reads on before it has answered doesn't
+-- keep pace.
+abbrev pub KeepsPace : List (List ℕ) → SourceSeen → SourceSeen → SinkSeen → SinkSeen → Type 0
+KeepsPace words source source' sink sink' = (o : Options) → Asks words (Session o)
+    → IfTold source.left source'.left (λ bytes rest. AnswersBeforeLast o bytes rest sink sink')
 
--- What is written for the whole lines of a text that isn't too long is the beginning of an output for it.
-abbrev pub TranscriptsGoOn : Type 0
-TranscriptsGoOn = (bytes text : List ℕ) → length bytes ≤ max_input_bytes → Transcript (ended_lines bytes) text
-    → (more : List ℕ) × (status : Status) × Output [] bytes (text ++ more) status
+-- What is written goes on to an output.
+pub record TranscriptsGoOn : Type 0 where
+  -- What is written for the whole lines of a text that isn't too long is the beginning of an output for it.
+  pub whole_lines : (o : Options) (bytes text : List ℕ) → length bytes ≤ max_input_bytes
+      → Transcript o (ended_lines bytes) text
+      → (more : List ℕ) × (status : Status) × SessionOutput o bytes (text ++ more) status
+  -- What may stand written for some first lines is.
+  pub first_lines : (words : List (List ℕ)) (bytes text : List ℕ) → MayStand words bytes text
+      → (more : List ℕ) × (status : Status) × Output words bytes (text ++ more) status

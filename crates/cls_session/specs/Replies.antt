@@ -1,11 +1,11 @@
 -- The replies to queries.
 use Rattle.std.specs.Prelude.{ℕ, ◌≡◌, ◌≤◌, ◌⊎◌, List, [], ◌∷◌, ◌++◌, Bool, if◌then◌else◌, codes}
 use Rattle.std.specs.List.{flat_map}
-use Rattle.cls_base.specs.Limits.{max_pool}
 use Rattle.cls_base.specs.Types as types
 use Rattle.cls_base.specs.Terms.{Applicative}
 use Rattle.cls_base.specs.Pages.{IsPage}
 use Rattle.cls_lexer.specs.Skipped.{IsSkipped}
+use Rattle.cls_session.specs.declared.options.Options.{Options}
 use Rattle.cls_session.specs.Declarations.{Declaration, names_of}
 use Rattle.cls_session.specs.Forms.{IsListing}
 use Rattle.cls_session.specs.Listings.{omega_request, AreFew, AreMany}
@@ -29,37 +29,38 @@ page_text names terms more =
 abbrev pub IsOmega : List Declaration → Applicative → Type 0
 IsOmega declared e = HasTypeIn declared e types.omega
 
--- The text lists the one page of the terms of type omega. At most `max_pool` of these count at the size that decides it.
-pub record ListsOmega (declared : List Declaration) (max take : ℕ) (text : List ℕ) : Type 0 where
+-- The text lists the one page of the terms of type omega. At most `o.pool` of these count at the size that
+-- decides it.
+pub record ListsOmega (o : Options) (declared : List Declaration) (max take : ℕ) (text : List ℕ) : Type 0 where
   pub terms : List Applicative
   pub more : Bool
   pub page : IsPage (IsOmega declared) (omega_request max take) terms more
-  pub few : AreFew (IsOmega declared) max take max_pool
+  pub few : AreFew (IsOmega declared) max take o.pool
   pub written : text ≡ page_text (name_at (names_of declared)) terms more
 
--- More than `max_pool` terms of type omega count at the size that decides their page, and the text says so.
-pub record HasTooMany (declared : List Declaration) (max take : ℕ) (text : List ℕ) : Type 0 where
-  pub many : AreMany (IsOmega declared) max take max_pool
+-- More than `o.pool` terms of type omega count at the size that decides their page, and the text says so.
+pub record HasTooMany (o : Options) (declared : List Declaration) (max take : ℕ) (text : List ℕ) : Type 0 where
+  pub many : AreMany (IsOmega declared) max take o.pool
   pub written : text ≡ reply_line (codes "error too-many-terms")
 
 -- A listing is answered by its page or by too many terms, and never by both.
 pub record ListingsAreDecided : Type 0 where
-  pub never_both : (declared : List Declaration) (max take : ℕ) (text other : List ℕ)
-      → ListsOmega declared max take text → HasTooMany declared max take other → ⊥
-  pub always_one : (declared : List Declaration) (max take : ℕ) → 1 ≤ take
-      → (text : List ℕ) × (ListsOmega declared max take text ⊎ HasTooMany declared max take text)
+  pub never_both : (o : Options) (declared : List Declaration) (max take : ℕ) (text other : List ℕ)
+      → ListsOmega o declared max take text → HasTooMany o declared max take other → ⊥
+  pub always_one : (o : Options) (declared : List Declaration) (max take : ℕ) → 1 ≤ take
+      → (text : List ℕ) × (ListsOmega o declared max take text ⊎ HasTooMany o declared max take text)
 
 -- what is written for a line after the repository
-pub data Reply (declared : List Declaration) (line text : List ℕ) : Type 0 where
-  skipped : IsSkipped line → text ≡ [] → Reply declared line text
-  listing : (max take : ℕ) → IsListing line max take → ListsOmega declared max take text → Reply declared line text
-  too_many : (max take : ℕ) → IsListing line max take → HasTooMany declared max take text → Reply declared line text
+pub data Reply (o : Options) (declared : List Declaration) (line text : List ℕ) : Type 0 where
+  skipped : IsSkipped line → text ≡ [] → Reply o declared line text
+  listing : (max take : ℕ) → IsListing line max take → ListsOmega o declared max take text → Reply o declared line text
+  too_many : (max take : ℕ) → IsListing line max take → HasTooMany o declared max take text → Reply o declared line text
   unbuilt : (IsSkipped line → ⊥) → ((max take : ℕ) → IsListing line max take → ⊥)
-      → text ≡ reply_line (codes "error unbuilt") → Reply declared line text
+      → text ≡ reply_line (codes "error unbuilt") → Reply o declared line text
 
 -- What is written for a query of which all lines are whole. Each query has one line.
-pub data Answered (declared : List Declaration) (query : List (List ℕ)) (text : List ℕ) : Type 0 where
-  of_line : (line : List ℕ) → query ≡ line ∷ [] → Reply declared line text → Answered declared query text
+pub data Answered (o : Options) (declared : List Declaration) (query : List (List ℕ)) (text : List ℕ) : Type 0 where
+  of_line : (line : List ℕ) → query ≡ line ∷ [] → Reply o declared line text → Answered o declared query text
 
 -- The lines begin a query that further lines complete. There is no such query yet.
 abbrev pub BeginsQuery : List (List ℕ) → Type 0
@@ -67,9 +68,9 @@ BeginsQuery lines = ⊥
 
 -- What is written for lines after the repository, in turn: its reply for each query whose lines are whole, and nothing
 -- for one that is begun.
-pub data Replies (declared : List Declaration) : List (List ℕ) → List ℕ → Type 0 where
-  none : {lines : List (List ℕ)} {text : List ℕ} → lines ≡ [] → text ≡ [] → Replies declared lines text
+pub data Replies (o : Options) (declared : List Declaration) : List (List ℕ) → List ℕ → Type 0 where
+  none : {lines : List (List ℕ)} {text : List ℕ} → lines ≡ [] → text ≡ [] → Replies o declared lines text
   next : {lines : List (List ℕ)} {text : List ℕ} → (query others : List (List ℕ)) (first rest : List ℕ)
-      → lines ≡ query ++ others → Answered declared query first → Replies declared others rest
-      → text ≡ first ++ rest → Replies declared lines text
-  begun : {lines : List (List ℕ)} {text : List ℕ} → BeginsQuery lines → text ≡ [] → Replies declared lines text
+      → lines ≡ query ++ others → Answered o declared query first → Replies o declared others rest
+      → text ≡ first ++ rest → Replies o declared lines text
+  begun : {lines : List (List ℕ)} {text : List ℕ} → BeginsQuery lines → text ≡ [] → Replies o declared lines text

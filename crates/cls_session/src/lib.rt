@@ -4,7 +4,7 @@
 //!   output that the language allows for the words and the bytes that came. The language is defined in `specs/`, with
 //!   `Outputs` at its top.
 //! - [`Status`] says how a run ended.
-//! - [`read_words`] reads the words of the command line.
+//! - [`read_words`] reads the words of the command line: a [`Command`] with its [`Options`].
 //! - [`laws`] holds what is true of every input.
 //!
 //! Inside, a `Session` takes one line after another and answers it; the driver feeds it the lines of the source while
@@ -15,13 +15,16 @@ mod driver;
 mod forms;
 pub mod laws;
 mod listing;
+mod options;
 #[cfg(test)]
 mod plain_tests;
 mod program;
 mod session;
+mod settings;
 mod status;
 mod words;
 
+pub use options::Options;
 pub use program::run;
 pub use status::Status;
 pub use words::{Command, UsageFault, read_words};

@@ -3,11 +3,20 @@ ghost use Rattle.std.specs.Prelude.{◌≤◌};
 ghost use Rattle.cls_base.specs.Limits.{max_term_size};
 
 use crate::listing::answer_listing;
+use crate::options::Options;
 use cls_base::limits::MAX_COMPONENTS;
 use cls_lexer::Names;
 use std::alloc::Global;
 use std::process::Abort;
 use std::test::Fail;
+
+/// The options if none is set.
+const OPTIONS: Options = Options {
+    workers: 4,
+    goals: 5_000,
+    rules: 200_000,
+    pool: 200_000,
+};
 
 /// The names of `count` components.
 fn names(alloc: Global, count: u32) -> Result<Vec<String>, Fail> {
@@ -80,7 +89,7 @@ fn assert_page<R: Abort>(
 {
     let texts = plain_texts(alloc, names, max)?;
     let expected = plain_reply(alloc, &texts, take as usize)?;
-    let reply = answer_listing(alloc, &table(alloc, names)?, max, take)?;
+    let reply = answer_listing(alloc, &table(alloc, names)?, OPTIONS, max, take)?;
     assert_eq!(rt; reply, expected, "max {max} take {take}");
     Ok(())
 }

@@ -1,13 +1,14 @@
-ghost use Rattle.std.specs.Prelude.{◌≡◌, ◌≢◌, List, []};
+ghost use Rattle.std.specs.Prelude.{◌≡◌, ◌≢◌, ℕ, List};
 ghost use Rattle.std.specs.Io.KnownBytes.{IsAtEnd, Keeps};
 ghost use Rattle.cls_base.specs.Outside.{HasRisen};
-ghost use Rattle.cls_session.specs.Commands.{texts_of, AsksSession};
+ghost use Rattle.cls_session.specs.Commands.{texts_of, Asks, AsksSession};
 ghost use Rattle.cls_session.specs.Outputs.{IsWhole, IsBrokenOff, IsCutOff, HasRoom};
 ghost use Rattle.cls_session.specs.Outputs.{Answers, BeginsAnswers, AnswersTaken, BeginsTaken, KeepsPace};
 ghost use Rattle.cls_session.specs.Stops.{status_of};
 ghost use Rattle.cls_session.specs.declared.status.Status.TheVariants.{Done, Usage, ReadFault, WriteFault};
 
 use crate::driver::{Stop, answer_lines, finish, write_all};
+use crate::options::Options;
 use crate::session::Session;
 use crate::status::Status;
 use crate::words::{Command, read_words};
@@ -59,8 +60,8 @@ pub fn run<R: Threads + Wait + Sync, S: Source, K: Sink, G: Gate + Sync>(
         (S.seen source.old) (S.seen source.new) (K.seen sink.old) (K.seen sink.new) }
     ensures begins { IsCutOff result
         → BeginsAnswers (texts_of words.now) (S.seen source.old) (K.seen sink.old) (K.seen sink.new) }
-    ensures keeps_pace { IsBrokenOff result
-        → KeepsPace (S.seen source.old) (S.seen source.new) (K.seen sink.old) (K.seen sink.new) }
+    ensures keeps_pace { IsBrokenOff result → KeepsPace (texts_of words.now)
+        (S.seen source.old) (S.seen source.new) (K.seen sink.old) (K.seen sink.new) }
 
     // The counts of faults.
     ensures read_fault { result ≡ ReadFault → HasRisen (S.seen source.old).faults (S.seen source.new).faults }
@@ -69,7 +70,7 @@ pub fn run<R: Threads + Wait + Sync, S: Source, K: Sink, G: Gate + Sync>(
     ensures no_write_fault { IsWhole result → (K.seen sink.new).faults ≡ (K.seen sink.old).faults }
 {
     match read_words(words) {
-        Ok(Command::Session) => answer_input(alloc, source, sink),
+        Ok(Command::Session(options)) => answer_input(alloc, options, source, sink),
         Err(_) => match write_all(sink, USAGE.as_bytes()) {
             Ok(()) => Status::Usage,
             Err(_) => Status::WriteFault,
@@ -78,25 +79,35 @@ pub fn run<R: Threads + Wait + Sync, S: Source, K: Sink, G: Gate + Sync>(
 }
 
 /// Answers the lines of the source while they come, and ends the output.
-fn answer_input<S: Source, K: Sink>(alloc: Global, source: &mut S, sink: &mut K) -> Status
-    requires room { HasRoom [] (S.seen source.old) (K.seen sink.old) }
+///
+/// The clauses hold of all words that ask for a session with these options.
+fn answer_input<S: Source, K: Sink>(
+    alloc: Global,
+    options: Options,
+    source: &mut S,
+    sink: &mut K,
+) -> Status
+    requires room { (words : List (List ℕ)) × Asks words (Command.Session options)
+        × HasRoom words (S.seen source.old) (K.seen sink.old) }
 
-    ensures output { IsWhole result → Answers [] (S.seen source.old) (K.seen sink.old) (K.seen sink.new) result }
+    ensures output { (words : List (List ℕ)) → Asks words (Command.Session options) → IsWhole result
+        → Answers words (S.seen source.old) (K.seen sink.old) (K.seen sink.new) result }
     ensures read_whole { result ≡ Done → IsAtEnd (S.seen source.new).left }
     ensures never_usage { result ≢ Usage }
 
-    ensures none_waits { result ≡ ReadFault
-        → AnswersTaken [] (S.seen source.old) (S.seen source.new) (K.seen sink.old) (K.seen sink.new) }
-    ensures begins { IsCutOff result → BeginsAnswers [] (S.seen source.old) (K.seen sink.old) (K.seen sink.new) }
-    ensures keeps_pace { IsBrokenOff result
-        → KeepsPace (S.seen source.old) (S.seen source.new) (K.seen sink.old) (K.seen sink.new) }
+    ensures none_waits { (words : List (List ℕ)) → Asks words (Command.Session options) → result ≡ ReadFault
+        → AnswersTaken words (S.seen source.old) (S.seen source.new) (K.seen sink.old) (K.seen sink.new) }
+    ensures begins { (words : List (List ℕ)) → Asks words (Command.Session options) → IsCutOff result
+        → BeginsAnswers words (S.seen source.old) (K.seen sink.old) (K.seen sink.new) }
+    ensures keeps_pace { (words : List (List ℕ)) → Asks words (Command.Session options) → IsBrokenOff result
+        → KeepsPace words (S.seen source.old) (S.seen source.new) (K.seen sink.old) (K.seen sink.new) }
 
     ensures read_fault { result ≡ ReadFault → HasRisen (S.seen source.old).faults (S.seen source.new).faults }
     ensures write_fault { result ≡ WriteFault → HasRisen (K.seen sink.old).faults (K.seen sink.new).faults }
     ensures no_read_fault { IsWhole result → (S.seen source.new).faults ≡ (S.seen source.old).faults }
     ensures no_write_fault { IsWhole result → (K.seen sink.new).faults ≡ (K.seen sink.old).faults }
 {
-    let mut session = Session::new(alloc);
+    let mut session = Session::new(alloc, options);
     let mut reader = LineReader::new(alloc);
     let mut buffer = [0u8; MAX_READ_BYTES];
     let mut taken = 0;

@@ -1,5 +1,6 @@
 ghost use Rattle.std.specs.Prelude.{◌≡◌, ℕ, ◌+◌, ◌^◌, ◌<◌, ◌≤◌, ◌↔◌, IfOk, OnErr, IsTrue, Contains, length, map, false, string_bytes, List};
 ghost use Rattle.cls_base.specs.Limits.{max_components};
+ghost use Rattle.cls_session.specs.declared.options.Options.{Options};
 ghost use Rattle.cls_session.specs.Declarations.{Declaration, names_of};
 ghost use Rattle.cls_session.specs.Replies.{reply_line};
 ghost use Rattle.cls_session.specs.Replies as replies;
@@ -8,6 +9,7 @@ ghost use Rattle.cls_session.specs.Transcripts.{refusal};
 
 use crate::forms::{QueryLine, RepositoryLine, query_line, repository_line};
 use crate::listing::answer_listing;
+use crate::options::Options;
 use crate::status::Status;
 use cls_base::OutOfMemory;
 use cls_base::limits::MAX_COMPONENTS;
@@ -35,9 +37,11 @@ pub struct Outcome {
 
 /// Reads a repository and answers queries, a line at a time.
 ///
-/// It is seen as what it keeps: the names of the components, the number of lines, and whether `end` was among them.
+/// It is seen as what it keeps: the options, the names of the components, the number of lines, and whether `end` was
+/// among them.
 #[derive(Drop)]
 pub struct Session {
+    options: Options,
     components: Names,
     lines: u64,
     ended: bool,
@@ -48,7 +52,7 @@ impl Model for Session {
 
     ghost Value = { Standing };
 
-    ghost view = { λ s. record { components = s.components; lines = s.lines; ended = s.ended } };
+    ghost view = { λ s. record { options = s.options; components = s.components; lines = s.lines; ended = s.ended } };
 }
 
 impl Session {
@@ -57,11 +61,12 @@ impl Session {
     ghost use Rattle.cls_session.specs.Standings.{Stands};
     ghost use Rattle.cls_session.specs.Transcripts.{Ending};
 
-    /// A session that was fed no line. It takes no memory.
-    pub fn new(alloc: Global) -> Session
-        ensures { Stands [] [] result }
+    /// A session with these options that was fed no line. It takes no memory.
+    pub fn new(alloc: Global, options: Options) -> Session
+        ensures { Stands options [] [] result }
     {
         Session {
+            options,
             components: Names::new(alloc),
             lines: 0,
             ended: false,
@@ -78,15 +83,15 @@ impl Session {
         if !self.ended {
             return self.declare(alloc, line);
         }
-        let text = answer_query(alloc, &self.components, line)?;
+        let text = answer_query(alloc, &self.components, self.options, line)?;
         self.lines += 1;
         Ok(Answer::Reply(text))
     }
 
     /// Ends the output if no further line comes: a repository without the line `end` is refused.
     pub fn finish(&self, alloc: Global) -> Result<Outcome, OutOfMemory>
-        ensures { IfOk result (λ outcome. (lines : List (List ℕ)) (written : List ℕ) → Stands lines written self.now
-            → Ending lines (written ++ string_bytes outcome.text) outcome.status) }
+        ensures { IfOk result (λ outcome. (o : Options) (lines : List (List ℕ)) (written : List ℕ)
+            → Stands o lines written self.now → Ending o lines (written ++ string_bytes outcome.text) outcome.status) }
     {
         if self.ended {
             Ok(Outcome {
@@ -144,13 +149,18 @@ fn refusal(alloc: Global, place: u64) -> Result<String, OutOfMemory>
 }
 
 /// The reply to a line after the repository.
-fn answer_query(alloc: Global, components: &Names, line: &Line) -> Result<String, OutOfMemory>
+fn answer_query(
+    alloc: Global,
+    components: &Names,
+    options: Options,
+    line: &Line,
+) -> Result<String, OutOfMemory>
     ensures { IfOk result (λ text. (declared : List Declaration) → components.now ≡ names_of declared
-        → replies.Reply declared line.now (string_bytes text)) }
+        → replies.Reply options declared line.now (string_bytes text)) }
 {
     match query_line(alloc, line)? {
         QueryLine::Skipped => Ok(String::new(alloc)),
-        QueryLine::Listing { max, take } => answer_listing(alloc, components, max, take),
+        QueryLine::Listing { max, take } => answer_listing(alloc, components, options, max, take),
         QueryLine::Unbuilt => Ok(String::from_str(alloc, "error unbuilt\n")?),
     }
 }

@@ -15,16 +15,16 @@ write_all-requires-in-Refusal g c =
 
 pub returns-in_ok-write_all-in-Reply-clause-answers : goal.returns-in_ok-write_all-in-Reply-clause-answers
 returns-in_ok-write_all-in-Reply-clause-answers g c = record {
-  reply = λ lines written stands.
+  reply = λ o lines written stands.
       let replied = rw c.in-Reply.is at c.in_ok-text.ensures.answered in
-      (_, replied lines written stands, rw c.as_bytes.ensures.value at c.in_ok-write_all-in-Reply.ensures.written);
+      (_, replied o lines written stands, rw c.as_bytes.ensures.value at c.in_ok-write_all-in-Reply.ensures.written);
 }
 
 pub returns-in_ok-write_all-in-Refusal-clause-answers : goal.returns-in_ok-write_all-in-Refusal-clause-answers
 returns-in_ok-write_all-in-Refusal-clause-answers g c = record {
-  reply = λ lines written stands.
+  reply = λ o lines written stands.
       let replied = rw c.in-Refusal.is at c.in_ok-text.ensures.answered in
-      (_, replied lines written stands, rw c.as_bytes-in-Refusal.ensures.value at c.in_ok-write_all-in-Refusal.ensures.written);
+      (_, replied o lines written stands, rw c.as_bytes-in-Refusal.ensures.value at c.in_ok-write_all-in-Refusal.ensures.written);
 }
 
 pub returns-in_err-text-clause-answers : goal.returns-in_err-text-clause-answers

@@ -1,4 +1,4 @@
-use Rattle.cls_session.proofs.Outputs.{transcripts_go_on}
+use Rattle.cls_session.proofs.GoingOn.{transcripts_go_on}
 use Rattle.cls_session.proofs.laws.transcripts_go_on.Goals as goal
 
 pub returns : goal.returns

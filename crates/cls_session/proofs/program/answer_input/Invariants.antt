@@ -5,7 +5,7 @@ use Rattle.cls_session.proofs.program.answer_input.Given as goal
 
 abbrev pub invariant-pieces : goal.invariant-pieces
 invariant-pieces g l = record {
-  under_way : IsUnderWay (g.S.Source.seen l.initial.source) (g.S.Source.seen l.source) (g.K.Sink.seen l.initial.sink) (g.K.Sink.seen l.sink) l.session l.reader l.taken;
+  under_way : IsUnderWay l.fn.options (g.S.Source.seen l.initial.source) (g.S.Source.seen l.source) (g.K.Sink.seen l.initial.sink) (g.K.Sink.seen l.sink) l.session l.reader l.taken;
   short : l.taken ≤ max_input_bytes;
   few_lines : l.session.lines + length l.reader ≤ l.taken;
   source_faults : (g.S.Source.seen l.source).faults ≡ (g.S.Source.seen l.initial.source).faults;
