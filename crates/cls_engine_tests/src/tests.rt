@@ -12,8 +12,10 @@ fn a_goal_is_worked_out_once(rt: HostRuntime) -> Result<(), Fail> {
     let mut engine = engine(alloc, &mut names)?;
     let ty = read_type(alloc, &mut names, "A")?;
     let gate = Counter::new();
-    let claims = claims_of_queries(&rt, alloc, &mut engine, &ty, &gate);
-    assert!(rt; matches!(claims, Ok(Some([1, 1, 2, 2]))));
+    let Ok(Some(claims)) = claims_of_queries(&rt, alloc, &mut engine, &ty, &gate) else {
+        panic!(rt; "other answers")
+    };
+    assert!(rt; claims[0] == 1 && claims[1] == 1 && claims[2] == 2 && claims[3] == 2);
     Ok(())
 }
 
@@ -24,8 +26,10 @@ fn a_page_works_a_goal_out_once(rt: HostRuntime) -> Result<(), Fail> {
     let mut engine = engine(alloc, &mut names)?;
     let ty = read_type(alloc, &mut names, "A")?;
     let gate = Counter::new();
-    let claims = claims_of_page(&rt, alloc, &mut engine, &ty, &gate);
-    assert!(rt; matches!(claims, Ok(Some([1, 1]))));
+    let Ok(Some(claims)) = claims_of_page(&rt, alloc, &mut engine, &ty, &gate) else {
+        panic!(rt; "other answers")
+    };
+    assert!(rt; claims[0] == 1 && claims[1] == 1);
     Ok(())
 }
 
@@ -38,8 +42,17 @@ fn types_are_compared(rt: HostRuntime) -> Result<(), Fail> {
     let upper = read_type(alloc, &mut names, "A")?;
     let goal = read_type(alloc, &mut names, "A")?;
     let certificate = certificate(alloc, goal)?;
-    assert!(rt; matches!(compared(alloc, &engine, &lower, &upper), Ok([true, false])));
-    assert!(rt; matches!(found(alloc, &engine, &upper, &certificate), Ok([true, true])));
-    assert!(rt; matches!(found(alloc, &engine, &lower, &certificate), Ok([false, false])));
+    let Ok(below) = compared(alloc, &engine, &lower, &upper) else {
+        panic!(rt; "no answer")
+    };
+    assert!(rt; below[0] && !below[1]);
+    let Ok(has_upper) = found(alloc, &engine, &upper, &certificate) else {
+        panic!(rt; "no answer")
+    };
+    assert!(rt; has_upper[0] && has_upper[1]);
+    let Ok(has_lower) = found(alloc, &engine, &lower, &certificate) else {
+        panic!(rt; "no answer")
+    };
+    assert!(rt; !has_lower[0] && !has_lower[1]);
     Ok(())
 }
