@@ -1,12 +1,12 @@
 -- How large the terms of a grammar are is how large those of its type are.
-use Rattle.std.proofs.Common.{ℕ, ◌≡◌, ◌≤◌, ◌<◌, ◌↔◌, inl, inr, List, []}
+use Rattle.std.proofs.Common.{ℕ, ◌↔◌, inl, inr, List, []}
 use Rattle.cls_base.specs.Languages.{IsGenerated}
 use Rattle.cls_base.specs.Terms.{Applicative}
 use Rattle.cls_base.specs.Types.{ClosedType}
 use Rattle.cls_core.specs.Rows.{Row}
 use Rattle.cls_finite.specs.declared.answer.FiniteAnswer.{FiniteAnswer}
 use Rattle.cls_finite.specs.declared.answer.FiniteAnswer.TheVariants.{Finite, Over, Infinite}
-use Rattle.cls_finite.specs.Answers.{IfFinite, IfInfinite, IsInfinite}
+use Rattle.cls_finite.specs.Answers.{IfFinite, IfInfinite}
 use Rattle.cls_finite.specs.Finiteness as book
 use Rattle.cls_grammar.specs.Grammars.{book_of}
 use Rattle.cls_library.specs.Libraries.{Library}

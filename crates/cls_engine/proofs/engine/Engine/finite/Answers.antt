@@ -1,5 +1,4 @@
 use Rattle.cls_base.specs.Ty.{type_of}
-use Rattle.cls_finite.specs.Answers.{IsInfinite}
 use Rattle.cls_term.specs.Costs.{cost_of}
 use Rattle.cls_engine.proofs.Faulting.{silent-of}
 use Rattle.cls_engine.proofs.Finiteness.{type-greatest, type-over, type-unbounded, type-walk}
