@@ -89,7 +89,10 @@ const FIRST_FAULTS: [(&str, &str); 44] = [
     ("comp x : A\ncost x 0\nend", "2 cost x"),
     ("comp x : A\ncost x 256\nend", "2 cost x"),
     ("comp x : A\ncost x 255\nend", ""),
-    ("variance A inv\nvariance A contra\nend", "2 duplicate-variance A"),
+    (
+        "variance A inv\nvariance A contra\nend",
+        "2 duplicate-variance A",
+    ),
     ("", "0 no-end"),
     ("comp x : A\n", "1 no-end"),
     ("comp x : A\ncomp x : A\n", "2 duplicate-component x"),
@@ -98,7 +101,10 @@ const FIRST_FAULTS: [(&str, &str); 44] = [
     ("sub A B\nsub B A\nvariance A inv\nend", "4 cycle A"),
     ("sub A B\nvariance A inv\nend", "3 variance-mix A"),
     ("comp x : $b\nsub A B\nsub B A\nend", "4 cycle A"),
-    ("comp x : $b\nsub A B\nvariance A inv\nend", "4 variance-mix A"),
+    (
+        "comp x : $b\nsub A B\nvariance A inv\nend",
+        "4 variance-mix A",
+    ),
     ("kind a = A\ncomp x : $b\nend", "2 variable b"),
     ("comp x : $b\nkind b = A\nend", ""),
     ("comp x : $b\nsub\nend", "2 syntax 3"),
@@ -216,7 +222,9 @@ fn large_libraries_are_refused(rt: HostRuntime) -> Result<(), Fail> {
 fn many_or_large_instances_are_refused(rt: HostRuntime) -> Result<(), Fail> {
     let alloc = rt.alloc();
     let kind = nested(alloc, 16, "A | ", "A", "")?;
-    let many = format!(in alloc; "kind a = {kind}\nkind b = {kind}\nkind c = {kind}\ncomp f : $a -> $b -> $c\nend")?;
+    let many = format!(in alloc;
+        "kind a = {kind}\nkind b = {kind}\nkind c = {kind}\ncomp f : $a -> $b -> $c\nend"
+    )?;
     assert_eq!(rt; refusal(alloc, many.as_str())?.as_str(), "4 instances f");
     let kind = nested(alloc, 340, "A & ", "A", "")?;
     let large = format!(in alloc; "kind a = {kind}\ncomp x : $a -> $a -> $a -> $a -> $a\nend")?;
