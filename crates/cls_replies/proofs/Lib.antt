@@ -1,0 +1,5 @@
+pub mod Asking
+pub mod Counting
+pub mod Faulting
+pub mod Holding
+pub mod Terms

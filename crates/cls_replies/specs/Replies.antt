@@ -1,0 +1,57 @@
+-- What is written for a query that has no error.
+use Rattle.std.specs.Prelude.{ℕ, ◌≡◌, ◌⊎◌, List, Bool, codes}
+use Rattle.cls_base.specs.Terms.{Applicative}
+use Rattle.cls_base.specs.Subtyping.{Subtype}
+use Rattle.cls_base.specs.Pages.{Request, IsPage}
+use Rattle.cls_core.specs.declared.entry.Entry.{Entry}
+use Rattle.cls_core.specs.Rows.{Row}
+use Rattle.cls_enum.specs.Requests.{request}
+use Rattle.cls_grammar.specs.GrammarTexts.{IsGrammarText}
+use Rattle.cls_library.specs.Libraries.{below_in, variances_in, paths_at}
+use Rattle.cls_library.specs.Typing.{HasTypeIn}
+use Rattle.cls_proof.specs.Certificates.{Certificate}
+use Rattle.cls_proof.specs.Texts.{certificate_text}
+use Rattle.cls_query.specs.Queries.{Listing, Query, sub, paths, typed, inhabit, grammar, audit, certify, verify, list, texts}
+use Rattle.cls_syntax.specs.TypePrinting.{name_in}
+use Rattle.cls_term.specs.Texts.{name_at}
+use Rattle.cls_engine.specs.Certified.{IsCertified}
+use Rattle.cls_engine.specs.Goals.{Goal, IsClosed}
+use Rattle.cls_engine.specs.Histories.{IsHistoryOf}
+use Rattle.cls_replies.specs.Serving.{Serving}
+use Rattle.cls_replies.specs.Texts.{reply_line, paths_text, history_text, term_line, term_lines, page_text}
+
+-- One of two lines, by whether the fact holds.
+abbrev pub Says : Type 0 → (so not_so text : List ℕ) → Type 0
+Says Fact so not_so text = (Fact × (text ≡ reply_line so)) ⊎ ((Fact → ⊥) × (text ≡ reply_line not_so))
+
+-- The one page of the terms that have the property.
+pub record ListsPage (IsListed : Applicative → Type 0) (r : Request) (shown : Applicative → List ℕ) (text : List ℕ) : Type 0 where
+  pub terms : List Applicative
+  pub more : Bool
+  pub page : IsPage IsListed r terms more
+  pub written : text ≡ page_text shown terms more
+
+-- the names have numbers
+module _ (s : Serving) where
+  -- the page that is asked for, with each term shown in this way
+  abbrev pub Lists : Listing → (Applicative → List ℕ) → List ℕ → Type 0
+  Lists q shown text = ListsPage (λ e. HasTypeIn s.engine.library e q.goal) (request s.engine.costs q.after q.max q.take) shown text
+
+  -- A query for a certificate isn't answered by its line alone.
+  abbrev pub Reply : Query → List ℕ → Type 0
+  Reply (sub a b) text =
+      Says (Subtype (below_in s.engine.library.taxonomy) (variances_in s.engine.library.taxonomy) a b) (codes "yes") (codes "no") text
+  Reply (paths x) text = text ≡ paths_text s.names (paths_at s.engine.library x)
+  Reply (typed e t) text = Says (HasTypeIn s.engine.library e t) (codes "yes") (codes "no") text
+  Reply (inhabit t) text =
+      Says ((e : Applicative) × HasTypeIn s.engine.library e t) (codes "inhabited") (codes "uninhabited") text
+  Reply (grammar t) text =
+      (rows : List (Row Goal)) × IsClosed s.engine.library t rows
+      × IsGrammarText (name_in s.names) (name_in s.components) rows text
+  Reply (audit t) text =
+      (events : List Entry) × IsHistoryOf s.engine.library s.engine.options.workers t events × (text ≡ history_text events)
+  Reply (certify t) text =
+      (c : Certificate) × IsCertified s.engine.library t c × (text ≡ certificate_text s.names s.components c)
+  Reply (verify t) text = ⊥
+  Reply (list q) text = Lists q (term_line (name_at s.components)) text
+  Reply (texts q) text = Lists q (term_lines (name_at s.components) s.templates) text

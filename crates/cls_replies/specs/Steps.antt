@@ -1,0 +1,37 @@
+-- Internal: what the parts of the code are asked and answer.
+use Rattle.std.specs.Prelude.{ℕ, ◌≡◌, List, [], ◌∷◌, Option, None, Some}
+use Rattle.cls_lexer.specs.Skipped.{IsSkipped}
+use Rattle.cls_query.specs.Queries.{Listing}
+use Rattle.cls_engine.specs.declared.fault.EngineFault.{EngineFault}
+use Rattle.cls_engine.specs.declared.fault.EngineFault.TheVariants.{Size, TooLarge, Wide, TooManyTerms, OutOfMemory}
+use Rattle.cls_replies.specs.declared.certificates.LineKind.{LineKind}
+use Rattle.cls_replies.specs.declared.certificates.LineKind.TheVariants.{Skipped, Opening, Single}
+use Rattle.cls_replies.specs.declared.serving.Held.{Held}
+use Rattle.cls_base.specs.Pages.{IsPage}
+use Rattle.cls_enum.specs.Requests.{request}
+use Rattle.cls_enum.specs.declared.listed.Page.{Page}
+use Rattle.cls_library.specs.Typing.{HasTypeIn}
+use Rattle.cls_replies.specs.LineKinds.{Opens, IsSingle}
+use Rattle.cls_replies.specs.Serving.{Serving}
+use Rattle.cls_replies.specs.Texts.{error_line, fault_words}
+
+-- the lines that are held
+abbrev pub held_lines : Option Held → List (List ℕ)
+held_lines None = []
+held_lines (Some h) = h.line ∷ h.inside.items
+
+-- what is said of a line outside of a certificate
+abbrev pub IsOfKind : List ℕ → LineKind → Type 0
+IsOfKind line Skipped = IsSkipped line
+IsOfKind line Opening = Opens line
+IsOfKind line Single = IsSingle line
+
+-- the page that is asked for
+abbrev pub IsPageOf : Serving → Listing → Page → Type 0
+IsPageOf s q p =
+    IsPage (λ e. HasTypeIn s.engine.library e q.goal) (request s.engine.costs q.after q.max q.take) p.terms p.more
+
+-- the line of the fault, which isn't out of memory
+abbrev pub IsFaultLine : (names : List (List ℕ)) → EngineFault → List ℕ → Type 0
+IsFaultLine names OutOfMemory text = ⊥
+IsFaultLine names fault text = text ≡ error_line (fault_words names fault)

@@ -1,0 +1,154 @@
+//! The lines after a repository, one after another.
+ghost use Rattle.std.specs.Prelude.{ℕ, ◌≡◌, ◌+◌, ◌<◌, ◌≤◌, ◌^◌, [], length, IfOk, OnOk, string_bytes};
+ghost use Rattle.cls_term.specs.Costs.{cost_of};
+ghost use Rattle.cls_engine.specs.Engines.{seen_as};
+ghost use Rattle.cls_engine.specs.Options.{AreInRange};
+ghost use Rattle.cls_replies.specs.Answering.{Answered};
+ghost use Rattle.cls_replies.specs.LineKinds.{IsSingle};
+ghost use Rattle.cls_replies.specs.Lines.{Goes, Ends};
+ghost use Rattle.cls_replies.specs.Serving.{serving_of};
+
+use crate::certificates::{LineKind, is_qed, kind_of};
+use crate::faults::line_fault;
+use cls_assemble::Templates;
+use cls_base::{Gate, OutOfMemory};
+use cls_engine::{Engine, Options};
+use cls_lexer::{Line, Names};
+use cls_query::read_query;
+use cls_repo::Repository;
+use std::alloc::Global;
+use std::marker::Model;
+use std::sync::Wait;
+use std::thread::Threads;
+
+/// A query whose certificate hasn't ended: its line, and the lines behind it.
+#[derive(Drop)]
+struct Held {
+    line: Line,
+    inside: Vec<Line>,
+}
+
+/// Answers the lines after a repository. It is seen as what it keeps: the names of constructors so far, the names and templates
+/// of components, the engine, and the lines of a query whose certificate hasn't ended.
+#[derive(Drop)]
+pub struct Serving {
+    pub(crate) names: Names,
+    pub(crate) components: Names,
+    pub(crate) templates: Templates,
+    pub(crate) engine: Engine,
+    held: Option<Held>,
+}
+
+impl Model for Serving {
+    ghost use Rattle.std.specs.Coded.{codes};
+    ghost use Rattle.cls_library.specs.Stored.{coded_library};
+    ghost use Rattle.cls_replies.specs.Serving as serving;
+    ghost use Rattle.cls_replies.specs.Serving.{serving_of, IsServing};
+    ghost use Rattle.cls_replies.specs.Steps.{held_lines};
+
+    ghost Value = { serving.Serving };
+
+    ghost coded = { Prim.hlevel (codes, coded_library) };
+
+    ghost view = { λ s. serving_of s.names s.components s.templates s.engine (held_lines s.held) };
+
+    ghost invariant = { λ s. IsServing (serving_of s.names s.components s.templates s.engine (held_lines s.held)) };
+}
+
+impl Serving {
+    /// Answers by the repository, each of whose components has a name and a template and costs at least 1. It takes no memory.
+    pub fn new(alloc: Global, repository: Repository, options: Options) -> Serving
+        requires in_range { AreInRange options }
+        requires costs { (x : ℕ) → 0 < cost_of repository.costs x }
+        requires named { length repository.components ≡ length repository.library.components }
+        requires written { length repository.templates ≡ length repository.library.components }
+        ensures { result ≡ serving_of repository.names repository.components repository.templates
+            (seen_as repository.library repository.costs options) [] }
+    {
+        Serving {
+            names: repository.names,
+            components: repository.components,
+            templates: repository.templates,
+            engine: Engine::new(alloc, repository.library, repository.costs, options),
+            held: None,
+        }
+    }
+
+    /// Takes the next line, and gives what is written for it. After an error, which is out of memory, no further line is to be
+    /// fed.
+    pub fn feed<R: Threads + Wait + Sync, G: Gate + Sync>(
+        &mut self,
+        rt: &R,
+        alloc: Global,
+        line: &Line,
+        gate: &G,
+    ) -> Result<String, OutOfMemory>
+        requires { length self.old.held + 1 < 2 ^ 32 }
+        ensures goes { IfOk result (λ text. Goes self.old line.now (string_bytes text) self.new) }
+        ensures counted { OnOk result (length self.new.held ≤ length self.old.held + 1) }
+    {
+        let Some(mut held) = self.held.take() else {
+            return self.feed_free(rt, alloc, line, gate);
+        };
+        held.inside.push(Line::new(alloc, line.as_bytes())?)?;
+        if is_qed(alloc, line)? {
+            return self.verify(alloc, &held.line, &held.inside);
+        }
+        self.held = Some(held);
+        Ok(String::new(alloc))
+    }
+
+    /// Gives what is written if no line follows.
+    pub fn finish(mut self, alloc: Global) -> Result<String, OutOfMemory>
+        requires { length self.held < 2 ^ 32 }
+        ensures { IfOk result (λ text. Ends self (string_bytes text)) }
+    {
+        match self.held.take() {
+            Some(held) => self.verify(alloc, &held.line, &held.inside),
+            None => Ok(String::new(alloc)),
+        }
+    }
+
+    /// Takes the next line, outside of a certificate.
+    fn feed_free<R: Threads + Wait + Sync, G: Gate + Sync>(
+        &mut self,
+        rt: &R,
+        alloc: Global,
+        line: &Line,
+        gate: &G,
+    ) -> Result<String, OutOfMemory>
+        requires { self.old.held ≡ [] }
+        ensures goes { IfOk result (λ text. Goes self.old line.now (string_bytes text) self.new) }
+        ensures counted { OnOk result (length self.new.held ≤ 1) }
+    {
+        match kind_of(alloc, line)? {
+            LineKind::Skipped => Ok(String::new(alloc)),
+            LineKind::Opening => {
+                self.held = Some(Held {
+                    line: Line::new(alloc, line.as_bytes())?,
+                    inside: Vec::new(alloc),
+                });
+                Ok(String::new(alloc))
+            }
+            LineKind::Single => self.ask(rt, alloc, line, gate),
+        }
+    }
+
+    /// Answers a line that is a query by itself.
+    fn ask<R: Threads + Wait + Sync, G: Gate + Sync>(
+        &mut self,
+        rt: &R,
+        alloc: Global,
+        line: &Line,
+        gate: &G,
+    ) -> Result<String, OutOfMemory>
+        requires { IsSingle line.now }
+        ensures answered { IfOk result (λ text. Answered self.old line.now (string_bytes text) self.new) }
+        ensures same_held { OnOk result (self.new.held ≡ self.old.held) }
+    {
+        match read_query(alloc, &mut self.names, &self.components, line) {
+            Ok(query) => self.answer(rt, alloc, &query, gate),
+            Err(fault) => line_fault(alloc, &fault),
+        }
+    }
+}

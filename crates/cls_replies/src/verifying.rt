@@ -1,0 +1,38 @@
+//! Queries about a certificate.
+ghost use Rattle.std.specs.Prelude.{◌≡◌, ◌<◌, ◌^◌, length, IfOk, OnOk, string_bytes};
+ghost use Rattle.cls_replies.specs.Answering.{Verified};
+ghost use Rattle.cls_replies.specs.LineKinds.{Opens};
+
+use crate::faults::{line_fault, proof_fault};
+use crate::serving::Serving;
+use cls_base::OutOfMemory;
+use cls_lexer::Line;
+use cls_proof::read_certificate;
+use cls_query::{Query, read_query};
+use std::alloc::Global;
+
+impl Serving {
+    /// What is written for a line that opens a certificate, and the lines of the certificate.
+    pub(crate) fn verify(
+        &mut self,
+        alloc: Global,
+        line: &Line,
+        certificate: &[Line],
+    ) -> Result<String, OutOfMemory>
+        requires opens { Opens line.now }
+        requires few { length certificate.now < 2 ^ 32 }
+        ensures verified { IfOk result (λ text.
+            Verified self.old line.now certificate.now (string_bytes text) self.new) }
+        ensures same_held { OnOk result (self.new.held ≡ self.old.held) }
+    {
+        let goal = match read_query(alloc, &mut self.names, &self.components, line) {
+            Ok(Query::Verify(goal)) => goal,
+            Ok(_) => unreachable!(),
+            Err(fault) => return line_fault(alloc, &fault),
+        };
+        match read_certificate(alloc, &mut self.names, &self.components, certificate) {
+            Ok(read) => self.judge(alloc, &goal, &read),
+            Err(fault) => proof_fault(alloc, &fault),
+        }
+    }
+}
