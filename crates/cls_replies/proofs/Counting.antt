@@ -1,5 +1,5 @@
 -- A certificate has at most as many rows or members as lines.
-use Rattle.std.proofs.Common.{◌≡◌, ℕ, suc, ◌+◌, ◌≤◌, List, [], ◌∷◌, ◌++◌, length, map, ap, arith, length-append, ◌∙◌, refl}
+use Rattle.std.proofs.Common.{◌≡◌, ℕ, suc, ◌+◌, ◌≤◌, List, [], ◌∷◌, length, map, ap, arith, length-append, ◌∙◌, refl}
 use Rattle.std.specs.List.{flat_map}
 use Rattle.cls_check.specs.Verdicts.{rows_in}
 use Rattle.cls_proof.specs.Certificates.{ProofRow, Member, Certificate, inhabited, empty}

@@ -1,5 +1,5 @@
 -- How what the engine answers makes what is written.
-use Rattle.std.proofs.Common.{◌≡◌, ℕ, List, ◌∙◌, ap, inl, inr, Bool, true, false, refl, sym}
+use Rattle.std.proofs.Common.{◌≡◌, ℕ, List, inl, inr, Bool, true, false, refl}
 use Rattle.std.specs.Prelude.{◌↔◌, IsTrue, if◌then◌else◌, Result, IfOk}
 use Rattle.std.proofs.lemmas.Result.{IfOk-weaker}
 use Rattle.cls_base.specs.Firsts.{First, IsSilent}

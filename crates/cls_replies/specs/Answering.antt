@@ -29,7 +29,8 @@ pub record IsMisread (s : Serving) (line text : List ℕ) (s' : Serving) : Type 
 
 -- What is written for a query that was read: the first thing that the engine can't do, otherwise the reply.
 pub data Answers (s : Serving) (q : Query) (text : List ℕ) : Type 0 where
-  failed : (fault : EngineFault) → First (faults_of s.engine q) fault → text ≡ error_line (fault_words s.names fault) → Answers s q text
+  failed : (fault : EngineFault) → First (faults_of s.engine q) fault → text ≡ error_line (fault_words s.names fault)
+      → Answers s q text
   replied : IsSilent (First (faults_of s.engine q)) → Reply s q text → Answers s q text
 
 -- What is written for a line that asks, and what queries are answered by after it.
@@ -39,20 +40,22 @@ pub data Answered (s : Serving) (line text : List ℕ) (s' : Serving) : Type 0 w
 
 -- What is written for a certificate that says whether it proves the goal.
 pub data Judges (s : Serving) (goal : ClosedType) (c : Certificate) (text : List ℕ) : Type 0 where
-  failed : (fault : EngineFault) → First (faults_of s.engine (verify goal)) fault → text ≡ error_line (fault_words s.names fault)
-      → Judges s goal c text
-  judged : IsSilent (First (faults_of s.engine (verify goal))) → (verdict : Verdict) → IsVerdict s.engine.library goal c verdict
-      → text ≡ verdict_text verdict → Judges s goal c text
+  failed : (fault : EngineFault) → First (faults_of s.engine (verify goal)) fault
+      → text ≡ error_line (fault_words s.names fault) → Judges s goal c text
+  judged : IsSilent (First (faults_of s.engine (verify goal))) → (verdict : Verdict)
+      → IsVerdict s.engine.library goal c verdict → text ≡ verdict_text verdict → Judges s goal c text
 
 -- What is written for the lines of a certificate for the goal, whose names are numbered then, if they say one.
-pub data Verifies (s : Serving) (goal : ClosedType) (certificate : List (List ℕ)) (text : List ℕ) (s' : Serving) : Type 0 where
-  bad : (fault : ProofFault) (words : List ℕ) → IsProofFault s.components certificate fault → proof_words fault ≡ Some words
-      → text ≡ error_line words → s' ≡ s → Verifies s goal certificate text s'
+pub data Verifies (s : Serving) (goal : ClosedType) (certificate : List (List ℕ)) (text : List ℕ) (s' : Serving)
+    : Type 0 where
+  bad : (fault : ProofFault) (words : List ℕ) → IsProofFault s.components certificate fault
+      → proof_words fault ≡ Some words → text ≡ error_line words → s' ≡ s → Verifies s goal certificate text s'
   read : (c : Certificate) → SaysCertificate s.names s'.names s.components certificate c → s' ≡ with_names s s'.names
       → Judges s' goal c text → Verifies s goal certificate text s'
 
 -- What is written for a line that opens a certificate, and the lines of the certificate.
-pub data Verified (s : Serving) (line : List ℕ) (certificate : List (List ℕ)) (text : List ℕ) (s' : Serving) : Type 0 where
+pub data Verified (s : Serving) (line : List ℕ) (certificate : List (List ℕ)) (text : List ℕ) (s' : Serving)
+    : Type 0 where
   misread : IsMisread s line text s' → Verified s line certificate text s'
   asked : (goal : ClosedType) (m : Serving) → Asks s line (verify goal) m → Verifies m goal certificate text s'
       → Verified s line certificate text s'

@@ -1,8 +1,7 @@
 -- The errors of a query that was read.
-use Rattle.std.specs.Prelude.{ℕ, ◌≡◌, List, [], ◌∷◌, ◌++◌, codes, Option, Some, None}
+use Rattle.std.specs.Prelude.{ℕ, List, [], ◌∷◌, ◌++◌, codes, Option, Some, None}
 use Rattle.std.specs.Fmt.{decimal}
 use Rattle.cls_base.specs.Firsts.{Cause}
-use Rattle.cls_base.specs.Types.{ClosedType}
 use Rattle.cls_enum.specs.Requests.{request}
 use Rattle.cls_query.specs.Queries.{Query, sub, paths, typed, inhabit, grammar, audit, certify, verify, list, texts}
 use Rattle.cls_proof.specs.declared.proof_fault.ProofFault.{ProofFault}

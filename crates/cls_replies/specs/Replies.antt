@@ -25,7 +25,8 @@ abbrev pub Says : Type 0 → (so not_so text : List ℕ) → Type 0
 Says Fact so not_so text = (Fact × (text ≡ reply_line so)) ⊎ ((Fact → ⊥) × (text ≡ reply_line not_so))
 
 -- The one page of the terms that have the property.
-pub record ListsPage (IsListed : Applicative → Type 0) (r : Request) (shown : Applicative → List ℕ) (text : List ℕ) : Type 0 where
+pub record ListsPage (IsListed : Applicative → Type 0) (r : Request) (shown : Applicative → List ℕ) (text : List ℕ)
+    : Type 0 where
   pub terms : List Applicative
   pub more : Bool
   pub page : IsPage IsListed r terms more
@@ -35,12 +36,14 @@ pub record ListsPage (IsListed : Applicative → Type 0) (r : Request) (shown : 
 module _ (s : Serving) where
   -- the page that is asked for, with each term shown in this way
   abbrev pub Lists : Listing → (Applicative → List ℕ) → List ℕ → Type 0
-  Lists q shown text = ListsPage (λ e. HasTypeIn s.engine.library e q.goal) (request s.engine.costs q.after q.max q.take) shown text
+  Lists q shown text =
+      ListsPage (λ e. HasTypeIn s.engine.library e q.goal) (request s.engine.costs q.after q.max q.take) shown text
 
   -- A query for a certificate isn't answered by its line alone.
   abbrev pub Reply : Query → List ℕ → Type 0
   Reply (sub a b) text =
-      Says (Subtype (below_in s.engine.library.taxonomy) (variances_in s.engine.library.taxonomy) a b) (codes "yes") (codes "no") text
+      Says (Subtype (below_in s.engine.library.taxonomy) (variances_in s.engine.library.taxonomy) a b)
+      (codes "yes") (codes "no") text
   Reply (paths x) text = text ≡ paths_text s.names (paths_at s.engine.library x)
   Reply (typed e t) text = Says (HasTypeIn s.engine.library e t) (codes "yes") (codes "no") text
   Reply (inhabit t) text =
@@ -49,7 +52,8 @@ module _ (s : Serving) where
       (rows : List (Row Goal)) × IsClosed s.engine.library t rows
       × IsGrammarText (name_in s.names) (name_in s.components) rows text
   Reply (audit t) text =
-      (events : List Entry) × IsHistoryOf s.engine.library s.engine.options.workers t events × (text ≡ history_text events)
+      (events : List Entry) × IsHistoryOf s.engine.library s.engine.options.workers t events
+      × (text ≡ history_text events)
   Reply (certify t) text =
       (c : Certificate) × IsCertified s.engine.library t c × (text ≡ certificate_text s.names s.components c)
   Reply (verify t) text = ⊥

@@ -9,8 +9,8 @@ use Rattle.cls_engine.specs.declared.options.Options.{Options}
 use Rattle.cls_engine.specs.Engines.{EngineSeen}
 use Rattle.cls_replies.specs.LineKinds.{Opens}
 
--- The names of constructors so far, the names and the templates of components, the engine, and the lines of a query whose
--- certificate hasn't ended, none if there is no such query.
+-- The names of constructors so far, the names and the templates of components, the engine, and the lines of a query
+-- whose certificate hasn't ended, none if there is no such query.
 pub record Serving : Type 0 where
   pub names : List (List ℕ)
   pub components : List (List ℕ)

@@ -3,7 +3,7 @@ use Rattle.std.specs.Prelude.{ℕ, ◌≡◌, List, [], ◌∷◌, Option, None,
 use Rattle.cls_lexer.specs.Skipped.{IsSkipped}
 use Rattle.cls_query.specs.Queries.{Listing}
 use Rattle.cls_engine.specs.declared.fault.EngineFault.{EngineFault}
-use Rattle.cls_engine.specs.declared.fault.EngineFault.TheVariants.{Size, TooLarge, Wide, TooManyTerms, OutOfMemory}
+use Rattle.cls_engine.specs.declared.fault.EngineFault.TheVariants.{OutOfMemory}
 use Rattle.cls_replies.specs.declared.certificates.LineKind.{LineKind}
 use Rattle.cls_replies.specs.declared.certificates.LineKind.TheVariants.{Skipped, Opening, Single}
 use Rattle.cls_replies.specs.declared.serving.Held.{Held}

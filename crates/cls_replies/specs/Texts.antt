@@ -38,7 +38,8 @@ fault_words names OutOfMemory = []
 -- a line for each path, and `done`
 abbrev pub path_lines : (names : List (List ℕ)) → Paths → List ℕ
 path_lines names path.none = []
-path_lines names (path.more p n) = reply_line (codes "path " ++ printed (name_in names) 0 (type_of_path p)) ++ path_lines names n
+path_lines names (path.more p n) =
+    reply_line (codes "path " ++ printed (name_in names) 0 (type_of_path p)) ++ path_lines names n
 
 abbrev pub paths_text : (names : List (List ℕ)) → Paths → List ℕ
 paths_text names n = path_lines names n ++ reply_line (codes "done")

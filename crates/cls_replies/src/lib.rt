@@ -1,10 +1,10 @@
 //! What is written for the lines after a repository.
 //!
-//! - [`Serving`] takes one line after another and gives what is written for it. It keeps the names that queries have numbered, the
-//!   engine that answers them, and the lines of a certificate that hasn't ended.
+//! - [`Serving`] takes one line after another and gives what is written for it. It keeps the names that queries have
+//!   numbered, the engine that answers them, and the lines of a certificate that hasn't ended.
 //!
-//! `specs/Lines` defines how lines are answered one after another, `specs/Answering` how a query is, `specs/Replies` what
-//! the reply to a query says, and `specs/Errors` which errors it can have.
+//! `specs/Lines` defines how lines are answered one after another, `specs/Answering` how a query is, `specs/Replies`
+//! what the reply to a query says, and `specs/Errors` which errors it can have.
 #![tactic(auto)]
 
 mod certificates;

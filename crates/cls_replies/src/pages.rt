@@ -60,7 +60,8 @@ fn write_term(
     text: &mut String,
 ) -> Result<(), OutOfMemory>
     requires { IsTermOver (length components.now) term.now }
-    ensures { OnOk result (string_bytes text.new ≡ string_bytes text.old ++ term_line (name_at components.now) term.now) }
+    ensures { OnOk result (string_bytes text.new
+        ≡ string_bytes text.old ++ term_line (name_at components.now) term.now) }
 {
     text.push_str("term ")?;
     text.push_str(term.print(alloc, components)?.as_str())?;

@@ -28,8 +28,8 @@ struct Held {
     inside: Vec<Line>,
 }
 
-/// Answers the lines after a repository. It is seen as what it keeps: the names of constructors so far, the names and templates
-/// of components, the engine, and the lines of a query whose certificate hasn't ended.
+/// Answers the lines after a repository. It is seen as what it keeps: the names of constructors so far, the names and
+/// templates of components, the engine, and the lines of a query whose certificate hasn't ended.
 #[derive(Drop)]
 pub struct Serving {
     pub(crate) names: Names,
@@ -56,7 +56,8 @@ impl Model for Serving {
 }
 
 impl Serving {
-    /// Answers by the repository, each of whose components has a name and a template and costs at least 1. It takes no memory.
+    /// Answers by the repository, each of whose components has a name and a template and costs at least 1. It takes no
+    /// memory.
     pub fn new(alloc: Global, repository: Repository, options: Options) -> Serving
         requires in_range { AreInRange options }
         requires costs { (x : ℕ) → 0 < cost_of repository.costs x }
@@ -74,8 +75,8 @@ impl Serving {
         }
     }
 
-    /// Takes the next line, and gives what is written for it. After an error, which is out of memory, no further line is to be
-    /// fed.
+    /// Takes the next line, and gives what is written for it. After an error, which is out of memory, no further line is
+    /// to be fed.
     pub fn feed<R: Threads + Wait + Sync, G: Gate + Sync>(
         &mut self,
         rt: &R,

@@ -1,11 +1,11 @@
-use Rattle.std.proofs.Common.{◌≡◌, ap, sym, subst, ◌∙◌, List, ℕ}
+use Rattle.std.proofs.Common.{◌≡◌, sym, subst, ◌∙◌}
 use Rattle.std.specs.Prelude.{IfOk, string_bytes}
 use Rattle.std.proofs.lemmas.Result.{IfOk-weaker}
 use Rattle.cls_query.specs.Queries.{list}
 use Rattle.cls_query.specs.ReadQueries.{listing_of}
 use Rattle.cls_term.specs.Texts.{name_at}
 use Rattle.cls_replies.specs.Answering.{Answers}
-use Rattle.cls_replies.specs.Replies.{Reply, ListsPage}
+use Rattle.cls_replies.specs.Replies.{Reply}
 use Rattle.cls_replies.specs.Serving.{Serving, serving_of}
 use Rattle.cls_replies.specs.Steps.{held_lines, IsFaultLine}
 use Rattle.cls_replies.specs.Texts.{term_line, page_text}

@@ -9,8 +9,7 @@ use Rattle.cls_query.specs.Queries.{list}
 use Rattle.cls_query.specs.ReadQueries.{listing_of}
 use Rattle.cls_engine.specs.Faults.{IsFaultOf, list_faults}
 use Rattle.cls_replies.specs.Errors.{faults_of}
-use Rattle.cls_replies.specs.Serving.{Serving, serving_of}
-use Rattle.cls_replies.specs.Steps.{held_lines, IsPageOf}
+use Rattle.cls_replies.specs.Serving.{Serving}
 use Rattle.cls_replies.proofs.Terms.{page_over}
 use Rattle.cls_replies.proofs.serving.Serving.page.Goals as goal
 
