@@ -1,7 +1,6 @@
 ghost use Rattle.std.specs.Prelude.{◌<◌, IfOk};
 ghost use Rattle.cls_term.specs.Components.{greatest_of};
 
-use crate::term_tests::applied_to_two;
 use cls_assemble::{Template, TemplateFault, Templates, TextFault, text_of};
 use cls_base::limits::MAX_TEXT_BYTES;
 use cls_term::{Term, Terms};
@@ -29,6 +28,16 @@ fn text_by(alloc: Global, texts: [&str; 3], term: &Term) -> Result<Result<String
         return Err("too few templates".into());
     }
     Ok(text_of(alloc, &templates, term))
+}
+
+/// Component 0 applied to components 1 and 2.
+fn applied_to_two(alloc: Global) -> Result<Term, Fail>
+    ensures { IfOk result (λ term. greatest_of term < 3) }
+{
+    let mut args = Terms::new(alloc);
+    args.push(Term::new(1, Terms::new(alloc)))?;
+    args.push(Term::new(2, Terms::new(alloc)))?;
+    Ok(Term::new(0, args))
 }
 
 /// Component 1 applied to the term.

@@ -1,9 +1,11 @@
-ghost use Rattle.std.specs.Prelude.{◌<◌, IfOk};
-ghost use Rattle.cls_term.specs.Components.{greatest_of};
+ghost use Rattle.std.specs.Prelude.{◌≡◌, IfOk};
+ghost use Rattle.cls_base.specs.Terms.{component, apply};
 
-use crate::token_tests::table;
+use cls_base::Numbers;
+use cls_lexer::Names;
 use cls_term::{Bank, SpineSet, Term, Terms};
 use std::alloc::Global;
+use std::cmp::Ordering;
 use std::test::Fail;
 
 /// A bank of the term 5, which has number 0, and of 3 applied to it twice, which has number 1.
@@ -37,28 +39,33 @@ fn a_set_keeps_each_spine_once(rt: HostRuntime) -> Result<(), Fail> {
     Ok(())
 }
 
-/// Component 0 applied to components 1 and 2.
-pub fn applied_to_two(alloc: Global) -> Result<Term, Fail>
-    ensures { IfOk result (λ term. greatest_of term < 3) }
+/// The term `id(id, n)` over the components id and n.
+fn id_of_id_and_n(alloc: Global) -> Result<Term, Fail>
+    ensures { IfOk result (λ term. term ≡ apply (apply (component 0) (component 0)) (component 1)) }
 {
     let mut args = Terms::new(alloc);
+    args.push(Term::new(0, Terms::new(alloc)))?;
     args.push(Term::new(1, Terms::new(alloc)))?;
-    args.push(Term::new(2, Terms::new(alloc)))?;
     Ok(Term::new(0, args))
 }
 
-/// The text of a copy of that term.
-fn printed_copy(alloc: Global) -> Result<String, Fail> {
-    let components = table(alloc, &["f", "x", "y"])?;
-    if components.len() != 3 {
-        return Err("not three components".into());
-    }
-    let term = applied_to_two(alloc)?;
-    Ok(term.copy(alloc)?.print(alloc, &components)?)
+#[test]
+fn a_term_prints_as_a_spine(rt: HostRuntime) -> Result<(), Fail> {
+    let mut components = Names::new(rt.alloc());
+    components.intern(rt.alloc(), "id")?;
+    assert_eq!(rt; components.len(), 1);
+    components.intern(rt.alloc(), "n")?;
+    assert_eq!(rt; components.len(), 2);
+    let text = id_of_id_and_n(rt.alloc())?.print(rt.alloc(), &components)?;
+    assert_eq!(rt; text.as_str(), "id(id, n)");
+    Ok(())
 }
 
 #[test]
-fn a_copy_prints_as_a_spine(rt: HostRuntime) -> Result<(), Fail> {
-    assert_eq!(rt; printed_copy(rt.alloc())?.as_str(), "f(x, y)");
+fn a_copy_is_equal(rt: HostRuntime) -> Result<(), Fail> {
+    let costs = Numbers::new(Vec::new(rt.alloc()));
+    let term = id_of_id_and_n(rt.alloc())?;
+    let copy = term.copy(rt.alloc())?;
+    assert_eq!(rt; term.order(&costs, &copy), Ordering::Equal);
     Ok(())
 }

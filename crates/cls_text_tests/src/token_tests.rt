@@ -1,5 +1,4 @@
 use cls_lexer::{Line, LineReader, Names};
-use std::alloc::Global;
 use std::test::Fail;
 
 #[test]
@@ -21,22 +20,15 @@ fn a_line_ends_in_a_later_piece(rt: HostRuntime) -> Result<(), Fail> {
     Ok(())
 }
 
-/// The table of these names.
-pub fn table(alloc: Global, names: &[&str]) -> Result<Names, Fail> {
-    let mut table = Names::new(alloc);
-    for name in names {
-        if table.len() > 1_000 {
-            return Err("too many names".into());
-        }
-        table.intern(alloc, name)?;
-    }
-    Ok(table)
-}
-
 #[test]
 fn a_known_text_keeps_its_number(rt: HostRuntime) -> Result<(), Fail> {
-    let names = table(rt.alloc(), &["List", "Int", "List"])?;
-    assert_eq!(rt; (names.number("List").0, names.number("Int").0), (0, 1));
+    let mut names = Names::new(rt.alloc());
+    for (text, number) in [("List", 0), ("Int", 1), ("List", 0)] {
+        if names.len() > 2 {
+            return Err("too many names".into());
+        }
+        assert_eq!(rt; names.intern(rt.alloc(), text)?.0, number);
+    }
     assert_eq!(rt; names.len(), 2);
     Ok(())
 }
