@@ -27,7 +27,7 @@ returns-in-Ok g c =
     record {
       start = c.args.goal;
       ready = c.requires.ready;
-      canonical = subst (λ (l : Library). IsCanonical (eq_by_cmp list_order) (IsAnswer l) c.args.goal c.in-Ok.grammar) c.new-by.ensures (subst (λ (rows : List (Row (List TypePath))). IsCanonical (eq_by_cmp list_order) (IsAnswer c.new-by.result.lib.now) c.args.goal rows) (sym (made ∙ ap renumbered k.shown_rows))
+      canonical = subst (λ (l : Library). IsCanonical (eq_by_cmp list_order) (IsAnswer l) c.args.goal c.in-Ok.grammar) c.new-by.ensures (subst (λ (rows : List (Row (List TypePath))). IsCanonical (eq_by_cmp list_order) (IsAnswer c.new-by.result) c.args.goal rows) (sym (made ∙ ap renumbered k.shown_rows))
           (c.renumbered_rows_are_canonical.ensures _ _ _ _ (k.legal, k.all_filed)));
       narrow = subst (λ (rows : List (Row (List TypePath))). first_wide rows ≡ None) (sym made) (renumbered_narrow c.in_ok-done.done.rows c.in-Ok.ensures.none_wide);
     }
