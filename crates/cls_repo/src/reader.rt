@@ -78,6 +78,13 @@ impl RepoReader {
         }
     }
 
+    /// How many lines were fed.
+    pub fn lines(&self) -> u32
+        ensures { result ≡ self.now.lines }
+    {
+        self.lines
+    }
+
     /// The repository of the lines that were fed.
     ///
     /// The fault is `NoEnd` if no line was `end`. Otherwise it is the first one of the repository: `Cycle`,
