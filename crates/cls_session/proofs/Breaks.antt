@@ -3,7 +3,7 @@ use Rattle.std.proofs.Common.{◌≡◌, ℕ, List, [], ◌∷◌, ◌++◌, sub
 use Rattle.std.specs.Prelude.{Err}
 use Rattle.cls_base.specs.Outside.{SinkSeen}
 use Rattle.cls_lexer.specs.Lines.{CutsLine, lines_of}
-use Rattle.cls_session.specs.declared.options.Options.{Options}
+use Rattle.cls_engine.specs.declared.options.Options.{Options}
 use Rattle.cls_session.specs.declared.driver.Stop.{Stop}
 use Rattle.cls_session.specs.declared.status.Status.{Status}
 use Rattle.cls_session.specs.Driving.{Writes, WritesFront, IsWritten, AnswersLine, RefusesLine, BreaksLine, AnswersLines, RefusesLines, BreaksLines, IsEnded, AnswersLast, RefusesLast, BreaksLast, before_line, within_line, before_last, within_last, MatchStop}

@@ -8,7 +8,7 @@ use Rattle.std.proofs.lemmas.List.{length-map}
 use Rattle.cls_base.specs.Lists.{AreDistinct}
 use Rattle.cls_base.proofs.Lists.{map_last, Contains-nil, Contains-here, Contains-later, Contains-cases, AreDistinct-push}
 use Rattle.cls_lexer.specs.Numerals.{number_value}
-use Rattle.cls_session.specs.declared.options.Options.{Options}
+use Rattle.cls_engine.specs.declared.options.Options.{Options}
 use Rattle.cls_session.specs.declared.settings.OptionName.{OptionName}
 use Rattle.cls_session.specs.declared.settings.OptionName.TheVariants.{Workers, MaxGoals, MaxRules, Pool}
 use Rattle.cls_session.specs.declared.settings.Values.{Values}

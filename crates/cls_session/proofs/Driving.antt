@@ -1,7 +1,7 @@
 -- How answers to single lines make the answer to the lines of a piece.
 use Rattle.std.proofs.Common.{◌≡◌, ℕ, ◌+◌, ◌≤◌, List, [], ◌∷◌, ◌++◌, length, refl, sym, ap, subst, inl, inr, arith, append_assoc, append-nil, length-append}
 use Rattle.std.specs.Prelude.{Err}
-use Rattle.cls_session.specs.declared.options.Options.{Options}
+use Rattle.cls_engine.specs.declared.options.Options.{Options}
 use Rattle.cls_session.specs.declared.driver.Stop.{Stop}
 use Rattle.cls_session.specs.declared.driver.Stop.TheVariants as stops
 use Rattle.cls_base.specs.Outside.{SinkSeen, Holds}

@@ -7,7 +7,7 @@ use Rattle.cls_base.specs.Limits.{max_input_bytes, max_read_bytes}
 use Rattle.cls_base.specs.Outside.{SourceSeen, SinkSeen}
 use Rattle.cls_lexer.specs.Lines.{HasNoFeed, lines_of, ended_lines}
 use Rattle.cls_lexer.proofs.LinePieces.{ended_lines-HasNoFeed}
-use Rattle.cls_session.specs.declared.options.Options.{Options}
+use Rattle.cls_engine.specs.declared.options.Options.{Options}
 use Rattle.cls_session.specs.declared.driver.Stop.{Stop}
 use Rattle.cls_session.specs.declared.driver.Stop.TheVariants as stops
 use Rattle.cls_session.specs.declared.status.Status.{Status}
@@ -143,8 +143,8 @@ end_is_no_usage end (inl e) u = done_differs (sym e ∙ u)
 end_is_no_usage end (inr e) u = refused_differs (sym e ∙ u)
 
 Ending-status : (o : Options) (lines : List (List ℕ)) (text : List ℕ) (end : Status) → Ending o lines text end → IsEndStatus end
-Ending-status o lines text end (without_end ds r t s) = inr s
-Ending-status o lines text end (complete ds a s) = inl s
+Ending-status o lines text end (without_end r a t s) = inr s
+Ending-status o lines text end (complete v replies last a e t s) = inl s
 
 -- bytes that are the whole begin it
 begins_wholly : (front bytes : List ℕ) → IsWholly (Some bytes) front → Begins (Some bytes) front

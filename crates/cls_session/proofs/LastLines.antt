@@ -2,7 +2,7 @@
 use Rattle.std.proofs.Common.{◌≡◌, ℕ, List, [], ◌∷◌, ◌++◌, length, sym, subst, inl, inr, append_assoc, append-nil}
 use Rattle.cls_base.specs.Outside.{SinkSeen, Holds}
 use Rattle.cls_lexer.specs.Lines.{lines_of}
-use Rattle.cls_session.specs.declared.options.Options.{Options}
+use Rattle.cls_engine.specs.declared.options.Options.{Options}
 use Rattle.cls_session.specs.declared.status.Status.{Status}
 use Rattle.cls_session.specs.Driving.{Writes, FitsLine, FitsLast, IsEnded, AnswersLine, RefusesLine, AnswersLast, RefusesLast, EndsOutput}
 use Rattle.cls_session.specs.Standings.{Standing, Stands}

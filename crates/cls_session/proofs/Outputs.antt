@@ -8,7 +8,7 @@ use Rattle.cls_base.specs.Limits.{max_input_bytes, max_read_bytes}
 use Rattle.cls_base.specs.Outside.{SourceSeen, SinkSeen, Holds}
 use Rattle.cls_lexer.specs.Lines.{lines_of, ended_lines, HasNoFeed}
 use Rattle.cls_lexer.proofs.LinePieces.{lines_of-ended_lines, lines_of-CutsLine, ended_lines-CutsLine, CutsLine-append, ended_lines-HasNoFeed}
-use Rattle.cls_session.specs.declared.options.Options.{Options}
+use Rattle.cls_engine.specs.declared.options.Options.{Options}
 use Rattle.cls_session.specs.declared.status.Status.{Status}
 use Rattle.cls_session.specs.declared.status.Status.TheVariants.{Refused, TooLong}
 use Rattle.cls_session.specs.declared.words.Command.TheVariants.{Session}

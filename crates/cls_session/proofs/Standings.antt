@@ -1,185 +1,141 @@
 -- What one line more does to a session.
-use Rattle.std.proofs.Common.{◌≡◌, ℕ, ◌+◌, ◌<◌, ◌≤◌, List, [], ◌∷◌, ◌++◌, length, refl, sym, ap, ◌∙◌, subst, arith, append_assoc, append-nil, true, false}
-use Rattle.std.specs.Prelude.{Contains}
-use Rattle.std.proofs.lemmas.List.{length_push}
-use Rattle.cls_base.specs.Limits.{max_components}
-use Rattle.cls_lexer.specs.Skipped.{IsSkipped}
-use Rattle.cls_session.specs.declared.options.Options.{Options}
-use Rattle.cls_session.specs.Declarations.{Declaration, names_of}
-use Rattle.cls_session.specs.Forms.{IsDeclaration, IsEnd}
-use Rattle.cls_session.specs.Repositories.{Declared, skipped, declares, IsRepository}
-use Rattle.cls_base.specs.Lists.{AreDistinct}
-use Rattle.cls_session.specs.Replies.{Reply, of_line, Replies, none, next, begun}
-use Rattle.cls_session.specs.Transcripts.{IsAnswered, Transcript, opening, answering, refusal, IsRefused, Ending, without_end, complete}
+use Rattle.std.proofs.Common.{◌≡◌, ℕ, List, [], ◌∷◌, ◌++◌, refl, sym, ap, ◌∙◌, subst, true, false, append_assoc, append-nil}
+use Rattle.std.specs.Prelude.{Option, None, Some, codes}
+use Rattle.cls_base.specs.Firsts.{First, IsSilent}
+use Rattle.cls_engine.specs.declared.options.Options.{Options}
+use Rattle.cls_repo.specs.FaultWords.{fault_words, OnWords}
+use Rattle.cls_repo.specs.Readings.{Reading, no_reading, Takes, Refuses, closing_faults}
+use Rattle.cls_repo.specs.declared.fault.RepoFault.{RepoFault}
+use Rattle.cls_replies.specs.Lines.{Goes, Replies, Ends}
+use Rattle.cls_replies.specs.Serving.{Serving, Serves}
+use Rattle.cls_session.specs.declared.status.Status.{Status}
 use Rattle.cls_session.specs.declared.status.Status.TheVariants.{Done, Refused}
+use Rattle.cls_session.specs.Repositories.{AreTaken, IsRepository, IsFirstFault}
+use Rattle.cls_session.specs.Repositories as repositories
+use Rattle.cls_session.specs.Sessions.{SaysFault}
 use Rattle.cls_session.specs.Standings.{Standing, Stands}
 use Rattle.cls_session.specs.Standings as standings
-use Rattle.cls_session.proofs.Repositories.{same_declaration, Declares-unique, Declares-push, Declares-pop, names_of-append, length-names_of}
-use Rattle.cls_base.proofs.Lists.{AreDistinct-last, AreDistinct-push}
+use Rattle.cls_session.specs.Transcripts.{IsAnswered, Transcript, refusal, IsRefused, Ending}
+use Rattle.cls_session.specs.Transcripts as transcripts
+use Rattle.cls_session.proofs.Readings.{AreTaken-push, on_words}
 
--- a line that declares nothing
-pub IsRepository-skip : (lines : List (List ℕ)) (line : List ℕ) (ds : List Declaration) → IsRepository lines ds → IsSkipped line → IsRepository (lines ++ line ∷ []) ds
-IsRepository-skip lines line ds r s =
-    subst (λ (xs : List Declaration). IsRepository (lines ++ line ∷ []) xs) (append-nil ds)
-    record { declared = Declares-push lines line ds [] r.declared (skipped s refl); different = subst (λ (xs : List Declaration). AreDistinct (names_of xs)) (sym (append-nil ds)) r.different; few = subst (λ (xs : List Declaration). length xs ≤ max_components) (sym (append-nil ds)) r.few }
+none_some : {A : Type 0} (a : A) → None ≡ Some a → ⊥
+none_some a e = cc
 
--- a line that declares a new component
-pub IsRepository-declare : (lines : List (List ℕ)) (line : List ℕ) (ds : List Declaration) (d : Declaration) → IsRepository lines ds → IsDeclaration line d
-    → (Contains (names_of ds) d.component → ⊥) → length ds < max_components → IsRepository (lines ++ line ∷ []) (ds ++ d ∷ [])
-IsRepository-declare lines line ds d r s new few = record {
-  declared = Declares-push lines line ds (d ∷ []) r.declared (declares d s refl);
-  different = rw (names_of-append ds (d ∷ [])) (AreDistinct-push (names_of ds) d.component r.different new);
-  few = omega (arith, length_push ds d);
-}
+some_is : {A : Type 0} (a b : A) → Some a ≡ Some b → a ≡ b
+some_is a b e = cc
 
--- the line is neither skipped nor declares a component that may stand here
-pub data IsFaulty (names : List (List ℕ)) (line : List ℕ) : Type 0 where
-  foreign : (IsSkipped line → ⊥) → ((d : Declaration) → IsDeclaration line d → ⊥) → IsFaulty names line
-  repeated : (d : Declaration) → IsDeclaration line d → Contains names d.component → IsFaulty names line
-  full : (d : Declaration) → IsDeclaration line d → max_components ≤ length names → IsFaulty names line
-
-entry_of : (ds : List Declaration) (line : List ℕ) (b : List Declaration) → IsFaulty (names_of ds) line → Declared line b → AreDistinct (names_of (ds ++ b)) → length (ds ++ b) ≤ max_components → ⊥
-entry_of ds line b (foreign n m) (skipped s e) different few = n s
-entry_of ds line b (foreign n m) (declares d q e) different few = m d q
-entry_of ds line b (repeated d p c) (skipped s e) different few = p.unskipped s
-entry_of ds line b (repeated d p c) (declares f q e) different few =
-    let grown : names_of (ds ++ b) ≡ names_of ds ++ f.component ∷ [] = ap (λ (xs : List Declaration). names_of (ds ++ xs)) e ∙ names_of-append ds (f ∷ []) in
-    let same : d ≡ f = same_declaration line d f p q in
-    AreDistinct-last (names_of ds) f.component (subst (λ (xs : List (List ℕ)). AreDistinct xs) grown different) (subst (λ (x : Declaration). Contains (names_of ds) x.component) same c)
-entry_of ds line b (full d p c) (skipped s e) different few = p.unskipped s
-entry_of ds line b (full d p c) (declares f q e) different few =
-    let n = length-names_of ds in let m = ap (λ (xs : List Declaration). length (ds ++ xs)) e in let k = length_push ds f in absurd (omega arith)
-
--- after a faulty line there is no repository
-pub IsRepository-none : (lines : List (List ℕ)) (line : List ℕ) (ds : List Declaration) → IsRepository lines ds → IsFaulty (names_of ds) line → (cs : List Declaration) → IsRepository (lines ++ line ∷ []) cs → ⊥
-IsRepository-none lines line ds r f cs q =
-    let p = Declares-pop lines line cs q.declared in
-    let same : p.0 ≡ ds = Declares-unique lines p.0 ds p.2 r.declared in
-    let is : cs ≡ ds ++ p.1 = p.4 ∙ ap (λ (xs : List Declaration). xs ++ p.1) same in
-    entry_of ds line p.1 f p.3 (subst (λ (xs : List Declaration). AreDistinct (names_of xs)) is q.different) (subst (λ (xs : List Declaration). length xs ≤ max_components) is q.few)
+no_lines : (lines : List (List ℕ)) (end : List ℕ) (more : List (List ℕ)) → [] ≡ lines ++ end ∷ more → ⊥
+no_lines [] end more e = cc
+no_lines (l ∷ lines) end more e = cc
 
 -- a first fault stays the first
+fault_on : (lines more : List (List ℕ)) (said : ℕ × List ℕ) → IsFirstFault lines said → IsFirstFault (lines ++ more) said
+fault_on lines more said (repositories.IsFirstFault.of_line before after line reading split a r) =
+    repositories.IsFirstFault.of_line before (after ++ more) line reading (ap (λ (xs : List (List ℕ)). xs ++ more) split ∙ append_assoc before (line ∷ after) more) a r
+fault_on lines more said (repositories.IsFirstFault.of_repository before after end reading ended split a t e f) =
+    repositories.IsFirstFault.of_repository before (after ++ more) end reading ended (ap (λ (xs : List (List ℕ)). xs ++ more) split ∙ append_assoc before (end ∷ after) more) a t e f
+
 pub IsRefused-append : (lines more : List (List ℕ)) (text : List ℕ) → IsRefused lines text → IsRefused (lines ++ more) text
-IsRefused-append lines more text r = record {
-  place = r.place;
-  fault = (let f = r.fault in record {
-    before = f.before;
-    line = f.line;
-    after = f.after ++ more;
-    split = ap (λ (xs : List (List ℕ)). xs ++ more) f.split ∙ append_assoc f.before (f.line ∷ f.after) more;
-    number = f.number;
-    so_far = f.so_far;
-    no_end = f.no_end;
-    no_repository = f.no_repository;
-  });
-  written = r.written;
+IsRefused-append lines more text r = record { said = r.said; fault = fault_on lines more r.said r.fault; written = r.written }
+
+-- one reply more
+Replies-push : (s0 : Serving) (lines : List (List ℕ)) (text : List ℕ) (s s' : Serving) (line reply : List ℕ) → Replies s0 lines text s → Goes s line reply s' → Replies s0 (lines ++ line ∷ []) (text ++ reply) s'
+Replies-push s0 [] text s s' line reply (e, same) g =
+    (s', reply, [], subst (λ (x : Serving). Goes x line reply s') same g, (refl, refl), ap (λ (t : List ℕ). t ++ reply) e ∙ sym (append-nil reply))
+Replies-push s0 (l ∷ lines) text s s' line reply (m, first, rest, h, hs, e) g =
+    (m, first, rest ++ reply, h, Replies-push m lines rest s s' line reply hs g, ap (λ (t : List ℕ). t ++ reply) e ∙ append_assoc first rest reply)
+
+IsAnswered-push : (o : Options) (lines : List (List ℕ)) (text : List ℕ) (s s' : Serving) (line reply : List ℕ) → IsAnswered o lines text s → Goes s line reply s' → IsAnswered o (lines ++ line ∷ []) (text ++ reply) s'
+IsAnswered-push o lines text s s' line reply a g = record {
+  repository = a.repository;
+  end = a.end;
+  queries = a.queries ++ line ∷ [];
+  split = ap (λ (xs : List (List ℕ)). xs ++ line ∷ []) a.split ∙ append_assoc a.repository (a.end ∷ a.queries) (line ∷ []);
+  declared = a.declared;
+  reads = a.reads;
+  opened = a.opened;
+  serves = a.serves;
+  replies = Replies-push a.opened a.queries text s s' line reply a.replies g;
 }
 
 -- WHAT IS WRITTEN WITH THESE OPTIONS
-module _ (o : Options) where
-  pub Replies-push : (ds : List Declaration) (lines : List (List ℕ)) (line text reply : List ℕ) → Replies o ds lines text → Reply o ds line reply → Replies o ds (lines ++ line ∷ []) (text ++ reply)
-  Replies-push ds lines line text reply (none l t) q =
-      next (line ∷ []) [] reply [] (ap (λ (xs : List (List ℕ)). xs ++ line ∷ []) l) (of_line line refl q) (none refl refl) (ap (λ (x : List ℕ). x ++ reply) t ∙ sym (append-nil reply))
-  Replies-push ds lines line text reply (next query others a b l p ps t) q =
-      next query (others ++ line ∷ []) a (b ++ reply) (ap (λ (xs : List (List ℕ)). xs ++ line ∷ []) l ∙ append_assoc query others (line ∷ [])) p (Replies-push ds others line b reply ps q)
-      (ap (λ (x : List ℕ). x ++ reply) t ∙ append_assoc a b reply)
-  Replies-push ds lines line text reply (begun b t) q = absurd b
+module _ (o : Options) (lines : List (List ℕ)) (text : List ℕ) (s : Standing) where
+  pub Stands-transcript : Stands o lines text s → Transcript o lines text
+  Stands-transcript (standings.Stands.opening reading a t e r v) = transcripts.Transcript.opening reading a t
+  Stands-transcript (standings.Stands.answering serving a e v) = transcripts.Transcript.answering serving a
 
-  pub IsAnswered-push : (lines : List (List ℕ)) (line text reply : List ℕ) (ds : List Declaration) → IsAnswered o lines ds text → Reply o ds line reply → IsAnswered o (lines ++ line ∷ []) ds (text ++ reply)
-  IsAnswered-push lines line text reply ds a q = record {
-    repository = a.repository;
-    end = a.end;
-    queries = a.queries ++ line ∷ [];
-    split = ap (λ (xs : List (List ℕ)). xs ++ line ∷ []) a.split ∙ append_assoc a.repository (a.end ∷ a.queries) (line ∷ []);
-    ends = a.ends;
-    reads = a.reads;
-    replies = Replies-push ds a.queries line text reply a.replies q;
-  }
+  pub Stands-options : Stands o lines text s → s.options ≡ o
+  Stands-options (standings.Stands.opening reading a t e r v) = e
+  Stands-options (standings.Stands.answering serving a e v) = e
 
-  pub IsAnswered-end : (lines : List (List ℕ)) (line : List ℕ) (ds : List Declaration) → IsRepository lines ds → IsEnd line → IsAnswered o (lines ++ line ∷ []) ds []
-  IsAnswered-end lines line ds r e = record { repository = lines; end = line; queries = []; split = refl; ends = e; reads = r; replies = none refl refl }
+  -- a line after the repository
+  pub Stands-goes : (line reply : List ℕ) (old new : Serving) (s' : Standing) → s.serving ≡ Some old → Goes old line reply new → s'.options ≡ s.options → s'.serving ≡ Some new → Stands o lines text s → Stands o (lines ++ line ∷ []) (text ++ reply) s'
+  Stands-goes line reply old new s' was g same is (standings.Stands.opening reading a t e r v) = absurd (none_some old (sym v ∙ was))
+  Stands-goes line reply old new s' was g same is (standings.Stands.answering serving a e v) =
+      let at : serving ≡ old = some_is serving old (sym v ∙ was) in
+      standings.Stands.answering new (IsAnswered-push o lines text serving new line reply a (subst (λ (x : Serving). Goes x line reply new) (sym at) g)) (same ∙ e) is
 
-  -- what a session that reads the repository holds
-  abbrev pub reading : List (List ℕ) → ℕ → Standing
-  reading names count = record { options = o; components = names; lines = count; ended = false }
+  -- the end of the lines after it
+  pub Ending-serving : (last : List ℕ) (serving : Serving) → s.serving ≡ Some serving → Ends serving last → Stands o lines text s → Ending o lines (text ++ last) Done
+  Ending-serving last old was g (standings.Stands.opening reading a t e r v) = absurd (none_some old (sym v ∙ was))
+  Ending-serving last old was g (standings.Stands.answering serving a e v) =
+      let at : serving ≡ old = some_is serving old (sym v ∙ was) in
+      transcripts.Ending.complete serving text last a (subst (λ (x : Serving). Ends x last) (sym at) g) refl refl
 
-  abbrev pub querying : List (List ℕ) → ℕ → Standing
-  querying names count = record { options = o; components = names; lines = count; ended = true }
+  -- The repository is read.
+  module _ (reading : s.serving ≡ None) where
+    is_opening : {A : Type 0} → Stands o lines text s → ((r : Reading) → AreTaken lines r → text ≡ [] → s.options ≡ o → s.reader ≡ r → A) → A
+    is_opening (standings.Stands.opening r a t e is v) f = f r a t e is
+    is_opening (standings.Stands.answering serving a e v) f = absurd (none_some serving (sym reading ∙ v))
 
-  ended_differs : {P : Type 0} → false ≡ true → P
-  ended_differs e = cc
+    -- a line that is taken
+    pub Stands-takes : (line reply : List ℕ) (s' : Standing) → reply ≡ [] → Takes s.reader line s'.reader → s'.reader.ended ≡ false → s'.options ≡ s.options → s'.serving ≡ None → Stands o lines text s → Stands o (lines ++ line ∷ []) (text ++ reply) s'
+    Stands-takes line reply s' none t going same is h = is_opening h (λ r a empty e at.
+        standings.Stands.opening s'.reader (AreTaken-push lines line r s'.reader a (subst (λ (x : Reading). Takes x line s'.reader) at t) going)
+        ((λ j. empty j ++ none j)) (same ∙ e) refl is)
 
-  -- a session that reads the repository has written nothing
-  pub Stands-reading : (lines : List (List ℕ)) (text : List ℕ) (names : List (List ℕ)) (count : ℕ) → Stands o lines text (reading names count)
-      → (ds : List Declaration) × IsRepository lines ds × (text ≡ []) × (names ≡ names_of ds) × (count ≡ length lines)
-  Stands-reading lines text names count (standings.opening ds r t e) = (ds, r, t, ap (λ (s : Standing). s.components) e, ap (λ (s : Standing). s.lines) e)
-  Stands-reading lines text names count (standings.answering ds a e) = ended_differs (ap (λ (s : Standing). s.ended) e)
+    -- a line that is the first fault
+    pub Stands-refuses : (line reply : List ℕ) (said : ℕ × List ℕ) → Refuses s.reader line said → reply ≡ refusal said → Stands o lines text s → IsRefused (lines ++ line ∷ []) (text ++ reply)
+    Stands-refuses line reply said f w h = is_opening h (λ r a empty e at. record {
+      said = said;
+      fault = repositories.IsFirstFault.of_line lines [] line r refl a (subst (λ (x : Reading). Refuses x line said) at f);
+      written = ap (λ (t : List ℕ). t ++ reply) empty ∙ w;
+    })
 
-  pub Stands-querying : (lines : List (List ℕ)) (text : List ℕ) (names : List (List ℕ)) (count : ℕ) → Stands o lines text (querying names count)
-      → (ds : List Declaration) × IsAnswered o lines ds text × (names ≡ names_of ds) × (count ≡ length lines)
-  Stands-querying lines text names count (standings.opening ds r t e) = ended_differs (sym (ap (λ (s : Standing). s.ended) e))
-  Stands-querying lines text names count (standings.answering ds a e) = (ds, a, ap (λ (s : Standing). s.components) e, ap (λ (s : Standing). s.lines) e)
+    -- the line `end` of a repository that has a fault
+    pub Stands-closes : (line reply : List ℕ) (said : ℕ × List ℕ) (ended : Reading) → Takes s.reader line ended → ended.ended ≡ true → First (closing_faults ended) said → reply ≡ refusal said → Stands o lines text s → IsRefused (lines ++ line ∷ []) (text ++ reply)
+    Stands-closes line reply said ended t is f w h = is_opening h (λ r a empty e at. record {
+      said = said;
+      fault = repositories.IsFirstFault.of_repository lines [] line r ended refl a (subst (λ (x : Reading). Takes x line ended) at t) is f;
+      written = ap (λ (t : List ℕ). t ++ reply) empty ∙ w;
+    })
 
-  pub Stands-transcript : (lines : List (List ℕ)) (text : List ℕ) (s : Standing) → Stands o lines text s → Transcript o lines text
-  Stands-transcript lines text s (standings.opening ds r t e) = opening ds r t
-  Stands-transcript lines text s (standings.answering ds a e) = answering ds a
+    -- the line `end` of a repository
+    pub Stands-opens : (line reply : List ℕ) (ended : Reading) (serving : Serving) (s' : Standing) → Takes s.reader line ended → ended.ended ≡ true → IsSilent (First (closing_faults ended)) → Serves s.options ended.draft serving
+        → reply ≡ [] → s'.options ≡ s.options → s'.serving ≡ Some serving → Stands o lines text s → Stands o (lines ++ line ∷ []) (text ++ reply) s'
+    Stands-opens line reply ended serving s' t is silent serves none same v h = is_opening h (λ r a empty e at.
+        standings.Stands.answering serving record {
+          repository = lines;
+          end = line;
+          queries = [];
+          split = refl;
+          declared = ended.draft;
+          reads = record { before = r; taken = a; reading = ended; ends = subst (λ (x : Reading). Takes x line ended) at t; ended = is; faultless = silent; declares = refl };
+          opened = serving;
+          serves = subst (λ (x : Options). Serves x ended.draft serving) e serves;
+          replies = ((λ j. empty j ++ none j), refl);
+        } (same ∙ e) v)
 
-  pub Stands-options : (lines : List (List ℕ)) (text : List ℕ) (s : Standing) → Stands o lines text s → s.options ≡ o
-  Stands-options lines text s (standings.opening ds r t e) = ap (λ (x : Standing). x.options) e
-  Stands-options lines text s (standings.answering ds a e) = ap (λ (x : Standing). x.options) e
+    -- the end of the lines without the line `end`
+    pub Ending-opening : (last : List ℕ) → last ≡ refusal (s.reader.lines, codes "no-end") → Stands o lines text s → Ending o lines (text ++ last) Refused
+    Ending-opening last w h = is_opening h (λ r a empty e at.
+        transcripts.Ending.without_end r a (ap (λ (t : List ℕ). t ++ last) empty ∙ (w ∙ ap (λ (x : Reading). refusal (x.lines, codes "no-end")) at)) refl)
 
-  pub Stands-counted : (lines : List (List ℕ)) (text : List ℕ) (s : Standing) → Stands o lines text s → s.lines ≡ length lines
-  Stands-counted lines text s (standings.opening ds r t e) = ap (λ (x : Standing). x.lines) e
-  Stands-counted lines text s (standings.answering ds a e) = ap (λ (x : Standing). x.lines) e
+-- what the text says of a fault
+pub says_fault : (fault : RepoFault) (text : List ℕ) → SaysFault fault text → text ≡ refusal (fault.line, fault_words fault.kind)
+says_fault fault text h = on_words (λ words. text ≡ refusal (fault.line, words)) fault.kind h.1 h.0
 
-  module _ (lines : List (List ℕ)) (text line : List ℕ) (names : List (List ℕ)) (count : ℕ) where
-    pub Stands-skip : Stands o lines text (reading names count) → IsSkipped line → Stands o (lines ++ line ∷ []) (text ++ []) (reading names (count + 1))
-    Stands-skip h s =
-        let (ds, r, t, n, c) = Stands-reading lines text names count h in
-        standings.opening ds (IsRepository-skip lines line ds r s) (append-nil text ∙ t) (λ i. reading (n i) ((ap (λ k. k + 1) c ∙ sym (length_push lines line)) i))
-
-    pub Stands-declare : (d : Declaration) → Stands o lines text (reading names count) → IsDeclaration line d → (Contains names d.component → ⊥) → length names < max_components
-        → Stands o (lines ++ line ∷ []) (text ++ []) (reading (names ++ d.component ∷ []) (count + 1))
-    Stands-declare d h s new few =
-        let (ds, r, t, n, c) = Stands-reading lines text names count h in
-        let grown : names ++ d.component ∷ [] ≡ names_of (ds ++ d ∷ []) = ap (λ (xs : List (List ℕ)). xs ++ d.component ∷ []) n ∙ sym (names_of-append ds (d ∷ [])) in
-        let absent : Contains (names_of ds) d.component → ⊥ = λ k. new (subst (λ (xs : List (List ℕ)). Contains xs d.component) (sym n) k) in
-        let room : length ds < max_components = (let a = length-names_of ds in let b = ap length n in omega arith) in
-        standings.opening (ds ++ d ∷ []) (IsRepository-declare lines line ds d r s absent room) (append-nil text ∙ t) (λ i. reading (grown i) ((ap (λ k. k + 1) c ∙ sym (length_push lines line)) i))
-
-    pub Stands-end : Stands o lines text (reading names count) → IsEnd line → Stands o (lines ++ line ∷ []) (text ++ []) (querying names (count + 1))
-    Stands-end h e =
-        let (ds, r, t, n, c) = Stands-reading lines text names count h in
-        let a : IsAnswered o (lines ++ line ∷ []) ds (text ++ []) = subst (λ (x : List ℕ). IsAnswered o (lines ++ line ∷ []) ds (x ++ [])) (sym t) (IsAnswered-end lines line ds r e) in
-        standings.answering ds a (λ i. querying (n i) ((ap (λ k. k + 1) c ∙ sym (length_push lines line)) i))
-
-    pub Stands-refused : Stands o lines text (reading names count) → IsFaulty names line → (IsEnd line → ⊥) → IsRefused (lines ++ line ∷ []) (text ++ refusal (count + 1))
-    Stands-refused h f e =
-        let (ds, r, t, n, c) = Stands-reading lines text names count h in
-        record {
-          place = count + 1;
-          fault = record { before = lines; line = line; after = []; split = refl; number = ap (λ k. k + 1) c; so_far = (ds, r); no_end = e; no_repository = IsRepository-none lines line ds r (subst (λ (xs : List (List ℕ)). IsFaulty xs line) n f) };
-          written = ap (λ (x : List ℕ). x ++ refusal (count + 1)) t;
-        }
-
-    pub Stands-reply : (reply : List ℕ) → Stands o lines text (querying names count) → ((ds : List Declaration) → names ≡ names_of ds → Reply o ds line reply)
-        → Stands o (lines ++ line ∷ []) (text ++ reply) (querying names (count + 1))
-    Stands-reply reply h q =
-        let (ds, a, n, c) = Stands-querying lines text names count h in
-        standings.answering ds (IsAnswered-push lines line text reply ds a (q ds n)) (λ i. querying (n i) ((ap (λ k. k + 1) c ∙ sym (length_push lines line)) i))
-
-  -- no line is the repository without components
-  pub Stands-nothing : Stands o [] [] (reading [] 0)
-  Stands-nothing = standings.opening [] record { declared = refl; different = tt; few = omega arith } refl refl
-
-  -- what ends the output of a session that reads the repository
-  pub Ending-reading : (names : List (List ℕ)) (count : ℕ) (lines : List (List ℕ)) (text last : List ℕ) → last ≡ refusal count → Stands o lines text (reading names count) → Ending o lines (text ++ last) Refused
-  Ending-reading names count lines text last e h =
-      let (ds, r, t, n, c) = Stands-reading lines text names count h in
-      without_end ds r (ap (λ (x : List ℕ). x ++ last) t ∙ (e ∙ ap refusal c)) refl
-
-  -- what ends the output of a session that answers queries
-  pub Ending-querying : (names : List (List ℕ)) (count : ℕ) (lines : List (List ℕ)) (text last : List ℕ) → last ≡ [] → Stands o lines text (querying names count) → Ending o lines (text ++ last) Done
-  Ending-querying names count lines text last e h =
-      let (ds, a, n, c) = Stands-querying lines text names count h in
-      complete ds (subst (λ (x : List ℕ). IsAnswered o lines ds x) (sym (ap (λ (x : List ℕ). text ++ x) e ∙ append-nil text)) a) refl
+-- what a session is at first
+pub Stands-none : (o : Options) (s : Standing) → s.options ≡ o → s.reader ≡ no_reading → s.serving ≡ None → Stands o [] [] s
+Stands-none o s e r v = standings.Stands.opening no_reading record { taken = refl; unended = refl } refl e r v

@@ -3,12 +3,12 @@ use Rattle.std.specs.Prelude.{ℕ, ◌≡◌, ◌≤◌, ◌==◌, List, [], ◌
 use Rattle.std.specs.List.{flat_map, AllByRecursion}
 use Rattle.cls_base.specs.Lists.{AreDistinct}
 use Rattle.cls_lexer.specs.Numerals.{is_numeral, number_value}
-use Rattle.cls_session.specs.declared.options.Options.{Options}
+use Rattle.cls_engine.specs.declared.options.Options.{Options}
 use Rattle.cls_session.specs.declared.settings.OptionName.{OptionName}
 use Rattle.cls_session.specs.declared.settings.OptionName.TheVariants.{Workers, MaxGoals, MaxRules, Pool}
 use Rattle.cls_session.specs.declared.words.Command.{Command}
 use Rattle.cls_session.specs.declared.words.Command.TheVariants as command
-use Rattle.cls_session.specs.Replies.{reply_line}
+use Rattle.cls_replies.specs.Texts.{reply_line}
 
 -- what each word says
 abbrev pub texts_of : {A : Type 0} → List (String A) → List (List ℕ)

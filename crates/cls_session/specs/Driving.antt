@@ -3,7 +3,7 @@ use Rattle.std.specs.Prelude.{ℕ, ◌≡◌, ◌⊎◌, List, [], ◌∷◌, �
 use Rattle.std.specs.Io.KnownBytes.{Appends}
 use Rattle.cls_base.specs.Outside.{SinkSeen, Fills, HasRisen, Holds}
 use Rattle.cls_lexer.specs.Lines.{CutsLine, lines_of}
-use Rattle.cls_session.specs.declared.options.Options.{Options}
+use Rattle.cls_engine.specs.declared.options.Options.{Options}
 use Rattle.cls_session.specs.declared.status.Status.{Status}
 use Rattle.cls_session.specs.declared.driver.Stop.{Stop}
 use Rattle.cls_session.specs.declared.driver.Stop.TheVariants as stops

@@ -1,15 +1,9 @@
 pub mod Commands
-pub mod Declarations
 pub mod Driving
-pub mod Forms
-pub mod LineAnswers
-pub mod Listings
 pub mod Outputs
-pub mod Replies
 pub mod Repositories
 pub mod Sessions
 pub mod Settings
 pub mod Standings
 pub mod Stops
 pub mod Transcripts
-pub mod Typings

@@ -4,7 +4,7 @@ use Rattle.std.specs.Io.KnownBytes.{Appends}
 use Rattle.cls_base.specs.Limits.{max_input_bytes, max_read_bytes}
 use Rattle.cls_base.specs.Outside.{SourceSeen, SinkSeen}
 use Rattle.cls_lexer.specs.Lines.{lines_of, ended_lines}
-use Rattle.cls_session.specs.declared.options.Options.{Options}
+use Rattle.cls_engine.specs.declared.options.Options.{Options}
 use Rattle.cls_session.specs.declared.status.Status.{Status}
 use Rattle.cls_session.specs.declared.status.Status.TheVariants.{Done, Usage, Refused, ReadFault, WriteFault, NoMemory, TooLong}
 use Rattle.cls_session.specs.declared.words.Command.TheVariants.{Session}
@@ -162,13 +162,3 @@ pub record AnswersBeforeLast (o : Options) (bytes rest : List ℕ) (sink sink' :
 abbrev pub KeepsPace : List (List ℕ) → SourceSeen → SourceSeen → SinkSeen → SinkSeen → Type 0
 KeepsPace words source source' sink sink' = (o : Options) → Asks words (Session o)
     → IfTold source.left source'.left (λ bytes rest. AnswersBeforeLast o bytes rest sink sink')
-
--- What is written goes on to an output.
-pub record TranscriptsGoOn : Type 0 where
-  -- What is written for the whole lines of a text that isn't too long is the beginning of an output for it.
-  pub whole_lines : (o : Options) (bytes text : List ℕ) → length bytes ≤ max_input_bytes
-      → Transcript o (ended_lines bytes) text
-      → (more : List ℕ) × (status : Status) × SessionOutput o bytes (text ++ more) status
-  -- What may stand written for some first lines is.
-  pub first_lines : (words : List (List ℕ)) (bytes text : List ℕ) → MayStand words bytes text
-      → (more : List ℕ) × (status : Status) × Output words bytes (text ++ more) status

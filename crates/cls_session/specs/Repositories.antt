@@ -1,36 +1,31 @@
 -- Repositories, and the first fault of lines that are none.
-use Rattle.std.specs.Prelude.{ℕ, ◌≡◌, ◌≤◌, ◌+◌, List, [], ◌∷◌, ◌++◌, length}
-use Rattle.cls_base.specs.Limits.{max_components}
-use Rattle.cls_base.specs.Lists.{AreDistinct}
-use Rattle.cls_lexer.specs.Skipped.{IsSkipped}
-use Rattle.cls_session.specs.Declarations.{Declaration, names_of}
-use Rattle.cls_session.specs.Forms.{IsDeclaration, IsEnd}
+use Rattle.std.specs.Prelude.{ℕ, ◌≡◌, List, [], ◌∷◌, ◌++◌, true, false}
+use Rattle.cls_base.specs.Firsts.{First, IsSilent}
+use Rattle.cls_repo.specs.Drafts.{Draft}
+use Rattle.cls_repo.specs.Readings.{Reading, no_reading, Takes, TakesAll, Refuses, closing_faults}
 
--- What a line of a repository declares: nothing or one component.
-pub data Declared (line : List ℕ) (ds : List Declaration) : Type 0 where
-  skipped : IsSkipped line → ds ≡ [] → Declared line ds
-  declares : (d : Declaration) → IsDeclaration line d → ds ≡ d ∷ [] → Declared line ds
+-- The lines are taken one after another, and none of them is `end`.
+pub record AreTaken (lines : List (List ℕ)) (reading : Reading) : Type 0 where
+  pub taken : TakesAll no_reading lines reading
+  pub unended : reading.ended ≡ false
 
--- what lines of a repository declare, in turn
-abbrev pub Declares : List (List ℕ) → List Declaration → Type 0
-Declares [] ds = ds ≡ []
-Declares (line ∷ lines) ds =
-    (first rest : List Declaration) × Declared line first × Declares lines rest × (ds ≡ first ++ rest)
+-- The lines and then the line `end` are a repository without fault, and declare this.
+pub record IsRepository (lines : List (List ℕ)) (end : List ℕ) (d : Draft) : Type 0 where
+  pub before : Reading
+  pub taken : AreTaken lines before
+  pub reading : Reading
+  pub ends : Takes before end reading
+  pub ended : reading.ended ≡ true
+  pub faultless : IsSilent (First (closing_faults reading))
+  pub declares : d ≡ reading.draft
 
--- The lines, none of them `end`, are a repository with these components: at most `max_components`, no two of one name.
-pub record IsRepository (lines : List (List ℕ)) (ds : List Declaration) : Type 0 where
-  pub declared : Declares lines ds
-  pub different : AreDistinct (names_of ds)
-  pub few : length ds ≤ max_components
-
--- The number, from 1, of the first line that is neither `end` nor with the lines before it a repository. No `end` comes
--- before it.
-pub record IsFirstFault (lines : List (List ℕ)) (place : ℕ) : Type 0 where
-  pub before : List (List ℕ)
-  pub line : List ℕ
-  pub after : List (List ℕ)
-  pub split : lines ≡ before ++ line ∷ after
-  pub number : place ≡ length before + 1
-  pub so_far : (ds : List Declaration) × IsRepository before ds
-  pub no_end : IsEnd line → ⊥
-  pub no_repository : (ds : List Declaration) → IsRepository (before ++ line ∷ []) ds → ⊥
+-- The first fault of the lines, with its line and in words: a line that isn't taken, or what is wrong with the repository at
+-- its line `end`.
+pub data IsFirstFault (lines : List (List ℕ)) (said : ℕ × List ℕ) : Type 0 where
+  of_line :
+      (before after : List (List ℕ)) (line : List ℕ) (reading : Reading) → lines ≡ before ++ line ∷ after
+      → AreTaken before reading → Refuses reading line said → IsFirstFault lines said
+  of_repository :
+      (before after : List (List ℕ)) (end : List ℕ) (reading ended : Reading) → lines ≡ before ++ end ∷ after
+      → AreTaken before reading → Takes reading end ended → ended.ended ≡ true → First (closing_faults ended) said
+      → IsFirstFault lines said

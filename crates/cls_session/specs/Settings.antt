@@ -1,7 +1,7 @@
 -- Internal: what the code keeps that reads the words of a command line.
 use Rattle.std.specs.Prelude.{ℕ, ◌≡◌, List, ◌∷◌, Option, None, Some, unwrap_or}
 use Rattle.cls_lexer.specs.Numerals.{number_value}
-use Rattle.cls_session.specs.declared.options.Options.{Options}
+use Rattle.cls_engine.specs.declared.options.Options.{Options}
 use Rattle.cls_session.specs.declared.settings.OptionName.{OptionName}
 use Rattle.cls_session.specs.declared.settings.OptionName.TheVariants.{Workers, MaxGoals, MaxRules, Pool}
 use Rattle.cls_session.specs.declared.settings.Values.{Values}

@@ -1,22 +1,29 @@
 -- What a session holds after the lines that it was fed.
-use Rattle.std.specs.Prelude.{ℕ, ◌≡◌, List, [], length, Bool, true, false}
-use Rattle.cls_session.specs.declared.options.Options.{Options}
-use Rattle.cls_session.specs.Declarations.{Declaration, names_of}
-use Rattle.cls_session.specs.Repositories.{IsRepository}
+use Rattle.std.specs.Prelude.{ℕ, ◌≡◌, List, [], length, Option, None, Some}
+use Rattle.cls_engine.specs.declared.options.Options.{Options}
+use Rattle.cls_repo.specs.Readings.{Reading}
+use Rattle.cls_replies.specs.Serving.{Serving}
+use Rattle.cls_session.specs.Repositories.{AreTaken}
 use Rattle.cls_session.specs.Transcripts.{IsAnswered}
 
--- The options, the names of the components in turn, the number of lines, and whether the line `end` was among them.
+-- The options, what was read of the repository, and what answers the lines after it, if it was read whole.
 pub record Standing : Type 0 where
   pub options : Options
-  pub components : List (List ℕ)
-  pub lines : ℕ
-  pub ended : Bool
+  pub reader : Reading
+  pub serving : Option Serving
 
--- The session has these options and was fed these lines, and this text is what is written for them.
+-- The session has these options and was fed these lines, and this text is what is written for them: it reads the repository, or
+-- it has read it and answers by it.
 pub data Stands (o : Options) (lines : List (List ℕ)) (text : List ℕ) (s : Standing) : Type 0 where
-  opening : (declared : List Declaration) → IsRepository lines declared → text ≡ []
-      → s ≡ record { options = o; components = names_of declared; lines = length lines; ended = false }
+  opening : (reading : Reading) → AreTaken lines reading → text ≡ [] → s.options ≡ o → s.reader ≡ reading → s.serving ≡ None
       → Stands o lines text s
-  answering : (declared : List Declaration) → IsAnswered o lines declared text
-      → s ≡ record { options = o; components = names_of declared; lines = length lines; ended = true }
+  answering : (serving : Serving) → IsAnswered o lines text serving → s.options ≡ o → s.serving ≡ Some serving
       → Stands o lines text s
+
+-- How many lines the session keeps count of: those of the repository, and then those of a certificate.
+abbrev pub held_by : Reading → Option Serving → ℕ
+held_by reading None = reading.lines
+held_by reading (Some serving) = length serving.held
+
+abbrev pub lines_of_session : Standing → ℕ
+lines_of_session s = held_by s.reader s.serving

@@ -1,43 +1,47 @@
 -- What is written for lines: the language of clsynth.
-use Rattle.std.specs.Prelude.{ℕ, ◌≡◌, List, [], ◌∷◌, ◌++◌, length, codes}
+use Rattle.std.specs.Prelude.{ℕ, ◌≡◌, List, [], ◌∷◌, ◌++◌, codes}
 use Rattle.std.specs.Fmt.{decimal}
-use Rattle.cls_session.specs.declared.options.Options.{Options}
+use Rattle.cls_engine.specs.declared.options.Options.{Options}
+use Rattle.cls_repo.specs.Drafts.{Draft}
+use Rattle.cls_repo.specs.Readings.{Reading}
+use Rattle.cls_replies.specs.Lines.{Replies, Ends}
+use Rattle.cls_replies.specs.Serving.{Serving, Serves}
+use Rattle.cls_replies.specs.Texts.{reply_line}
 use Rattle.cls_session.specs.declared.status.Status.{Status}
 use Rattle.cls_session.specs.declared.status.Status.TheVariants.{Done, Refused}
-use Rattle.cls_session.specs.Declarations.{Declaration}
-use Rattle.cls_session.specs.Forms.{IsEnd}
-use Rattle.cls_session.specs.Repositories.{IsRepository, IsFirstFault}
-use Rattle.cls_session.specs.Replies.{reply_line, Replies}
+use Rattle.cls_session.specs.Repositories.{AreTaken, IsRepository, IsFirstFault}
 
--- The lines are a repository with these components, the line `end`, and lines whose replies the text holds.
-pub record IsAnswered (o : Options) (lines : List (List ℕ)) (declared : List Declaration) (text : List ℕ) : Type 0 where
+-- The lines are a repository, the line `end`, and lines whose replies the text holds. The repository is kept as `s` after them.
+pub record IsAnswered (o : Options) (lines : List (List ℕ)) (text : List ℕ) (s : Serving) : Type 0 where
   pub repository : List (List ℕ)
   pub end : List ℕ
   pub queries : List (List ℕ)
   pub split : lines ≡ repository ++ end ∷ queries
-  pub ends : IsEnd end
-  pub reads : IsRepository repository declared
-  pub replies : Replies o declared queries text
+  pub declared : Draft
+  pub reads : IsRepository repository end declared
+  pub opened : Serving
+  pub serves : Serves o declared opened
+  pub replies : Replies opened queries text s
 
 -- What is written for these lines if more may follow: nothing before the line `end`, and then the replies.
 pub data Transcript (o : Options) (lines : List (List ℕ)) (text : List ℕ) : Type 0 where
-  opening : (declared : List Declaration) → IsRepository lines declared → text ≡ [] → Transcript o lines text
-  answering : (declared : List Declaration) → IsAnswered o lines declared text → Transcript o lines text
+  opening : (reading : Reading) → AreTaken lines reading → text ≡ [] → Transcript o lines text
+  answering : (s : Serving) → IsAnswered o lines text s → Transcript o lines text
 
--- refused LINE unbuilt
-abbrev pub refusal : ℕ → List ℕ
-refusal place = reply_line (codes "refused " ++ decimal place ++ codes " unbuilt")
+-- refused LINE WORDS
+abbrev pub refusal : ℕ × List ℕ → List ℕ
+refusal said = reply_line (codes "refused " ++ decimal said.0 ++ codes " " ++ said.1)
 
 -- The first fault of the repository is all that is written.
 pub record IsRefused (lines : List (List ℕ)) (text : List ℕ) : Type 0 where
-  pub place : ℕ
-  pub fault : IsFirstFault lines place
-  pub written : text ≡ refusal place
+  pub said : ℕ × List ℕ
+  pub fault : IsFirstFault lines said
+  pub written : text ≡ refusal said
 
 -- What is written for these lines if no more follow, and the status. If the line `end` is missing, the number of lines is
--- the place of the fault.
+-- the place of the fault. A certificate that hasn't ended ends with the lines.
 pub data Ending (o : Options) (lines : List (List ℕ)) (text : List ℕ) (status : Status) : Type 0 where
-  without_end : (declared : List Declaration) → IsRepository lines declared → text ≡ refusal (length lines)
+  without_end : (reading : Reading) → AreTaken lines reading → text ≡ refusal (reading.lines, codes "no-end")
       → status ≡ Refused → Ending o lines text status
-  complete : (declared : List Declaration) → IsAnswered o lines declared text → status ≡ Done
-      → Ending o lines text status
+  complete : (s : Serving) (replies last : List ℕ) → IsAnswered o lines replies s → Ends s last → text ≡ replies ++ last
+      → status ≡ Done → Ending o lines text status

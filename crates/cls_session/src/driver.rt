@@ -1,6 +1,7 @@
 ghost use Rattle.std.specs.Prelude.{◌≡◌, ℕ, ◌+◌, ◌^◌, ◌<◌, ◌≤◌, ◌++◌, length, OnOk, OnErr};
 ghost use Rattle.cls_base.specs.Outside.{HasRisen, Holds};
 ghost use Rattle.cls_lexer.specs.Lines.{HasNoFeed};
+ghost use Rattle.cls_session.specs.Standings.{lines_of_session};
 ghost use Rattle.cls_session.specs.declared.driver.Stop.TheVariants.{WriteFault, NoMemory};
 ghost use Rattle.cls_session.specs.Driving.{Writes, WritesFront, MatchStop, CountsFaults};
 ghost use Rattle.cls_session.specs.Driving.{FitsLine, AnswersLine, RefusesLine, BreaksLine};
@@ -9,9 +10,11 @@ ghost use Rattle.cls_session.specs.Driving.{FitsLast, AnswersLast, RefusesLast, 
 
 use crate::session::{Answer, Session};
 use crate::status::Status;
-use cls_base::{Failed, OutOfMemory, Sink};
+use cls_base::{Failed, Gate, OutOfMemory, Sink};
 use cls_lexer::{Line, LineReader};
 use std::alloc::Global;
+use std::sync::Wait;
+use std::thread::Threads;
 
 /// Why the lines of an input aren't answered to the end.
 #[derive(Clone, Copy, Debug, PartialEq, Eq)]
@@ -58,22 +61,24 @@ pub fn write_all<K: Sink>(sink: &mut K, text: &[u8]) -> Result<(), Failed>
 }
 
 /// Answers one line, and writes the reply before anything else is done.
-pub fn answer_line<K: Sink>(
+pub fn answer_line<R: Threads + Wait + Sync, K: Sink, G: Gate + Sync>(
+    rt: &R,
     alloc: Global,
     session: &mut Session,
     line: &Line,
     sink: &mut K,
+    gate: &G,
 ) -> Result<(), Stop>
-    requires few_lines { session.old.lines < 2 ^ 32 }
+    requires few_lines { lines_of_session session.old + 1 < 2 ^ 32 }
     requires room { FitsLine (K.seen sink.old) session.old line.now }
     ensures answers { MatchStop result
         (λ _. AnswersLine (K.seen sink.old) (K.seen sink.new) session.old session.new line.now)
         (RefusesLine (K.seen sink.old) (K.seen sink.new) session.old line.now)
         (BreaksLine (K.seen sink.old) (K.seen sink.new) session.old line.now) }
-    ensures counted { OnOk result (session.new.lines ≤ session.old.lines + 1) }
+    ensures counted { OnOk result (lines_of_session session.new ≤ lines_of_session session.old + 1) }
     ensures faults { CountsFaults result (K.seen sink.old) (K.seen sink.new) }
 {
-    match session.feed(alloc, line)? {
+    match session.feed(rt, alloc, line, gate)? {
         Answer::Reply(text) => {
             write_all(sink, text.as_bytes())?;
             Ok(())
@@ -86,14 +91,16 @@ pub fn answer_line<K: Sink>(
 }
 
 /// Answers the lines that end in the piece one after another, and holds back what comes after the last line feed.
-pub fn answer_lines<K: Sink>(
+pub fn answer_lines<R: Threads + Wait + Sync, K: Sink, G: Gate + Sync>(
+    rt: &R,
     alloc: Global,
     session: &mut Session,
     reader: &mut LineReader,
     piece: &[u8],
     sink: &mut K,
+    gate: &G,
 ) -> Result<(), Stop>
-    requires few_lines { session.old.lines + length (reader.old ++ piece.now) < 2 ^ 32 }
+    requires few_lines { lines_of_session session.old + length (reader.old ++ piece.now) < 2 ^ 32 }
     requires room { FitsLines (K.seen sink.old) session.old (reader.old ++ piece.now) }
     ensures answers { let text = reader.old ++ piece.now in MatchStop result
         (λ _. AnswersLines (K.seen sink.old) (K.seen sink.new) session.old session.new text reader.new)
@@ -101,7 +108,7 @@ pub fn answer_lines<K: Sink>(
         (BreaksLines (K.seen sink.old) (K.seen sink.new) session.old text) }
     ensures no_feed { OnOk result (HasNoFeed reader.new) }
     ensures counted { OnOk result
-        (session.new.lines + length reader.new ≤ session.old.lines + length (reader.old ++ piece.now)) }
+        (lines_of_session session.new + length reader.new ≤ lines_of_session session.old + length (reader.old ++ piece.now)) }
     ensures faults { CountsFaults result (K.seen sink.old) (K.seen sink.new) }
 {
     let mut rest = piece;
@@ -110,43 +117,48 @@ pub fn answer_lines<K: Sink>(
         let Some(line) = line else {
             return Ok(());
         };
-        answer_line(alloc, session, &line, sink)?;
+        answer_line(rt, alloc, session, &line, sink, gate)?;
         rest = after;
     }
 }
 
 /// Answers the last line, which has no line feed, if a byte stands in it.
-pub fn answer_last<K: Sink>(
+pub fn answer_last<R: Threads + Wait + Sync, K: Sink, G: Gate + Sync>(
+    rt: &R,
     alloc: Global,
     session: &mut Session,
     reader: LineReader,
     sink: &mut K,
+    gate: &G,
 ) -> Result<(), Stop>
-    requires few_lines { session.old.lines < 2 ^ 32 }
+    requires few_lines { lines_of_session session.old + length reader < 2 ^ 32 }
     requires room { FitsLast (K.seen sink.old) session.old reader }
     ensures answers { MatchStop result
         (λ _. AnswersLast (K.seen sink.old) (K.seen sink.new) session.old session.new reader)
         (RefusesLast (K.seen sink.old) (K.seen sink.new) session.old reader)
         (BreaksLast (K.seen sink.old) (K.seen sink.new) session.old reader) }
+    ensures counted { OnOk result (lines_of_session session.new ≤ lines_of_session session.old + length reader) }
     ensures faults { CountsFaults result (K.seen sink.old) (K.seen sink.new) }
 {
     match reader.finish() {
         None => Ok(()),
         Some(line) => {
-            answer_line(alloc, session, &line, sink)?;
+            answer_line(rt, alloc, session, &line, sink, gate)?;
             Ok(())
         }
     }
 }
 
 /// Answers what is left at the end of the input, and ends the output.
-pub fn finish<K: Sink>(
+pub fn finish<R: Threads + Wait + Sync, K: Sink, G: Gate + Sync>(
+    rt: &R,
     alloc: Global,
     mut session: Session,
     reader: LineReader,
     sink: &mut K,
+    gate: &G,
 ) -> Result<Status, Stop>
-    requires few_lines { session.lines < 2 ^ 32 }
+    requires few_lines { lines_of_session session + length reader < 2 ^ 32 }
     requires room { FitsLast (K.seen sink.old) session reader }
     ensures answers { MatchStop result
         (EndsOutput (K.seen sink.old) (K.seen sink.new) session reader)
@@ -154,7 +166,7 @@ pub fn finish<K: Sink>(
         (BreaksLast (K.seen sink.old) (K.seen sink.new) session reader) }
     ensures faults { CountsFaults result (K.seen sink.old) (K.seen sink.new) }
 {
-    answer_last(alloc, &mut session, reader, sink)?;
+    answer_last(rt, alloc, &mut session, reader, sink, gate)?;
     let outcome = session.finish(alloc)?;
     write_all(sink, outcome.text.as_bytes())?;
     Ok(outcome.status)

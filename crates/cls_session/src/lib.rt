@@ -12,10 +12,7 @@
 #![tactic(auto)]
 
 mod driver;
-mod forms;
 pub mod laws;
-mod listing;
-mod options;
 #[cfg(test)]
 mod plain_tests;
 mod program;
@@ -24,7 +21,7 @@ mod settings;
 mod status;
 mod words;
 
-pub use options::Options;
+pub use cls_engine::Options;
 pub use program::run;
 pub use status::Status;
 pub use words::{Command, UsageFault, read_words};

@@ -8,12 +8,12 @@ ghost use Rattle.cls_session.specs.Stops.{status_of};
 ghost use Rattle.cls_session.specs.declared.status.Status.TheVariants.{Done, Usage, ReadFault, WriteFault};
 
 use crate::driver::{Stop, answer_lines, finish, write_all};
-use crate::options::Options;
 use crate::session::Session;
 use crate::status::Status;
 use crate::words::{Command, read_words};
 use cls_base::limits::{MAX_INPUT_BYTES, MAX_READ_BYTES};
 use cls_base::{Gate, Sink, Source};
+use cls_engine::Options;
 use cls_lexer::LineReader;
 use std::alloc::Global;
 use std::sync::Wait;
@@ -70,7 +70,7 @@ pub fn run<R: Threads + Wait + Sync, S: Source, K: Sink, G: Gate + Sync>(
     ensures no_write_fault { IsWhole result → (K.seen sink.new).faults ≡ (K.seen sink.old).faults }
 {
     match read_words(words) {
-        Ok(Command::Session(options)) => answer_input(alloc, options, source, sink),
+        Ok(Command::Session(options)) => answer_input(rt, alloc, options, source, sink, gate),
         Err(_) => match write_all(sink, USAGE.as_bytes()) {
             Ok(()) => Status::Usage,
             Err(_) => Status::WriteFault,
@@ -81,11 +81,13 @@ pub fn run<R: Threads + Wait + Sync, S: Source, K: Sink, G: Gate + Sync>(
 /// Answers the lines of the source while they come, and ends the output.
 ///
 /// The clauses hold of all words that ask for a session with these options.
-fn answer_input<S: Source, K: Sink>(
+fn answer_input<R: Threads + Wait + Sync, S: Source, K: Sink, G: Gate + Sync>(
+    rt: &R,
     alloc: Global,
     options: Options,
     source: &mut S,
     sink: &mut K,
+    gate: &G,
 ) -> Status
     requires room { (words : List (List ℕ)) × Asks words (Command.Session options)
         × HasRoom words (S.seen source.old) (K.seen sink.old) }
@@ -116,13 +118,13 @@ fn answer_input<S: Source, K: Sink>(
             return Status::ReadFault;
         };
         if count == 0 {
-            return match finish(alloc, session, reader, sink) {
+            return match finish(rt, alloc, session, reader, sink, gate) {
                 Ok(status) => status,
                 Err(stop) => stop.into(),
             };
         }
         let (piece, over) = buffer[..count].split_at(count.min(MAX_INPUT_BYTES - taken));
-        if let Err(stop) = answer_lines(alloc, &mut session, &mut reader, piece, sink) {
+        if let Err(stop) = answer_lines(rt, alloc, &mut session, &mut reader, piece, sink, gate) {
             return stop.into();
         }
         if !over.is_empty() {

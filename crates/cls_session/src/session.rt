@@ -1,21 +1,22 @@
-ghost use Rattle.std.specs.Prelude.{◌≡◌, ℕ, ◌+◌, ◌^◌, ◌<◌, ◌≤◌, ◌↔◌, IfOk, OnErr, IsTrue, Contains, length, map, false, string_bytes, List};
-ghost use Rattle.cls_base.specs.Limits.{max_components};
-ghost use Rattle.cls_session.specs.declared.options.Options.{Options};
-ghost use Rattle.cls_session.specs.Declarations.{Declaration, names_of};
-ghost use Rattle.cls_session.specs.Replies.{reply_line};
-ghost use Rattle.cls_session.specs.Replies as replies;
-ghost use Rattle.cls_session.specs.Standings.{Standing};
-ghost use Rattle.cls_session.specs.Transcripts.{refusal};
+//! What a run keeps between lines.
+ghost use Rattle.std.specs.Prelude.{◌≡◌, ℕ, ◌+◌, ◌^◌, ◌<◌, ◌≤◌, ◌++◌, List, [], None, true, IfOk, OnOk, string_bytes};
+ghost use Rattle.cls_engine.specs.Options.{AreInRange};
+ghost use Rattle.cls_session.specs.Sessions.{IsAnswerTo, Opens, SaysFault};
+ghost use Rattle.cls_session.specs.Standings.{Stands, lines_of_session};
+ghost use Rattle.cls_session.specs.Transcripts.{Ending, refusal};
 
-use crate::forms::{QueryLine, RepositoryLine, query_line, repository_line};
-use crate::listing::answer_listing;
-use crate::options::Options;
 use crate::status::Status;
-use cls_base::OutOfMemory;
-use cls_base::limits::MAX_COMPONENTS;
-use cls_lexer::{Line, Names};
+use cls_base::{Gate, OutOfMemory};
+use cls_engine::Options;
+use cls_lexer::Line;
+use cls_replies::Serving;
+use cls_repo::{FaultKind, RepoFault, RepoReader};
+use itoa::Buffer;
 use std::alloc::Global;
 use std::marker::Model;
+use std::mem;
+use std::sync::Wait;
+use std::thread::Threads;
 
 /// What a session answers to a line.
 #[derive(Drop)]
@@ -35,132 +36,138 @@ pub struct Outcome {
     pub status: Status,
 }
 
-/// Reads a repository and answers queries, a line at a time.
-///
-/// It is seen as what it keeps: the options, the names of the components, the number of lines, and whether `end` was
-/// among them.
+/// Reads a repository and answers queries, a line at a time. It is seen as what it keeps.
 #[derive(Drop)]
 pub struct Session {
     options: Options,
-    components: Names,
-    lines: u64,
-    ended: bool,
+    reader: RepoReader,
+    // What answers the lines after the repository, once it is read.
+    serving: Option<Serving>,
 }
 
 impl Model for Session {
+    ghost use Rattle.std.specs.Coded.{codes};
+    ghost use Rattle.cls_kind.specs.Stored.{coded_type};
+    ghost use Rattle.cls_library.specs.Stored.{coded_library};
+    ghost use Rattle.cls_repo.specs.Stored.{coded_schema};
+    ghost use Rattle.cls_engine.specs.Options.{AreInRange};
     ghost use Rattle.cls_session.specs.Standings.{Standing};
 
     ghost Value = { Standing };
 
-    ghost view = { λ s. record { options = s.options; components = s.components; lines = s.lines; ended = s.ended } };
+    ghost coded = { Prim.hlevel (codes, coded_schema, coded_type, coded_library) };
+
+    ghost view = { λ s. record { options = s.options; reader = s.reader; serving = s.serving } };
+
+    ghost invariant = { λ s. AreInRange s.options };
 }
 
 impl Session {
-    ghost use Rattle.std.specs.Prelude.{[], ◌++◌};
-    ghost use Rattle.cls_session.specs.Sessions.{IsAnswerTo};
-    ghost use Rattle.cls_session.specs.Standings.{Stands};
-    ghost use Rattle.cls_session.specs.Transcripts.{Ending};
-
-    /// A session with these options that was fed no line. It takes no memory.
+    /// A session that was fed no line. It takes no memory.
     pub fn new(alloc: Global, options: Options) -> Session
-        ensures { Stands options [] [] result }
+        requires { AreInRange options }
+        ensures stands { Stands options [] [] result }
+        ensures empty { lines_of_session result ≡ 0 }
     {
         Session {
             options,
-            components: Names::new(alloc),
-            lines: 0,
-            ended: false,
+            reader: RepoReader::new(alloc),
+            serving: None,
         }
     }
 
-    /// Takes the next line and answers it. After a refusal no further line is to be fed.
-    pub fn feed(&mut self, alloc: Global, line: &Line) -> Result<Answer, OutOfMemory>
-        requires { self.old.lines < 2 ^ 32 }
+    /// Takes the next line and answers it. After a refusal or an error, which is out of memory, no further line is to be fed.
+    pub fn feed<R: Threads + Wait + Sync, G: Gate + Sync>(
+        &mut self,
+        rt: &R,
+        alloc: Global,
+        line: &Line,
+        gate: &G,
+    ) -> Result<Answer, OutOfMemory>
+        requires few_lines { lines_of_session self.old + 1 < 2 ^ 32 }
         ensures answered { IfOk result (λ answer. IsAnswerTo self.old line.now answer self.new) }
-        ensures counted { IfOk result (λ _. self.new.lines ≤ self.old.lines + 1) }
-        ensures err { OnErr result (self.new ≡ self.old) }
+        ensures counted { OnOk result (lines_of_session self.new ≤ lines_of_session self.old + 1) }
     {
-        if !self.ended {
-            return self.declare(alloc, line);
+        if let Some(serving) = &mut self.serving {
+            return Ok(Answer::Reply(serving.feed(rt, alloc, line, gate)?));
         }
-        let text = answer_query(alloc, &self.components, self.options, line)?;
-        self.lines += 1;
-        Ok(Answer::Reply(text))
+        self.declare(alloc, line)
     }
 
     /// Ends the output if no further line comes: a repository without the line `end` is refused.
-    pub fn finish(&self, alloc: Global) -> Result<Outcome, OutOfMemory>
+    pub fn finish(self, alloc: Global) -> Result<Outcome, OutOfMemory>
+        requires few_lines { lines_of_session self < 2 ^ 32 }
         ensures { IfOk result (λ outcome. (o : Options) (lines : List (List ℕ)) (written : List ℕ)
-            → Stands o lines written self.now → Ending o lines (written ++ string_bytes outcome.text) outcome.status) }
+            → Stands o lines written self → Ending o lines (written ++ string_bytes outcome.text) outcome.status) }
     {
-        if self.ended {
-            Ok(Outcome {
-                text: String::new(alloc),
+        let Session {
+            options: _,
+            reader,
+            serving,
+        } = self;
+        match serving {
+            Some(serving) => Ok(Outcome {
+                text: serving.finish(alloc)?,
                 status: Status::Done,
-            })
-        } else {
-            Ok(Outcome {
-                text: refusal(alloc, self.lines)?,
+            }),
+            None => Ok(Outcome {
+                text: refused(alloc, reader.lines(), "no-end")?,
                 status: Status::Refused,
-            })
+            }),
         }
     }
 
     /// Takes a line of the repository.
     fn declare(&mut self, alloc: Global, line: &Line) -> Result<Answer, OutOfMemory>
-        requires reading { self.old.ended ≡ false }
-        requires few_lines { self.old.lines < 2 ^ 32 }
+        requires reading { self.old.serving ≡ None }
+        requires few_lines { lines_of_session self.old + 1 < 2 ^ 32 }
         ensures answered { IfOk result (λ answer. IsAnswerTo self.old line.now answer self.new) }
-        ensures counted { IfOk result (λ _. self.new.lines ≤ self.old.lines + 1) }
-        ensures err { OnErr result (self.new ≡ self.old) }
+        ensures counted { OnOk result (lines_of_session self.new ≤ lines_of_session self.old + 1) }
     {
-        match repository_line(alloc, line)? {
-            RepositoryLine::Skipped => {
-                self.lines += 1;
+        match self.reader.feed(alloc, line) {
+            Ok(false) => Ok(Answer::Reply(String::new(alloc))),
+            Ok(true) => self.open(alloc),
+            Err(fault) => Ok(Answer::Refusal(refusal(alloc, &fault)?)),
+        }
+    }
+
+    /// Opens the repository, whose last line `end` was read.
+    fn open(&mut self, alloc: Global) -> Result<Answer, OutOfMemory>
+        requires ended { self.old.reader.ended ≡ true }
+        ensures opened { IfOk result (Opens self.old self.new) }
+        ensures counted { OnOk result (lines_of_session self.new ≤ lines_of_session self.old) }
+    {
+        let reader = mem::replace(&mut self.reader, RepoReader::new(alloc));
+        match reader.finish(alloc) {
+            Ok(repository) => {
+                self.serving = Some(Serving::new(alloc, repository, self.options));
                 Ok(Answer::Reply(String::new(alloc)))
             }
-            RepositoryLine::End => {
-                self.ended = true;
-                self.lines += 1;
-                Ok(Answer::Reply(String::new(alloc)))
-            }
-            RepositoryLine::Component(name) if may_declare(&self.components, name) => {
-                self.components.intern(alloc, name)?;
-                self.lines += 1;
-                Ok(Answer::Reply(String::new(alloc)))
-            }
-            _ => Ok(Answer::Refusal(refusal(alloc, self.lines + 1)?)),
+            Err(fault) => Ok(Answer::Refusal(refusal(alloc, &fault)?)),
         }
     }
 }
 
-/// Whether a further component may have this name.
-fn may_declare(components: &Names, name: &str) -> bool
-    ensures { IsTrue result ↔ ((Contains components.now name.now → ⊥) × (length components.now < max_components)) }
+/// The line that refuses a repository. The only error is out of memory, which is also the answer where that is the fault.
+fn refusal(alloc: Global, fault: &RepoFault) -> Result<String, OutOfMemory>
+    ensures { IfOk result (λ text. SaysFault fault.now (string_bytes text)) }
 {
-    components.find(name).is_none() && components.len() < MAX_COMPONENTS
-}
-
-/// The line that refuses a repository.
-fn refusal(alloc: Global, place: u64) -> Result<String, OutOfMemory>
-    ensures { IfOk result (λ text. string_bytes text ≡ refusal place) }
-{
-    Ok(format!(in alloc; "refused {place} unbuilt\n")?)
-}
-
-/// The reply to a line after the repository.
-fn answer_query(
-    alloc: Global,
-    components: &Names,
-    options: Options,
-    line: &Line,
-) -> Result<String, OutOfMemory>
-    ensures { IfOk result (λ text. (declared : List Declaration) → components.now ≡ names_of declared
-        → replies.Reply options declared line.now (string_bytes text)) }
-{
-    match query_line(alloc, line)? {
-        QueryLine::Skipped => Ok(String::new(alloc)),
-        QueryLine::Listing { max, take } => answer_listing(alloc, components, options, max, take),
-        QueryLine::Unbuilt => Ok(String::from_str(alloc, "error unbuilt\n")?),
+    if matches!(fault.kind, FaultKind::OutOfMemory) {
+        return Err(OutOfMemory);
     }
+    let words = fault.words(alloc)?;
+    refused(alloc, fault.line, words.as_str())
+}
+
+/// The line that says what is wrong at the line of this number.
+fn refused(alloc: Global, line: u32, words: &str) -> Result<String, OutOfMemory>
+    ensures { IfOk result (λ text. string_bytes text ≡ refusal (line, words.now)) }
+{
+    let mut buffer = Buffer::new();
+    let mut text = String::from_str(alloc, "refused ")?;
+    text.push_str(buffer.format(line))?;
+    text.push(' ')?;
+    text.push_str(words)?;
+    text.push('\n')?;
+    Ok(text)
 }

@@ -2,7 +2,8 @@ ghost use Rattle.std.specs.Prelude.{◌≡◌, unwrap_or};
 ghost use Rattle.cls_session.specs.Commands.{greatest, default};
 ghost use Rattle.cls_session.specs.Settings.{IsNamed, value_at, with_value, options_of};
 
-use crate::options::Options;
+use cls_engine::Options;
+
 
 /// An option of the command line.
 #[derive(Clone, Copy, Debug)]

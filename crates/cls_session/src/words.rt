@@ -6,8 +6,8 @@ ghost use Rattle.cls_lexer.specs.Numerals.{is_numeral, number_value};
 ghost use Rattle.cls_session.specs.Commands.{texts_of, IsValue, Asks, AsksNothing, HasOptionsInRange};
 ghost use Rattle.cls_session.specs.Settings.{BeginsWith, BeginsWithNone};
 
-use crate::options::Options;
 use crate::settings::{OptionName, Values};
+use cls_engine::Options;
 use cls_lexer::Numeral;
 use thiserror::Error;
 

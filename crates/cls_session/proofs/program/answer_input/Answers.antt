@@ -4,14 +4,13 @@ use Rattle.cls_session.specs.Outputs.{IsWhole}
 use Rattle.cls_session.proofs.InputLoop.{IsUnderWay, cut_piece, none_read, none_more, last_has_room, answers_end, answers_last_stopped, begins_last_stopped, last_stopped_keeps_pace, end_status, end_is_whole, end_is_not_cut_off, end_is_not_broken_off, end_is_no_usage, piece_has_room, answers_stopped, begins_stopped, stopped_keeps_pace, answers_too_long, answers_taken, piece_answered}
 use Rattle.cls_session.proofs.Lengths.{some_over, none_over}
 use Rattle.cls_session.proofs.Outputs.{taken_keeps_pace}
-use Rattle.cls_session.proofs.Standings.{Stands-counted}
 use Rattle.cls_session.proofs.program.answer_input.Goals as goal
 
 pub pieces-init : goal.pieces-init
 pieces-init g c = record {
-  under_way = none_read c.args.options (g.S.Source.seen c.args.source.now) (g.K.Sink.seen c.args.sink.now) c.new-session.result c.new-reader.result c.new-session.ensures c.new-reader.ensures;
+  under_way = none_read c.args.options (g.S.Source.seen c.args.source.now) (g.K.Sink.seen c.args.sink.now) c.new-session.result c.new-reader.result c.new-session.ensures.stands c.new-reader.ensures;
   short = omega arith;
-  few_lines = (let lines = Stands-counted c.args.options [] [] c.new-session.result c.new-session.ensures in let bytes = ap length c.new-reader.ensures in omega arith);
+  few_lines = (let lines = c.new-session.ensures.empty in let bytes = ap length c.new-reader.ensures in omega arith);
   source_faults = refl;
   sink_faults = refl;
 }

@@ -1,9 +1,0 @@
-use Rattle.std.proofs.Common.{◌≡◌, take}
-use Rattle.std.specs.Prelude.{string_bytes}
-use Rattle.std.specs.List.{flat_map}
-use Rattle.cls_term.specs.Texts.{name_at}
-use Rattle.cls_session.specs.Replies.{term_line}
-use Rattle.cls_session.proofs.listing.print_page.Given as goal
-
-abbrev pub invariant-loop-term : goal.invariant-loop-term
-invariant-loop-term l = string_bytes l.text ≡ flat_map (term_line (name_at l.components)) (take l.term-index l.term-items)
