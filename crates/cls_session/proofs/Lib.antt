@@ -3,6 +3,7 @@ pub mod CommandWords
 pub mod LastLines
 pub mod Readings
 pub mod Standings
+pub mod Opening
 pub mod Breaks
 pub mod Writing
 pub mod Driving

@@ -47,3 +47,8 @@ on_words P (kinds.TooManyInstances x) n h = h
 on_words P (kinds.InstanceTooLarge x) n h = h
 on_words P (kinds.ArityTooLarge x) n h = h
 on_words P kinds.OutOfMemory n h = absurd (n refl)
+
+-- what follows from what is said of the words
+pub said_weaker : (P Q : List ℕ → Type 0) → ((words : List ℕ) → P words → Q words) → (kind : FaultKind) → OnWords P kind → OnWords Q kind
+said_weaker P Q f kinds.OutOfMemory h = tt
+said_weaker P Q f _ h = f _ h

@@ -1,12 +1,12 @@
 -- What a session's answers mean.
-use Rattle.std.specs.Prelude.{ℕ, ◌≡◌, List, [], ◌∷◌, ◌++◌, Some, string_bytes}
+use Rattle.std.specs.Prelude.{ℕ, ◌≡◌, List, [], ◌∷◌, ◌++◌, true, false, None, Some, string_bytes}
 use Rattle.cls_base.specs.Firsts.{First, IsSilent}
 use Rattle.cls_engine.specs.declared.options.Options.{Options}
 use Rattle.cls_repo.specs.declared.fault.FaultKind.{FaultKind}
 use Rattle.cls_repo.specs.declared.fault.FaultKind.TheVariants as kinds
 use Rattle.cls_repo.specs.declared.fault.RepoFault.{RepoFault}
 use Rattle.cls_repo.specs.FaultWords.{OnWords}
-use Rattle.cls_repo.specs.Readings.{closing_faults}
+use Rattle.cls_repo.specs.Readings.{Reading, Takes, Refuses, closing_faults}
 use Rattle.cls_replies.specs.Serving.{Serving, Serves}
 use Rattle.cls_session.specs.declared.session.Answer.{Answer}
 use Rattle.cls_session.specs.declared.session.Answer.TheVariants as answer
@@ -25,9 +25,18 @@ IsAnswerTo old line (answer.Refusal text) new = (o : Options) (lines : List (Lis
 abbrev pub SaysFault : RepoFault → List ℕ → Type 0
 SaysFault fault text = (OnWords (λ words. text ≡ refusal (fault.line, words)) fault.kind) × (fault.kind ≡ kinds.OutOfMemory → ⊥)
 
--- The repository that was read is opened, or it is refused.
-abbrev pub Opens : Standing → Standing → Answer → Type 0
-Opens old new (answer.Reply text) = (string_bytes text ≡ []) × (new.options ≡ old.options)
-    × IsSilent (First (closing_faults old.reader))
-    × ((serving : Serving) × (new.serving ≡ Some serving) × Serves old.options old.reader.draft serving)
-Opens old new (answer.Refusal text) = (said : ℕ × List ℕ) × First (closing_faults old.reader) said × (string_bytes text ≡ refusal said)
+-- A line of the repository is taken: it isn't `end`, or it is and the repository is opened.
+pub data Declares (old : Standing) (line : List ℕ) (new : Standing) : Type 0 where
+  goes_on : Takes old.reader line new.reader → new.reader.ended ≡ false → new.options ≡ old.options → new.serving ≡ None
+      → Declares old line new
+  opens :
+      (ended : Reading) → Takes old.reader line ended → ended.ended ≡ true → IsSilent (First (closing_faults ended))
+      → (serving : Serving) → Serves old.options ended.draft serving → new.options ≡ old.options
+      → new.serving ≡ Some serving → Declares old line new
+
+-- The line is at fault, or it is `end` and the repository is.
+pub data IsFaultAt (old : Standing) (line : List ℕ) (said : ℕ × List ℕ) : Type 0 where
+  of_line : Refuses old.reader line said → IsFaultAt old line said
+  of_repository :
+      (ended : Reading) → Takes old.reader line ended → ended.ended ≡ true → First (closing_faults ended) said
+      → IsFaultAt old line said

@@ -1,6 +1,7 @@
 -- What a session holds after the lines that it was fed.
-use Rattle.std.specs.Prelude.{ℕ, ◌≡◌, List, [], length, Option, None, Some}
+use Rattle.std.specs.Prelude.{ℕ, ◌≡◌, List, [], length, false, Option, None, Some}
 use Rattle.cls_engine.specs.declared.options.Options.{Options}
+use Rattle.cls_engine.specs.Options.{AreInRange}
 use Rattle.cls_repo.specs.Readings.{Reading}
 use Rattle.cls_replies.specs.Serving.{Serving}
 use Rattle.cls_session.specs.Repositories.{AreTaken}
@@ -27,3 +28,8 @@ held_by reading (Some serving) = length serving.held
 
 abbrev pub lines_of_session : Standing → ℕ
 lines_of_session s = held_by s.reader s.serving
+
+-- What holds of each session. It goes on to read while the line `end` hasn't come.
+pub record IsSession (s : Standing) : Type 0 where
+  pub in_range : AreInRange s.options
+  pub unended : s.reader.ended ≡ false

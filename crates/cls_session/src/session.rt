@@ -1,7 +1,11 @@
 //! What a run keeps between lines.
-ghost use Rattle.std.specs.Prelude.{◌≡◌, ℕ, ◌+◌, ◌^◌, ◌<◌, ◌≤◌, ◌++◌, List, [], None, true, IfOk, OnOk, string_bytes};
+ghost use Rattle.std.specs.Prelude.{◌≡◌, ℕ, ◌+◌, ◌^◌, ◌<◌, ◌≤◌, ◌++◌, List, [], None, IfOk, IfErr, OnOk, string_bytes};
+ghost use Rattle.cls_base.specs.Firsts.{First, IsSilent};
 ghost use Rattle.cls_engine.specs.Options.{AreInRange};
-ghost use Rattle.cls_session.specs.Sessions.{IsAnswerTo, Opens, SaysFault};
+ghost use Rattle.cls_repo.specs.FaultWords.{IsSaid};
+ghost use Rattle.cls_repo.specs.Readings.{closing_faults};
+ghost use Rattle.cls_replies.specs.Serving.{Serves};
+ghost use Rattle.cls_session.specs.Sessions.{IsAnswerTo, Declares, IsFaultAt, SaysFault};
 ghost use Rattle.cls_session.specs.Standings.{Stands, lines_of_session};
 ghost use Rattle.cls_session.specs.Transcripts.{Ending, refusal};
 
@@ -50,8 +54,7 @@ impl Model for Session {
     ghost use Rattle.cls_kind.specs.Stored.{coded_type};
     ghost use Rattle.cls_library.specs.Stored.{coded_library};
     ghost use Rattle.cls_repo.specs.Stored.{coded_schema};
-    ghost use Rattle.cls_engine.specs.Options.{AreInRange};
-    ghost use Rattle.cls_session.specs.Standings.{Standing};
+    ghost use Rattle.cls_session.specs.Standings.{Standing, IsSession};
 
     ghost Value = { Standing };
 
@@ -59,7 +62,7 @@ impl Model for Session {
 
     ghost view = { λ s. record { options = s.options; reader = s.reader; serving = s.serving } };
 
-    ghost invariant = { λ s. AreInRange s.options };
+    ghost invariant = { λ s. IsSession record { options = s.options; reader = s.reader; serving = s.serving } };
 }
 
 impl Session {
@@ -91,7 +94,10 @@ impl Session {
         if let Some(serving) = &mut self.serving {
             return Ok(Answer::Reply(serving.feed(rt, alloc, line, gate)?));
         }
-        self.declare(alloc, line)
+        match self.declare(alloc, line) {
+            Ok(()) => Ok(Answer::Reply(String::new(alloc))),
+            Err(fault) => Ok(Answer::Refusal(refusal(alloc, &fault)?)),
+        }
     }
 
     /// Ends the output if no further line comes: a repository without the line `end` is refused.
@@ -117,35 +123,33 @@ impl Session {
         }
     }
 
-    /// Takes a line of the repository.
-    fn declare(&mut self, alloc: Global, line: &Line) -> Result<Answer, OutOfMemory>
+    /// Takes a line of the repository. The line `end` opens it. The fault may be out of memory.
+    fn declare(&mut self, alloc: Global, line: &Line) -> Result<(), RepoFault>
         requires reading { self.old.serving ≡ None }
         requires few_lines { lines_of_session self.old + 1 < 2 ^ 32 }
-        ensures answered { IfOk result (λ answer. IsAnswerTo self.old line.now answer self.new) }
-        ensures counted { OnOk result (lines_of_session self.new ≤ lines_of_session self.old + 1) }
+        ensures declared { OnOk result (Declares self.old line.now self.new) }
+        ensures fault { IfErr result (IsSaid (IsFaultAt self.old line.now)) }
+        ensures counted { lines_of_session self.new ≤ lines_of_session self.old + 1 }
     {
-        match self.reader.feed(alloc, line) {
-            Ok(false) => Ok(Answer::Reply(String::new(alloc))),
-            Ok(true) => self.open(alloc),
-            Err(fault) => Ok(Answer::Refusal(refusal(alloc, &fault)?)),
+        if !self.reader.feed(alloc, line)? {
+            return Ok(());
         }
-    }
-
-    /// Opens the repository, whose last line `end` was read.
-    fn open(&mut self, alloc: Global) -> Result<Answer, OutOfMemory>
-        requires ended { self.old.reader.ended ≡ true }
-        ensures opened { IfOk result (Opens self.old self.new) }
-        ensures counted { OnOk result (lines_of_session self.new ≤ lines_of_session self.old) }
-    {
         let reader = mem::replace(&mut self.reader, RepoReader::new(alloc));
-        match reader.finish(alloc) {
-            Ok(repository) => {
-                self.serving = Some(Serving::new(alloc, repository, self.options));
-                Ok(Answer::Reply(String::new(alloc)))
-            }
-            Err(fault) => Ok(Answer::Refusal(refusal(alloc, &fault)?)),
-        }
+        let serving = open(alloc, reader, self.options)?;
+        self.serving.insert(serving);
+        Ok(())
     }
+}
+
+/// Opens the repository that was read. The fault may be out of memory.
+fn open(alloc: Global, reader: RepoReader, options: Options) -> Result<Serving, RepoFault>
+    requires { AreInRange options }
+    ensures serves { IfOk result (Serves options reader.draft) }
+    ensures silent { OnOk result (IsSilent (First (closing_faults reader))) }
+    ensures fault { IfErr result (IsSaid (First (closing_faults reader))) }
+{
+    let repository = reader.finish(alloc)?;
+    Ok(Serving::new(alloc, repository, options))
 }
 
 /// The line that refuses a repository. The only error is out of memory, which is also the answer where that is the fault.

@@ -1,0 +1,6 @@
+use Rattle.std.proofs.Common.{refl}
+use Rattle.cls_session.proofs.Standings.{Stands-none}
+use Rattle.cls_session.proofs.session.Session.new.Goals as goal
+
+pub returns-clause-stands : goal.returns-clause-stands
+returns-clause-stands c = Stands-none c.args.options _ refl c.new.ensures refl
