@@ -13,7 +13,23 @@ const ASKED: &str = "comp x : A\nend\nlist omega max 1 take 1\n";
 
 /// For each input the lines that it begins with and those that it ends with, how many bytes it has beyond the most, and
 /// what comes of it.
-const INPUTS: [(&str, &str, &str, usize, &str, Status); 12] = [
+const INPUTS: [(&str, &str, &str, usize, &str, Status); 14] = [
+    (
+        "a comparison",
+        "end\nsub A <= A\n",
+        "",
+        0,
+        "yes\n",
+        Status::Done,
+    ),
+    (
+        "a comparison, and a byte more",
+        "end\nsub A <= A\n",
+        "",
+        1,
+        "yes\n",
+        Status::TooLong,
+    ),
     ("the longest", ASKED, "", 0, "term x\ndone\n", Status::Done),
     ("only comments", "end\n", "", 0, "", Status::Done),
     (
@@ -78,7 +94,7 @@ const INPUTS: [(&str, &str, &str, usize, &str, Status); 12] = [
         "comp x : A\nwrong\n",
         "",
         1,
-        "refused 2 unbuilt\n",
+        "refused 2 directive\n",
         Status::Refused,
     ),
     (
@@ -124,15 +140,15 @@ fn a_line_is_too_long(rt: HostRuntime) -> Result<(), Fail> {
     let examples = [
         ("a feed", feed.as_bytes(), "term x\ndone\n"),
         ("a return", returns.as_bytes(), "term x\ndone\n"),
-        ("a query", query.as_bytes(), "error unbuilt\nterm x\ndone\n"),
+        ("a query", query.as_bytes(), "error long\nterm x\ndone\n"),
     ];
     assert_examples(&rt, alloc, &examples, Status::Done)?;
 
     let beyond = format!(in alloc; "comp x : A\n{longest}#\nend\n")?;
     let last = format!(in alloc; "comp x : A\n{longest}#")?;
     let examples = [
-        ("a byte more", beyond.as_bytes(), "refused 2 unbuilt\n"),
-        ("a last line", last.as_bytes(), "refused 2 unbuilt\n"),
+        ("a byte more", beyond.as_bytes(), "refused 2 long\n"),
+        ("a last line", last.as_bytes(), "refused 2 long\n"),
     ];
     assert_examples(&rt, alloc, &examples, Status::Refused)
 }
