@@ -28,7 +28,7 @@ const CUTS: [(usize, usize, &str, Status); 12] = [
     (50, 51, SIX_TERMS, Status::Done),
 ];
 
-/// Where a line of it ends too early: from and up to so many bytes, the words, the length of that line at the first of
+/// Where a line of it ends too early: from and up to so many bytes, the words, the length of the line at the first of
 /// these cuts, and the status.
 const EARLY: [(usize, usize, &str, usize, Status); 5] = [
     (4, 9, "refused 1 syntax", 4, Status::Refused),

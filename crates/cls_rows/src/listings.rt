@@ -170,19 +170,33 @@ fn page(alloc: Global, text: &str, take: usize) -> Result<String, Fail> {
     Ok(reply)
 }
 
-/// Asserts that the pages of the terms of at most two components out of so many are those of the definition.
+/// Asserts that this page of the terms of at most so many of the components, 1 or 2, is that of the definition.
+fn assert_page<R: Abort + Threads + Wait + Sync>(
+    rt: &R,
+    alloc: Global,
+    repository: &str,
+    terms: &str,
+    max: u32,
+    take: usize,
+) -> Result<(), Fail> {
+    let input = format!(in alloc; "{repository}end\nlist omega max {max} take {take}\n")?;
+    let output = page(alloc, terms, take)?;
+    let example = ("a page", input.as_bytes(), output.as_str());
+    assert_run(rt, alloc, &["--workers", "1"], example, Status::Done, WHOLE)
+}
+
+/// Asserts that the pages of the terms of one and of at most two components out of so many are those of the definition.
 fn assert_definition<R: Abort + Threads + Wait + Sync>(
     rt: &R,
     alloc: Global,
     count: u32,
 ) -> Result<(), Fail> {
     let repository = declarations(alloc, count)?;
-    let terms = plain_terms(alloc, count)?;
+    let ones = components_listed(alloc, count)?;
+    let twos = plain_terms(alloc, count)?;
     for take in 1..121 {
-        let input = format!(in alloc; "{repository}end\nlist omega max 2 take {take}\n")?;
-        let output = page(alloc, terms.as_str(), take)?;
-        let example = ("two components", input.as_bytes(), output.as_str());
-        assert_run(rt, alloc, &["--workers", "1"], example, Status::Done, WHOLE)?;
+        assert_page(rt, alloc, repository.as_str(), ones.as_str(), 1, take)?;
+        assert_page(rt, alloc, repository.as_str(), twos.as_str(), 2, take)?;
     }
     Ok(())
 }
