@@ -2,7 +2,7 @@ ghost use Rattle.std.specs.Prelude.{◌<◌};
 
 use crate::examples::{Outside, SIX_TERMS, TWO_COMPONENTS, USAGE, outcome};
 use crate::libraries::{SORTED_TEXTS, SORTING, WORKED_LIBRARY};
-use cls_base::{OpenGate, SureSink, SureSource};
+use cls_base::{MemorySink, Numbers, OpenGate, SureSink, SureSource};
 use cls_session::{Status, run};
 use std::alloc::Global;
 use std::process::Abort;
@@ -31,16 +31,31 @@ const TWO_QUERIES: &[u8] =
 const SEVEN_TERMS: &str =
     "term x\nterm y\nterm x(x)\nterm x(y)\nterm y(x)\nterm y(y)\ndone\nterm x\nmore\n";
 
-/// More bytes than an output for four lines of at most 24 bytes has, whatever the lines ask for.
-const ROOM: usize = 70_000_000;
+/// An input that ends at once.
+const NOTHING: &[u8] = b"";
+
+/// More bytes than is written for such an input, or for one of four short lines.
+const ROOM: usize = 1_000;
 
 #[test]
-fn no_read_and_no_write_can_fail(rt: HostRuntime) -> Result<(), Fail> {
-    let mut source = SureSource::new(TWO_COMPONENTS.to_vec(rt.alloc())?);
-    let mut sink = SureSink::new(rt.alloc(), ROOM)?;
-    let status = run(&rt, rt.alloc(), &[], &mut source, &mut sink, &OpenGate);
+fn no_read_can_fail(rt: HostRuntime) -> Result<(), Fail> {
+    let alloc = rt.alloc();
+    let mut source = SureSource::new(TWO_COMPONENTS.to_vec(alloc)?);
+    let none = Numbers::new(Vec::new(alloc));
+    let mut sink = MemorySink::new(alloc, ROOM, ROOM, none)?;
+    let status = run(&rt, alloc, &[], &mut source, &mut sink, &OpenGate);
     assert_eq!(rt; str::from_utf8(sink.held())?, SIX_TERMS);
     assert_eq!(rt; status, Status::Done);
+    Ok(())
+}
+
+#[test]
+fn no_write_can_fail(rt: HostRuntime) -> Result<(), Fail> {
+    let mut source = SureSource::new(NOTHING.to_vec(rt.alloc())?);
+    let mut sink = SureSink::new(rt.alloc(), ROOM)?;
+    let status = run(&rt, rt.alloc(), &[], &mut source, &mut sink, &OpenGate);
+    assert_eq!(rt; str::from_utf8(sink.held())?, "refused 0 no-end\n");
+    assert_eq!(rt; status, Status::Refused);
     Ok(())
 }
 
