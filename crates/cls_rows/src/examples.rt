@@ -9,7 +9,7 @@ use std::test::Fail;
 use std::thread::Threads;
 
 /// More bytes than a run here writes.
-const SPARE: usize = 65_536;
+const SPARE: usize = 131_072;
 
 /// The bytes of a read or a write, if the source and the sink are to cut nothing short.
 pub const WHOLE: usize = 4_194_304;
@@ -24,6 +24,9 @@ pub const USAGE: &str =
 
 /// The name of an example, an input, and what is written for it.
 pub type Example<'a> = (&'a str, &'a [u8], &'a str);
+
+/// The name of an example, a repository, the lines after it, and what is written for them.
+pub type Session<'a> = (&'a str, &'a str, &'a str, &'a str);
 
 /// How the outside cuts reads and writes short, and which of them fail, counted from 1.
 #[derive(Clone, Copy)]
@@ -62,10 +65,11 @@ pub fn outcome<R: Threads + Wait + Sync>(
     Ok((status, output))
 }
 
-/// Asserts what the example says and that the run ends so, if at most `chunk` bytes go at once.
-pub fn assert_example<R: Abort + Threads + Wait + Sync>(
+/// Asserts what the example says with these words, and that the run ends so, if at most `chunk` bytes go at once.
+pub fn assert_run<R: Abort + Threads + Wait + Sync>(
     rt: &R,
     alloc: Global,
+    words: &[&str],
     example: Example,
     expected: Status,
     chunk: usize,
@@ -78,10 +82,31 @@ pub fn assert_example<R: Abort + Threads + Wait + Sync>(
         failing_reads: &[],
         failing_writes: &[],
     };
-    let (status, output) = outcome(rt, alloc, &[], input, &outside)?;
-    assert_eq!(rt; output.as_str(), text, "{name}, {chunk} bytes at once");
-    assert_eq!(rt; status, expected, "{name}, {chunk} bytes at once");
+    let (status, output) = outcome(rt, alloc, words, input, &outside)?;
+    assert_eq!(rt;
+        output.as_str(),
+        text,
+        "{name}, {words:?}, {chunk} bytes at once"
+    );
+    assert_eq!(rt;
+        status,
+        expected,
+        "{name}, {words:?}, {chunk} bytes at once"
+    );
     Ok(())
+}
+
+/// Asserts what the example says and that the run ends so, if at most `chunk` bytes go at once.
+pub fn assert_example<R: Abort + Threads + Wait + Sync>(
+    rt: &R,
+    alloc: Global,
+    example: Example,
+    expected: Status,
+    chunk: usize,
+) -> Result<(), Fail>
+    requires { 0 < chunk }
+{
+    assert_run(rt, alloc, &[], example, expected, chunk)
 }
 
 /// Asserts what each example says and that each run ends so, in whole reads and writes and in short ones.
@@ -99,11 +124,72 @@ pub fn assert_examples<R: Abort + Threads + Wait + Sync>(
     Ok(())
 }
 
-/// The declarations of so many components, `c0` the first.
+/// Asserts what the session says, with one worker, with eight, and with as many as there are if none is asked for.
+pub fn assert_session<R: Abort + Threads + Wait + Sync>(
+    rt: &R,
+    alloc: Global,
+    session: Session,
+) -> Result<(), Fail> {
+    let (name, repository, queries, text) = session;
+    let input = format!(in alloc; "{repository}{queries}")?;
+    let example = (name, input.as_bytes(), text);
+    assert_run(rt, alloc, &["--workers", "1"], example, Status::Done, 1)?;
+    assert_run(rt, alloc, &["--workers", "8"], example, Status::Done, 7)?;
+    assert_run(rt, alloc, &[], example, Status::Done, WHOLE)
+}
+
+/// Asserts what each session says.
+pub fn assert_sessions<R: Abort + Threads + Wait + Sync>(
+    rt: &R,
+    alloc: Global,
+    sessions: &[Session],
+) -> Result<(), Fail> {
+    for session in sessions.iter().copied() {
+        assert_session(rt, alloc, session)?;
+    }
+    Ok(())
+}
+
+/// The declarations of so many components of the type `A`, `c0` the first.
 pub fn declarations(alloc: Global, count: u32) -> Result<String, Fail> {
+    declared(alloc, "A", count)
+}
+
+/// The declarations of so many components of this type, `c0` the first.
+pub fn declared(alloc: Global, goal: &str, count: u32) -> Result<String, Fail> {
     let mut text = String::new(alloc);
     for number in 0..count {
-        text.push_str(format!(in alloc; "comp c{number} : A\n")?.as_str())?;
+        text.push_str(format!(in alloc; "comp c{number} : {goal}\n")?.as_str())?;
     }
     Ok(text)
+}
+
+/// The text between the two, repeated with the separator in between.
+pub fn repeated(
+    alloc: Global,
+    (front, text, separator, back): (&str, &str, &str, &str),
+    count: usize,
+) -> Result<String, Fail> {
+    let mut line = String::from_str(alloc, front)?;
+    for number in 0..count {
+        if number > 0 {
+            line.push_str(separator)?;
+        }
+        line.push_str(text)?;
+    }
+    line.push_str(back)?;
+    Ok(line)
+}
+
+/// The text with the front and the back round it, so many times.
+pub fn nested(
+    alloc: Global,
+    (front, text, back): (&str, &str, &str),
+    count: usize,
+) -> Result<String, Fail> {
+    let mut line = String::from_str(alloc, text)?;
+    for _ in 0..count {
+        line = format!(in alloc; "{front}{line}{back}")?;
+    }
+    Ok(line)
 }

@@ -1,13 +1,20 @@
+ghost use Rattle.std.specs.Prelude.{◌<◌};
+
 use crate::examples::{Outside, SIX_TERMS, TWO_COMPONENTS, USAGE, outcome};
-use cls_base::{OpenGate, SureSink, SureSource};
+use crate::libraries::{SORTED_TEXTS, SORTING, WORKED_LIBRARY};
+use cls_base::{MemorySink, Numbers, OpenGate, SureSink, SureSource};
 use cls_session::{Status, run};
+use std::alloc::Global;
+use std::process::Abort;
+use std::sync::Wait;
 use std::test::Fail;
+use std::thread::Threads;
 
 /// Words and inputs, the one reply to them, and the status.
 const REPLIES: [(&[&str], &[u8], &str, Status); 5] = [
     (&[], TWO_COMPONENTS, SIX_TERMS, Status::Done),
-    (&[], b"wrong", "refused 1 unbuilt\n", Status::Refused),
-    (&[], b"", "refused 0 unbuilt\n", Status::Refused),
+    (&[], b"wrong", "refused 1 directive\n", Status::Refused),
+    (&[], b"", "refused 0 no-end\n", Status::Refused),
     (&["--"], b"", USAGE, Status::Usage),
     (
         &["--pool", "5"],
@@ -24,16 +31,31 @@ const TWO_QUERIES: &[u8] =
 const SEVEN_TERMS: &str =
     "term x\nterm y\nterm x(x)\nterm x(y)\nterm y(x)\nterm y(y)\ndone\nterm x\nmore\n";
 
-/// More bytes than an output for four lines of at most 24 bytes has, whatever the lines ask for.
-const ROOM: usize = 70_000_000;
+/// An input that ends at once.
+const NOTHING: &[u8] = b"";
+
+/// More bytes than is written for such an input, or for one of four short lines.
+const ROOM: usize = 1_000;
 
 #[test]
-fn no_read_and_no_write_can_fail(rt: HostRuntime) -> Result<(), Fail> {
-    let mut source = SureSource::new(TWO_COMPONENTS.to_vec(rt.alloc())?);
-    let mut sink = SureSink::new(rt.alloc(), ROOM)?;
-    let status = run(&rt, rt.alloc(), &[], &mut source, &mut sink, &OpenGate);
+fn no_read_can_fail(rt: HostRuntime) -> Result<(), Fail> {
+    let alloc = rt.alloc();
+    let mut source = SureSource::new(TWO_COMPONENTS.to_vec(alloc)?);
+    let none = Numbers::new(Vec::new(alloc));
+    let mut sink = MemorySink::new(alloc, ROOM, ROOM, none)?;
+    let status = run(&rt, alloc, &[], &mut source, &mut sink, &OpenGate);
     assert_eq!(rt; str::from_utf8(sink.held())?, SIX_TERMS);
     assert_eq!(rt; status, Status::Done);
+    Ok(())
+}
+
+#[test]
+fn no_write_can_fail(rt: HostRuntime) -> Result<(), Fail> {
+    let mut source = SureSource::new(NOTHING.to_vec(rt.alloc())?);
+    let mut sink = SureSink::new(rt.alloc(), ROOM)?;
+    let status = run(&rt, rt.alloc(), &[], &mut source, &mut sink, &OpenGate);
+    assert_eq!(rt; str::from_utf8(sink.held())?, "refused 0 no-end\n");
+    assert_eq!(rt; status, Status::Refused);
     Ok(())
 }
 
@@ -85,31 +107,82 @@ fn the_second_write_fails(rt: HostRuntime) -> Result<(), Fail> {
     Ok(())
 }
 
+/// Asserts that all before the failed write is written, if it is of this place, and all if there is no such write.
+fn assert_write_fails<R: Abort + Threads + Wait + Sync>(
+    rt: &R,
+    alloc: Global,
+    run: (&[&str], &[u8], &str, Status),
+    chunk: usize,
+    place: u32,
+) -> Result<(), Fail>
+    requires { 0 < chunk }
+{
+    let (words, input, output, expected) = run;
+    let outside = Outside {
+        chunk,
+        failing_reads: &[],
+        failing_writes: &[place],
+    };
+    let (status, written) = outcome(rt, alloc, words, input, &outside)?;
+    let front = chunk.saturating_mul(place.saturating_sub(1) as usize);
+    let fails = front < output.len();
+    let status_then = if fails { Status::WriteFault } else { expected };
+    assert!(rt;
+        output.starts_with(written.as_str()),
+        "write {place} of {output} fails"
+    );
+    assert_eq!(rt;
+        written.len(),
+        front.min(output.len()),
+        "write {place} of {output} fails"
+    );
+    assert_eq!(rt; status, status_then, "write {place} of {output} fails");
+    Ok(())
+}
+
 #[test]
 fn a_write_fails(rt: HostRuntime) -> Result<(), Fail> {
-    for (words, input, output, expected) in REPLIES {
-        let writes = output.len().div_ceil(3) as u32;
-        for place in 1..=writes + 1 {
-            let outside = Outside {
-                chunk: 3,
-                failing_reads: &[],
-                failing_writes: &[place],
-            };
-            let (status, written) = outcome(&rt, rt.alloc(), words, input, &outside)?;
-            let fails = place <= writes;
-            let whole = if fails {
-                3 * (place as usize - 1)
-            } else {
-                output.len()
-            };
-            let status_then = if fails { Status::WriteFault } else { expected };
-            assert!(rt;
-                output.starts_with(written.as_str()),
-                "write {place} of {output} fails"
-            );
-            assert_eq!(rt; written.len(), whole, "write {place} of {output} fails");
-            assert_eq!(rt; status, status_then, "write {place} of {output} fails");
+    for run in REPLIES {
+        let writes = run.2.len().div_ceil(3) as u32;
+        for place in 1..=writes.saturating_add(1) {
+            assert_write_fails(&rt, rt.alloc(), run, 3, place)?;
         }
+    }
+    Ok(())
+}
+
+#[test]
+fn a_read_of_the_worked_library_fails(rt: HostRuntime) -> Result<(), Fail> {
+    let alloc = rt.alloc();
+    let input = format!(in alloc; "{WORKED_LIBRARY}{SORTING}")?;
+    // At 64 bytes a read the 25th takes the last bytes, and the 26th finds the end.
+    for (first, last, output, expected) in [
+        (1, 25, "", Status::ReadFault),
+        (26, 26, SORTED_TEXTS, Status::ReadFault),
+        (27, 27, SORTED_TEXTS, Status::Done),
+    ] {
+        for place in first..=last {
+            let outside = Outside {
+                chunk: 64,
+                failing_reads: &[place],
+                failing_writes: &[],
+            };
+            let (status, written) = outcome(&rt, alloc, &[], input.as_bytes(), &outside)?;
+            assert_eq!(rt; written.as_str(), output, "read {place} fails");
+            assert_eq!(rt; status, expected, "read {place} fails");
+        }
+    }
+    Ok(())
+}
+
+#[test]
+fn a_write_of_the_worked_library_fails(rt: HostRuntime) -> Result<(), Fail> {
+    let alloc = rt.alloc();
+    let input = format!(in alloc; "{WORKED_LIBRARY}{SORTING}")?;
+    let run: (&[&str], &[u8], &str, Status) = (&[], input.as_bytes(), SORTED_TEXTS, Status::Done);
+    // Its 187 bytes are twelve writes of 16 bytes.
+    for place in 1..=13 {
+        assert_write_fails(&rt, alloc, run, 16, place)?;
     }
     Ok(())
 }

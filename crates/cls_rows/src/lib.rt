@@ -3,17 +3,31 @@
 #![tactic(auto)]
 
 #[cfg(test)]
+mod audits;
+#[cfg(test)]
+mod certificates;
+#[cfg(test)]
 mod ends;
 #[cfg(test)]
 mod examples;
 #[cfg(test)]
 mod faults;
 #[cfg(test)]
+mod grammars;
+#[cfg(test)]
+mod inhabitation;
+#[cfg(test)]
+mod kinds;
+#[cfg(test)]
+mod libraries;
+#[cfg(test)]
 mod limits;
 #[cfg(test)]
 mod listings;
 #[cfg(test)]
 mod options;
+#[cfg(test)]
+mod pages;
 #[cfg(test)]
 mod pieces;
 #[cfg(test)]
@@ -22,3 +36,11 @@ mod queries;
 mod refusals;
 #[cfg(test)]
 mod streaming;
+#[cfg(test)]
+mod subtyping;
+#[cfg(test)]
+mod templates;
+#[cfg(test)]
+mod typing;
+#[cfg(test)]
+mod variances;

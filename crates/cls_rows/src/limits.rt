@@ -1,7 +1,10 @@
 use crate::examples::{WHOLE, assert_example, assert_examples};
 use cls_session::Status;
 use std::alloc::Global;
+use std::process::Abort;
+use std::sync::Wait;
 use std::test::Fail;
+use std::thread::Threads;
 
 /// The most bytes that a line may have.
 const LONGEST_LINE: usize = 65_536;
@@ -11,11 +14,42 @@ const LONGEST_INPUT: usize = 1_048_576;
 
 const ASKED: &str = "comp x : A\nend\nlist omega max 1 take 1\n";
 
-/// For each input the lines that it begins with and those that it ends with, how many bytes it has beyond the most, and
-/// what comes of it.
-const INPUTS: [(&str, &str, &str, usize, &str, Status); 12] = [
+/// The name of an input, the lines that it begins with and those that it ends with, how many bytes it has beyond the
+/// most, and what comes of it.
+type Padded<'a> = (&'a str, &'a str, &'a str, usize, &'a str, Status);
+
+/// Inputs as long as may be.
+const LONGEST: [Padded; 4] = [
+    (
+        "a comparison",
+        "end\nsub A <= A\n",
+        "",
+        0,
+        "yes\n",
+        Status::Done,
+    ),
     ("the longest", ASKED, "", 0, "term x\ndone\n", Status::Done),
     ("only comments", "end\n", "", 0, "", Status::Done),
+    (
+        "a last query",
+        "end\n",
+        "list omega max 1 take 1",
+        0,
+        "done\n",
+        Status::Done,
+    ),
+];
+
+/// Inputs that are longer.
+const LONGER: [Padded; 10] = [
+    (
+        "a comparison, and a byte more",
+        "end\nsub A <= A\n",
+        "",
+        1,
+        "yes\n",
+        Status::TooLong,
+    ),
     (
         "a byte more",
         ASKED,
@@ -39,14 +73,6 @@ const INPUTS: [(&str, &str, &str, usize, &str, Status); 12] = [
         LONGEST_INPUT,
         "term x\ndone\n",
         Status::TooLong,
-    ),
-    (
-        "a last query",
-        "end\n",
-        "list omega max 1 take 1",
-        0,
-        "done\n",
-        Status::Done,
     ),
     (
         "a query in time",
@@ -78,7 +104,7 @@ const INPUTS: [(&str, &str, &str, usize, &str, Status); 12] = [
         "comp x : A\nwrong\n",
         "",
         1,
-        "refused 2 unbuilt\n",
+        "refused 2 directive\n",
         Status::Refused,
     ),
     (
@@ -124,30 +150,43 @@ fn a_line_is_too_long(rt: HostRuntime) -> Result<(), Fail> {
     let examples = [
         ("a feed", feed.as_bytes(), "term x\ndone\n"),
         ("a return", returns.as_bytes(), "term x\ndone\n"),
-        ("a query", query.as_bytes(), "error unbuilt\nterm x\ndone\n"),
+        ("a query", query.as_bytes(), "error long\nterm x\ndone\n"),
     ];
     assert_examples(&rt, alloc, &examples, Status::Done)?;
 
     let beyond = format!(in alloc; "comp x : A\n{longest}#\nend\n")?;
     let last = format!(in alloc; "comp x : A\n{longest}#")?;
     let examples = [
-        ("a byte more", beyond.as_bytes(), "refused 2 unbuilt\n"),
-        ("a last line", last.as_bytes(), "refused 2 unbuilt\n"),
+        ("a byte more", beyond.as_bytes(), "refused 2 long\n"),
+        ("a last line", last.as_bytes(), "refused 2 long\n"),
     ];
     assert_examples(&rt, alloc, &examples, Status::Refused)
 }
 
-#[test]
-fn an_input_is_too_long(rt: HostRuntime) -> Result<(), Fail> {
-    let alloc = rt.alloc();
-    for (name, head, tail, excess, output, status) in INPUTS {
+/// Asserts what comes of each input.
+fn assert_padded<R: Abort + Threads + Wait + Sync>(
+    rt: &R,
+    alloc: Global,
+    inputs: &[Padded],
+) -> Result<(), Fail> {
+    for (name, head, tail, excess, output, status) in inputs.iter().copied() {
         let input = padded(alloc, head, tail, LONGEST_INPUT.saturating_add(excess))?;
         assert_eq!(rt; input.len(), LONGEST_INPUT.saturating_add(excess), "{name}");
         let example = (name, input.as_bytes(), output);
-        assert_example(&rt, alloc, example, status, 1_000)?;
-        assert_example(&rt, alloc, example, status, WHOLE)?;
+        assert_example(rt, alloc, example, status, 1_000)?;
+        assert_example(rt, alloc, example, status, WHOLE)?;
     }
     Ok(())
+}
+
+#[test]
+fn an_input_is_as_long_as_may_be(rt: HostRuntime) -> Result<(), Fail> {
+    assert_padded(&rt, rt.alloc(), &LONGEST)
+}
+
+#[test]
+fn an_input_is_too_long(rt: HostRuntime) -> Result<(), Fail> {
+    assert_padded(&rt, rt.alloc(), &LONGER)
 }
 
 #[test]

@@ -1,9 +1,13 @@
 use crate::examples::{
-    Example, SIX_TERMS, TWO_COMPONENTS, WHOLE, assert_example, assert_examples, declarations,
+    Example, SIX_TERMS, TWO_COMPONENTS, WHOLE, assert_example, assert_examples, assert_run,
+    declarations,
 };
 use cls_session::Status;
 use std::alloc::Global;
+use std::process::Abort;
+use std::sync::Wait;
 use std::test::Fail;
+use std::thread::Threads;
 
 /// At size 3, for each head first its applications to one term of size 2, and then those to two components.
 const TWENTY_TWO_TERMS: &str = "\
@@ -97,21 +101,31 @@ const LINES: [Example; 6] = [
     ("an end without its feed", b"comp x : A\nend", ""),
 ];
 
-/// Lines that are no query that is built.
-const UNBUILT: [&str; 13] = [
-    "list omega max 1025 take 1",
-    "list omega max 0 take 1",
-    "list omega max 1 take 0",
-    "list omega max 1 take 10001",
-    "list omega max 4294967297 take 1",
-    "list omega max 1 take 18446744073709551617",
-    "list A max 1 take 1",
-    "list omega max 1",
-    "list omega max 1 take 1 1",
-    "list omega take 1 max 1",
-    "list",
-    "comp y : A",
-    "end",
+/// Lines of queries that are at fault, and the errors.
+const FAULTY: [(&str, &str); 20] = [
+    ("list omega max 1025 take 1", "error number\n"),
+    ("list omega max 0 take 1", "error number\n"),
+    ("list omega max 1 take 0", "error number\n"),
+    ("list omega max 1 take 10001", "error number\n"),
+    ("list omega max 4294967297 take 1", "error number\n"),
+    (
+        "list omega max 1 take 18446744073709551617",
+        "error number\n",
+    ),
+    ("list omega max 1", "error syntax 16\n"),
+    ("list omega max 1 take 1 1", "error syntax 24\n"),
+    ("list omega take 1 max 1", "error syntax 11\n"),
+    ("list omega max 1 take 1 after omega", "error reserved 30\n"),
+    ("list", "error syntax 4\n"),
+    ("comp y : A", "error syntax 0\n"),
+    ("end", "error syntax 0\n"),
+    ("hello", "error syntax 0\n"),
+    ("inhabit A ->", "error syntax 12\n"),
+    ("inhabit $a", "error variable 8\n"),
+    ("typed g(x) : A", "error token 6\n"),
+    ("typed f(x : A", "error syntax 10\n"),
+    ("paths g", "error unknown g\n"),
+    ("paths omega", "error reserved 6\n"),
 ];
 
 /// So many terms of one component each, `c0` the first.
@@ -123,9 +137,83 @@ fn components_listed(alloc: Global, count: u32) -> Result<String, Fail> {
     Ok(text)
 }
 
+/// One component of so many applied to each in turn, one term a line.
+fn applied(alloc: Global, head: u32, count: u32) -> Result<String, Fail> {
+    let mut text = String::new(alloc);
+    for argument in 0..count {
+        text.push_str(format!(in alloc; "term c{head}(c{argument})\n")?.as_str())?;
+    }
+    Ok(text)
+}
+
+/// The terms of at most two components out of so many, in their order: first those of one, then each head in turn.
+fn plain_terms(alloc: Global, count: u32) -> Result<String, Fail> {
+    let mut text = components_listed(alloc, count)?;
+    for head in 0..count {
+        text.push_str(applied(alloc, head, count)?.as_str())?;
+    }
+    Ok(text)
+}
+
+/// The first lines of the text, and whether any line follows.
+fn page(alloc: Global, text: &str, take: usize) -> Result<String, Fail> {
+    let mut reply = String::new(alloc);
+    for line in text.lines().take(take) {
+        reply.push_str(line)?;
+        reply.push('\n')?;
+    }
+    reply.push_str(if reply.len() < text.len() {
+        "more\n"
+    } else {
+        "done\n"
+    })?;
+    Ok(reply)
+}
+
+/// Asserts that this page of the terms of at most so many of the components, 1 or 2, is that of the definition.
+fn assert_page<R: Abort + Threads + Wait + Sync>(
+    rt: &R,
+    alloc: Global,
+    repository: &str,
+    terms: &str,
+    max: u32,
+    take: usize,
+) -> Result<(), Fail> {
+    let input = format!(in alloc; "{repository}end\nlist omega max {max} take {take}\n")?;
+    let output = page(alloc, terms, take)?;
+    let example = ("a page", input.as_bytes(), output.as_str());
+    assert_run(rt, alloc, &["--workers", "1"], example, Status::Done, WHOLE)
+}
+
+/// Asserts that the pages of the terms of one and of at most two components out of so many are those of the definition.
+fn assert_definition<R: Abort + Threads + Wait + Sync>(
+    rt: &R,
+    alloc: Global,
+    count: u32,
+) -> Result<(), Fail> {
+    let repository = declarations(alloc, count)?;
+    let ones = components_listed(alloc, count)?;
+    let twos = plain_terms(alloc, count)?;
+    for take in 1..121 {
+        assert_page(rt, alloc, repository.as_str(), ones.as_str(), 1, take)?;
+        assert_page(rt, alloc, repository.as_str(), twos.as_str(), 2, take)?;
+    }
+    Ok(())
+}
+
 #[test]
 fn omega_is_listed(rt: HostRuntime) -> Result<(), Fail> {
     assert_examples(&rt, rt.alloc(), &LISTINGS, Status::Done)
+}
+
+#[test]
+fn terms_of_one_and_of_two_components_are_those_of_the_definition(
+    rt: HostRuntime,
+) -> Result<(), Fail> {
+    for count in [0, 1, 2, 3, 10] {
+        assert_definition(&rt, rt.alloc(), count)?;
+    }
+    Ok(())
 }
 
 #[test]
@@ -177,24 +265,20 @@ fn too_many_terms_are_refused(rt: HostRuntime) -> Result<(), Fail> {
 }
 
 #[test]
-fn queries_of_other_forms_are_errors(rt: HostRuntime) -> Result<(), Fail> {
+fn faulty_queries_are_errors(rt: HostRuntime) -> Result<(), Fail> {
     let alloc = rt.alloc();
-    for query in UNBUILT {
+    for (query, error) in FAULTY {
         let input = format!(in alloc;
             "comp x : A\nend\n{query}\n# next\nlist omega max 2 take 2\n"
         )?;
-        let output = "error unbuilt\nterm x\nterm x(x)\ndone\n";
-        assert_examples(
-            &rt,
-            alloc,
-            &[(query, input.as_bytes(), output)],
-            Status::Done,
-        )?;
+        let output = format!(in alloc; "{error}term x\nterm x(x)\ndone\n")?;
+        let example = (query, input.as_bytes(), output.as_str());
+        assert_examples(&rt, alloc, &[example], Status::Done)?;
     }
     let faulty = (
         "a query that isn't UTF-8",
         b"comp x : A\nend\nlist omega max 1 take 1\n\xff\nend".as_slice(),
-        "term x\ndone\nerror unbuilt\nerror unbuilt\n",
+        "term x\ndone\nerror utf8\nerror syntax 0\n",
     );
     assert_examples(&rt, alloc, &[faulty], Status::Done)
 }

@@ -8,8 +8,16 @@ const ONE_TERM: &[u8] = b"comp x : A\ncomp y : B\nend\nlist omega max 2 take 1\n
 
 const TOO_MANY: &str = "error too-many-terms\n";
 
+/// Functions one after another, which make a closure of three goals and two rules, and of four goals.
+const THREE_GOALS: &[u8] = b"comp c1 : G2 -> G1\ncomp c2 : G3 -> G2\nend\ninhabit G1\n";
+
+const FOUR_GOALS: &[u8] =
+    b"comp c1 : G2 -> G1\ncomp c2 : G3 -> G2\ncomp c3 : G4 -> G3\nend\ninhabit G1\n";
+
+const TOO_LARGE: &str = "error too-large\n";
+
 /// Words that set options, an input, and what is written for it. Six terms have size 1 or 2.
-const SETTINGS: [(&[&str], &[u8], &str); 9] = [
+const SETTINGS: [(&[&str], &[u8], &str); 18] = [
     (&[], TWO_COMPONENTS, SIX_TERMS),
     (&["--pool", "5"], TWO_COMPONENTS, TOO_MANY),
     (&["--pool", "5"], ONE_TERM, "term x\nmore\n"),
@@ -22,7 +30,7 @@ const SETTINGS: [(&[&str], &[u8], &str); 9] = [
             "--pool",
             "5",
             "--max-rules",
-            "1",
+            "3",
             "--max-goals",
             "1",
             "--workers",
@@ -31,6 +39,36 @@ const SETTINGS: [(&[&str], &[u8], &str); 9] = [
         TWO_COMPONENTS,
         TOO_MANY,
     ),
+    // The limits of the closure go first. It has one goal and three rules.
+    (
+        &["--pool", "5", "--max-rules", "2"],
+        TWO_COMPONENTS,
+        TOO_LARGE,
+    ),
+    (&["--max-goals", "3"], THREE_GOALS, "uninhabited\n"),
+    (&["--max-goals", "3"], FOUR_GOALS, TOO_LARGE),
+    (
+        &["--max-goals", "3", "--workers", "1"],
+        THREE_GOALS,
+        "uninhabited\n",
+    ),
+    (
+        &["--max-goals", "3", "--workers", "1"],
+        FOUR_GOALS,
+        TOO_LARGE,
+    ),
+    (
+        &["--workers", "8", "--max-goals", "3"],
+        THREE_GOALS,
+        "uninhabited\n",
+    ),
+    (
+        &["--workers", "8", "--max-goals", "3"],
+        FOUR_GOALS,
+        TOO_LARGE,
+    ),
+    (&["--max-rules", "2"], THREE_GOALS, "uninhabited\n"),
+    (&["--max-rules", "1"], THREE_GOALS, TOO_LARGE),
     (
         &[
             "--workers",

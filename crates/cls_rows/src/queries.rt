@@ -1,4 +1,5 @@
 //! Worked lines of queries: what each says, or the words of its error.
+use crate::examples::repeated;
 use cls_lexer::{Line, Names};
 use cls_query::{Query, read_query};
 use std::alloc::Global;
@@ -26,23 +27,6 @@ fn words(alloc: Global, text: &str) -> Result<String, Fail> {
         Err(fault) => fault.write_to(&mut words)?,
     }
     Ok(words)
-}
-
-/// The text between the two, repeated with the separator in between.
-fn repeated(
-    alloc: Global,
-    (front, text, separator, back): (&str, &str, &str, &str),
-    count: usize,
-) -> Result<String, Fail> {
-    let mut line = String::from_str(alloc, front)?;
-    for number in 0..count {
-        if number > 0 {
-            line.push_str(separator)?;
-        }
-        line.push_str(text)?;
-    }
-    line.push_str(back)?;
-    Ok(line)
 }
 
 #[test]

@@ -13,8 +13,6 @@
 
 mod driver;
 pub mod laws;
-#[cfg(test)]
-mod plain_tests;
 mod program;
 mod session;
 mod settings;
