@@ -12,6 +12,7 @@
 #![tactic(auto)]
 
 mod driver;
+mod generator;
 pub mod laws;
 #[cfg(test)]
 mod plain_tests;
