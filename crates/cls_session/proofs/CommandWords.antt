@@ -48,10 +48,10 @@ word_one n m e = sym (of_word n) ∙ (ap option_of e ∙ of_word m)
 
 -- `generate` is none of them
 no_option : (n : OptionName) → codes "generate" ≡ option_word n → ⊥
-no_option Workers e = (let k : 103 ≡ 45 = ap (λ (w : List ℕ). get_or w 0 0) e in omega arith)
-no_option MaxGoals e = (let k : 103 ≡ 45 = ap (λ (w : List ℕ). get_or w 0 0) e in omega arith)
-no_option MaxRules e = (let k : 103 ≡ 45 = ap (λ (w : List ℕ). get_or w 0 0) e in omega arith)
-no_option Pool e = (let k : 103 ≡ 45 = ap (λ (w : List ℕ). get_or w 0 0) e in omega arith)
+no_option Workers e = cc
+no_option MaxGoals e = cc
+no_option MaxRules e = cc
+no_option Pool e = cc
 
 -- LISTS OF SETTINGS
 
