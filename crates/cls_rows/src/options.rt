@@ -48,7 +48,7 @@ const SETTINGS: [(&[&str], &[u8], &str); 9] = [
 ];
 
 /// Words that ask for nothing.
-const USAGES: [&[&str]; 26] = [
+const USAGES: [&[&str]; 25] = [
     // A value is out of range.
     &["--workers", "0"],
     &["--workers", "65"],
@@ -78,7 +78,6 @@ const USAGES: [&[&str]; 26] = [
     &["--pool", "5", "--"],
     &["--Pool", "5"],
     &["5", "--pool"],
-    &["generate", "5"],
     &[""],
 ];
 
