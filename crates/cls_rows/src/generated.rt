@@ -7,8 +7,7 @@ use std::test::Fail;
 const TWO: &str = "inhabited\nterm c1(c2(z))\ndone\ninhabited\nuninhabited\nyes\n";
 
 /// The same if fewer than three terms may be held.
-const TWO_IN_A_SMALL_POOL: &str =
-    "inhabited\nerror too-many-terms\ninhabited\nuninhabited\nyes\n";
+const TWO_IN_A_SMALL_POOL: &str = "inhabited\nerror too-many-terms\ninhabited\nuninhabited\nyes\n";
 
 /// Over a chain of 64 steps or more, the one term of both goals has more than 64 occurrences.
 const MANY: &str = "inhabited\ndone\ninhabited\nuninhabited\nyes\n";

@@ -18,7 +18,7 @@ use Rattle.cls_session.specs.Standings.{Standing, Stands}
 use Rattle.cls_session.specs.Stops.{status_of}
 use Rattle.cls_session.specs.Transcripts.{Transcript, IsRefused, Ending, without_end, complete}
 use Rattle.cls_session.proofs.Driving.{CutsLines-trans}
-use Rattle.cls_session.proofs.Outputs.{Begins, IsWholly, CutsLines-append, ended_lines-CutsLines, told, told_front, answers_ended, keeps_pace, room_left, text_stands, last_stands, output_refused, output_refused_last, output_ended, output_too_long}
+use Rattle.cls_session.proofs.Outputs.{Begins, IsWholly, CutsLines-append, ended_lines-CutsLines, told, told_front, answers_ended, keeps_pace, wholly_told, begun_told, room_left, text_stands, last_stands, output_refused, output_refused_last, output_ended, output_too_long}
 use Rattle.cls_session.proofs.Standings.{Stands-transcript}
 use Rattle.cls_session.proofs.Writing.{Writes-none, Writes-trans}
 
@@ -193,7 +193,9 @@ module _ {o : Options} {source source' : SourceSeen} {sink sink' : SinkSeen} {se
       lines = u.lines;
       written = u.written;
       stands = u.stands;
-      fits = λ reply w. room_left (SessionText o) source u.written reply h u.writes (λ bytes e. last_text (u.written ++ reply) bytes e w);
+      fits = λ reply w.
+          let (bytes, t, e) = wholly_told source.left u.bytes (Consumes-wholly source.left source'.left u.bytes u.consumes at_end) in
+          room_left (SessionText o) source u.written reply bytes h u.writes t (last_stands o u.bytes reader (u.written ++ reply) u.lines u.cuts few bytes e w);
     }
 
     -- if the last line is answered the output is complete
@@ -279,7 +281,9 @@ module _ {o : Options} {source source' : SourceSeen} {sink sink' : SinkSeen} {se
       lines = u.lines;
       written = u.written;
       stands = u.stands;
-      fits = λ more rest reply cs w. room_left (SessionText o) source u.written reply h u.writes (λ bytes e. piece_text more rest (u.written ++ reply) bytes cs e w);
+      fits = λ more rest reply cs w.
+          let (bytes, t, b) = begun_told source.left (u.bytes ++ piece) (Begins-front source.left (u.bytes ++ piece) over (Consumes-begins source.left source''.left ((u.bytes ++ piece) ++ over) read)) in
+          room_left (SessionText o) source u.written reply bytes h u.writes t (text_stands o (u.bytes ++ piece) rest (u.written ++ reply) (u.lines ++ more) (cuts_on more rest cs) few_bytes bytes b w);
     }
 
     answers_refused : {sink'' : SinkSeen} → RefusesLines sink' sink'' session (reader ++ piece) → SessionAnswers o source sink sink'' status.Refused

@@ -124,23 +124,42 @@ ended_keeps_pace o (Some bytes) (Some rest) sink sink' a = record {
 pub taken_keeps_pace : (o : Options) (source source' : SourceSeen) (sink sink' : SinkSeen) → SessionTaken o source source' sink sink' → SessionPace o source source' sink sink'
 taken_keeps_pace o source source' sink sink' a = ended_keeps_pace o source.left source'.left sink sink' a
 
--- n bytes are enough for a text that P allows
-enough_for : (P : List ℕ → List ℕ → Type 0) (left : Option (List ℕ)) (n : ℕ) (text : List ℕ) → IsEnoughRoom P left n → ((bytes : List ℕ) → left ≡ Some bytes → P bytes text) → length text ≤ n
-enough_for P None n text h meets = absurd h
-enough_for P (Some bytes) n text h meets = h text (meets bytes refl)
+-- The source tells these bytes, or none.
+abbrev pub MayTell : Option (List ℕ) → List ℕ → Type 0
+MayTell None bytes = Unit {0}
+MayTell (Some told) bytes = told ≡ bytes
 
-room_for : (P : List ℕ → List ℕ → Type 0) (left : Option (List ℕ)) (room : Option ℕ) (text : List ℕ) → IfSome room (λ n. IsEnoughRoom P left n) → ((bytes : List ℕ) → left ≡ Some bytes → P bytes text) → Holds room (length text)
-room_for P left None text h meets = tt
-room_for P left (Some n) text h meets = enough_for P left n text h meets
+-- bytes that it may tell
+pub some_told : (left : Option (List ℕ)) → (bytes : List ℕ) × MayTell left bytes
+some_told None = ([], tt)
+some_told (Some told) = (told, refl)
+
+-- they are those that were read, if all were, and begin with them
+pub wholly_told : (left : Option (List ℕ)) (front : List ℕ) → IsWholly left front → (bytes : List ℕ) × MayTell left bytes × IsWholly (Some bytes) front
+wholly_told None front e = (front, tt, refl)
+wholly_told (Some told) front e = (told, refl, e)
+
+pub begun_told : (left : Option (List ℕ)) (front : List ℕ) → Begins left front → (bytes : List ℕ) × MayTell left bytes × Begins (Some bytes) front
+begun_told None front b = (front, tt, ([], sym (append-nil front)))
+begun_told (Some told) front b = (told, refl, b)
+
+-- n bytes are enough for a text that P allows for bytes that the source may tell
+enough_for : (P : List ℕ → List ℕ → Type 0) (left : Option (List ℕ)) (n : ℕ) (bytes text : List ℕ) → IsEnoughRoom P left n → MayTell left bytes → P bytes text → length text ≤ n
+enough_for P None n bytes text h t meets = h bytes text meets
+enough_for P (Some told) n bytes text h t meets = h text (subst (λ (x : List ℕ). P x text) (sym t) meets)
+
+room_for : (P : List ℕ → List ℕ → Type 0) (left : Option (List ℕ)) (room : Option ℕ) (bytes text : List ℕ) → IfSome room (λ n. IsEnoughRoom P left n) → MayTell left bytes → P bytes text → Holds room (length text)
+room_for P left None bytes text h t meets = tt
+room_for P left (Some n) bytes text h t meets = enough_for P left n bytes text h t meets
 
 -- the reply to a text with which P allows it fits the room that is left
-pub room_left : {sink sink' : SinkSeen} (P : List ℕ → List ℕ → Type 0) (source : SourceSeen) (written reply : List ℕ) → IfSome sink.room (λ n. IsEnoughRoom P source.left n) → Writes sink sink' written
-    → ((bytes : List ℕ) → source.left ≡ Some bytes → P bytes (written ++ reply)) → Holds sink'.room (length reply)
-room_left {sink = sink} P source written reply h w meets = Holds-rest reply w (room_for P source.left sink.room (written ++ reply) h meets)
+pub room_left : {sink sink' : SinkSeen} (P : List ℕ → List ℕ → Type 0) (source : SourceSeen) (written reply bytes : List ℕ) → IfSome sink.room (λ n. IsEnoughRoom P source.left n) → Writes sink sink' written
+    → MayTell source.left bytes → P bytes (written ++ reply) → Holds sink'.room (length reply)
+room_left {sink = sink} P source written reply bytes h w t meets = Holds-rest reply w (room_for P source.left sink.room bytes (written ++ reply) h t meets)
 
 -- the usage line fits if the words ask for nothing
 pub usage_fits : (words : List (List ℕ)) (source : SourceSeen) (sink : SinkSeen) → HasRoom words source sink → AsksNothing words → Holds sink.room (length usage)
-usage_fits words source sink h asks = room_for (MayStand words) source.left sink.room usage h (λ bytes e. of_usage asks refl)
+usage_fits words source sink h asks = (let (bytes, t) = some_told source.left in room_for (MayStand words) source.left sink.room bytes usage h t (of_usage asks refl))
 
 module _ (o : Options) (front rest text : List ℕ) (lines : List (List ℕ)) (cuts : CutsLines front lines rest) (short : length front ≤ max_input_bytes) (bytes : List ℕ) where
   -- what may stand written for the lines that the front begins with

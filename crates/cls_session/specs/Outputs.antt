@@ -104,9 +104,10 @@ Answers words source sink sink' status =
 abbrev pub BeginsAnswers : List (List ℕ) → SourceSeen → SinkSeen → SinkSeen → Type 0
 BeginsAnswers words source sink sink' = IfSome source.left (λ bytes. GivesFront (MayStand words bytes) sink sink')
 
--- n bytes are enough for each text that P allows for the bytes that the source tells. Otherwise no number is sure to be.
+-- n bytes are enough for each text that P allows for the bytes that the source tells. If it tells none, they are enough
+-- whatever bytes come.
 abbrev pub IsEnoughRoom : (List ℕ → List ℕ → Type 0) → Option (List ℕ) → ℕ → Type 0
-IsEnoughRoom P None n = ⊥
+IsEnoughRoom P None n = (bytes text : List ℕ) → P bytes text → length text ≤ n
 IsEnoughRoom P (Some bytes) n = (text : List ℕ) → P bytes text → length text ≤ n
 
 -- The room that the sink tells is enough for each text that may stand written for some first lines of the bytes that the

@@ -26,7 +26,7 @@ returns-in_default-clause-keeps_pace g c = λ fault. taken_keeps_pace c.args.opt
 -- THE END OF THE INPUT
 
 pub finish-requires-clause-room : goal.finish-requires-clause-room
-finish-requires-clause-room g c =
+finish-requires-clause-room g c κs within =
     let u = none_more (g.S.Source.seen c.read.new.self) c.in-Ok.count c.read.new.into c.pieces.invariant.under_way c.if-count-eq0.true c.in-Ok.ensures.bytes in
     let at_end = c.in-Ok.ensures.end c.if-count-eq0.true (omega arith) in
     last_has_room u c.pieces.invariant.short at_end c.requires.room
@@ -79,7 +79,7 @@ returns-in-Err-clause-keeps_pace g c =
 -- A PIECE, AND BYTES THAT ARE TOO MANY
 
 pub answer_lines-requires-clause-room : goal.answer_lines-requires-clause-room
-answer_lines-requires-clause-room g c =
+answer_lines-requires-clause-room g c κs within =
     let p = cut_piece (g.S.Source.seen c.pieces.source) (g.S.Source.seen c.read.new.self) c.read.new.into _ _ c.in-Ok.count c.min.result c.split_at.ensures.front c.split_at.ensures.back c.in-Ok.ensures.bytes c.in-Ok.ensures.within in
     let short : c.pieces.taken + length c.split_at.result.0.now ≤ max_input_bytes = omega (arith, c.split_at.ensures.front_len, c.min.ensures, c.pieces.invariant.short) in
     piece_has_room c.pieces.invariant.under_way p short c.requires.room
