@@ -1,4 +1,4 @@
-use Rattle.std.proofs.Common.{◌≡◌, ◌∙◌, ap}
+use Rattle.std.proofs.Common.{◌≡◌, ◌∙◌}
 use Rattle.cls_session.specs.Generators.{generated_text}
 use Rattle.cls_session.proofs.Asked.{told_room, told_answers, told_begins, none_begins}
 use Rattle.cls_session.proofs.program.answer_generated.Goals as goal

@@ -1,4 +1,4 @@
-use Rattle.std.proofs.Common.{◌≡◌, ◌+◌, ◌≤◌, length-append, [], length, arith, refl, ap, ◌∙◌, subst}
+use Rattle.std.proofs.Common.{◌≡◌, ◌+◌, ◌≤◌, length-append, length, arith, refl, ap, ◌∙◌, subst}
 use Rattle.cls_base.specs.Limits.{max_input_bytes}
 use Rattle.cls_session.specs.Outputs.{IsWhole}
 use Rattle.cls_session.proofs.InputLoop.{IsUnderWay, cut_piece, none_read, none_more, last_has_room, answers_end, answers_last_stopped, begins_last_stopped, last_stopped_keeps_pace, end_status, end_is_whole, end_is_not_cut_off, end_is_not_broken_off, end_is_no_usage, piece_has_room, answers_stopped, begins_stopped, stopped_keeps_pace, answers_too_long, answers_taken, piece_answered}
