@@ -110,13 +110,13 @@ abbrev pub IsEnoughRoom : (List ℕ → List ℕ → Type 0) → Option (List �
 IsEnoughRoom P None n = (bytes text : List ℕ) → P bytes text → length text ≤ n
 IsEnoughRoom P (Some bytes) n = (text : List ℕ) → P bytes text → length text ≤ n
 
--- The room that the sink tells is enough for each text that may stand written for some first lines of the bytes that the
--- source tells.
+-- The room that the sink tells is enough for each text that may stand written for some first lines of the bytes that
+-- the source tells.
 abbrev pub HasRoom : List (List ℕ) → SourceSeen → SinkSeen → Type 0
 HasRoom words source sink = IfSome sink.room (λ n. IsEnoughRoom (MayStand words) source.left n)
 
--- A fact of the bytes that were left to read and those that are left now, if they are told. A source that told them goes
--- on doing so.
+-- A fact of the bytes that were left to read and those that are left now, if they are told. A source that told them
+-- goes on doing so.
 abbrev pub IfTold : Option (List ℕ) → Option (List ℕ) → (List ℕ → List ℕ → Type 0) → Type 0
 IfTold None after P = Unit {0}
 IfTold (Some bytes) None P = ⊥
@@ -143,8 +143,8 @@ pub record AnswersTaken (words : List (List ℕ)) (source source' : SourceSeen) 
   pub asked : Asks words (Session options)
   pub answered : SessionTaken options source source' sink sink'
 
--- What was taken of the bytes, and that what the sink was given begins a text that may stand written for some first lines
--- of it.
+-- What was taken of the bytes, and that what the sink was given begins a text that may stand written for some first
+-- lines of it.
 pub record BeginsForTaken (words : List (List ℕ)) (bytes rest : List ℕ) (sink sink' : SinkSeen) : Type 0 where
   pub taken : List ℕ
   pub split : bytes ≡ taken ++ rest
@@ -156,8 +156,8 @@ abbrev pub BeginsTaken : List (List ℕ) → SourceSeen → SourceSeen → SinkS
 BeginsTaken words source source' sink sink' =
     IfTold source.left source'.left (λ bytes rest. BeginsForTaken words bytes rest sink sink')
 
--- Of the bytes `before` were taken and then `last`, which are at most `max_read_bytes`. All replies to the lines that end in
--- `before` stand written, and more may follow them.
+-- Of the bytes `before` were taken and then `last`, which are at most `max_read_bytes`. All replies to the lines that
+-- end in `before` stand written, and more may follow them.
 pub record AnswersBeforeLast (o : Options) (bytes rest : List ℕ) (sink sink' : SinkSeen) : Type 0 where
   pub before : List ℕ
   pub last : List ℕ
@@ -176,7 +176,8 @@ SessionPace o source source' sink sink' =
 
 -- The same of a run that was asked for a session.
 abbrev pub KeepsPace : List (List ℕ) → SourceSeen → SourceSeen → SinkSeen → SinkSeen → Type 0
-KeepsPace words source source' sink sink' = (o : Options) → Asks words (Session o) → SessionPace o source source' sink sink'
+KeepsPace words source source' sink sink' =
+    (o : Options) → Asks words (Session o) → SessionPace o source source' sink sink'
 
 -- THE SAME OF A SESSION WITH GIVEN OPTIONS, whatever the words are
 
@@ -190,7 +191,7 @@ SessionAnswers o source sink sink' status =
 abbrev pub SessionBegins : Options → SourceSeen → SinkSeen → SinkSeen → Type 0
 SessionBegins o source sink sink' = IfSome source.left (λ bytes. GivesFront (SessionText o bytes) sink sink')
 
--- The room that the sink tells is enough for each text that the session may have written for some first lines of the bytes
--- that the source tells.
+-- The room that the sink tells is enough for each text that the session may have written for some first lines of the
+-- bytes that the source tells.
 abbrev pub SessionRoom : Options → SourceSeen → SinkSeen → Type 0
 SessionRoom o source sink = IfSome sink.room (λ n. IsEnoughRoom (SessionText o) source.left n)
