@@ -9,17 +9,19 @@ const TWO: &str = "inhabited\nterm c1(c2(z))\ndone\ninhabited\nuninhabited\nyes\
 /// The same if fewer than three terms may be held.
 const TWO_IN_A_SMALL_POOL: &str = "inhabited\nerror too-many-terms\ninhabited\nuninhabited\nyes\n";
 
-/// Over a chain of 64 steps or more, the one term of both goals has more than 64 occurrences.
+/// Over a chain of 300 steps, the one term of both goals has more than 64 occurrences.
 const MANY: &str = "inhabited\ndone\ninhabited\nuninhabited\nyes\n";
 
 /// Words that end with a number for the generator, and what is written for its text.
-const GENERATED: [(&[&str], &str); 8] = [
+const SHORT_CHAINS: [(&[&str], &str); 5] = [
     (&["generate", "2"], TWO),
     (&["generate", "000000002"], TWO),
     (&["--workers", "8", "generate", "2"], TWO),
     (&["--pool", "3", "--workers", "1", "generate", "2"], TWO),
     (&["--pool", "2", "generate", "2"], TWO_IN_A_SMALL_POOL),
-    (&["generate", "64"], MANY),
+];
+
+const LONG_CHAINS: [(&[&str], &str); 2] = [
     (&["--workers", "1", "generate", "300"], MANY),
     (&["--workers", "8", "generate", "300"], MANY),
 ];
@@ -52,8 +54,18 @@ fn unreadable() -> Outside<'static> {
 }
 
 #[test]
-fn lines_of_the_generator_are_answered(rt: HostRuntime) -> Result<(), Fail> {
-    for (words, text) in GENERATED {
+fn short_chains_are_answered(rt: HostRuntime) -> Result<(), Fail> {
+    for (words, text) in SHORT_CHAINS {
+        let (status, output) = outcome(&rt, rt.alloc(), words, TWO_COMPONENTS, &unreadable())?;
+        assert_eq!(rt; output.as_str(), text, "{words:?}");
+        assert_eq!(rt; status, Status::Done, "{words:?}");
+    }
+    Ok(())
+}
+
+#[test]
+fn long_chains_are_answered(rt: HostRuntime) -> Result<(), Fail> {
+    for (words, text) in LONG_CHAINS {
         let (status, output) = outcome(&rt, rt.alloc(), words, TWO_COMPONENTS, &unreadable())?;
         assert_eq!(rt; output.as_str(), text, "{words:?}");
         assert_eq!(rt; status, Status::Done, "{words:?}");
