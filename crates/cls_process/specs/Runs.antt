@@ -10,7 +10,7 @@ use Rattle.cls_session.specs.Outputs.{IsWhole, IsBrokenOff, IsCutOff, Answers, B
 -- With these words a run went over this source and sink and ended with this status. The facts are the clauses of `run`.
 pub record IsRun (words : List (List ℕ)) (source source' : SourceSeen) (sink sink' : SinkSeen) (status : Status) : Type 0 where
   pub output : IsWhole status → Answers words source sink sink' status
-  pub read_whole : status ≡ Done → IsAtEnd source'.left
+  pub read_whole : status ≡ Done → AsksSession words → IsAtEnd source'.left
   pub unread : status ≡ Usage → Keeps source.left source'.left
   pub unasked : (AsksSession words → ⊥) → source' ≡ source
   pub none_waits : status ≡ ReadFault → AnswersTaken words source source' sink sink'

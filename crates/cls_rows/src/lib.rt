@@ -20,6 +20,7 @@ mod inhabitation;
 mod kinds;
 #[cfg(test)]
 mod libraries;
+mod generated;
 #[cfg(test)]
 mod limits;
 #[cfg(test)]

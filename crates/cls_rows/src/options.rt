@@ -86,7 +86,7 @@ const SETTINGS: [(&[&str], &[u8], &str); 18] = [
 ];
 
 /// Words that ask for nothing.
-const USAGES: [&[&str]; 26] = [
+const USAGES: [&[&str]; 25] = [
     // A value is out of range.
     &["--workers", "0"],
     &["--workers", "65"],
@@ -116,7 +116,6 @@ const USAGES: [&[&str]; 26] = [
     &["--pool", "5", "--"],
     &["--Pool", "5"],
     &["5", "--pool"],
-    &["generate", "5"],
     &[""],
 ];
 

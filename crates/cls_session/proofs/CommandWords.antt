@@ -13,8 +13,8 @@ use Rattle.cls_session.specs.declared.settings.OptionName.{OptionName}
 use Rattle.cls_session.specs.declared.settings.OptionName.TheVariants.{Workers, MaxGoals, MaxRules, Pool}
 use Rattle.cls_session.specs.declared.settings.Values.{Values}
 use Rattle.cls_session.specs.declared.words.Command.{Command}
-use Rattle.cls_session.specs.declared.words.Command.TheVariants.{Session}
-use Rattle.cls_session.specs.Commands.{texts_of, option_word, greatest, default, place, IsValue, Setting, setting_words, value_set, value_in, options_in, SetsOptions, Asks, AsksNothing, IsInRange, AreInRange, HasOptionsInRange, CommandsAreOne}
+use Rattle.cls_session.specs.declared.words.Command.TheVariants.{Session, Generate}
+use Rattle.cls_session.specs.Commands.{texts_of, option_word, greatest, default, place, IsValue, Setting, setting_words, value_set, value_in, options_in, SetsOptions, IsGenerate, AsksGenerator, Asks, AsksNothing, IsInRange, AreInRange, HasNumbersInRange, CommandsAreOne}
 use Rattle.cls_session.specs.Settings.{value_at, with_value, options_of, BeginsWith, BeginsWithNone}
 
 -- OPTIONS ARE TOLD APART BY THEIR PLACES AND BY THEIR WORDS
@@ -46,6 +46,13 @@ of_word Pool = refl
 word_one : (n m : OptionName) → option_word n ≡ option_word m → n ≡ m
 word_one n m e = sym (of_word n) ∙ (ap option_of e ∙ of_word m)
 
+-- `generate` is none of them
+no_option : (n : OptionName) → codes "generate" ≡ option_word n → ⊥
+no_option Workers e = cc
+no_option MaxGoals e = cc
+no_option MaxRules e = cc
+no_option Pool e = cc
+
 -- LISTS OF SETTINGS
 
 abbrev option_in : Setting → OptionName
@@ -70,15 +77,28 @@ some_differs x e = cc
 setting_one : (s t : Setting) → option_word s.option ≡ option_word t.option → s.value ≡ t.value → s ≡ t
 setting_one s t e v = (let o = word_one s.option t.option e in λ i. record { option = o i; value = v i })
 
+-- No setting begins the words.
+abbrev EndsSettings : List (List ℕ) → Type 0
+EndsSettings last = (s : Setting) (others : List (List ℕ)) → last ≡ setting_words s ++ others → ⊥
+
 -- settings that spell a text with others in front have these in front
-settings_front : (done settings : List Setting) (rest : List (List ℕ)) → flat_map setting_words settings ≡ flat_map setting_words done ++ rest
-    → (more : List Setting) × (settings ≡ done ++ more) × (flat_map setting_words more ≡ rest)
-settings_front [] settings rest e = (settings, refl, e)
-settings_front (t ∷ done) [] rest e = absurd (not_empty _ _ (sym e))
-settings_front (t ∷ done) (s ∷ settings) rest e =
+settings_front : (done settings : List Setting) (last rest : List (List ℕ)) → EndsSettings last → flat_map setting_words settings ++ last ≡ flat_map setting_words done ++ rest
+    → (more : List Setting) × (settings ≡ done ++ more) × (flat_map setting_words more ++ last ≡ rest)
+settings_front [] settings last rest ends e = (settings, refl, e)
+settings_front (t ∷ done) [] last rest ends e = absurd (ends t (flat_map setting_words done ++ rest) e)
+settings_front (t ∷ done) (s ∷ settings) last rest ends e =
     let one = setting_one s t (heads _ _ _ _ e) (heads _ _ _ _ (tails _ _ _ _ e)) in
-    let (more, split, spelled) = settings_front done settings rest (tails _ _ _ _ (tails _ _ _ _ e)) in
+    let (more, split, spelled) = settings_front done settings last rest ends (tails _ _ _ _ (tails _ _ _ _ e)) in
     (more, (λ i. one i ∷ split i), spelled)
+
+-- settings and what follows them are told by their words
+one_settings : (settings others : List Setting) (last after : List (List ℕ)) → EndsSettings last → EndsSettings after → flat_map setting_words settings ++ last ≡ flat_map setting_words others ++ after
+    → (settings ≡ others) × (last ≡ after)
+one_settings settings others last after ends stops e = (let (more, split, spelled) = settings_front others settings last after ends e in same more split spelled)
+  where
+    same : (more : List Setting) → settings ≡ others ++ more → flat_map setting_words more ++ last ≡ after → (settings ≡ others) × (last ≡ after)
+    same [] split spelled = (split ∙ append-nil others, spelled)
+    same (s ∷ more) split spelled = absurd (stops s (flat_map setting_words more ++ last) (sym spelled))
 
 -- all are within their ranges, and those after the first ones too
 within_after : (done more : List Setting) → AllByRecursion IsWithin (done ++ more) → AllByRecursion IsWithin more
@@ -165,6 +185,44 @@ value_with values Pool v MaxGoals = refl
 value_with values Pool v MaxRules = refl
 value_with values Pool v Pool = refl
 
+-- THE COMMAND AFTER THE SETTINGS
+
+abbrev command_options : Command → Options
+command_options (Session o) = o
+command_options (Generate o n) = o
+
+-- The words ask for the command with these last words after the settings.
+abbrev IsLast : Command → List (List ℕ) → Type 0
+IsLast (Session o) last = last ≡ []
+IsLast (Generate o n) last = IsGenerate last n
+
+last_ends : (c : Command) (last : List (List ℕ)) → IsLast c last → EndsSettings last
+last_ends (Session o) last is s others e = not_empty _ _ (sym e ∙ is)
+last_ends (Generate o n) last is s others e = no_option s.option (heads _ _ _ _ (sym is.spelled ∙ e))
+
+-- The words are settings of these options, and then others, which no setting begins.
+record Spells (words last : List (List ℕ)) (o : Options) : Type 0 where
+  pub settings : List Setting
+  pub spelled : words ≡ flat_map setting_words settings ++ last
+  pub once : AreDistinct (map (λ s. s.option) settings)
+  pub values : AllByRecursion (λ s. IsValue (greatest s.option) s.value) settings
+  pub options : o ≡ options_in settings
+  pub ends : EndsSettings last
+
+spelled_with : {first words : List (List ℕ)} {o : Options} (last : List (List ℕ)) → SetsOptions first o → words ≡ first ++ last → EndsSettings last → Spells words last o
+spelled_with last h split ends = record {
+  settings = h.settings;
+  spelled = split ∙ ap (λ (ws : List (List ℕ)). ws ++ last) h.spelled;
+  once = h.once;
+  values = h.values;
+  options = h.options;
+  ends = ends;
+}
+
+spelled_by : (words : List (List ℕ)) (c : Command) → Asks words c → (last : List (List ℕ)) × Spells words last (command_options c) × IsLast c last
+spelled_by words (Session o) h = ([], spelled_with [] h (sym (append-nil words)) (last_ends (Session o) [] refl), refl)
+spelled_by words (Generate o n) h = (h.last, spelled_with h.last h.sets h.split (last_ends (Generate o n) h.last h.generate), h.generate)
+
 -- THE WORDS ARE READ ONE SETTING AFTER ANOTHER
 
 -- The words before `rest` are settings, and these values are set by them.
@@ -204,16 +262,20 @@ module _ {words rest : List (List ℕ)} {values : Values} (u : IsReadUpTo words 
       }
 
   -- what settings the words would be
-  front_of : (o : Options) → (h : SetsOptions words o) → (more : List Setting) × (h.settings ≡ u.settings ++ more) × (flat_map setting_words more ≡ rest)
-  front_of o h = settings_front u.settings h.settings rest (sym h.spelled ∙ u.spelled)
+  front_of : {last : List (List ℕ)} {o : Options} (h : Spells words last o) → (more : List Setting) × (h.settings ≡ u.settings ++ more) × (flat_map setting_words more ++ last ≡ rest)
+  front_of {last = last} h = settings_front u.settings h.settings last rest h.ends (sym h.spelled ∙ u.spelled)
 
-  -- where no setting follows, the words ask for nothing
-  pub no_setting : 0 < length rest → BeginsWithNone rest → AsksNothing words
-  no_setting some none (Session o) h = (let (more, split, spelled) = front_of o h in none_of h more split spelled)
+  -- where neither a setting nor the generator follows, the words ask for nothing
+  pub no_setting : 0 < length rest → BeginsWithNone rest → ((n : ℕ) → IsGenerate rest n → ⊥) → AsksNothing words
+  no_setting some none unlike c asks =
+      let (last, h, is) = spelled_by words c asks in
+      let (more, split, spelled) = front_of h in
+      none_of c last h is more split spelled
     where
-      none_of : {o : Options} (h : SetsOptions words o) (more : List Setting) → h.settings ≡ u.settings ++ more → flat_map setting_words more ≡ rest → ⊥
-      none_of h [] split spelled = absurd (let l = ap length spelled in omega arith)
-      none_of h (s ∷ more) split spelled = none s.option (number_value s.value) (flat_map setting_words more) record {
+      none_of : (c : Command) (last : List (List ℕ)) (h : Spells words last (command_options c)) → IsLast c last → (more : List Setting) → h.settings ≡ u.settings ++ more → flat_map setting_words more ++ last ≡ rest → ⊥
+      none_of (Session o) last h is [] split spelled = absurd (let l = ap length (sym spelled ∙ is) in omega arith)
+      none_of (Generate o n) last h is [] split spelled = unlike n (subst (λ (ws : List (List ℕ)). IsGenerate ws n) spelled is)
+      none_of c last h is (s ∷ more) split spelled = none s.option (number_value s.value) (flat_map setting_words more ++ last) record {
         value = s.value;
         spelled = sym spelled;
         within = (let all = within_after u.settings (s ∷ more) (subst (λ (ss : List Setting). AllByRecursion IsWithin ss) split h.values) in all.0);
@@ -222,21 +284,24 @@ module _ {words rest : List (List ℕ)} {values : Values} (u : IsReadUpTo words 
 
   -- nor where an option follows that was set
   pub set_again : {n : OptionName} {number : ℕ} {others : List (List ℕ)} → BeginsWith rest n number others → (value_at values n ≡ None → ⊥) → AsksNothing words
-  set_again {n = n} b taken (Session o) h = (let (more, split, spelled) = front_of o h in none_of h more split spelled)
+  set_again {n = n} {others = others} b taken c asks =
+      let (last, h, is) = spelled_by words c asks in
+      let (more, split, spelled) = front_of h in
+      none_of h more split spelled
     where
-      none_of : {o : Options} (h : SetsOptions words o) (more : List Setting) → h.settings ≡ u.settings ++ more → flat_map setting_words more ≡ rest → ⊥
-      none_of h [] split spelled = not_empty _ _ (sym (spelled ∙ b.spelled))
+      none_of : {last : List (List ℕ)} {o : Options} (h : Spells words last o) (more : List Setting) → h.settings ≡ u.settings ++ more → flat_map setting_words more ++ last ≡ rest → ⊥
+      none_of h [] split spelled = h.ends record { option = n; value = b.value } others (spelled ∙ b.spelled)
       none_of h (s ∷ more) split spelled =
           let same : s.option ≡ n = word_one s.option n (heads _ _ _ _ (spelled ∙ b.spelled)) in
           let stood : Contains (map option_in u.settings) n = is_set u.settings n (λ e. taken (u.set n ∙ e)) in
           not_again u.settings s more (subst (λ (ss : List Setting). AreDistinct (map option_in ss)) split h.once)
           (subst (λ (m : OptionName). Contains (map option_in u.settings) m) (sym same) stood)
 
-  -- where no word follows, the values are what the words set
-  pub all_read : length rest ≡ 0 → SetsOptions words (options_of values)
-  all_read none = record {
+  -- the values are what the settings set
+  all_set : SetsOptions (flat_map setting_words u.settings) (options_of values)
+  all_set = record {
     settings = u.settings;
-    spelled = u.spelled ∙ (ap (λ (ws : List (List ℕ)). flat_map setting_words u.settings ++ ws) (empty rest none) ∙ append-nil (flat_map setting_words u.settings));
+    spelled = refl;
     once = u.once;
     values = u.within;
     options = λ i. record {
@@ -246,10 +311,19 @@ module _ {words rest : List (List ℕ)} {values : Values} (u : IsReadUpTo words 
       pool = unwrap_or (u.set Pool i) (default Pool);
     };
   }
+
+  -- where no word follows, the words ask for a session
+  pub all_read : length rest ≡ 0 → SetsOptions words (options_of values)
+  all_read none = subst (λ (ws : List (List ℕ)). SetsOptions ws (options_of values))
+      (sym (u.spelled ∙ (ap (λ (ws : List (List ℕ)). flat_map setting_words u.settings ++ ws) (empty rest none) ∙ append-nil (flat_map setting_words u.settings)))) all_set
     where
       empty : (ws : List (List ℕ)) → length ws ≡ 0 → ws ≡ []
       empty [] e = refl
       empty (w ∷ ws) e = absurd (omega arith)
+
+  -- where the generator follows, they ask for it
+  pub generate_read : {n : ℕ} → IsGenerate rest n → AsksGenerator words (options_of values) n
+  generate_read g = record { first = flat_map setting_words u.settings; last = rest; split = u.spelled; sets = all_set; generate = g }
 
 -- THE LAW
 
@@ -276,26 +350,40 @@ settings_in_range settings h = record {
   pool = value_in_range settings Pool h;
 }
 
--- options that words set are within their ranges
-pub in_range : (words : List (List ℕ)) (c : Command) → Asks words c → HasOptionsInRange c
-in_range words (Session o) h = subst AreInRange (sym h.options) (settings_in_range h.settings h.values)
+sets_in_range : {words : List (List ℕ)} {o : Options} → SetsOptions words o → AreInRange o
+sets_in_range h = subst AreInRange (sym h.options) (settings_in_range h.settings h.values)
 
-nothing_more : (more : List Setting) → flat_map setting_words more ≡ [] → more ≡ []
-nothing_more [] e = refl
-nothing_more (s ∷ more) e = absurd (not_empty _ _ e)
+-- numbers that words spell are within their ranges
+pub in_range : (words : List (List ℕ)) (c : Command) → Asks words c → HasNumbersInRange c
+in_range words (Session o) h = sets_in_range h
+in_range words (Generate o n) h = (let g = h.generate in let w = g.within in (sets_in_range h.sets, omega (arith, g.spells, w.some), omega (arith, g.spells, w.within)))
+
+same_command : (c d : Command) (last : List (List ℕ)) → command_options c ≡ command_options d → IsLast c last → IsLast d last → c ≡ d
+same_command (Session o) (Session p) last e is js = ap Session e
+same_command (Session o) (Generate p m) last e is js = absurd (not_empty _ _ (sym js.spelled ∙ is))
+same_command (Generate o n) (Session p) last e is js = absurd (not_empty _ _ (sym is.spelled ∙ js))
+same_command (Generate o n) (Generate p m) last e is js =
+    let value = heads _ _ _ _ (tails _ _ _ _ (sym is.spelled ∙ js.spelled)) in
+    let number : n ≡ m = is.spells ∙ (ap number_value value ∙ sym js.spells) in
+    λ i. Generate (e i) (number i)
 
 one_command : (words : List (List ℕ)) (c d : Command) → Asks words c → Asks words d → c ≡ d
-one_command words (Session o) (Session p) h k =
-    let (more, split, spelled) = settings_front k.settings h.settings [] (sym h.spelled ∙ (k.spelled ∙ sym (append-nil (flat_map setting_words k.settings)))) in
-    let same : h.settings ≡ k.settings = split ∙ (ap (λ (ss : List Setting). k.settings ++ ss) (nothing_more more spelled) ∙ append-nil k.settings) in
-    ap Session (h.options ∙ (ap options_in same ∙ sym k.options))
-
-abbrev session_options : Command → Options
-session_options (Session o) = o
+one_command words c d h k =
+    let (last, a, is) = spelled_by words c h in
+    let (after, b, js) = spelled_by words d k in
+    let (settings, lasts) = one_settings a.settings b.settings last after a.ends b.ends (sym a.spelled ∙ b.spelled) in
+    same_command c d after (a.options ∙ (ap options_in settings ∙ sym b.options)) (subst (λ (ws : List (List ℕ)). IsLast c ws) lasts is) js
 
 -- and so for one session
 pub session_one : (words : List (List ℕ)) (o p : Options) → Asks words (Session o) → Asks words (Session p) → o ≡ p
-session_one words o p h k = ap session_options (one_command words (Session o) (Session p) h k)
+session_one words o p h k = ap command_options (one_command words (Session o) (Session p) h k)
+
+-- words that ask for the generator ask for no session
+pub no_session : (words : List (List ℕ)) (o p : Options) (n : ℕ) → Asks words (Generate o n) → Asks words (Session p) → ⊥
+no_session words o p n h k = differs (one_command words (Generate o n) (Session p) h k)
+  where
+    differs : Generate o n ≡ Session p → ⊥
+    differs e = cc
 
 pub commands_are_one : CommandsAreOne
 commands_are_one = record { one = one_command; in_range = in_range }
@@ -318,7 +406,3 @@ is_taken v w e t n = some_of v t (e ∙ n)
 -- as many texts as words
 pub length-texts_of : {A : Type 0} (words : List (String A)) → length (texts_of words) ≡ length words
 length-texts_of words = length-map words string_bytes
-
--- a command is a session with its options
-pub session_asked : (words : List (List ℕ)) (c : Command) → Asks words c → (o : Options) × (c ≡ Session o) × SetsOptions words o
-session_asked words (Session o) h = (o, refl, h)

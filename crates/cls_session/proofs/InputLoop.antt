@@ -13,14 +13,12 @@ use Rattle.cls_session.specs.declared.driver.Stop.TheVariants as stops
 use Rattle.cls_session.specs.declared.status.Status.{Status}
 use Rattle.cls_session.specs.declared.status.Status.TheVariants as status
 use Rattle.cls_session.specs.Driving.{CutsLines, Writes, FitsLines, FitsLast, AnswersLines, RefusesLines, BreaksLines, RefusesLast, BreaksLast, before_last, within_last, IsWritten, IsEnded, EndsOutput, MatchStop}
-use Rattle.cls_session.specs.declared.words.Command.TheVariants.{Session}
-use Rattle.cls_session.specs.Commands.{Asks}
-use Rattle.cls_session.specs.Outputs.{Output, of_session, MayStand, of_text, IsWhole, IsCutOff, IsBrokenOff, Answers, BeginsAnswers, AnswersTaken, KeepsPace, HasRoom}
+use Rattle.cls_session.specs.Outputs.{SessionOutput, SessionText, IsWhole, IsCutOff, IsBrokenOff, SessionAnswers, SessionBegins, SessionTaken, SessionPace, SessionRoom}
 use Rattle.cls_session.specs.Standings.{Standing, Stands}
 use Rattle.cls_session.specs.Stops.{status_of}
 use Rattle.cls_session.specs.Transcripts.{Transcript, IsRefused, Ending, without_end, complete}
 use Rattle.cls_session.proofs.Driving.{CutsLines-trans}
-use Rattle.cls_session.proofs.Outputs.{Begins, IsWholly, CutsLines-append, ended_lines-CutsLines, told, told_front, answers_ended, keeps_pace, room_left, text_stands, last_stands, output_refused, output_refused_last, output_ended, output_too_long}
+use Rattle.cls_session.proofs.Outputs.{Begins, IsWholly, CutsLines-append, ended_lines-CutsLines, told, told_front, answers_ended, keeps_pace, wholly_told, begun_told, room_left, text_stands, last_stands, output_refused, output_refused_last, output_ended, output_too_long}
 use Rattle.cls_session.proofs.Standings.{Stands-transcript}
 use Rattle.cls_session.proofs.Writing.{Writes-none, Writes-trans}
 
@@ -152,7 +150,7 @@ begins_wholly front bytes e = ([], e ∙ sym (append-nil front))
 
 -- The input is read, and so many bytes of it were taken.
 module _ {o : Options} {source source' : SourceSeen} {sink sink' : SinkSeen} {session : Standing} {reader : List ℕ} {taken : ℕ}
-    (u : IsUnderWay o source source' sink sink' session reader taken) (words : List (List ℕ)) (asks : Asks words (Session o)) where
+    (u : IsUnderWay o source source' sink sink' session reader taken) where
   -- the lines that end in the bytes are those that were answered
   all_ended : ended_lines u.bytes ≡ u.lines
   all_ended = ended_lines-CutsLines u.bytes reader u.lines u.cuts ∙ (ap (λ (xs : List (List ℕ)). u.lines ++ xs) (ended_lines-HasNoFeed reader u.no_feed) ∙ append-nil u.lines)
@@ -166,9 +164,9 @@ module _ {o : Options} {source source' : SourceSeen} {sink sink' : SinkSeen} {se
       Ending-status o (u.lines ++ lines_of reader) (u.written ++ reply) end ends
 
   -- a read failed
-  pub answers_taken : (source'' : SourceSeen) → taken ≤ max_input_bytes → Keeps source'.left source''.left → AnswersTaken words source source'' sink sink'
+  pub answers_taken : (source'' : SourceSeen) → taken ≤ max_input_bytes → Keeps source'.left source''.left → SessionTaken o source source'' sink sink'
   answers_taken source'' short keeps =
-      answers_ended o words asks source source'' u.bytes u.written (Consumes-kept source.left source'.left source''.left u.bytes u.consumes keeps) transcript (let k = u.count in omega arith) u.writes
+      answers_ended o source source'' u.bytes u.written (Consumes-kept source.left source'.left source''.left u.bytes u.consumes keeps) transcript (let k = u.count in omega arith) u.writes
 
   -- The end of the input was reached.
   module _ (short : taken ≤ max_input_bytes) (at_end : IsAtEnd source'.left) where
@@ -178,58 +176,60 @@ module _ {o : Options} {source source' : SourceSeen} {sink sink' : SinkSeen} {se
     few : length u.bytes ≤ max_input_bytes
     few = (let k = u.count in omega arith)
 
-    refused_output : (reply bytes : List ℕ) → source.left ≡ Some bytes → IsRefused (u.lines ++ lines_of reader) (u.written ++ reply) → Output words bytes (u.written ++ reply) status.Refused
-    refused_output reply bytes e r = of_session o asks (output_refused_last o u.bytes reader (u.written ++ reply) u.lines u.cuts few bytes (wholly bytes e) r)
+    refused_output : (reply bytes : List ℕ) → source.left ≡ Some bytes → IsRefused (u.lines ++ lines_of reader) (u.written ++ reply) → SessionOutput o bytes (u.written ++ reply) status.Refused
+    refused_output reply bytes e r = output_refused_last o u.bytes reader (u.written ++ reply) u.lines u.cuts few bytes (wholly bytes e) r
 
-    ended_output : (reply : List ℕ) (end : Status) (bytes : List ℕ) → source.left ≡ Some bytes → Ending o (u.lines ++ lines_of reader) (u.written ++ reply) end → Output words bytes (u.written ++ reply) end
-    ended_output reply end bytes e r = of_session o asks (output_ended o u.bytes reader (u.written ++ reply) u.lines u.cuts few bytes end (wholly bytes e) r)
+    ended_output : (reply : List ℕ) (end : Status) (bytes : List ℕ) → source.left ≡ Some bytes → Ending o (u.lines ++ lines_of reader) (u.written ++ reply) end → SessionOutput o bytes (u.written ++ reply) end
+    ended_output reply end bytes e r = output_ended o u.bytes reader (u.written ++ reply) u.lines u.cuts few bytes end (wholly bytes e) r
 
     -- what stands written at the end of the input
-    last_text : (text bytes : List ℕ) → source.left ≡ Some bytes → IsEnded o (u.lines ++ lines_of reader) text → MayStand words bytes text
-    last_text text bytes e w = of_text o asks (last_stands o u.bytes reader text u.lines u.cuts few bytes (wholly bytes e) w)
+    last_text : (text bytes : List ℕ) → source.left ≡ Some bytes → IsEnded o (u.lines ++ lines_of reader) text → SessionText o bytes text
+    last_text text bytes e w = last_stands o u.bytes reader text u.lines u.cuts few bytes (wholly bytes e) w
 
     -- the room is enough for it
-    pub last_has_room : HasRoom words source sink → FitsLast sink' session reader
+    pub last_has_room : SessionRoom o source sink → FitsLast sink' session reader
     last_has_room h = record {
       options = o;
       lines = u.lines;
       written = u.written;
       stands = u.stands;
-      fits = λ reply w. room_left words source u.written reply h u.writes (λ bytes e. last_text (u.written ++ reply) bytes e w);
+      fits = λ reply w.
+          let (bytes, t, e) = wholly_told source.left u.bytes (Consumes-wholly source.left source'.left u.bytes u.consumes at_end) in
+          room_left (SessionText o) source u.written reply bytes h u.writes t (last_stands o u.bytes reader (u.written ++ reply) u.lines u.cuts few bytes e w);
     }
 
     -- if the last line is answered the output is complete
-    pub answers_end : {sink'' : SinkSeen} {end : Status} → EndsOutput sink' sink'' session reader end → Answers words source sink sink'' end
+    pub answers_end : {sink'' : SinkSeen} {end : Status} → EndsOutput sink' sink'' session reader end → SessionAnswers o source sink sink'' end
     answers_end {end = end} h =
         let (reply, ends, writes) = h.reply o u.lines u.written u.stands in
-        told words source (u.written ++ reply) end (Writes-trans u.writes writes) (λ bytes e. ended_output reply end bytes e ends)
+        told (λ bytes text. SessionOutput o bytes text end) source (u.written ++ reply) (Writes-trans u.writes writes) (λ bytes e. ended_output reply end bytes e ends)
 
-    answers_last_refused : {sink'' : SinkSeen} → RefusesLast sink' sink'' session reader → Answers words source sink sink'' status.Refused
+    answers_last_refused : {sink'' : SinkSeen} → RefusesLast sink' sink'' session reader → SessionAnswers o source sink sink'' status.Refused
     answers_last_refused h =
         let (reply, refused, writes) = h.reply o u.lines u.written u.stands in
-        told words source (u.written ++ reply) status.Refused (Writes-trans u.writes writes) (λ bytes e. refused_output reply bytes e refused)
+        told (λ bytes text. SessionOutput o bytes text status.Refused) source (u.written ++ reply) (Writes-trans u.writes writes) (λ bytes e. refused_output reply bytes e refused)
 
     -- what was written for the lines before, and no more, may stand
-    lines_text : (bytes : List ℕ) → source.left ≡ Some bytes → MayStand words bytes (u.written ++ [])
+    lines_text : (bytes : List ℕ) → source.left ≡ Some bytes → SessionText o bytes (u.written ++ [])
     lines_text bytes e =
         let w : IsWritten o u.lines (u.written ++ []) = inl (subst (λ (x : List ℕ). Transcript o u.lines x) (sym (append-nil u.written)) (Stands-transcript o u.lines u.written session u.stands)) in
-        of_text o asks (text_stands o u.bytes reader (u.written ++ []) u.lines u.cuts few bytes (begins_wholly u.bytes bytes (wholly bytes e)) w)
+        text_stands o u.bytes reader (u.written ++ []) u.lines u.cuts few bytes (begins_wholly u.bytes bytes (wholly bytes e)) w
 
-    begins_last : {sink'' : SinkSeen} → BreaksLast sink' sink'' session reader → BeginsAnswers words source sink sink''
+    begins_last : {sink'' : SinkSeen} → BreaksLast sink' sink'' session reader → SessionBegins o source sink sink''
     begins_last {sink'' = sink''} (before_last none) =
         let w = Writes-trans u.writes none in
-        told_front words sink sink'' source u.written [] (subst (λ (x : List ℕ). Appends sink.held sink''.held x) (append-nil u.written) w.held) lines_text
+        told_front (SessionText o) sink sink'' source u.written [] (subst (λ (x : List ℕ). Appends sink.held sink''.held x) (append-nil u.written) w.held) lines_text
     begins_last {sink'' = sink''} (within_last h) =
         let (reply, ended, f) = h o u.lines u.written u.stands in
-        told_front words sink sink'' source (u.written ++ f.front) f.rest (Appends-trans sink.held sink'.held sink''.held u.written f.front u.writes.held f.held)
-        (λ bytes e. subst (λ (x : List ℕ). MayStand words bytes x) (ap (λ (x : List ℕ). u.written ++ x) f.split ∙ sym (append_assoc u.written f.front f.rest)) (last_text (u.written ++ reply) bytes e ended))
+        told_front (SessionText o) sink sink'' source (u.written ++ f.front) f.rest (Appends-trans sink.held sink'.held sink''.held u.written f.front u.writes.held f.held)
+        (λ bytes e. subst (λ (x : List ℕ). SessionText o bytes x) (ap (λ (x : List ℕ). u.written ++ x) f.split ∙ sym (append_assoc u.written f.front f.rest)) (last_text (u.written ++ reply) bytes e ended))
 
     -- more than what was written for the lines before, and all bytes
-    pace : (sink'' : SinkSeen) (more : List ℕ) → Appends sink.held sink''.held (u.written ++ more) → KeepsPace words source source' sink sink''
+    pace : (sink'' : SinkSeen) (more : List ℕ) → Appends sink.held sink''.held (u.written ++ more) → SessionPace o source source' sink sink''
     pace sink'' more w =
-        keeps_pace o words asks sink sink'' source source' u.bytes [] u.written more (subst (λ (x : List ℕ). Consumes source.left source'.left x) (sym (append-nil u.bytes)) u.consumes) (omega arith) transcript w
+        keeps_pace o sink sink'' source source' u.bytes [] u.written more (subst (λ (x : List ℕ). Consumes source.left source'.left x) (sym (append-nil u.bytes)) u.consumes) (omega arith) transcript w
 
-    last_keeps_pace : {sink'' : SinkSeen} → BreaksLast sink' sink'' session reader → KeepsPace words source source' sink sink''
+    last_keeps_pace : {sink'' : SinkSeen} → BreaksLast sink' sink'' session reader → SessionPace o source source' sink sink''
     last_keeps_pace {sink'' = sink''} (before_last none) = (let w = Writes-trans u.writes none in pace sink'' [] w.held)
     last_keeps_pace {sink'' = sink''} (within_last h) =
         let (reply, ended, f) = h o u.lines u.written u.stands in
@@ -239,19 +239,19 @@ module _ {o : Options} {source source' : SourceSeen} {sink sink' : SinkSeen} {se
     module _ (sink'' : SinkSeen) (stop : Stop) (end : Status)
         (h : MatchStop {A = Status} (Err stop) (EndsOutput sink' sink'' session reader) (RefusesLast sink' sink'' session reader) (BreaksLast sink' sink'' session reader)) (is : end ≡ status_of stop) where
       -- what was written is an output if anything was refused
-      pub answers_last_stopped : IsWhole end → Answers words source sink sink'' end
+      pub answers_last_stopped : IsWhole end → SessionAnswers o source sink sink'' end
       answers_last_stopped = stopped Status stop end (EndsOutput sink' sink'' session reader) (RefusesLast sink' sink'' session reader) (BreaksLast sink' sink'' session reader)
-          (λ x. Answers words source sink sink'' x) h is answers_last_refused
+          (λ x. SessionAnswers o source sink sink'' x) h is answers_last_refused
 
       -- otherwise it begins one
-      pub begins_last_stopped : IsCutOff end → BeginsAnswers words source sink sink''
+      pub begins_last_stopped : IsCutOff end → SessionBegins o source sink sink''
       begins_last_stopped = cut_off Status stop end (EndsOutput sink' sink'' session reader) (RefusesLast sink' sink'' session reader) (BreaksLast sink' sink'' session reader)
-          (BeginsAnswers words source sink sink'') h is begins_last
+          (SessionBegins o source sink sink'') h is begins_last
 
       -- and all lines that came whole were answered
-      pub last_stopped_keeps_pace : IsBrokenOff end → KeepsPace words source source' sink sink''
+      pub last_stopped_keeps_pace : IsBrokenOff end → SessionPace o source source' sink sink''
       last_stopped_keeps_pace = broken_off Status stop end (EndsOutput sink' sink'' session reader) (RefusesLast sink' sink'' session reader) (BreaksLast sink' sink'' session reader)
-          (KeepsPace words source source' sink sink'') h is last_keeps_pace
+          (SessionPace o source source' sink sink'') h is last_keeps_pace
 
   -- A further piece was read, and bytes that are too many.
   module _ {source'' : SourceSeen} {piece over : List ℕ} {count : ℕ} (p : IsPiece source' source'' piece over count) (short : taken + length piece ≤ max_input_bytes) where
@@ -271,35 +271,37 @@ module _ {o : Options} {source source' : SourceSeen} {sink sink' : SinkSeen} {se
     cuts_on more rest cs = CutsLines-trans (u.bytes ++ piece) (reader ++ piece) rest u.lines more (CutsLines-append u.bytes reader piece u.lines u.cuts) cs
 
     -- what stands written for lines of the piece
-    piece_text : (more : List (List ℕ)) (rest text bytes : List ℕ) → CutsLines (reader ++ piece) more rest → source.left ≡ Some bytes → IsWritten o (u.lines ++ more) text → MayStand words bytes text
-    piece_text more rest text bytes cs e w = of_text o asks (text_stands o (u.bytes ++ piece) rest text (u.lines ++ more) (cuts_on more rest cs) few_bytes bytes (begins bytes e) w)
+    piece_text : (more : List (List ℕ)) (rest text bytes : List ℕ) → CutsLines (reader ++ piece) more rest → source.left ≡ Some bytes → IsWritten o (u.lines ++ more) text → SessionText o bytes text
+    piece_text more rest text bytes cs e w = text_stands o (u.bytes ++ piece) rest text (u.lines ++ more) (cuts_on more rest cs) few_bytes bytes (begins bytes e) w
 
     -- the room is enough for it
-    pub piece_has_room : HasRoom words source sink → FitsLines sink' session (reader ++ piece)
+    pub piece_has_room : SessionRoom o source sink → FitsLines sink' session (reader ++ piece)
     piece_has_room h = record {
       options = o;
       lines = u.lines;
       written = u.written;
       stands = u.stands;
-      fits = λ more rest reply cs w. room_left words source u.written reply h u.writes (λ bytes e. piece_text more rest (u.written ++ reply) bytes cs e w);
+      fits = λ more rest reply cs w.
+          let (bytes, t, b) = begun_told source.left (u.bytes ++ piece) (Begins-front source.left (u.bytes ++ piece) over (Consumes-begins source.left source''.left ((u.bytes ++ piece) ++ over) read)) in
+          room_left (SessionText o) source u.written reply bytes h u.writes t (text_stands o (u.bytes ++ piece) rest (u.written ++ reply) (u.lines ++ more) (cuts_on more rest cs) few_bytes bytes b w);
     }
 
-    answers_refused : {sink'' : SinkSeen} → RefusesLines sink' sink'' session (reader ++ piece) → Answers words source sink sink'' status.Refused
+    answers_refused : {sink'' : SinkSeen} → RefusesLines sink' sink'' session (reader ++ piece) → SessionAnswers o source sink sink'' status.Refused
     answers_refused h =
         let (more, rest, reply, cs, refused, writes) = h.reply o u.lines u.written u.stands in
-        told words source (u.written ++ reply) status.Refused (Writes-trans u.writes writes)
-        (λ bytes e. of_session o asks (output_refused o (u.bytes ++ piece) rest (u.written ++ reply) (u.lines ++ more) (cuts_on more rest cs) few_bytes bytes (begins bytes e) refused))
+        told (λ bytes text. SessionOutput o bytes text status.Refused) source (u.written ++ reply) (Writes-trans u.writes writes)
+        (λ bytes e. output_refused o (u.bytes ++ piece) rest (u.written ++ reply) (u.lines ++ more) (cuts_on more rest cs) few_bytes bytes (begins bytes e) refused)
 
-    begins_lines : {sink'' : SinkSeen} → BreaksLines sink' sink'' session (reader ++ piece) → BeginsAnswers words source sink sink''
+    begins_lines : {sink'' : SinkSeen} → BreaksLines sink' sink'' session (reader ++ piece) → SessionBegins o source sink sink''
     begins_lines {sink'' = sink''} h =
         let (more, rest, reply, cs, w, f) = h.reply o u.lines u.written u.stands in
-        told_front words sink sink'' source (u.written ++ f.front) f.rest (Appends-trans sink.held sink'.held sink''.held u.written f.front u.writes.held f.held)
-        (λ bytes e. subst (λ (x : List ℕ). MayStand words bytes x) (ap (λ (x : List ℕ). u.written ++ x) f.split ∙ sym (append_assoc u.written f.front f.rest)) (piece_text more rest (u.written ++ reply) bytes cs e w))
+        told_front (SessionText o) sink sink'' source (u.written ++ f.front) f.rest (Appends-trans sink.held sink'.held sink''.held u.written f.front u.writes.held f.held)
+        (λ bytes e. subst (λ (x : List ℕ). SessionText o bytes x) (ap (λ (x : List ℕ). u.written ++ x) f.split ∙ sym (append_assoc u.written f.front f.rest)) (piece_text more rest (u.written ++ reply) bytes cs e w))
 
-    lines_keep_pace : {sink'' : SinkSeen} → count ≤ max_read_bytes → BreaksLines sink' sink'' session (reader ++ piece) → KeepsPace words source source'' sink sink''
+    lines_keep_pace : {sink'' : SinkSeen} → count ≤ max_read_bytes → BreaksLines sink' sink'' session (reader ++ piece) → SessionPace o source source'' sink sink''
     lines_keep_pace {sink'' = sink''} most h =
         let (more, rest, reply, cs, w, f) = h.reply o u.lines u.written u.stands in
-        keeps_pace o words asks sink sink'' source source'' u.bytes (piece ++ over) u.written f.front (subst (λ (x : List ℕ). Consumes source.left source''.left x) (append_assoc u.bytes piece over) read)
+        keeps_pace o sink sink'' source source'' u.bytes (piece ++ over) u.written f.front (subst (λ (x : List ℕ). Consumes source.left source''.left x) (append_assoc u.bytes piece over) read)
         (let a = length-append piece over in let b = p.lengths in omega arith) transcript (Appends-trans sink.held sink'.held sink''.held u.written f.front u.writes.held f.held)
 
     -- A line of the piece stopped the run.
@@ -307,29 +309,29 @@ module _ {o : Options} {source source' : SourceSeen} {sink sink' : SinkSeen} {se
         (h : MatchStop {A = A} (Err stop) (λ _. AnswersLines sink' sink'' session session' (reader ++ piece) reader') (RefusesLines sink' sink'' session (reader ++ piece)) (BreaksLines sink' sink'' session (reader ++ piece)))
         (is : end ≡ status_of stop) where
       -- what was written is an output if anything was refused
-      pub answers_stopped : IsWhole end → Answers words source sink sink'' end
+      pub answers_stopped : IsWhole end → SessionAnswers o source sink sink'' end
       answers_stopped = stopped A stop end (λ _. AnswersLines sink' sink'' session session' (reader ++ piece) reader') (RefusesLines sink' sink'' session (reader ++ piece)) (BreaksLines sink' sink'' session (reader ++ piece))
-          (λ x. Answers words source sink sink'' x) h is answers_refused
+          (λ x. SessionAnswers o source sink sink'' x) h is answers_refused
 
       -- otherwise it begins one
-      pub begins_stopped : IsCutOff end → BeginsAnswers words source sink sink''
+      pub begins_stopped : IsCutOff end → SessionBegins o source sink sink''
       begins_stopped = cut_off A stop end (λ _. AnswersLines sink' sink'' session session' (reader ++ piece) reader') (RefusesLines sink' sink'' session (reader ++ piece)) (BreaksLines sink' sink'' session (reader ++ piece))
-          (BeginsAnswers words source sink sink'') h is begins_lines
+          (SessionBegins o source sink sink'') h is begins_lines
 
       -- and all lines that had come whole before the piece were answered
-      pub stopped_keeps_pace : count ≤ max_read_bytes → IsBrokenOff end → KeepsPace words source source'' sink sink''
+      pub stopped_keeps_pace : count ≤ max_read_bytes → IsBrokenOff end → SessionPace o source source'' sink sink''
       stopped_keeps_pace most = broken_off A stop end (λ _. AnswersLines sink' sink'' session session' (reader ++ piece) reader') (RefusesLines sink' sink'' session (reader ++ piece)) (BreaksLines sink' sink'' session (reader ++ piece))
-          (KeepsPace words source source'' sink sink'') h is (lines_keep_pace most)
+          (SessionPace o source source'' sink sink'') h is (lines_keep_pace most)
 
     -- The lines of the piece were answered.
     module _ {sink'' : SinkSeen} {session' : Standing} {reader' : List ℕ} (answers : AnswersLines sink' sink'' session session' (reader ++ piece) reader') (free : HasNoFeed reader') where
       -- if bytes are too many, the replies to the lines that count are an output
-      pub answers_too_long : taken + length piece ≡ max_input_bytes → 0 < length over → Answers words source sink sink'' status.TooLong
+      pub answers_too_long : taken + length piece ≡ max_input_bytes → 0 < length over → SessionAnswers o source sink sink'' status.TooLong
       answers_too_long full some =
           let (more, reply, cs, next, writes) = answers.reply o u.lines u.written u.stands in
           let all : length (u.bytes ++ piece) ≡ max_input_bytes = (let k = u.count in let a = length-append u.bytes piece in omega arith) in
-          told words source (u.written ++ reply) status.TooLong (Writes-trans u.writes writes)
-          (λ bytes e. of_session o asks (output_too_long o (u.bytes ++ piece) reader' (u.written ++ reply) (u.lines ++ more) (cuts_on more reader' cs) few_bytes bytes over (begins_over bytes e) all some free (Stands-transcript o (u.lines ++ more) (u.written ++ reply) session' next)))
+          told (λ bytes text. SessionOutput o bytes text status.TooLong) source (u.written ++ reply) (Writes-trans u.writes writes)
+          (λ bytes e. output_too_long o (u.bytes ++ piece) reader' (u.written ++ reply) (u.lines ++ more) (cuts_on more reader' cs) few_bytes bytes over (begins_over bytes e) all some free (Stands-transcript o (u.lines ++ more) (u.written ++ reply) session' next))
 
       -- if none is too many, the run goes on
       pub piece_answered : over ≡ [] → IsUnderWay o source source'' sink sink'' session' reader' (taken + length piece)

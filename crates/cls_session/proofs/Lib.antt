@@ -9,3 +9,4 @@ pub mod Writing
 pub mod Driving
 pub mod Outputs
 pub mod InputLoop
+pub mod Asked

@@ -14,10 +14,9 @@ use Rattle.cls_session.specs.declared.status.Status.TheVariants.{Refused, TooLon
 use Rattle.cls_session.specs.declared.words.Command.TheVariants.{Session}
 use Rattle.cls_session.specs.Commands.{Asks, AsksNothing, usage}
 use Rattle.cls_session.specs.Driving.{CutsLines, Writes, WritesFront, IsWritten, IsEnded}
-use Rattle.cls_session.specs.Outputs.{lines_read, SessionOutput, Output, no_command, of_session, SessionText, after_lines, after_refusal, after_end, MayStand, of_usage, of_text, GivesOutput, Answers, BeginsText, BeginsAnswers, IsEnoughRoom, HasRoom, IfTold, AnswersEnded, AnswersTaken, BeginsForTaken, BeginsTaken, AnswersBeforeLast, KeepsPace}
+use Rattle.cls_session.specs.Outputs.{lines_read, SessionOutput, SessionText, after_lines, after_refusal, after_end, MayStand, of_usage, of_text, Gives, GivesFront, BeginsAnswers, IsEnoughRoom, HasRoom, IfTold, AnswersEnded, SessionTaken, AnswersTaken, BeginsForTaken, BeginsTaken, AnswersBeforeLast, SessionPace, KeepsPace}
 use Rattle.cls_session.specs.Outputs as outputs
 use Rattle.cls_session.specs.Transcripts.{Transcript, IsRefused, Ending}
-use Rattle.cls_session.proofs.CommandWords.{session_one}
 use Rattle.cls_session.proofs.Standings.{IsRefused-append}
 use Rattle.cls_session.proofs.Writing.{Holds-rest}
 
@@ -62,7 +61,7 @@ abbrev pub IsWholly : Option (List ℕ) → List ℕ → Type 0
 IsWholly None front = Unit {0}
 IsWholly (Some bytes) front = bytes ≡ front
 
-if_some : (left : Option (List ℕ)) (P : List ℕ → Type 0) → ((bytes : List ℕ) → left ≡ Some bytes → P bytes) → IfSome left P
+pub if_some : (left : Option (List ℕ)) (P : List ℕ → Type 0) → ((bytes : List ℕ) → left ≡ Some bytes → P bytes) → IfSome left P
 if_some None P h = tt
 if_some (Some bytes) P h = h bytes refl
 
@@ -72,41 +71,36 @@ if_told None b bytes P c h = tt
 if_told (Some x) None bytes P c h = absurd c
 if_told (Some x) (Some y) bytes P c h = h x y c
 
--- what is told is an output
-pub told : {sink sink' : SinkSeen} (words : List (List ℕ)) (source : SourceSeen) (text : List ℕ) (end : Status) → Writes sink sink' text
-    → ((bytes : List ℕ) → source.left ≡ Some bytes → Output words bytes text end) → Answers words source sink sink' end
-told {sink = sink} {sink' = sink'} words source text end w output =
-    if_some source.left (λ bytes. GivesOutput words bytes sink sink' end) (λ bytes e. record { text = text; output = output bytes e; written = w.held })
+-- what is told meets P
+pub told : {sink sink' : SinkSeen} (P : List ℕ → List ℕ → Type 0) (source : SourceSeen) (text : List ℕ) → Writes sink sink' text
+    → ((bytes : List ℕ) → source.left ≡ Some bytes → P bytes text) → IfSome source.left (λ bytes. Gives (P bytes) sink sink')
+told {sink = sink} {sink' = sink'} P source text w meets =
+    if_some source.left (λ bytes. Gives (P bytes) sink sink') (λ bytes e. record { text = text; meets = meets bytes e; written = w.held })
 
--- what is told of the front that was written begins a text that may stand
-pub told_front : (words : List (List ℕ)) (sink sink' : SinkSeen) (source : SourceSeen) (front rest : List ℕ) → Appends sink.held sink'.held front
-    → ((bytes : List ℕ) → source.left ≡ Some bytes → MayStand words bytes (front ++ rest)) → BeginsAnswers words source sink sink'
-told_front words sink sink' source front rest w text =
-    if_some source.left (λ bytes. BeginsText words bytes sink sink') (λ bytes e. record { front = front; rest = rest; text = text bytes e; written = w })
+-- what is told of the front that was written begins a text that meets P
+pub told_front : (P : List ℕ → List ℕ → Type 0) (sink sink' : SinkSeen) (source : SourceSeen) (front rest : List ℕ) → Appends sink.held sink'.held front
+    → ((bytes : List ℕ) → source.left ≡ Some bytes → P bytes (front ++ rest)) → IfSome source.left (λ bytes. GivesFront (P bytes) sink sink')
+told_front P sink sink' source front rest w meets =
+    if_some source.left (λ bytes. GivesFront (P bytes) sink sink') (λ bytes e. record { front = front; rest = rest; meets = meets bytes e; written = w })
 
 -- a front of the usage line begins what may stand if the words ask for nothing
 pub usage_begins : {sink sink' : SinkSeen} (words : List (List ℕ)) (source : SourceSeen) → AsksNothing words → WritesFront sink sink' usage → BeginsAnswers words source sink sink'
-usage_begins {sink = sink} {sink' = sink'} words source n f = told_front words sink sink' source f.front f.rest f.held (λ bytes e. of_usage n (sym f.split))
+usage_begins {sink = sink} {sink' = sink'} words source n f = told_front (MayStand words) sink sink' source f.front f.rest f.held (λ bytes e. of_usage n (sym f.split))
 
 -- What was taken, and what the lines that end in it ask for.
-module _ {sink sink' : SinkSeen} (o : Options) (words : List (List ℕ)) (asks : Asks words (Session o)) (source source' : SourceSeen) (bytes text : List ℕ)
+module _ {sink sink' : SinkSeen} (o : Options) (source source' : SourceSeen) (bytes text : List ℕ)
     (consumes : Consumes source.left source'.left bytes) (t : Transcript o (ended_lines bytes) text) where
   -- it is what was written
-  pub answers_ended : length bytes ≤ max_input_bytes → Writes sink sink' text → AnswersTaken words source source' sink sink'
-  answers_ended short w = record {
-    options = o;
-    asked = asks;
-    answered = if_told source.left source'.left bytes (λ all rest. AnswersEnded o all rest sink sink') consumes (λ all rest e.
-        record { taken = bytes; text = text; split = e; short = short; transcript = t; written = w.held });
-  }
+  pub answers_ended : length bytes ≤ max_input_bytes → Writes sink sink' text → SessionTaken o source source' sink sink'
+  answers_ended short w = if_told source.left source'.left bytes (λ all rest. AnswersEnded o all rest sink sink') consumes (λ all rest e.
+      record { taken = bytes; text = text; split = e; short = short; transcript = t; written = w.held })
 
 -- more was taken with the last read, and more was written
-pub keeps_pace : (o : Options) (words : List (List ℕ)) → Asks words (Session o) → (sink sink' : SinkSeen) (source source' : SourceSeen) (before last text more : List ℕ)
-    → Consumes source.left source'.left (before ++ last) → length last ≤ max_read_bytes → Transcript o (ended_lines before) text → Appends sink.held sink'.held (text ++ more) → KeepsPace words source source' sink sink'
-keeps_pace o words asks sink sink' source source' before last text more consumes short t w = λ p asked.
-    subst (λ (q : Options). IfTold source.left source'.left (λ bytes rest. AnswersBeforeLast q bytes rest sink sink')) (session_one words o p asks asked)
-    (if_told source.left source'.left (before ++ last) (λ all rest. AnswersBeforeLast o all rest sink sink') consumes (λ all rest e.
-    record { before = before; last = last; text = text; more = more; taken = e; short = short; transcript = t; written = w }))
+pub keeps_pace : (o : Options) (sink sink' : SinkSeen) (source source' : SourceSeen) (before last text more : List ℕ)
+    → Consumes source.left source'.left (before ++ last) → length last ≤ max_read_bytes → Transcript o (ended_lines before) text → Appends sink.held sink'.held (text ++ more) → SessionPace o source source' sink sink'
+keeps_pace o sink sink' source source' before last text more consumes short t w =
+    if_told source.left source'.left (before ++ last) (λ all rest. AnswersBeforeLast o all rest sink sink') consumes (λ all rest e.
+    record { before = before; last = last; text = text; more = more; taken = e; short = short; transcript = t; written = w })
 
 -- nothing was taken for the usage line
 pub usage_keeps_pace : (words : List (List ℕ)) (source : SourceSeen) (sink sink' : SinkSeen) → AsksNothing words → KeepsPace words source source sink sink'
@@ -127,27 +121,45 @@ ended_keeps_pace o (Some bytes) (Some rest) sink sink' a = record {
   written = subst (λ (x : List ℕ). Appends sink.held sink'.held x) (sym (append-nil a.text)) a.written;
 }
 
-pub taken_keeps_pace : {words : List (List ℕ)} {source source' : SourceSeen} {sink sink' : SinkSeen} → AnswersTaken words source source' sink sink' → KeepsPace words source source' sink sink'
-taken_keeps_pace {words = words} {source = source} {source' = source'} {sink = sink} {sink' = sink'} a = λ o asks.
-    subst (λ (p : Options). IfTold source.left source'.left (λ bytes rest. AnswersBeforeLast p bytes rest sink sink')) (session_one words a.options o a.asked asks) (ended_keeps_pace a.options source.left source'.left sink sink' a.answered)
+pub taken_keeps_pace : (o : Options) (source source' : SourceSeen) (sink sink' : SinkSeen) → SessionTaken o source source' sink sink' → SessionPace o source source' sink sink'
+taken_keeps_pace o source source' sink sink' a = ended_keeps_pace o source.left source'.left sink sink' a
 
--- n bytes are enough for a text that may stand
-enough_for : (words : List (List ℕ)) (left : Option (List ℕ)) (n : ℕ) (text : List ℕ) → IsEnoughRoom words left n → ((bytes : List ℕ) → left ≡ Some bytes → MayStand words bytes text) → length text ≤ n
-enough_for words None n text h stands = absurd h
-enough_for words (Some bytes) n text h stands = h text (stands bytes refl)
+-- The source tells these bytes, or none.
+abbrev pub MayTell : Option (List ℕ) → List ℕ → Type 0
+MayTell None bytes = Unit {0}
+MayTell (Some told) bytes = told ≡ bytes
 
-room_for : (words : List (List ℕ)) (left : Option (List ℕ)) (room : Option ℕ) (text : List ℕ) → IfSome room (λ n. IsEnoughRoom words left n) → ((bytes : List ℕ) → left ≡ Some bytes → MayStand words bytes text) → Holds room (length text)
-room_for words left None text h stands = tt
-room_for words left (Some n) text h stands = enough_for words left n text h stands
+-- bytes that it may tell
+pub some_told : (left : Option (List ℕ)) → (bytes : List ℕ) × MayTell left bytes
+some_told None = ([], tt)
+some_told (Some told) = (told, refl)
 
--- the reply to a text with which it may stand fits the room that is left
-pub room_left : {sink sink' : SinkSeen} (words : List (List ℕ)) (source : SourceSeen) (written reply : List ℕ) → HasRoom words source sink → Writes sink sink' written
-    → ((bytes : List ℕ) → source.left ≡ Some bytes → MayStand words bytes (written ++ reply)) → Holds sink'.room (length reply)
-room_left {sink = sink} words source written reply h w stands = Holds-rest reply w (room_for words source.left sink.room (written ++ reply) h stands)
+-- they are those that were read, if all were, and begin with them
+pub wholly_told : (left : Option (List ℕ)) (front : List ℕ) → IsWholly left front → (bytes : List ℕ) × MayTell left bytes × IsWholly (Some bytes) front
+wholly_told None front e = (front, tt, refl)
+wholly_told (Some told) front e = (told, refl, e)
+
+pub begun_told : (left : Option (List ℕ)) (front : List ℕ) → Begins left front → (bytes : List ℕ) × MayTell left bytes × Begins (Some bytes) front
+begun_told None front b = (front, tt, ([], sym (append-nil front)))
+begun_told (Some told) front b = (told, refl, b)
+
+-- n bytes are enough for a text that P allows for bytes that the source may tell
+enough_for : (P : List ℕ → List ℕ → Type 0) (left : Option (List ℕ)) (n : ℕ) (bytes text : List ℕ) → IsEnoughRoom P left n → MayTell left bytes → P bytes text → length text ≤ n
+enough_for P None n bytes text h t meets = h bytes text meets
+enough_for P (Some told) n bytes text h t meets = h text (subst (λ (x : List ℕ). P x text) (sym t) meets)
+
+room_for : (P : List ℕ → List ℕ → Type 0) (left : Option (List ℕ)) (room : Option ℕ) (bytes text : List ℕ) → IfSome room (λ n. IsEnoughRoom P left n) → MayTell left bytes → P bytes text → Holds room (length text)
+room_for P left None bytes text h t meets = tt
+room_for P left (Some n) bytes text h t meets = enough_for P left n bytes text h t meets
+
+-- the reply to a text with which P allows it fits the room that is left
+pub room_left : {sink sink' : SinkSeen} (P : List ℕ → List ℕ → Type 0) (source : SourceSeen) (written reply bytes : List ℕ) → IfSome sink.room (λ n. IsEnoughRoom P source.left n) → Writes sink sink' written
+    → MayTell source.left bytes → P bytes (written ++ reply) → Holds sink'.room (length reply)
+room_left {sink = sink} P source written reply bytes h w t meets = Holds-rest reply w (room_for P source.left sink.room bytes (written ++ reply) h t meets)
 
 -- the usage line fits if the words ask for nothing
 pub usage_fits : (words : List (List ℕ)) (source : SourceSeen) (sink : SinkSeen) → HasRoom words source sink → AsksNothing words → Holds sink.room (length usage)
-usage_fits words source sink h asks = room_for words source.left sink.room usage h (λ bytes e. of_usage asks refl)
+usage_fits words source sink h asks = (let (bytes, t) = some_told source.left in room_for (MayStand words) source.left sink.room bytes usage h t (of_usage asks refl))
 
 module _ (o : Options) (front rest text : List ℕ) (lines : List (List ℕ)) (cuts : CutsLines front lines rest) (short : length front ≤ max_input_bytes) (bytes : List ℕ) where
   -- what may stand written for the lines that the front begins with
@@ -205,7 +217,7 @@ taken_begins_told o words asks (Some bytes) (Some rest) sink sink' a =
     record {
       taken = a.taken;
       split = a.split;
-      begins = record { front = a.text; rest = []; text = of_text o asks (after_lines (ended_lines a.taken) all.last (lines_read-short a.taken a.short ∙ all.joined) t); written = a.written };
+      begins = record { front = a.text; rest = []; meets = of_text o asks (after_lines (ended_lines a.taken) all.last (lines_read-short a.taken a.short ∙ all.joined) t); written = a.written };
     }
 
 pub taken_begins : {words : List (List ℕ)} {source source' : SourceSeen} {sink sink' : SinkSeen} → AnswersTaken words source source' sink sink' → BeginsTaken words source source' sink sink'

@@ -1,5 +1,5 @@
 -- What the words of a command line ask for.
-use Rattle.std.specs.Prelude.{ℕ, ◌≡◌, ◌≤◌, ◌==◌, List, [], ◌∷◌, length, map, codes, String, string_bytes, IsTrue, Option, None, Some, unwrap_or, if◌then◌else◌}
+use Rattle.std.specs.Prelude.{ℕ, ◌≡◌, ◌≤◌, ◌==◌, List, [], ◌∷◌, ◌++◌, length, map, codes, String, string_bytes, IsTrue, Option, None, Some, unwrap_or, if◌then◌else◌}
 use Rattle.std.specs.List.{flat_map, AllByRecursion}
 use Rattle.cls_base.specs.Lists.{AreDistinct}
 use Rattle.cls_lexer.specs.Numerals.{is_numeral, number_value}
@@ -84,9 +84,29 @@ pub record SetsOptions (words : List (List ℕ)) (o : Options) : Type 0 where
   pub values : AllByRecursion (λ s. IsValue (greatest s.option) s.value) settings
   pub options : o ≡ options_in settings
 
+-- the greatest number of a generator
+abbrev pub max_generated : ℕ
+max_generated = 300
+
+-- The words are `generate` and a number from 1 to the greatest.
+pub record IsGenerate (words : List (List ℕ)) (n : ℕ) : Type 0 where
+  pub value : List ℕ
+  pub spelled : words ≡ codes "generate" ∷ value ∷ []
+  pub within : IsValue max_generated value
+  pub spells : n ≡ number_value value
+
+-- The words set options, and the last two of them are `generate` and a number.
+pub record AsksGenerator (words : List (List ℕ)) (o : Options) (n : ℕ) : Type 0 where
+  pub first : List (List ℕ)
+  pub last : List (List ℕ)
+  pub split : words ≡ first ++ last
+  pub sets : SetsOptions first o
+  pub generate : IsGenerate last n
+
 -- The words ask for the command.
 abbrev pub Asks : List (List ℕ) → Command → Type 0
 Asks words (command.Session o) = SetsOptions words o
+Asks words (command.Generate o n) = AsksGenerator words o n
 
 -- They ask for a session over the input.
 abbrev pub AsksSession : List (List ℕ) → Type 0
@@ -107,14 +127,15 @@ pub record AreInRange (o : Options) : Type 0 where
   pub rules : IsInRange MaxRules o.rules
   pub pool : IsInRange Pool o.pool
 
--- The options of the command are within their ranges.
-abbrev pub HasOptionsInRange : Command → Type 0
-HasOptionsInRange (command.Session o) = AreInRange o
+-- The options of the command are within their ranges, and so is its number.
+abbrev pub HasNumbersInRange : Command → Type 0
+HasNumbersInRange (command.Session o) = AreInRange o
+HasNumbersInRange (command.Generate o n) = AreInRange o × (1 ≤ n) × (n ≤ max_generated)
 
--- Words ask for at most one command, and with options that are within their ranges.
+-- Words ask for at most one command, and with numbers that are within their ranges.
 pub record CommandsAreOne : Type 0 where
   pub one : (words : List (List ℕ)) (c d : Command) → Asks words c → Asks words d → c ≡ d
-  pub in_range : (words : List (List ℕ)) (c : Command) → Asks words c → HasOptionsInRange c
+  pub in_range : (words : List (List ℕ)) (c : Command) → Asks words c → HasNumbersInRange c
 
 -- the usage line
 abbrev pub usage : List ℕ

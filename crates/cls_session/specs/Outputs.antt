@@ -7,8 +7,9 @@ use Rattle.cls_lexer.specs.Lines.{lines_of, ended_lines}
 use Rattle.cls_engine.specs.declared.options.Options.{Options}
 use Rattle.cls_session.specs.declared.status.Status.{Status}
 use Rattle.cls_session.specs.declared.status.Status.TheVariants.{Done, Usage, Refused, ReadFault, WriteFault, NoMemory, TooLong}
-use Rattle.cls_session.specs.declared.words.Command.TheVariants.{Session}
+use Rattle.cls_session.specs.declared.words.Command.TheVariants.{Session, Generate}
 use Rattle.cls_session.specs.Commands.{Asks, AsksNothing, usage}
+use Rattle.cls_session.specs.Generators.{generated_text}
 use Rattle.cls_session.specs.Transcripts.{Transcript, IsRefused, Ending}
 
 -- The lines that count: if more than `max_input_bytes` come, those that end within the first `max_input_bytes`.
@@ -23,10 +24,13 @@ pub data SessionOutput (o : Options) (bytes text : List ℕ) (status : Status) :
   too_long : max_input_bytes < length bytes → Transcript o (lines_read bytes) text → status ≡ TooLong
       → SessionOutput o bytes text status
 
--- With these words of the command line and these bytes to read, a run may write this text and end with this status.
+-- With these words of the command line and these bytes to read, a run may write this text and end with this status. The
+-- generator's text takes the place of the bytes if the words ask for it.
 pub data Output (words : List (List ℕ)) (bytes text : List ℕ) (status : Status) : Type 0 where
   no_command : AsksNothing words → text ≡ usage → status ≡ Usage → Output words bytes text status
   of_session : (o : Options) → Asks words (Session o) → SessionOutput o bytes text status
+      → Output words bytes text status
+  of_generator : (o : Options) (n : ℕ) → Asks words (Generate o n) → SessionOutput o (generated_text n) text status
       → Output words bytes text status
 
 -- What a session may have written when some first lines that count are answered or one of them is refused, or when the
@@ -44,6 +48,8 @@ pub data SessionText (o : Options) (bytes text : List ℕ) : Type 0 where
 pub data MayStand (words : List (List ℕ)) (bytes text : List ℕ) : Type 0 where
   of_usage : AsksNothing words → text ≡ usage → MayStand words bytes text
   of_text : (o : Options) → Asks words (Session o) → SessionText o bytes text → MayStand words bytes text
+  of_generated_text : (o : Options) (n : ℕ) → Asks words (Generate o n) → SessionText o (generated_text n) text
+      → MayStand words bytes text
 
 -- the statuses of a run without fault and with memory
 abbrev pub IsWhole : Status → Type 0
@@ -75,41 +81,42 @@ IsCutOff ReadFault = ⊥
 IsCutOff WriteFault = Unit {0}
 IsCutOff NoMemory = Unit {0}
 
--- What the sink was given is an output for the bytes.
-pub record GivesOutput (words : List (List ℕ)) (bytes : List ℕ) (sink sink' : SinkSeen) (status : Status) : Type 0 where
+-- A text that meets P is what the sink was given.
+pub record Gives (P : List ℕ → Type 0) (sink sink' : SinkSeen) : Type 0 where
   pub text : List ℕ
-  pub output : Output words bytes text status
+  pub meets : P text
   pub written : Appends sink.held sink'.held text
+
+-- What the sink was given begins a text that meets P.
+pub record GivesFront (P : List ℕ → Type 0) (sink sink' : SinkSeen) : Type 0 where
+  pub front : List ℕ
+  pub rest : List ℕ
+  pub meets : P (front ++ rest)
+  pub written : Appends sink.held sink'.held front
 
 -- If the source tells its bytes, what the sink was given is an output for them.
 abbrev pub Answers : List (List ℕ) → SourceSeen → SinkSeen → SinkSeen → Status → Type 0
-Answers words source sink sink' status = IfSome source.left (λ bytes. GivesOutput words bytes sink sink' status)
-
--- What the sink was given begins a text that may stand written for some first lines of the bytes.
-pub record BeginsText (words : List (List ℕ)) (bytes : List ℕ) (sink sink' : SinkSeen) : Type 0 where
-  pub front : List ℕ
-  pub rest : List ℕ
-  pub text : MayStand words bytes (front ++ rest)
-  pub written : Appends sink.held sink'.held front
+Answers words source sink sink' status =
+    IfSome source.left (λ bytes. Gives (λ text. Output words bytes text status) sink sink')
 
 -- If the source tells its bytes, what the sink was given begins a text that may stand written for some first lines of
 -- them.
 abbrev pub BeginsAnswers : List (List ℕ) → SourceSeen → SinkSeen → SinkSeen → Type 0
-BeginsAnswers words source sink sink' = IfSome source.left (λ bytes. BeginsText words bytes sink sink')
+BeginsAnswers words source sink sink' = IfSome source.left (λ bytes. GivesFront (MayStand words bytes) sink sink')
 
--- n bytes are enough for each text that may stand written for some first lines of the bytes that the source tells.
--- Otherwise no number is sure to be.
-abbrev pub IsEnoughRoom : List (List ℕ) → Option (List ℕ) → ℕ → Type 0
-IsEnoughRoom words None n = ⊥
-IsEnoughRoom words (Some bytes) n = (text : List ℕ) → MayStand words bytes text → length text ≤ n
+-- n bytes are enough for each text that P allows for the bytes that the source tells. If it tells none, they are enough
+-- whatever bytes come.
+abbrev pub IsEnoughRoom : (List ℕ → List ℕ → Type 0) → Option (List ℕ) → ℕ → Type 0
+IsEnoughRoom P None n = (bytes text : List ℕ) → P bytes text → length text ≤ n
+IsEnoughRoom P (Some bytes) n = (text : List ℕ) → P bytes text → length text ≤ n
 
--- The room that the sink tells is enough for each text that may stand written for some first lines of the bytes that the
--- source tells.
+-- The room that the sink tells is enough for each text that may stand written for some first lines of the bytes that
+-- the source tells.
 abbrev pub HasRoom : List (List ℕ) → SourceSeen → SinkSeen → Type 0
-HasRoom words source sink = IfSome sink.room (λ n. IsEnoughRoom words source.left n)
+HasRoom words source sink = IfSome sink.room (λ n. IsEnoughRoom (MayStand words) source.left n)
 
--- A fact of the bytes that were left to read and those that are left now, if they are told. A source that told them goes
--- on doing so.
+-- A fact of the bytes that were left to read and those that are left now, if they are told. A source that told them
+-- goes on doing so.
 abbrev pub IfTold : Option (List ℕ) → Option (List ℕ) → (List ℕ → List ℕ → Type 0) → Type 0
 IfTold None after P = Unit {0}
 IfTold (Some bytes) None P = ⊥
@@ -125,18 +132,23 @@ pub record AnswersEnded (o : Options) (bytes rest : List ℕ) (sink sink' : Sink
   pub transcript : Transcript o (ended_lines taken) text
   pub written : Appends sink.held sink'.held text
 
--- If a read failed: the words ask for a session, and the lines that were taken whole are answered, all of them.
+-- If a read failed: the lines that were taken whole are answered, all of them.
+abbrev pub SessionTaken : Options → SourceSeen → SourceSeen → SinkSeen → SinkSeen → Type 0
+SessionTaken o source source' sink sink' =
+    IfTold source.left source'.left (λ bytes rest. AnswersEnded o bytes rest sink sink')
+
+-- The same, and the words ask for a session.
 pub record AnswersTaken (words : List (List ℕ)) (source source' : SourceSeen) (sink sink' : SinkSeen) : Type 0 where
   pub options : Options
   pub asked : Asks words (Session options)
-  pub answered : IfTold source.left source'.left (λ bytes rest. AnswersEnded options bytes rest sink sink')
+  pub answered : SessionTaken options source source' sink sink'
 
--- What was taken of the bytes, and that what the sink was given begins a text that may stand written for some first lines
--- of it.
+-- What was taken of the bytes, and that what the sink was given begins a text that may stand written for some first
+-- lines of it.
 pub record BeginsForTaken (words : List (List ℕ)) (bytes rest : List ℕ) (sink sink' : SinkSeen) : Type 0 where
   pub taken : List ℕ
   pub split : bytes ≡ taken ++ rest
-  pub begins : BeginsText words taken sink sink'
+  pub begins : GivesFront (MayStand words taken) sink sink'
 
 -- If a read failed: what was written begins a text that may stand written for some first lines of the bytes that were
 -- taken.
@@ -144,8 +156,8 @@ abbrev pub BeginsTaken : List (List ℕ) → SourceSeen → SourceSeen → SinkS
 BeginsTaken words source source' sink sink' =
     IfTold source.left source'.left (λ bytes rest. BeginsForTaken words bytes rest sink sink')
 
--- Of the bytes `before` were taken and then `last`, which are at most `max_read_bytes`. All replies to the lines that end in
--- `before` stand written, and more may follow them.
+-- Of the bytes `before` were taken and then `last`, which are at most `max_read_bytes`. All replies to the lines that
+-- end in `before` stand written, and more may follow them.
 pub record AnswersBeforeLast (o : Options) (bytes rest : List ℕ) (sink sink' : SinkSeen) : Type 0 where
   pub before : List ℕ
   pub last : List ℕ
@@ -156,9 +168,30 @@ pub record AnswersBeforeLast (o : Options) (bytes rest : List ℕ) (sink sink' :
   pub transcript : Transcript o (ended_lines before) text
   pub written : Appends sink.held sink'.held (text ++ more)
 
--- If a run broke off that was asked for a session: all lines that had come whole before the last `max_read_bytes` that it
--- took, or fewer, were answered. Any write may be the one that fails, so a run that reads on before it has answered doesn't
--- keep pace.
+-- If a session broke off: all lines that had come whole before the last `max_read_bytes` that it took, or fewer, were
+-- answered. Any write may be the one that fails, so a session that reads on before it has answered doesn't keep pace.
+abbrev pub SessionPace : Options → SourceSeen → SourceSeen → SinkSeen → SinkSeen → Type 0
+SessionPace o source source' sink sink' =
+    IfTold source.left source'.left (λ bytes rest. AnswersBeforeLast o bytes rest sink sink')
+
+-- The same of a run that was asked for a session.
 abbrev pub KeepsPace : List (List ℕ) → SourceSeen → SourceSeen → SinkSeen → SinkSeen → Type 0
-KeepsPace words source source' sink sink' = (o : Options) → Asks words (Session o)
-    → IfTold source.left source'.left (λ bytes rest. AnswersBeforeLast o bytes rest sink sink')
+KeepsPace words source source' sink sink' =
+    (o : Options) → Asks words (Session o) → SessionPace o source source' sink sink'
+
+-- THE SAME OF A SESSION WITH GIVEN OPTIONS, whatever the words are
+
+-- If the source tells its bytes, what the sink was given is what the session may write for them.
+abbrev pub SessionAnswers : Options → SourceSeen → SinkSeen → SinkSeen → Status → Type 0
+SessionAnswers o source sink sink' status =
+    IfSome source.left (λ bytes. Gives (λ text. SessionOutput o bytes text status) sink sink')
+
+-- If the source tells its bytes, what the sink was given begins a text that the session may have written for some first
+-- lines of them.
+abbrev pub SessionBegins : Options → SourceSeen → SinkSeen → SinkSeen → Type 0
+SessionBegins o source sink sink' = IfSome source.left (λ bytes. GivesFront (SessionText o bytes) sink sink')
+
+-- The room that the sink tells is enough for each text that the session may have written for some first lines of the
+-- bytes that the source tells.
+abbrev pub SessionRoom : Options → SourceSeen → SinkSeen → Type 0
+SessionRoom o source sink = IfSome sink.room (λ n. IsEnoughRoom (SessionText o) source.left n)

@@ -1,18 +1,23 @@
-ghost use Rattle.std.specs.Prelude.{◌≡◌, ◌≢◌, ℕ, List};
+ghost use Rattle.std.specs.Prelude.{◌≡◌, ◌≢◌, Some, IfSome};
 ghost use Rattle.std.specs.Io.KnownBytes.{IsAtEnd, Keeps};
 ghost use Rattle.cls_base.specs.Outside.{HasRisen};
-ghost use Rattle.cls_session.specs.Commands.{texts_of, Asks, AsksSession};
-ghost use Rattle.cls_session.specs.Outputs.{IsWhole, IsBrokenOff, IsCutOff, HasRoom};
+ghost use Rattle.cls_engine.specs.Options.{AreInRange};
+ghost use Rattle.cls_session.specs.Commands.{texts_of, AsksSession};
+ghost use Rattle.cls_session.specs.Generators.{generated_text};
+ghost use Rattle.cls_session.specs.Outputs.{IsWhole, IsBrokenOff, IsCutOff, IsEnoughRoom, HasRoom};
 ghost use Rattle.cls_session.specs.Outputs.{Answers, BeginsAnswers, AnswersTaken, BeginsTaken, KeepsPace};
+ghost use Rattle.cls_session.specs.Outputs.{Gives, GivesFront, SessionOutput, SessionText};
+ghost use Rattle.cls_session.specs.Outputs.{SessionAnswers, SessionBegins, SessionTaken, SessionPace, SessionRoom};
 ghost use Rattle.cls_session.specs.Stops.{status_of};
 ghost use Rattle.cls_session.specs.declared.status.Status.TheVariants.{Done, Usage, ReadFault, WriteFault};
 
 use crate::driver::{Stop, answer_lines, finish, write_all};
+use crate::generator::generated_text;
 use crate::session::Session;
 use crate::status::Status;
 use crate::words::{Command, read_words};
 use cls_base::limits::{MAX_INPUT_BYTES, MAX_READ_BYTES};
-use cls_base::{Gate, Sink, Source};
+use cls_base::{Gate, Sink, Source, SureSource};
 use cls_engine::Options;
 use cls_lexer::LineReader;
 use std::alloc::Global;
@@ -35,7 +40,8 @@ impl From<Stop> for Status {
     }
 }
 
-/// Runs clsynth: reads the source, and answers its lines one after another into the sink.
+/// Runs clsynth: reads the source, and answers its lines one after another into the sink. If the words ask for the
+/// generator, the lines of its text are answered, and the source isn't read.
 pub fn run<R: Threads + Wait + Sync, S: Source, K: Sink, G: Gate + Sync>(
     rt: &R,
     alloc: Global,
@@ -49,7 +55,7 @@ pub fn run<R: Threads + Wait + Sync, S: Source, K: Sink, G: Gate + Sync>(
     // The output, if nothing failed.
     ensures output { IsWhole result
         → Answers (texts_of words.now) (S.seen source.old) (K.seen sink.old) (K.seen sink.new) result }
-    ensures read_whole { result ≡ Done → IsAtEnd (S.seen source.new).left }
+    ensures read_whole { result ≡ Done → AsksSession (texts_of words.now) → IsAtEnd (S.seen source.new).left }
     ensures unread { result ≡ Usage → Keeps (S.seen source.old).left (S.seen source.new).left }
     ensures unasked { (AsksSession (texts_of words.now) → ⊥) → S.seen source.new ≡ S.seen source.old }
 
@@ -71,6 +77,9 @@ pub fn run<R: Threads + Wait + Sync, S: Source, K: Sink, G: Gate + Sync>(
 {
     match read_words(words) {
         Ok(Command::Session(options)) => answer_input(rt, alloc, options, source, sink, gate),
+        Ok(Command::Generate(options, count)) => {
+            answer_generated(rt, alloc, options, count, sink, gate)
+        }
         Err(_) => match write_all(sink, USAGE.as_bytes()) {
             Ok(()) => Status::Usage,
             Err(_) => Status::WriteFault,
@@ -78,9 +87,40 @@ pub fn run<R: Threads + Wait + Sync, S: Source, K: Sink, G: Gate + Sync>(
     }
 }
 
+/// Answers the lines of the generator's text, and ends the output.
+fn answer_generated<R: Threads + Wait + Sync, K: Sink, G: Gate + Sync>(
+    rt: &R,
+    alloc: Global,
+    options: Options,
+    count: u32,
+    sink: &mut K,
+    gate: &G,
+) -> Status
+    requires in_range { AreInRange options }
+    requires room { IfSome (K.seen sink.old).room
+        (λ n. IsEnoughRoom (SessionText options) (Some (generated_text count)) n) }
+
+    ensures output { IsWhole result → Gives
+        (λ text. SessionOutput options (generated_text count) text result) (K.seen sink.old) (K.seen sink.new) }
+    ensures never_usage { result ≢ Usage }
+
+    ensures begins { IsCutOff result
+        → GivesFront (SessionText options (generated_text count)) (K.seen sink.old) (K.seen sink.new) }
+    ensures never_read_fault { result ≢ ReadFault }
+
+    ensures write_fault { result ≡ WriteFault → HasRisen (K.seen sink.old).faults (K.seen sink.new).faults }
+    ensures no_write_fault { IsWhole result → (K.seen sink.new).faults ≡ (K.seen sink.old).faults }
+{
+    match generated_text(alloc, count) {
+        Ok(text) => {
+            let mut source = SureSource::new(text.into_bytes());
+            answer_input(rt, alloc, options, &mut source, sink, gate)
+        }
+        Err(_) => Status::NoMemory,
+    }
+}
+
 /// Answers the lines of the source while they come, and ends the output.
-///
-/// The clauses hold of all words that ask for a session with these options.
 fn answer_input<R: Threads + Wait + Sync, S: Source, K: Sink, G: Gate + Sync>(
     rt: &R,
     alloc: Global,
@@ -89,20 +129,20 @@ fn answer_input<R: Threads + Wait + Sync, S: Source, K: Sink, G: Gate + Sync>(
     sink: &mut K,
     gate: &G,
 ) -> Status
-    requires room { (words : List (List ℕ)) × Asks words (Command.Session options)
-        × HasRoom words (S.seen source.old) (K.seen sink.old) }
+    requires in_range { AreInRange options }
+    requires room { SessionRoom options (S.seen source.old) (K.seen sink.old) }
 
-    ensures output { (words : List (List ℕ)) → Asks words (Command.Session options) → IsWhole result
-        → Answers words (S.seen source.old) (K.seen sink.old) (K.seen sink.new) result }
+    ensures output { IsWhole result
+        → SessionAnswers options (S.seen source.old) (K.seen sink.old) (K.seen sink.new) result }
     ensures read_whole { result ≡ Done → IsAtEnd (S.seen source.new).left }
     ensures never_usage { result ≢ Usage }
 
-    ensures none_waits { (words : List (List ℕ)) → Asks words (Command.Session options) → result ≡ ReadFault
-        → AnswersTaken words (S.seen source.old) (S.seen source.new) (K.seen sink.old) (K.seen sink.new) }
-    ensures begins { (words : List (List ℕ)) → Asks words (Command.Session options) → IsCutOff result
-        → BeginsAnswers words (S.seen source.old) (K.seen sink.old) (K.seen sink.new) }
-    ensures keeps_pace { (words : List (List ℕ)) → Asks words (Command.Session options) → IsBrokenOff result
-        → KeepsPace words (S.seen source.old) (S.seen source.new) (K.seen sink.old) (K.seen sink.new) }
+    ensures none_waits { result ≡ ReadFault
+        → SessionTaken options (S.seen source.old) (S.seen source.new) (K.seen sink.old) (K.seen sink.new) }
+    ensures begins { IsCutOff result
+        → SessionBegins options (S.seen source.old) (K.seen sink.old) (K.seen sink.new) }
+    ensures keeps_pace { IsBrokenOff result
+        → SessionPace options (S.seen source.old) (S.seen source.new) (K.seen sink.old) (K.seen sink.new) }
 
     ensures read_fault { result ≡ ReadFault → HasRisen (S.seen source.old).faults (S.seen source.new).faults }
     ensures write_fault { result ≡ WriteFault → HasRisen (K.seen sink.old).faults (K.seen sink.new).faults }

@@ -4,7 +4,6 @@ ghost use Rattle.cls_session.specs.Settings.{IsNamed, value_at, with_value, opti
 
 use cls_engine::Options;
 
-
 /// An option of the command line.
 #[derive(Clone, Copy, Debug)]
 pub enum OptionName {

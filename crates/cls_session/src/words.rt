@@ -1,9 +1,9 @@
-ghost use Rattle.std.specs.Prelude.{◌≡◌, IsTrue, ◌↔◌, IfOk, IfErr, MatchOption};
+ghost use Rattle.std.specs.Prelude.{◌≡◌, ℕ, IsTrue, ◌↔◌, IfOk, IfErr, MatchOption};
 ghost use Rattle.std.specs.List.{list_all};
 ghost use Rattle.std.specs.Option.{SomeIff};
 ghost use Rattle.cls_lexer.specs.Characters.{is_digit};
 ghost use Rattle.cls_lexer.specs.Numerals.{is_numeral, number_value};
-ghost use Rattle.cls_session.specs.Commands.{texts_of, IsValue, Asks, AsksNothing, HasOptionsInRange};
+ghost use Rattle.cls_session.specs.Commands.{texts_of, IsValue, IsGenerate, Asks, AsksNothing, HasNumbersInRange};
 ghost use Rattle.cls_session.specs.Settings.{BeginsWith, BeginsWithNone};
 
 use crate::settings::{OptionName, Values};
@@ -14,11 +14,16 @@ use thiserror::Error;
 /// The most digits of a number.
 const MAX_DIGITS: usize = 9;
 
+/// The greatest number of a generator.
+const MAX_GENERATED: u32 = 300;
+
 /// What the words of the command line ask for.
 #[derive(Clone, Copy, Debug)]
 pub enum Command {
-    /// To answer the queries of the input.
+    /// To answer the lines of the input.
     Session(Options),
+    /// To answer the lines of the generator's text for this number. The input isn't read.
+    Generate(Options, u32),
 }
 
 /// The words aren't in the form of the usage line.
@@ -29,7 +34,7 @@ pub struct UsageFault;
 /// Reads the words of the command line, the program's own name left out.
 pub fn read_words(words: &[String]) -> Result<Command, UsageFault>
     ensures asked { IfOk result (Asks (texts_of words.now)) }
-    ensures in_range { IfOk result HasOptionsInRange }
+    ensures in_range { IfOk result HasNumbersInRange }
     ensures nothing_asked { IfErr result (λ _. AsksNothing (texts_of words.now)) }
 {
     let mut values = Values {
@@ -40,6 +45,9 @@ pub fn read_words(words: &[String]) -> Result<Command, UsageFault>
     };
     let mut rest = words;
     while !rest.is_empty() {
+        if let Some(count) = read_generate(rest) {
+            return Ok(Command::Generate(values.options(), count));
+        }
         let Some((option, value, others)) = read_setting(rest) else {
             return Err(UsageFault);
         };
@@ -63,6 +71,20 @@ fn read_setting(words: &[String]) -> Option<(OptionName, u32, &[String])>
     let option = OptionName::read(option.as_str())?;
     let value = read_value(value.as_str(), option.greatest())?;
     Some((option, value, others))
+}
+
+/// The number of the generator, if the words are `generate` and such a number.
+fn read_generate(words: &[String]) -> Option<u32>
+    ensures { MatchOption result ((n : ℕ) → IsGenerate (texts_of words.now) n → ⊥)
+        (IsGenerate (texts_of words.now)) }
+{
+    let [word, value] = words else {
+        return None;
+    };
+    match word.as_str() {
+        "generate" => read_value(value.as_str(), MAX_GENERATED),
+        _ => None,
+    }
 }
 
 /// The number from 1 to the greatest that the word spells in at most nine digits.
