@@ -8,3 +8,11 @@ pub mod Writing
 pub mod Driving
 pub mod Outputs
 pub mod InputLoop
+pub mod OnePage
+pub mod OneReply
+pub mod OneLine
+pub mod SkippedLines
+pub mod ComponentNames
+pub mod OneRepository
+pub mod OneTranscript
+pub mod OneOutput

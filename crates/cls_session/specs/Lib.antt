@@ -1,5 +1,6 @@
 pub mod Commands
 pub mod Driving
+pub mod Laws
 pub mod Outputs
 pub mod Repositories
 pub mod Sessions
