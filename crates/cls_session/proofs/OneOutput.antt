@@ -20,7 +20,7 @@ few_or_many n l m = omega arith
 
 module _ (o : Options) (bytes : List ℕ) where
   -- if few bytes come, the lines that count are all lines
-  abbrev all_lines : (P : List (List ℕ) → Type 0) → length bytes ≤ max_input_bytes → P (lines_read bytes) → P (lines_of bytes)
+  all_lines : (P : List (List ℕ) → Type 0) → length bytes ≤ max_input_bytes → P (lines_read bytes) → P (lines_of bytes)
   all_lines P few h = subst P (lines_read-short bytes few) h
 
   module _ (none : HaveNoAudit (lines_read bytes)) where

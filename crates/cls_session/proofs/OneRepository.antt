@@ -49,12 +49,10 @@ taken_count old line new (skipped s e) = ap (λ (r : Reading). r.lines) e
 taken_count old line new (declares said says silent draft d e) = ap (λ (r : Reading). r.lines) e
 
 all_count : (old : Reading) (lines : List (List ℕ)) (new : Reading) → new.ended ≡ false → TakesAll old lines new → new.lines ≡ old.lines + length lines
-all_count old [] new going e = let h = ap (λ (r : Reading). r.lines) e in omega arith
+all_count old [] new going e = omega (arith, ap (λ (r : Reading). r.lines) e)
 all_count old (line ∷ lines) new going (next, t, inl (ended, e)) = absurd (differ next new (sym e) ended going)
 all_count old (line ∷ lines) new going (next, t, inr (on, hs)) =
-    let h = all_count next lines new going hs in
-    let k = taken_count old line next t in
-    omega arith
+    omega (arith, all_count next lines new going hs, taken_count old line next t)
 
 -- Lines are read up to the end of a repository with so many lines, which declares this.
 pub record IsReadUp (lines : List (List ℕ)) (count : ℕ) (d : Draft) : Type 0 where
@@ -75,7 +73,7 @@ read_up lines repository queries end d split h =
       taken = subst (λ (ls : List (List ℕ)). TakesAll no_reading ls h.reading) (sym split) (taken_behind (end ∷ queries) old h.taken.unended no_reading repository h.reading h.taken.taken (h.reading, h.ends, inl (h.ended, refl)));
       ended = h.ended;
       silent = h.faultless;
-      counted = omega arith;
+      counted = omega (arith, count, next);
       declared = h.declares;
     }
 
@@ -85,13 +83,13 @@ one_read lines n m d e h k =
     let same = takes_all_one no_reading lines h.reading k.reading h.taken k.taken in
     (sym h.counted ∙ (ap (λ (r : Reading). r.lines) same ∙ k.counted), h.declared ∙ (ap (λ (r : Reading). r.draft) same ∙ sym k.declared))
 
+none_named : IsDistinct bytes_eq no_reading.draft.component_names
+unfolding IsDistinct
+none_named = tt
+
 -- and has components of different names
 pub read_apart : (lines : List (List ℕ)) (n : ℕ) (d : Draft) → IsReadUp lines n d → AreNamedApart d
 read_apart lines n d h = subst AreNamedApart (sym h.declared) (all_apart no_reading lines h.reading h.taken none_named)
-  where
-    none_named : IsDistinct bytes_eq no_reading.draft.component_names
-    unfolding IsDistinct
-    none_named = tt
 
 pub one_taking : (lines : List (List ℕ)) (r r' : Reading) → AreTaken lines r → AreTaken lines r' → r ≡ r'
 one_taking lines r r' h k = takes_all_one no_reading lines r r' h.taken k.taken

@@ -85,11 +85,11 @@ module _ (o : Options) (d : Draft) where
       let held = h.none_held ∙ sym k.none_held in
       λ i. record { names = names i; components = components i; templates = templates i; engine = record { library = library i; costs = costs i; options = options i }; held = held i }
 
-same_split : (xs ys : List (List ℕ)) (x y : List ℕ) (as bs : List (List ℕ)) → length xs + 1 ≡ length ys + 1 → xs ++ x ∷ as ≡ ys ++ y ∷ bs → as ≡ bs
-same_split [] [] x y as bs l e = cc
-same_split [] (z ∷ ys) x y as bs l e = absurd (omega arith)
-same_split (z ∷ xs) [] x y as bs l e = absurd (omega arith)
-same_split (z ∷ xs) (w ∷ ys) x y as bs l e = same_split xs ys x y as bs (omega arith) (let f : xs ++ x ∷ as ≡ ys ++ y ∷ bs = cc in f)
+same_split : (xs ys : List (List ℕ)) (x y : List ℕ) (us vs : List (List ℕ)) → length xs + 1 ≡ length ys + 1 → xs ++ x ∷ us ≡ ys ++ y ∷ vs → us ≡ vs
+same_split [] [] x y us vs l e = cc
+same_split [] (z ∷ ys) x y us vs l e = absurd (omega arith)
+same_split (z ∷ xs) [] x y us vs l e = absurd (omega arith)
+same_split (z ∷ xs) (w ∷ ys) x y us vs l e = same_split xs ys x y us vs (omega arith) (let f : xs ++ x ∷ us ≡ ys ++ y ∷ vs = cc in f)
 
 module _ (o : Options) (input : List (List ℕ)) where
   read_of : (text : List ℕ) (s : Serving) (a : IsAnswered o input text s) → IsReadUp input (length a.repository + 1) a.declared
