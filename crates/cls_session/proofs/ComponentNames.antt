@@ -18,9 +18,9 @@ distinct_push : (xs : List (List ℕ)) (x : List ℕ) → IsDistinct bytes_eq xs
 unfolding IsDistinct
 distinct_push [] x d n = (tt, tt)
 distinct_push (y ∷ xs) x d n = (
-    apart xs d.0 (false_from_ne_true (bytes_eq y x) (λ e. n (Contains-head x y xs (sym ((bytes_eq-Decides y x).0 e))))),
-    distinct_push xs x d.1 (λ c. n (Contains-later x y xs c)),
-  )
+  apart xs d.0 (false_from_ne_true (bytes_eq y x) (λ e. n (Contains-head x y xs (sym ((bytes_eq-Decides y x).0 e))))),
+  distinct_push xs x d.1 (λ c. n (Contains-later x y xs c)),
+)
   where
     apart : (zs : List (List ℕ)) → AllByRecursion (λ z. bytes_eq y z ≡ false) zs → bytes_eq y x ≡ false → AllByRecursion (λ z. bytes_eq y z ≡ false) (zs ++ x ∷ [])
     apart [] h e = (e, tt)

@@ -16,3 +16,4 @@ pub mod ComponentNames
 pub mod OneRepository
 pub mod OneTranscript
 pub mod OneOutput
+pub mod AuditLines

@@ -2,9 +2,8 @@
 use Rattle.std.proofs.Common.{ℕ, ◌≡◌, refl, sym, ◌∙◌, ap, subst, List, [], ◌∷◌, ◌++◌, append-nil, Option, Some, None}
 use Rattle.std.specs.List.{IsDistinct}
 use Rattle.std.specs.Str.{bytes_eq}
-use Rattle.cls_base.specs.Firsts.{First, IsDetermined}
+use Rattle.cls_base.specs.Firsts.{IsDetermined}
 use Rattle.cls_base.specs.Types.{ClosedType}
-use Rattle.cls_lexer.specs.Skipped.{IsSkipped}
 use Rattle.cls_lexer.specs.Words.{words_of}
 use Rattle.cls_syntax.specs.LineGrammars.{LineOf}
 use Rattle.cls_proof.specs.declared.proof_fault.ProofFault.{ProofFault}
@@ -16,7 +15,7 @@ use Rattle.cls_check.specs.declared.fault.Reason.{Reason}
 use Rattle.cls_check.proofs.Verdicts.{accepted_silent, refusal_determined}
 use Rattle.cls_library.specs.Libraries.{Library}
 use Rattle.cls_query.specs.QueryForms.{query_rows}
-use Rattle.cls_query.specs.Queries.{Query, audit, verify, with_query, query_of}
+use Rattle.cls_query.specs.Queries.{Query, verify, with_query, query_of}
 use Rattle.cls_query.proofs.QueryErrors.{errors_determined, lines_read_once}
 use Rattle.cls_engine.specs.declared.fault.EngineFault.{EngineFault}
 use Rattle.cls_engine.specs.declared.verdict.Verdict.{Verdict}
@@ -25,10 +24,9 @@ use Rattle.cls_engine.specs.Verdicts.{IsVerdict}
 use Rattle.cls_replies.specs.Serving.{Serving, tables_in, with_names, holding}
 use Rattle.cls_replies.specs.Texts.{error_line, fault_words, verdict_text}
 use Rattle.cls_replies.specs.Errors.{proof_words}
-use Rattle.cls_replies.specs.LineKinds.{Opens, IsQed}
 use Rattle.cls_replies.specs.Answering.{Asks, IsMisread, Answers, Answered, Judges, Verifies, Verified}
 use Rattle.cls_replies.specs.Answering as answering
-use Rattle.cls_replies.specs.Lines.{Goes, Replies, Ends}
+use Rattle.cls_replies.specs.Lines.{Goes, Ends}
 use Rattle.cls_replies.specs.Lines as lines
 use Rattle.cls_session.specs.Laws.{AsksAudit}
 use Rattle.cls_session.proofs.OneReply.{fault_one, answer_one}

@@ -5,12 +5,11 @@ use Rattle.cls_lexer.specs.Lines.{lines_of}
 use Rattle.cls_engine.specs.declared.options.Options.{Options}
 use Rattle.cls_session.specs.declared.status.Status.{Status}
 use Rattle.cls_session.specs.declared.words.Command.TheVariants.{Session}
-use Rattle.cls_session.specs.Commands.{Asks, AsksNothing}
 use Rattle.cls_session.specs.Laws.{HaveNoAudit, OutputsAreDetermined}
 use Rattle.cls_session.specs.Outputs.{lines_read, SessionOutput, Output}
 use Rattle.cls_session.specs.Outputs as outputs
 use Rattle.cls_session.specs.Transcripts.{IsRefused}
-use Rattle.cls_session.proofs.CommandWords.{session_one}
+use Rattle.cls_session.proofs.CommandWords.{commands_are_one}
 use Rattle.cls_session.proofs.OneTranscript.{transcript_one, ending_one, refusal_one, refused_or_going, refused_or_ended}
 use Rattle.cls_session.proofs.Outputs.{lines_read-short}
 
@@ -35,13 +34,16 @@ module _ (o : Options) (bytes : List ℕ) where
     session_output_one t u status status' (outputs.SessionOutput.too_long many h e) (outputs.SessionOutput.ended few k) = absurd (few_or_many (length bytes) few many)
     session_output_one t u status status' (outputs.SessionOutput.too_long many h e) (outputs.SessionOutput.too_long many' k f) = (transcript_one o (lines_read bytes) none t u h k, e ∙ sym f)
 
+same_options : (o o' : Options) → Session o ≡ Session o' → o ≡ o'
+same_options o o' e = cc
+
 output_one : (words : List (List ℕ)) (bytes t u : List ℕ) (status status' : Status) → HaveNoAudit (lines_read bytes)
     → Output words bytes t status → Output words bytes u status' → (t ≡ u) × (status ≡ status')
 output_one words bytes t u status status' none (outputs.Output.no_command n p e) (outputs.Output.no_command n' q f) = (p ∙ sym q, e ∙ sym f)
 output_one words bytes t u status status' none (outputs.Output.no_command n p e) (outputs.Output.of_session o a k) = absurd (n (Session o) a)
 output_one words bytes t u status status' none (outputs.Output.of_session o a h) (outputs.Output.no_command n q f) = absurd (n (Session o) a)
 output_one words bytes t u status status' none (outputs.Output.of_session o a h) (outputs.Output.of_session o' b k) =
-    session_output_one o bytes none t u status status' h (subst (λ (x : Options). SessionOutput x bytes u status') (sym (session_one words o o' a b)) k)
+    session_output_one o bytes none t u status status' h (subst (λ (x : Options). SessionOutput x bytes u status') (sym (same_options o o' (commands_are_one.one words (Session o) (Session o') a b))) k)
 
 pub outputs_determined : OutputsAreDetermined
 outputs_determined = record {

@@ -1,5 +1,5 @@
 -- There is one page.
-use Rattle.std.proofs.Common.{ℕ, ◌≡◌, ◌<◌, ◌≤◌, ◌+◌, refl, sym, ◌∙◌, ap, subst, inl, inr, List, [], ◌∷◌, ◌++◌, length, length-append, append_assoc, append-nil, Contains, Bool, true, false, arith}
+use Rattle.std.proofs.Common.{ℕ, ◌≡◌, ◌≤◌, ◌+◌, refl, sym, ◌∙◌, ap, subst, inl, inr, List, [], ◌∷◌, ◌++◌, length, length-append, append_assoc, append-nil, Contains, Bool, true, false, arith}
 use Rattle.std.specs.Prelude.{IsTrue}
 use Rattle.std.proofs.lemmas.Bool.{true≢false}
 use Rattle.std.proofs.lemmas.List.Elements.{Contains-append_right, Contains-append_cases}
@@ -83,15 +83,15 @@ module _ (IsListed : Applicative → Type 0) (r : Request) (order : IsStrictTota
   same_rest pre [] (y ∷ ys) m n h k = absurd (stops_short pre ys y m n (subst (λ (z : List Applicative). IsPage IsListed r z m) (append-nil pre) h) k)
   same_rest pre (x ∷ xs) [] m n h k = absurd (stops_short pre xs x n m (subst (λ (z : List Applicative). IsPage IsListed r z n) (append-nil pre) k) h)
   same_rest pre (x ∷ xs) (y ∷ ys) m n h k = elim (order.total x y) [
-      | inl l ↦ absurd (passes_over pre xs ys x y m n h k l)
-      | inr e ↦ elim e [
-        | inl s ↦
-            ap (λ (z : Applicative). z ∷ xs) s ∙ ap (λ (zs : List Applicative). y ∷ zs) (same_rest (pre ++ y ∷ []) xs ys m n
-              (subst (λ (z : List Applicative). IsPage IsListed r z m) (ap (λ (z : Applicative). pre ++ z ∷ xs) s ∙ sym (append_assoc pre (y ∷ []) xs)) h)
-              (subst (λ (z : List Applicative). IsPage IsListed r z n) (sym (append_assoc pre (y ∷ []) ys)) k))
-        | inr l ↦ absurd (passes_over pre ys xs y x n m k h l)
-      ]
+    | inl l ↦ absurd (passes_over pre xs ys x y m n h k l)
+    | inr e ↦ elim e [
+      | inl s ↦
+          ap (λ (z : Applicative). z ∷ xs) s ∙ ap (λ (zs : List Applicative). y ∷ zs) (same_rest (pre ++ y ∷ []) xs ys m n
+          (subst (λ (z : List Applicative). IsPage IsListed r z m) (ap (λ (z : Applicative). pre ++ z ∷ xs) s ∙ sym (append_assoc pre (y ∷ []) xs)) h)
+          (subst (λ (z : List Applicative). IsPage IsListed r z n) (sym (append_assoc pre (y ∷ []) ys)) k))
+      | inr l ↦ absurd (passes_over pre ys xs y x n m k h l)
     ]
+  ]
 
   pub page_one : (a b : List Applicative) (m n : Bool) → IsPage IsListed r a m → IsPage IsListed r b n → a ≡ b
   page_one a b m n h k = same_rest [] a b m n h k

@@ -12,7 +12,7 @@ use Rattle.cls_cert.proofs.Ranking.{rank_same}
 use Rattle.cls_cert.proofs.Unique.{one_made}
 use Rattle.cls_core.specs.Rows.{Row}
 use Rattle.cls_grammar.specs.Grammars.{book_of, first_wide}
-use Rattle.cls_grammar.specs.GrammarTexts.{IsGrammarText, grammar_text}
+use Rattle.cls_grammar.specs.GrammarTexts.{grammar_text}
 use Rattle.cls_grammar.specs.Ranks.{IsRankIn, AreRanks}
 use Rattle.cls_library.specs.Libraries.{Library}
 use Rattle.cls_library.specs.Typing.{HasTypeIn}
@@ -23,23 +23,19 @@ use Rattle.cls_query.specs.Queries.{Listing, Query, sub, paths, typed, inhabit, 
 use Rattle.cls_syntax.specs.TypePrinting.{name_in}
 use Rattle.cls_term.specs.Texts.{name_at}
 use Rattle.cls_term.proofs.Orders.{Before-strict_total}
-use Rattle.cls_engine.specs.declared.options.Options.{Options}
 use Rattle.cls_engine.specs.declared.fault.EngineFault.{EngineFault}
 use Rattle.cls_engine.specs.declared.fault.EngineFault.TheVariants.{Wide}
 use Rattle.cls_engine.specs.Engines.{EngineSeen}
 use Rattle.cls_engine.specs.Faults.{compare_faults, closure_faults, list_faults}
-use Rattle.cls_engine.specs.Goals.{Goal, IsClosed, IsFirstWide}
+use Rattle.cls_engine.specs.Goals.{Goal, IsFirstWide}
 use Rattle.cls_engine.proofs.Goals.{closed_unique}
 use Rattle.cls_replies.specs.Serving.{Serving}
 use Rattle.cls_replies.specs.Texts.{page_text, term_line, term_lines, error_line, fault_words}
 use Rattle.cls_replies.specs.Errors.{faults_of}
-use Rattle.cls_replies.specs.Replies.{Says, ListsPage, Lists, Reply}
+use Rattle.cls_replies.specs.Replies.{Says, Lists, Reply}
 use Rattle.cls_replies.specs.Answering.{Answers}
 use Rattle.cls_replies.specs.Answering as answering
 use Rattle.cls_session.proofs.OnePage.{page_one, more_one}
-
-pub said_alone : {T : Type 0} (A : Type 0) (c : T) → IsDetermined (λ t. A × (t ≡ c))
-said_alone A c t u p q = p.1 ∙ sym q.1
 
 some_is : {A : Type 0} (o : Option A) (a b : A) → o ≡ Some a → o ≡ Some b → a ≡ b
 some_is o a b e f = cc

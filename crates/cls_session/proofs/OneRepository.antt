@@ -1,10 +1,10 @@
 -- Lines begin with one repository, or they have one first fault, or neither.
-use Rattle.std.proofs.Common.{ℕ, suc, ◌≡◌, ◌+◌, true, false, List, [], ◌∷◌, ◌++◌, length, refl, sym, ◌∙◌, ap, subst, inl, inr, arith}
+use Rattle.std.proofs.Common.{ℕ, ◌≡◌, ◌+◌, true, false, List, [], ◌∷◌, ◌++◌, length, refl, sym, ◌∙◌, ap, subst, inl, inr, arith}
 use Rattle.std.specs.List.{IsDistinct}
 use Rattle.std.specs.Str.{bytes_eq}
 use Rattle.cls_base.specs.Firsts.{First, IsSilent, IsDetermined}
 use Rattle.cls_repo.specs.Drafts.{Draft}
-use Rattle.cls_repo.specs.Readings.{Reading, no_reading, Takes, skipped, declares, Refuses, TakesAll, FirstFault, closing_faults}
+use Rattle.cls_repo.specs.Readings.{Reading, no_reading, Takes, skipped, declares, TakesAll, FirstFault, closing_faults}
 use Rattle.cls_repo.proofs.OneReading.{takes_all_one, first_fault_one, closing_of, taken_or_refused}
 use Rattle.cls_session.specs.Repositories.{AreTaken, IsRepository, IsFirstFault}
 use Rattle.cls_session.specs.Repositories as repositories
@@ -16,9 +16,9 @@ differ r r' e f g = let h : r.ended ≡ r'.ended = ap (λ (x : Reading). x.ended
 -- the next line alone
 one_taken : (old : Reading) (line : List ℕ) (new : Reading) → Takes old line new → TakesAll old (line ∷ []) new
 one_taken old line new t = (elim (new.ended) as (λ b. new.ended ≡ b → TakesAll old (line ∷ []) new) [
-    | true ↦ λ e. (new, t, inl (e, refl))
-    | false ↦ λ e. (new, t, inr (e, refl))
-  ]) refl
+  | true ↦ λ e. (new, t, inl (e, refl))
+  | false ↦ λ e. (new, t, inr (e, refl))
+]) refl
 
 one_next : (old : Reading) (line : List ℕ) (a b : Reading) → Takes old line a → Takes old line b → a ≡ b
 one_next old line a b p q = takes_all_one old (line ∷ []) a b (one_taken old line a p) (one_taken old line b q)

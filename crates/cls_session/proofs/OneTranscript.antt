@@ -1,11 +1,9 @@
 -- What is written for lines is one text.
-use Rattle.std.proofs.Common.{ℕ, suc, ◌≡◌, ◌+◌, List, [], ◌∷◌, ◌++◌, length, map, refl, sym, ◌∙◌, ap, subst, arith, Contains, codes}
+use Rattle.std.proofs.Common.{ℕ, ◌≡◌, ◌+◌, List, [], ◌∷◌, ◌++◌, length, sym, ◌∙◌, ap, subst, arith, Contains, codes}
 use Rattle.std.specs.List.{IsDistinct}
 use Rattle.std.specs.Str.{bytes_eq}
-use Rattle.cls_assemble.specs.declared.piece.Piece.{Piece}
 use Rattle.cls_base.specs.Firsts.{IsDetermined}
 use Rattle.cls_base.proofs.Lists.{Contains-here, Contains-later}
-use Rattle.cls_library.specs.Libraries.{Library}
 use Rattle.cls_library.proofs.LibraryLaws.{library-unique}
 use Rattle.cls_repo.specs.Drafts.{Draft}
 use Rattle.cls_repo.specs.EndFaults.{declared_in, schemas_in}
@@ -69,7 +67,7 @@ replies_one s apart [] none t u m n (p, e) (q, f) = (p ∙ sym q, e ∙ sym f)
 replies_one s apart (line ∷ queries) none t u m n (x, first, rest, g, gs, e) (y, first', rest', k, ks, f) =
     let one = goes_one s apart line first first' x y (asks_none s line (none line (Contains-here line queries))) g k in
     let on = replies_one x (stays_apart s x (goes_keeps s line first x g) apart) queries (λ l c. none l (Contains-later l line queries c)) rest rest' m n gs
-        (subst (λ (z : Serving). Replies z queries rest' n) (sym one.1) ks) in
+    (subst (λ (z : Serving). Replies z queries rest' n) (sym one.1) ks) in
     (e ∙ ((λ i. one.0 i ++ on.0 i) ∙ sym f), on.1)
 
 -- HOW A REPOSITORY IS OPENED

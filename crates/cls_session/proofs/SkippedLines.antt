@@ -1,12 +1,12 @@
 -- A line that says nothing opens no certificate.
-use Rattle.std.proofs.Common.{ℕ, ◌≡◌, ◌+◌, Bool, true, false, List, [], ◌∷◌, refl, sym, ◌∙◌, ap, subst, map, codes, arith}
+use Rattle.std.proofs.Common.{ℕ, ◌≡◌, ◌+◌, Bool, true, false, List, [], ◌∷◌, refl, sym, ◌∙◌, ap, map, codes, arith}
 use Rattle.std.specs.Prelude.{◌==◌}
 use Rattle.std.proofs.lemmas.Bool.{true≢false}
 use Rattle.std.proofs.lemmas.Bool.Decides.{nat_tests}
 use Rattle.cls_lexer.specs.Characters.{is_blank}
 use Rattle.cls_lexer.specs.Skipped.{says_nothing, IsSkipped}
 use Rattle.cls_lexer.specs.Tokens.{token_at, tokens_from, located_at}
-use Rattle.cls_lexer.specs.Words.{Word, said, words_of}
+use Rattle.cls_lexer.specs.Words.{said, words_of}
 use Rattle.cls_syntax.specs.Fronts.{is_word}
 use Rattle.cls_query.specs.Readable.{begins_with}
 use Rattle.cls_replies.specs.LineKinds.{Opens}

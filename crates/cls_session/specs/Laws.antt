@@ -1,13 +1,15 @@
 -- What is true of all lines and bytes, as statements: text and status are functions of the options and the bytes, if no
 -- line asks for an audit. What an audit writes may be any legal history.
-use Rattle.std.specs.Prelude.{ℕ, ◌≡◌, List, ◌∷◌, ◌++◌, Contains}
+use Rattle.std.specs.Prelude.{ℕ, ◌≡◌, false, List, ◌∷◌, ◌++◌, codes, Contains}
 use Rattle.std.specs.List.{IsDistinct}
 use Rattle.std.specs.Str.{bytes_eq}
 use Rattle.cls_base.specs.Firsts.{IsDetermined}
 use Rattle.cls_base.specs.Types.{ClosedType}
+use Rattle.cls_lexer.specs.Words.{words_of}
 use Rattle.cls_engine.specs.declared.options.Options.{Options}
 use Rattle.cls_query.specs.Queries.{Tables, audit}
 use Rattle.cls_query.specs.ReadQueries.{ReadsQuery}
+use Rattle.cls_query.specs.Readable.{begins_with}
 use Rattle.cls_repo.specs.Drafts.{Draft}
 use Rattle.cls_replies.specs.Answering.{Asks}
 use Rattle.cls_replies.specs.Lines.{Goes, Ends}
@@ -23,8 +25,12 @@ AsksAudit s line = (goal : ClosedType) × (s' : Serving) × Asks s line (audit g
 
 -- Whatever names have numbers, the line asks for no audit.
 abbrev pub AsksNoAudit : List ℕ → Type 0
-AsksNoAudit line =
-    (tables : Tables) (goal : ClosedType) (constructors : List (List ℕ)) → ReadsQuery tables line (audit goal) constructors → ⊥
+AsksNoAudit line = (tables : Tables) (goal : ClosedType) (constructors : List (List ℕ))
+    → ReadsQuery tables line (audit goal) constructors → ⊥
+
+-- A line whose first word isn't `audit` asks for none.
+abbrev pub AuditsAreNamed : Type 0
+AuditsAreNamed = (line : List ℕ) → begins_with (codes "audit") (words_of line) ≡ false → AsksNoAudit line
 
 -- No line after the repository asks for an audit.
 abbrev pub HaveNoAudit : List (List ℕ) → Type 0
@@ -32,8 +38,8 @@ HaveNoAudit lines =
     (repository queries : List (List ℕ)) (end : List ℕ) (d : Draft) → lines ≡ repository ++ end ∷ queries
     → IsRepository repository end d → (line : List ℕ) → Contains queries line → AsksNoAudit line
 
--- One text is written for a line, and queries are answered by one thing after it. One text is written if no line follows.
--- No two components may have one name, and none have that a repository declares.
+-- One text is written for a line, queries are answered by one thing after it, and one text is written if no line follows.
+-- No two components may have one name. None have whatever was read.
 pub record RepliesAreDetermined : Type 0 where
   pub goes :
       (s : Serving) → IsDistinct bytes_eq s.components → (line text other : List ℕ) (next next' : Serving)

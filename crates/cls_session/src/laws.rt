@@ -1,10 +1,15 @@
 //! What holds of the language, as calls that do nothing and promise the law.
 ghost use Rattle.cls_session.specs.Commands.{CommandsAreOne};
-ghost use Rattle.cls_session.specs.Laws.{RepliesAreDetermined, TranscriptsAreDetermined, OutputsAreDetermined};
+ghost use Rattle.cls_session.specs.Laws.{AuditsAreNamed, RepliesAreDetermined, TranscriptsAreDetermined, OutputsAreDetermined};
 
 /// Words ask for at most one command, and its options are within their ranges.
 pub fn commands_are_one()
     ensures { CommandsAreOne }
+{}
+
+/// Law: a line whose first word isn't `audit` asks for no audit.
+pub fn audits_are_named()
+    ensures { AuditsAreNamed }
 {}
 
 /// Law: what is written for a line after a repository, and what queries are answered by after it, are functions of the
@@ -19,8 +24,8 @@ pub fn transcripts_are_determined()
     ensures { TranscriptsAreDetermined }
 {}
 
-/// Law: what is written and the status are functions of the words of the command line and the bytes, if no line after the
-/// repository asks for an audit.
+/// Law: what is written and the status are functions of the words of the command line and of the bytes, if no line after
+/// the repository asks for an audit.
 pub fn outputs_are_determined()
     ensures { OutputsAreDetermined }
 {}
