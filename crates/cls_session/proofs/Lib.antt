@@ -10,3 +10,12 @@ pub mod Driving
 pub mod Outputs
 pub mod InputLoop
 pub mod Asked
+pub mod OnePage
+pub mod OneReply
+pub mod OneLine
+pub mod SkippedLines
+pub mod ComponentNames
+pub mod OneRepository
+pub mod OneTranscript
+pub mod OneOutput
+pub mod AuditLines

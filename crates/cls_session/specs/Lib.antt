@@ -1,6 +1,7 @@
 pub mod Commands
 pub mod Driving
 pub mod Generators
+pub mod Laws
 pub mod Outputs
 pub mod Repositories
 pub mod Sessions
