@@ -11,17 +11,20 @@ use Rattle.cls_query.specs.Queries.{Tables, audit}
 use Rattle.cls_query.specs.ReadQueries.{ReadsQuery}
 use Rattle.cls_query.specs.Readable.{begins_with}
 use Rattle.cls_repo.specs.Drafts.{Draft}
-use Rattle.cls_replies.specs.Answering.{Asks}
+use Rattle.cls_replies.specs.Answering as answering
 use Rattle.cls_replies.specs.Lines.{Goes, Ends}
 use Rattle.cls_replies.specs.Serving.{Serving}
 use Rattle.cls_session.specs.declared.status.Status.{Status}
+use Rattle.cls_session.specs.declared.words.Command.TheVariants.{Session, Generate}
+use Rattle.cls_session.specs.Commands.{Asks}
+use Rattle.cls_session.specs.Generators.{generated_text}
 use Rattle.cls_session.specs.Outputs.{lines_read, SessionOutput, Output}
 use Rattle.cls_session.specs.Repositories.{IsRepository}
 use Rattle.cls_session.specs.Transcripts.{IsAnswered, Transcript, IsRefused, Ending}
 
 -- The line asks for an audit, where queries are answered by this.
 abbrev pub AsksAudit : Serving → List ℕ → Type 0
-AsksAudit s line = (goal : ClosedType) × (s' : Serving) × Asks s line (audit goal) s'
+AsksAudit s line = (goal : ClosedType) × (s' : Serving) × answering.Asks s line (audit goal) s'
 
 -- Whatever names have numbers, the line asks for no audit.
 abbrev pub AsksNoAudit : List ℕ → Type 0
@@ -63,11 +66,17 @@ pub record TranscriptsAreDetermined : Type 0 where
       (o : Options) (lines : List (List ℕ)) (text other : List ℕ) (status : Status)
       → IsRefused lines text → Ending o lines other status → ⊥
 
+-- What a run reads its lines from: the bytes of the source, or the generator's text.
+pub data IsRead (words : List (List ℕ)) (bytes read : List ℕ) : Type 0 where
+  of_source : (o : Options) → Asks words (Session o) → read ≡ bytes → IsRead words bytes read
+  of_generator : (o : Options) (n : ℕ) → Asks words (Generate o n) → read ≡ generated_text n → IsRead words bytes read
+
 -- For the same words and bytes one text is written, and with one status.
 pub record OutputsAreDetermined : Type 0 where
   pub sessions :
       (o : Options) (bytes text other : List ℕ) (status status' : Status) → HaveNoAudit (lines_read bytes)
       → SessionOutput o bytes text status → SessionOutput o bytes other status' → (text ≡ other) × (status ≡ status')
   pub outputs :
-      (words : List (List ℕ)) (bytes text other : List ℕ) (status status' : Status) → HaveNoAudit (lines_read bytes)
+      (words : List (List ℕ)) (bytes text other : List ℕ) (status status' : Status)
+      → ((read : List ℕ) → IsRead words bytes read → HaveNoAudit (lines_read read))
       → Output words bytes text status → Output words bytes other status' → (text ≡ other) × (status ≡ status')
