@@ -41,12 +41,22 @@ pub struct Outcome {
 }
 
 /// Reads a repository and answers queries, a line at a time. It is seen as what it keeps.
-#[derive(Drop)]
 pub struct Session {
     options: Options,
     reader: RepoReader,
     // What answers the lines after the repository, once it is read.
     serving: Option<Serving>,
+}
+
+// Not derived, for the prover: so a caller's proof has one step where a session is dropped, and not one for each of its parts.
+impl Drop for Session {
+    fn drop(self) {
+        let Session {
+            options: _,
+            reader: _,
+            serving: _,
+        } = self;
+    }
 }
 
 impl Model for Session {

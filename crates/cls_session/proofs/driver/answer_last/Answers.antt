@@ -4,7 +4,7 @@ use Rattle.cls_session.proofs.LastLines.{last_fits, answers_last, none_last}
 use Rattle.cls_session.proofs.driver.answer_last.Goals as goal
 
 pub answer_line-requires-clause-room : goal.answer_line-requires-clause-room
-answer_line-requires-clause-room g c = last_fits c.in-Some.ensures.lines c.requires.room
+answer_line-requires-clause-room g c = λ lives within. last_fits c.in-Some.ensures.lines c.requires.room
 
 pub returns-in-None-clause-answers : goal.returns-in-None-clause-answers
 returns-in-None-clause-answers g c = none_last (g.K.Sink.seen c.args.sink.now) c.args.session.now c.args.reader c.in-None.ensures.lines

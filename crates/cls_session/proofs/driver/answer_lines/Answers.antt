@@ -23,7 +23,7 @@ returns-in_err-line-clause-answers g c =
     rw (p.1, p.2) (breaks_between c.lines.invariant.answered)
 
 pub answer_line-requires-clause-room : goal.answer_line-requires-clause-room
-answer_line-requires-clause-room g c =
+answer_line-requires-clause-room g c = λ lives within.
     let cut = rw c.in-Some.is at c.in_ok-line.ensures.line in
     line_fits c.lines.invariant.room cut
 

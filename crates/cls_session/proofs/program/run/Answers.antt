@@ -1,6 +1,7 @@
 use Rattle.std.proofs.Common.{subst}
 use Rattle.cls_session.specs.declared.words.Command.{Command}
 use Rattle.cls_session.specs.Commands.{texts_of, Asks}
+use Rattle.cls_session.proofs.CommandWords.{no_session}
 use Rattle.cls_session.proofs.Outputs.{taken_begins, usage_fits, usage_keeps_pace}
 use Rattle.cls_session.proofs.Asked.{session_room, session_answers, session_begins, session_taken, session_pace, generated_room, generated_answers, generated_begins, generated_pace}
 use Rattle.cls_session.proofs.program.run.Goals as goal
@@ -43,6 +44,11 @@ pub returns-in-Ok-Generate-clause-output : goal.returns-in-Ok-Generate-clause-ou
 returns-in-Ok-Generate-clause-output g c = λ whole.
     let asked = subst (λ (k : Command). Asks (texts_of c.args.words.now) k) c.in-Ok-Generate.field-0-is c.in-Ok-Generate.ensures.asked in
     generated_answers (texts_of c.args.words.now) c.in-Ok-Generate.options c.in-Ok-Generate.count asked (g.S.Source.seen c.args.source.now) (g.K.Sink.seen c.args.sink.now) (g.K.Sink.seen c.answer_generated.new.sink) c.answer_generated.result (c.answer_generated.ensures.output whole)
+
+pub returns-in-Ok-Generate-clause-read_whole : goal.returns-in-Ok-Generate-clause-read_whole
+returns-in-Ok-Generate-clause-read_whole g c = λ done session.
+    let asked = subst (λ (k : Command). Asks (texts_of c.args.words.now) k) c.in-Ok-Generate.field-0-is c.in-Ok-Generate.ensures.asked in
+    absurd (no_session (texts_of c.args.words.now) c.in-Ok-Generate.options session.0 c.in-Ok-Generate.count asked session.1)
 
 pub returns-in-Ok-Generate-clause-begins : goal.returns-in-Ok-Generate-clause-begins
 returns-in-Ok-Generate-clause-begins g c = λ cut.
