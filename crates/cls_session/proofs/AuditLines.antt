@@ -1,11 +1,10 @@
 -- A line that asks for an audit begins with the word `audit`.
-use Rattle.std.proofs.Common.{ℕ, ◌≡◌, Bool, true, false, List, refl, sym, ◌∙◌, ap, inl, inr, codes}
+use Rattle.std.proofs.Common.{◌≡◌, Bool, true, false, List, refl, sym, ◌∙◌, ap, inl, inr, codes}
 use Rattle.std.proofs.lemmas.Bool.{true≢false}
 use Rattle.std.proofs.lemmas.Slice.Eq.{bytes_eq-Decides}
 use Rattle.cls_base.specs.Types.{ClosedType}
-use Rattle.cls_lexer.specs.Words.{Word, words_of}
-use Rattle.cls_syntax.specs.Faults.{Says}
-use Rattle.cls_syntax.specs.LineGrammars.{LineOf, row_words, RowStands}
+use Rattle.cls_lexer.specs.Words.{Word}
+use Rattle.cls_syntax.specs.LineGrammars.{LineOf, row_words}
 use Rattle.cls_query.specs.QueryForms.{query_rows}
 use Rattle.cls_query.specs.Queries.{Tables, Query, audit, with_query, query_of}
 use Rattle.cls_query.specs.Readable.{begins_with}

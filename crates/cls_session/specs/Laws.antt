@@ -42,7 +42,7 @@ HaveNoAudit lines =
     → IsRepository repository end d → (line : List ℕ) → Contains queries line → AsksNoAudit line
 
 -- One text is written for a line, queries are answered by one thing after it, and one text is written if no line follows.
--- No two components may have one name. None have whatever was read.
+-- No two components may have one name. None have that a repository declares, by the last of these facts.
 pub record RepliesAreDetermined : Type 0 where
   pub goes :
       (s : Serving) → IsDistinct bytes_eq s.components → (line text other : List ℕ) (next next' : Serving)
