@@ -12,6 +12,7 @@ mod ends;
 mod examples;
 #[cfg(test)]
 mod faults;
+mod generated;
 #[cfg(test)]
 mod grammars;
 #[cfg(test)]
@@ -20,7 +21,6 @@ mod inhabitation;
 mod kinds;
 #[cfg(test)]
 mod libraries;
-mod generated;
 #[cfg(test)]
 mod limits;
 #[cfg(test)]

@@ -1,14 +1,13 @@
 -- What one line more does to a session.
 use Rattle.std.proofs.Common.{◌≡◌, ℕ, List, [], ◌∷◌, ◌++◌, refl, sym, ap, ◌∙◌, subst, true, false, append_assoc, append-nil}
-use Rattle.std.specs.Prelude.{Option, None, Some, codes}
+use Rattle.std.specs.Prelude.{None, Some, codes}
 use Rattle.cls_base.specs.Firsts.{First, IsSilent}
 use Rattle.cls_engine.specs.declared.options.Options.{Options}
-use Rattle.cls_repo.specs.FaultWords.{fault_words, OnWords}
+use Rattle.cls_repo.specs.FaultWords.{fault_words}
 use Rattle.cls_repo.specs.Readings.{Reading, no_reading, Takes, Refuses, closing_faults}
 use Rattle.cls_repo.specs.declared.fault.RepoFault.{RepoFault}
 use Rattle.cls_replies.specs.Lines.{Goes, Replies, Ends}
 use Rattle.cls_replies.specs.Serving.{Serving, Serves}
-use Rattle.cls_session.specs.declared.status.Status.{Status}
 use Rattle.cls_session.specs.declared.status.Status.TheVariants.{Done, Refused}
 use Rattle.cls_session.specs.Repositories.{AreTaken, IsRepository, IsFirstFault}
 use Rattle.cls_session.specs.Repositories as repositories

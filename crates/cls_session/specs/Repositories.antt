@@ -1,5 +1,5 @@
 -- Repositories, and the first fault of lines that are none.
-use Rattle.std.specs.Prelude.{ℕ, ◌≡◌, List, [], ◌∷◌, ◌++◌, true, false}
+use Rattle.std.specs.Prelude.{ℕ, ◌≡◌, List, ◌∷◌, ◌++◌, true, false}
 use Rattle.cls_base.specs.Firsts.{First, IsSilent}
 use Rattle.cls_repo.specs.Drafts.{Draft}
 use Rattle.cls_repo.specs.Readings.{Reading, no_reading, Takes, TakesAll, Refuses, closing_faults}

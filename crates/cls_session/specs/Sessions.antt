@@ -2,7 +2,6 @@
 use Rattle.std.specs.Prelude.{ℕ, ◌≡◌, List, [], ◌∷◌, ◌++◌, true, false, None, Some, string_bytes}
 use Rattle.cls_base.specs.Firsts.{First, IsSilent}
 use Rattle.cls_engine.specs.declared.options.Options.{Options}
-use Rattle.cls_repo.specs.declared.fault.FaultKind.{FaultKind}
 use Rattle.cls_repo.specs.declared.fault.FaultKind.TheVariants as kinds
 use Rattle.cls_repo.specs.declared.fault.RepoFault.{RepoFault}
 use Rattle.cls_repo.specs.FaultWords.{OnWords}

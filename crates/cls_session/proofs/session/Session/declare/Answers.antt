@@ -22,7 +22,7 @@ returns-in_err-serving-clause-fault c =
     let i = c.self.inside in
     let old : Standing = record { options = i.options; reader = i.reader; serving = i.serving } in
     let said = closing_said old c.args.line.now c.feed.new.self c.replace-reader.result c.in_err-serving.field-0.0 c.replace-reader.ensures.value c.in_ok-feed.ensures.taken
-        (sym c.in_ok-feed.ensures.ended ∙ c.if-not-branch.false) c.in_err-serving.ensures.fault in
+    (sym c.in_ok-feed.ensures.ended ∙ c.if-not-branch.false) c.in_err-serving.ensures.fault in
     let p = err_from_is_err_and c.from_residual-in_err-serving.result c.from_residual-in_err-serving.ensures.1 in
     rw (p.1, p.2) (subst (λ (s : Standing). IsSaid (IsFaultAt s c.args.line.now) c.in_err-serving.field-0.0) c.self.view_is said)
 
