@@ -11,6 +11,7 @@ pub mod Outputs
 pub mod InputLoop
 pub mod Asked
 pub mod OnePage
+pub mod OneSize
 pub mod OneReply
 pub mod OneLine
 pub mod SkippedLines

@@ -19,8 +19,9 @@ use Rattle.cls_library.specs.Typing.{HasTypeIn}
 use Rattle.cls_enum.specs.Requests.{request}
 use Rattle.cls_proof.specs.Certificates.{Certificate}
 use Rattle.cls_proof.specs.Texts.{certificate_text}
-use Rattle.cls_query.specs.Queries.{Listing, Query, sub, paths, typed, inhabit, grammar, audit, certify, verify, list, texts}
+use Rattle.cls_query.specs.Queries.{Listing, Query, sub, paths, typed, inhabit, grammar, audit, certify, verify, finite, list, texts}
 use Rattle.cls_syntax.specs.TypePrinting.{name_in}
+use Rattle.cls_term.specs.Costs.{cost_of}
 use Rattle.cls_term.specs.Texts.{name_at}
 use Rattle.cls_term.proofs.Orders.{Before-strict_total}
 use Rattle.cls_engine.specs.declared.fault.EngineFault.{EngineFault}
@@ -30,12 +31,13 @@ use Rattle.cls_engine.specs.Faults.{compare_faults, closure_faults, list_faults}
 use Rattle.cls_engine.specs.Goals.{Goal, IsFirstWide}
 use Rattle.cls_engine.proofs.Goals.{closed_unique}
 use Rattle.cls_replies.specs.Serving.{Serving}
-use Rattle.cls_replies.specs.Texts.{page_text, term_line, term_lines, error_line, fault_words}
+use Rattle.cls_replies.specs.Texts.{page_text, sizes_text, term_line, term_lines, error_line, fault_words}
 use Rattle.cls_replies.specs.Errors.{faults_of}
 use Rattle.cls_replies.specs.Replies.{Says, Lists, Reply}
 use Rattle.cls_replies.specs.Answering.{Answers}
 use Rattle.cls_replies.specs.Answering as answering
 use Rattle.cls_session.proofs.OnePage.{page_one, more_one}
+use Rattle.cls_session.proofs.OneSize.{sizes_one}
 
 some_is : {A : Type 0} (o : Option A) (a b : A) → o ≡ Some a → o ≡ Some b → a ≡ b
 some_is o a b e f = cc
@@ -74,6 +76,7 @@ module _ (e : EngineSeen) where
   fault_one (audit t) = closure_one t
   fault_one (certify t) = closure_one t
   fault_one (verify t) = compare_one (t ∷ [])
+  fault_one (finite t) = closure_one t
   fault_one (list q) = list_one q.goal (request e.costs q.after q.max q.take)
   fault_one (texts q) = list_one q.goal (request e.costs q.after q.max q.take)
 
@@ -117,6 +120,9 @@ module _ (s : Serving) where
       let same : p.0 ≡ q.0 = one_made s.engine.library (forms_of q.1.0) (book_of q.1.0) p.0 q.0 (subst (λ (rs : List (Row Goal)). IsMadeFor s.engine.library rs p.0) rows p.1.2) q.1.2 in
       p.2 ∙ (ap (λ (c : Certificate). certificate_text s.names s.components c) same ∙ sym q.2)
 
+  finite_one : (t : ClosedType) → IsDetermined (Reply s (finite t))
+  finite_one t u w p q = p.2 ∙ (ap sizes_text (sizes_one s.engine.library (cost_of s.engine.costs) t p.0 q.0 p.1 q.1) ∙ sym q.2)
+
   reply_one : (q : Query) → ((t : ClosedType) → q ≡ audit t → ⊥) → IsDetermined (Reply s q)
   reply_one (sub a b) n = says_one _ (codes "yes") (codes "no")
   reply_one (paths x) n = λ t u p q. p ∙ sym q
@@ -126,6 +132,7 @@ module _ (s : Serving) where
   reply_one (audit t) n = absurd (n t refl)
   reply_one (certify t) n = certificate_one t
   reply_one (verify t) n = λ u w p q. absurd p
+  reply_one (finite t) n = finite_one t
   reply_one (list q) n = lists_one q (term_line (name_at s.components))
   reply_one (texts q) n = lists_one q (term_lines (name_at s.components) s.templates)
 
