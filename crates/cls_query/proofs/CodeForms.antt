@@ -9,7 +9,7 @@ use Rattle.std.specs.Prelude.{position, is_some}
 use Rattle.cls_syntax.specs.TypeSchemas.{with_constructors}
 use Rattle.cls_syntax.specs.Forms.{Part}
 use Rattle.cls_query.specs.declared.form.QueryForm.{QueryForm}
-use Rattle.cls_query.specs.declared.form.GoalWord.TheVariants.{Inhabit, Grammar, Audit, Certify, Verify}
+use Rattle.cls_query.specs.declared.form.GoalWord.TheVariants.{Inhabit, Grammar, Audit, Certify, Verify, Finite}
 use Rattle.cls_query.specs.QueryErrors.{is_unknown_in_term}
 use Rattle.cls_query.proofs.Numbering.{names_of_type}
 use Rattle.cls_query.proofs.FormParts.{comparison_inside, typing_inside, comparison_known, typing_known, comparison_in_term, typing_in_term, typing_within, comparison_names, typing_names}
@@ -239,3 +239,4 @@ goal_means tables Grammar t = refl
 goal_means tables Audit t = refl
 goal_means tables Certify t = refl
 goal_means tables Verify t = refl
+goal_means tables Finite t = refl

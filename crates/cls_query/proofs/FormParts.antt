@@ -17,7 +17,7 @@ use Rattle.cls_syntax.specs.LineGrammars.{LineOf}
 use Rattle.cls_syntax.proofs.LineParts.{term_same}
 use Rattle.cls_term.specs.TokenFaults as faults
 use Rattle.cls_query.specs.declared.form.GoalWord.{GoalWord}
-use Rattle.cls_query.specs.declared.form.GoalWord.TheVariants.{Inhabit, Grammar, Audit, Certify, Verify}
+use Rattle.cls_query.specs.declared.form.GoalWord.TheVariants.{Inhabit, Grammar, Audit, Certify, Verify, Finite}
 use Rattle.cls_query.specs.declared.form.ListingWord.{ListingWord}
 use Rattle.cls_query.specs.declared.form.ListingWord.TheVariants as listing
 use Rattle.cls_query.specs.FormAnswers.{goal_line, listing_line}
@@ -35,6 +35,7 @@ goal_first Grammar = codes "grammar"
 goal_first Audit = codes "audit"
 goal_first Certify = codes "certify"
 goal_first Verify = codes "verify"
+goal_first Finite = codes "finite"
 
 abbrev listing_first : ListingWord → List ℕ
 listing_first listing.List = codes "list"
@@ -49,7 +50,7 @@ abbrev pub listing_values : TypeText → (max take : List ℕ) → Option TermTe
 listing_values t max take after = (t, (max, (take, option_map (λ e. (e, tt)) after)))
 
 abbrev pub asks_page : ListingWord → Values listing_form → LineOf query_rows
-asks_page word v = inr (inr (inr (inr (inr (inr (inr (inr (listing_line word v))))))))
+asks_page word v = inr (inr (inr (inr (inr (inr (inr (inr (inr (listing_line word v)))))))))
 
 goal_parts : (word : GoalWord) (t : TypeText) → row_parts query_rows (asks_goal word t) ≡ fixed (name (goal_first word)) ∷ line_parts goal_form (t, tt)
 goal_parts Inhabit t = refl
@@ -57,6 +58,7 @@ goal_parts Grammar t = refl
 goal_parts Audit t = refl
 goal_parts Certify t = refl
 goal_parts Verify t = refl
+goal_parts Finite t = refl
 
 page_parts : (word : ListingWord) (v : Values listing_form) → row_parts query_rows (asks_page word v) ≡ fixed (name (listing_first word)) ∷ line_parts listing_form v
 page_parts listing.List v = refl
@@ -69,6 +71,7 @@ goal_types Grammar t = refl
 goal_types Audit t = refl
 goal_types Certify t = refl
 goal_types Verify t = refl
+goal_types Finite t = refl
 
 cursor_types : (t : TypeText) (max take : List ℕ) (after : Option TermText) → line_types listing_form (listing_values t max take after) ≡ t ∷ []
 cursor_types t max take None = refl

@@ -217,9 +217,10 @@ module _ (tables : Tables) (line : List ℕ) (silent : IsSilent (First (line_err
   row_readable names (inr (inr (inr (inr (inr (inl v)))))) says = tt
   row_readable names (inr (inr (inr (inr (inr (inr (inl v))))))) says = tt
   row_readable names (inr (inr (inr (inr (inr (inr (inr (inl v)))))))) says = tt
-  row_readable names (inr (inr (inr (inr (inr (inr (inr (inr (inl v))))))))) says = listed names listing.List v says
-  row_readable names (inr (inr (inr (inr (inr (inr (inr (inr (inr (inl v)))))))))) says = listed names listing.Texts v says
-  row_readable names (inr (inr (inr (inr (inr (inr (inr (inr (inr (inr v)))))))))) says = absurd v
+  row_readable names (inr (inr (inr (inr (inr (inr (inr (inr (inl v))))))))) says = tt
+  row_readable names (inr (inr (inr (inr (inr (inr (inr (inr (inr (inl v)))))))))) says = listed names listing.List v says
+  row_readable names (inr (inr (inr (inr (inr (inr (inr (inr (inr (inr (inl v))))))))))) says = listed names listing.Texts v says
+  row_readable names (inr (inr (inr (inr (inr (inr (inr (inr (inr (inr (inr v))))))))))) says = absurd v
 
 never : {A : Type 0} → (A → ⊥) → A ↔ (false ≡ true)
 never none = ((λ a. absurd (none a)), (λ h. absurd (true≢false (sym h))))
@@ -235,7 +236,8 @@ row_verify tables (inr (inr (inr (inr (inr (inr (inl v))))))) = never (λ a. a)
 row_verify tables (inr (inr (inr (inr (inr (inr (inr (inl v)))))))) = ((λ a. refl), (λ h. tt))
 row_verify tables (inr (inr (inr (inr (inr (inr (inr (inr (inl v))))))))) = never (λ a. a)
 row_verify tables (inr (inr (inr (inr (inr (inr (inr (inr (inr (inl v)))))))))) = never (λ a. a)
-row_verify tables (inr (inr (inr (inr (inr (inr (inr (inr (inr (inr v)))))))))) = absurd v
+row_verify tables (inr (inr (inr (inr (inr (inr (inr (inr (inr (inr (inl v))))))))))) = never (λ a. a)
+row_verify tables (inr (inr (inr (inr (inr (inr (inr (inr (inr (inr (inr v))))))))))) = absurd v
 
 -- THE QUERY
 module _ {tables : Tables} {line : List ℕ} {query : Query} {constructors : List (List ℕ)} (r : ReadsQuery tables line query constructors) where

@@ -10,7 +10,7 @@ use Rattle.cls_syntax.specs.LineGrammars.{LineOf}
 use Rattle.cls_syntax.specs.SpelledTerms.{term_text}
 use Rattle.cls_syntax.specs.SpelledTypes.{type_text}
 use Rattle.cls_query.specs.declared.form.GoalWord.{GoalWord}
-use Rattle.cls_query.specs.declared.form.GoalWord.TheVariants.{Inhabit, Grammar, Audit, Certify, Verify}
+use Rattle.cls_query.specs.declared.form.GoalWord.TheVariants.{Inhabit, Grammar, Audit, Certify, Verify, Finite}
 use Rattle.cls_query.specs.declared.form.ListingWord.{ListingWord}
 use Rattle.cls_query.specs.declared.form.ListingWord.TheVariants as listing
 use Rattle.cls_query.specs.declared.form.ListingForm.{ListingForm}
@@ -18,7 +18,7 @@ use Rattle.cls_query.specs.declared.form.GoalForm.{GoalForm}
 use Rattle.cls_query.specs.declared.form.GoalForm.TheVariants.{Goal, Page}
 use Rattle.cls_query.specs.declared.form.QueryForm.{QueryForm}
 use Rattle.cls_query.specs.declared.form.QueryForm.TheVariants.{Sub, Paths, Typed, Asks}
-use Rattle.cls_query.specs.Queries.{Listing, Query, inhabit, grammar, audit, certify, verify, list, texts}
+use Rattle.cls_query.specs.Queries.{Listing, Query, inhabit, grammar, audit, certify, verify, finite, list, texts}
 use Rattle.cls_query.specs.QueryForms.{goal_form, listing_form, listing_rows, goal_rows, query_rows}
 
 abbrev pub listing_says : ListingForm → Values listing_form
@@ -34,10 +34,11 @@ goal_line Grammar v = inr (inl v)
 goal_line Audit v = inr (inr (inl v))
 goal_line Certify v = inr (inr (inr (inl v)))
 goal_line Verify v = inr (inr (inr (inr (inl v))))
+goal_line Finite v = inr (inr (inr (inr (inr (inl v)))))
 
 abbrev pub goal_says : GoalForm → LineOf goal_rows
 goal_says (Goal word t) = goal_line word (type_text t, tt)
-goal_says (Page word l) = inr (inr (inr (inr (inr (listing_line word (listing_says l))))))
+goal_says (Page word l) = inr (inr (inr (inr (inr (inr (listing_line word (listing_says l)))))))
 
 abbrev pub form_says : QueryForm → LineOf query_rows
 form_says (Sub s t) = inl (type_text s, (type_text t, tt))
@@ -59,6 +60,7 @@ goal_asked Grammar t = grammar t
 goal_asked Audit t = audit t
 goal_asked Certify t = certify t
 goal_asked Verify t = verify t
+goal_asked Finite t = finite t
 
 abbrev pub listing_asked : ListingWord → Listing → Query
 listing_asked listing.List l = list l

@@ -31,7 +31,7 @@ pub data Query : Type 0 where
   sub : (lower upper : ClosedType) → Query
   paths : (component : ℕ) → Query
   typed : (term : Applicative) → (type : ClosedType) → Query
-  inhabit grammar audit certify verify : (goal : ClosedType) → Query
+  inhabit grammar audit certify verify finite : (goal : ClosedType) → Query
   list texts : Listing → Query
 
 -- The names that have numbers.
@@ -94,7 +94,8 @@ module _ (tables : Tables) where
   goal_query (inr (inr (inl v))) = audit (type_in tables.constructors v.0)
   goal_query (inr (inr (inr (inl v)))) = certify (type_in tables.constructors v.0)
   goal_query (inr (inr (inr (inr (inl v))))) = verify (type_in tables.constructors v.0)
-  goal_query (inr (inr (inr (inr (inr v))))) = listing_query v
+  goal_query (inr (inr (inr (inr (inr (inl v)))))) = finite (type_in tables.constructors v.0)
+  goal_query (inr (inr (inr (inr (inr (inr v)))))) = listing_query v
 
   abbrev pub query_of : LineOf query_rows → Query
   query_of (inl v) = sub (type_in tables.constructors v.0) (type_in tables.constructors v.1.0)

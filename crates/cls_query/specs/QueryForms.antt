@@ -49,6 +49,7 @@ goal_rows =
     ∷ record { first = codes "audit"; form = goal_form }
     ∷ record { first = codes "certify"; form = goal_form }
     ∷ record { first = codes "verify"; form = goal_form }
+    ∷ record { first = codes "finite"; form = goal_form }
     ∷ listing_rows
 
 -- All queries.

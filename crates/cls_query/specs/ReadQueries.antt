@@ -12,7 +12,7 @@ use Rattle.cls_query.specs.declared.query.Query as code
 use Rattle.cls_query.specs.declared.query.Query.TheVariants as forms
 use Rattle.cls_query.specs.declared.query.Listing as listings
 use Rattle.cls_query.specs.QueryForms.{query_rows}
-use Rattle.cls_query.specs.Queries.{Listing, Query, Tables, sub, paths, typed, inhabit, grammar, audit, certify, verify, list, texts, with_query, query_of}
+use Rattle.cls_query.specs.Queries.{Listing, Query, Tables, sub, paths, typed, inhabit, grammar, audit, certify, verify, finite, list, texts, with_query, query_of}
 use Rattle.cls_query.specs.QueryErrors.{line_errors}
 
 -- The words of the fault. Out of memory has none.
@@ -42,6 +42,7 @@ asked_of (forms.Grammar t) = grammar (type_of t)
 asked_of (forms.Audit t) = audit (type_of t)
 asked_of (forms.Certify t) = certify (type_of t)
 asked_of (forms.Verify t) = verify (type_of t)
+asked_of (forms.Finite t) = finite (type_of t)
 asked_of (forms.List l) = list (listing_of l)
 asked_of (forms.Texts l) = texts (listing_of l)
 

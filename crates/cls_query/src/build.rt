@@ -89,6 +89,7 @@ impl GoalWord {
             GoalWord::Audit => Query::Audit(goal),
             GoalWord::Certify => Query::Certify(goal),
             GoalWord::Verify => Query::Verify(goal),
+            GoalWord::Finite => Query::Finite(goal),
         }
     }
 }

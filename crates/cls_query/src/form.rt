@@ -21,6 +21,7 @@ pub enum GoalWord {
     Audit,
     Certify,
     Verify,
+    Finite,
 }
 
 /// A first word before a listing.
@@ -90,6 +91,9 @@ fn goal_query<'t, 'a>(tokens: &'t [Token<'a>]) -> Result<GoalForm<'t, 'a>, Stop<
     }
     if let Ok(rest) = word_at(tokens, "verify") {
         return Ok(GoalForm::Goal(GoalWord::Verify, goal(rest)?));
+    }
+    if let Ok(rest) = word_at(tokens, "finite") {
+        return Ok(GoalForm::Goal(GoalWord::Finite, goal(rest)?));
     }
     let (word, form) = listing_query(tokens)?;
     Ok(GoalForm::Page(word, form))

@@ -1,4 +1,4 @@
-//! Reads the line of a query: which of the ten forms it is, with types, terms and numbers in place of texts, or the
+//! Reads the line of a query: which of the eleven forms it is, with types, terms and numbers in place of texts, or the
 //! first of its errors.
 //!
 //! - [`read_query`] gives the [`Query`] or the [`LineFault`]. The names of constructors are numbered exactly if there

@@ -33,6 +33,8 @@ pub enum Query {
     Certify(Ty),
     /// `verify TYPE`: whether the certificate that follows is one for the type.
     Verify(Ty),
+    /// `finite TYPE`: how large the terms of the type are.
+    Finite(Ty),
     /// `list TYPE max N take K`, with `after TERM` at will: a page of terms.
     List(Listing),
     /// `texts TYPE max N take K`, with `after TERM` at will: a page of terms with their texts.

@@ -2,4 +2,5 @@ pub mod Asking
 pub mod Counting
 pub mod Faulting
 pub mod Holding
+pub mod Telling
 pub mod Terms

@@ -3,7 +3,7 @@ use Rattle.std.specs.Prelude.{ℕ, List, [], ◌∷◌, ◌++◌, codes, Option,
 use Rattle.std.specs.Fmt.{decimal}
 use Rattle.cls_base.specs.Firsts.{Cause}
 use Rattle.cls_enum.specs.Requests.{request}
-use Rattle.cls_query.specs.Queries.{Query, sub, paths, typed, inhabit, grammar, audit, certify, verify, list, texts}
+use Rattle.cls_query.specs.Queries.{Query, sub, paths, typed, inhabit, grammar, audit, certify, verify, finite, list, texts}
 use Rattle.cls_proof.specs.declared.proof_fault.ProofFault.{ProofFault}
 use Rattle.cls_proof.specs.declared.proof_fault.ProofFault.TheVariants as proof
 use Rattle.cls_engine.specs.declared.fault.EngineFault.{EngineFault}
@@ -20,6 +20,7 @@ faults_of e (grammar t) = closure_faults e.library e.options t
 faults_of e (audit t) = closure_faults e.library e.options t
 faults_of e (certify t) = closure_faults e.library e.options t
 faults_of e (verify t) = compare_faults (t ∷ [])
+faults_of e (finite t) = closure_faults e.library e.options t
 faults_of e (list q) = list_faults e.library e.options q.goal (request e.costs q.after q.max q.take)
 faults_of e (texts q) = list_faults e.library e.options q.goal (request e.costs q.after q.max q.take)
 

@@ -1,24 +1,29 @@
 -- What is written for a query that has no error.
-use Rattle.std.specs.Prelude.{ℕ, ◌≡◌, ◌⊎◌, List, Bool, codes}
+use Rattle.std.specs.Prelude.{ℕ, ◌≡◌, ◌≤◌, ◌⊎◌, List, Bool, codes}
 use Rattle.cls_base.specs.Terms.{Applicative}
+use Rattle.cls_base.specs.Types.{ClosedType}
 use Rattle.cls_base.specs.Subtyping.{Subtype}
 use Rattle.cls_base.specs.Pages.{Request, IsPage}
 use Rattle.cls_core.specs.declared.entry.Entry.{Entry}
 use Rattle.cls_core.specs.Rows.{Row}
 use Rattle.cls_enum.specs.Requests.{request}
+use Rattle.cls_finite.specs.declared.answer.FiniteAnswer.{FiniteAnswer}
+use Rattle.cls_finite.specs.declared.answer.FiniteAnswer.TheVariants.{Finite, Over, Infinite}
 use Rattle.cls_grammar.specs.GrammarTexts.{IsGrammarText}
-use Rattle.cls_library.specs.Libraries.{below_in, variances_in, paths_at}
+use Rattle.cls_library.specs.Libraries.{Library, below_in, variances_in, paths_at}
 use Rattle.cls_library.specs.Typing.{HasTypeIn}
 use Rattle.cls_proof.specs.Certificates.{Certificate}
 use Rattle.cls_proof.specs.Texts.{certificate_text}
-use Rattle.cls_query.specs.Queries.{Listing, Query, sub, paths, typed, inhabit, grammar, audit, certify, verify, list, texts}
+use Rattle.cls_query.specs.Queries.{Listing, Query, sub, paths, typed, inhabit, grammar, audit, certify, verify, finite, list, texts}
 use Rattle.cls_syntax.specs.TypePrinting.{name_in}
+use Rattle.cls_term.specs.Costs.{cost_of}
 use Rattle.cls_term.specs.Texts.{name_at}
 use Rattle.cls_engine.specs.Certified.{IsCertified}
 use Rattle.cls_engine.specs.Goals.{Goal, IsClosed}
 use Rattle.cls_engine.specs.Histories.{IsHistoryOf}
+use Rattle.cls_engine.specs.Sizes.{IsGreatest, IsGreatestOver, IsUnbounded, IsWalk}
 use Rattle.cls_replies.specs.Serving.{Serving}
-use Rattle.cls_replies.specs.Texts.{reply_line, paths_text, history_text, term_line, term_lines, page_text}
+use Rattle.cls_replies.specs.Texts.{reply_line, paths_text, history_text, sizes_text, term_line, term_lines, page_text}
 
 -- One of two lines, by whether the fact holds.
 abbrev pub Says : Type 0 → (so not_so text : List ℕ) → Type 0
@@ -31,6 +36,17 @@ pub record ListsPage (IsListed : Applicative → Type 0) (r : Request) (shown : 
   pub more : Bool
   pub page : IsPage IsListed r terms more
   pub written : text ≡ page_text shown terms more
+
+-- the greatest size that is told
+abbrev pub max_finite_size : ℕ
+max_finite_size = 1000000000
+
+-- How large the terms of the type are: the greatest size, which is 0 if there is no term; that it is over the limit; or
+-- the one walk that shows that the sizes have no bound.
+abbrev pub TellsSizes : Library → (cost : ℕ → ℕ) → ClosedType → FiniteAnswer → Type 0
+TellsSizes lib cost t (Finite n) = IsGreatest lib cost t n × (n ≤ max_finite_size)
+TellsSizes lib cost t Over = IsGreatestOver lib cost t max_finite_size
+TellsSizes lib cost t (Infinite walk) = IsUnbounded lib cost t × IsWalk lib cost t walk
 
 -- the names have numbers
 module _ (s : Serving) where
@@ -57,5 +73,7 @@ module _ (s : Serving) where
   Reply (certify t) text =
       (c : Certificate) × IsCertified s.engine.library t c × (text ≡ certificate_text s.names s.components c)
   Reply (verify t) text = ⊥
+  Reply (finite t) text =
+      (sizes : FiniteAnswer) × TellsSizes s.engine.library (cost_of s.engine.costs) t sizes × (text ≡ sizes_text sizes)
   Reply (list q) text = Lists q (term_line (name_at s.components)) text
   Reply (texts q) text = Lists q (term_lines (name_at s.components) s.templates) text

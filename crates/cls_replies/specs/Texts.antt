@@ -10,6 +10,9 @@ use Rattle.cls_check.specs.declared.fault.Reason.{Reason}
 use Rattle.cls_check.specs.declared.fault.Reason.TheVariants as reason
 use Rattle.cls_core.specs.declared.entry.Entry.{Entry}
 use Rattle.cls_core.specs.declared.entry.Entry.TheVariants.{Claim, File}
+use Rattle.cls_finite.specs.declared.answer.FiniteAnswer.{FiniteAnswer}
+use Rattle.cls_finite.specs.declared.answer.FiniteAnswer.TheVariants.{Finite, Over, Infinite}
+use Rattle.cls_finite.specs.declared.walk.Step.{Step}
 use Rattle.cls_path.specs.Paths as path
 use Rattle.cls_path.specs.Paths.{Paths, type_of_path, type_of_paths, listed}
 use Rattle.cls_syntax.specs.TypePrinting.{printed, name_in}
@@ -51,6 +54,17 @@ event_line (File worker row) = reply_line (codes "file " ++ decimal worker ++ co
 
 abbrev pub history_text : List Entry → List ℕ
 history_text events = flat_map event_line events ++ reply_line (codes "done")
+
+-- the line of the greatest size, or of its being over the limit, or a line for each step of a walk, and `done`
+abbrev pub step_line : Step → List ℕ
+step_line s =
+    reply_line
+    (codes "walk " ++ decimal s.goal ++ codes " by " ++ decimal s.rule ++ codes " at " ++ decimal s.argument)
+
+abbrev pub sizes_text : FiniteAnswer → List ℕ
+sizes_text (Finite n) = reply_line (codes "finite " ++ decimal n)
+sizes_text Over = reply_line (codes "finite over")
+sizes_text (Infinite walk) = reply_line (codes "infinite") ++ flat_map step_line walk ++ reply_line (codes "done")
 
 -- the line of a term
 abbrev pub term_line : (name : ℕ → List ℕ) → Applicative → List ℕ

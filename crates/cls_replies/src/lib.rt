@@ -14,6 +14,7 @@ mod pages;
 mod paths;
 mod queries;
 mod serving;
+mod sizes;
 mod verifying;
 mod words;
 

@@ -5,7 +5,7 @@ ghost use Rattle.cls_base.specs.Terms.{IsTermOver};
 ghost use Rattle.cls_base.specs.Ty.{type_of};
 ghost use Rattle.cls_proof.specs.Seen.{certificate_of};
 ghost use Rattle.cls_check.specs.Verdicts.{rows_in};
-ghost use Rattle.cls_query.specs.Queries.{sub, paths, typed, inhabit, grammar, audit, certify, list, texts};
+ghost use Rattle.cls_query.specs.Queries.{sub, paths, typed, inhabit, grammar, audit, certify, finite, list, texts};
 ghost use Rattle.cls_query.specs.Readable.{IsPageAsked, IsReadable, IsVerify};
 ghost use Rattle.cls_query.specs.ReadQueries.{listing_of, asked_of};
 ghost use Rattle.cls_engine.specs.Faults.{IsFaultOf};
@@ -18,6 +18,7 @@ use crate::faults::engine_fault;
 use crate::pages::{print_terms, print_texts};
 use crate::paths::print_paths;
 use crate::serving::Serving;
+use crate::sizes::print_sizes;
 use crate::words::{says, verdict_line};
 use cls_base::{Gate, Name, OutOfMemory, Ty};
 use cls_engine::EngineFault;
@@ -52,6 +53,7 @@ impl Serving {
             Query::Audit(ty) => self.audit(rt, alloc, ty, gate),
             Query::Certify(ty) => self.certify(rt, alloc, ty, gate),
             Query::Verify(_) => unreachable!(),
+            Query::Finite(ty) => self.finite(rt, alloc, ty, gate),
             Query::List(listing) => self.list(rt, alloc, listing, gate),
             Query::Texts(listing) => self.texts(rt, alloc, listing, gate),
         }
@@ -149,6 +151,22 @@ impl Serving {
                 &self.components,
                 &certificate,
             ),
+            Err(fault) => engine_fault(alloc, &self.names, &fault),
+        }
+    }
+
+    fn finite<R: Threads + Wait + Sync, G: Gate + Sync>(
+        &mut self,
+        rt: &R,
+        alloc: Global,
+        ty: &Ty,
+        gate: &G,
+    ) -> Result<String, OutOfMemory>
+        ensures answers { IfOk result (λ text. Answers self.old (finite (type_of ty.now)) (string_bytes text)) }
+        ensures same { self.new ≡ self.old }
+    {
+        match self.engine.finite(rt, alloc, ty, gate) {
+            Ok(sizes) => print_sizes(alloc, &sizes),
             Err(fault) => engine_fault(alloc, &self.names, &fault),
         }
     }
