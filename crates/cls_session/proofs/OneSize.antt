@@ -30,14 +30,14 @@ same_step s s' e f g = λ i. record { goal = e i; rule = f i; argument = g i }
 module _ (book : List (List (Rule ℕ))) (cost : ℕ → ℕ) where
   first_step : (s s' : Step) (m n : ℕ) → s.goal ≡ s'.goal → IsFirstStep book cost s m → IsFirstStep book cost s' n → s ≡ s'
   first_step s s' m n e h k = elim (cases_order s.rule s'.rule) [
-      | inr (inl less) ↦ absurd (k.first_rule s m e less h.goes_on)
-      | inr (inr more) ↦ absurd (h.first_rule s' n (sym e) more k.goes_on)
-      | inl same ↦ elim (cases_order s.argument s'.argument) [
-          | inl one ↦ same_step s s' e same one
-          | inr (inl less) ↦ absurd (k.first_argument s m e same less h.goes_on)
-          | inr (inr more) ↦ absurd (h.first_argument s' n (sym e) (sym same) more k.goes_on)
-        ]
+    | inr (inl less) ↦ absurd (k.first_rule s m e less h.goes_on)
+    | inr (inr more) ↦ absurd (h.first_rule s' n (sym e) more k.goes_on)
+    | inl same ↦ elim (cases_order s.argument s'.argument) [
+      | inl one ↦ same_step s s' e same one
+      | inr (inl less) ↦ absurd (k.first_argument s m e same less h.goes_on)
+      | inr (inr more) ↦ absurd (h.first_argument s' n (sym e) (sym same) more k.goes_on)
     ]
+  ]
 
   one_next : (s : Step) (m n : ℕ) → LeadsTo book s m → LeadsTo book s n → m ≡ n
   one_next s m n t u =
