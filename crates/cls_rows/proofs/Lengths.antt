@@ -9,7 +9,7 @@ use Rattle.cls_engine.specs.declared.options.Options.{Options}
 use Rattle.cls_replies.specs.Serving.{Serving}
 use Rattle.cls_repo.specs.Readings.{Reading}
 use Rattle.cls_session.specs.declared.status.Status.{Status}
-use Rattle.cls_session.specs.Outputs.{lines_read, SessionText, after_lines, after_refusal, after_end, MayStand, of_usage, of_text}
+use Rattle.cls_session.specs.Outputs.{lines_read, SessionText, after_lines, after_refusal, after_end, MayStand, of_usage, of_text, of_generated_text}
 use Rattle.cls_session.specs.Repositories.{AreTaken, IsFirstFault, of_line, of_repository}
 use Rattle.cls_session.specs.Transcripts.{IsAnswered, Transcript, opening, answering, refusal, Ending, without_end, complete}
 use Rattle.cls_session.proofs.Outputs.{lines_read-short}
@@ -39,9 +39,9 @@ transcript_length o lines text none (answering s a) = let c = none_answered o li
 no_end_length : (place : ℕ) → place < 10 → length (refusal (place, codes "no-end")) ≤ 17
 no_end_length place few =
     let d = length-decimal-le_wide 1 place (omega arith) (omega arith) (omega arith) in
-    let a = length-append (codes "refused " ++ (decimal place ++ (codes " " ++ codes "no-end"))) (10 ∷ []) in
-    let b = length-append (codes "refused ") (decimal place ++ (codes " " ++ codes "no-end")) in
-    let c = length-append (decimal place) (codes " " ++ codes "no-end") in
+    let a = length-append (decimal place ++ codes " " ++ codes "no-end") (10 ∷ []) in
+    let b = length-append (decimal place ++ codes " ") (codes "no-end") in
+    let c = length-append (decimal place) (codes " ") in
     omega arith
 
 -- no line was read
@@ -74,6 +74,11 @@ session_length o text (after_lines first others e t) = let b = transcript_length
 session_length o text (after_refusal first others e r) = let b = none_faulty first r.said (first_lines first others e) r.fault in omega arith
 session_length o text (after_end status l r) = ending_length o (lines_of []) text status no_lines r
 
-pub nothing-text : (words : List (List ℕ)) (text : List ℕ) → MayStand words [] text → length text ≤ 1000
-nothing-text words text (of_usage n e) = let a = ap length e in omega arith
-nothing-text words text (of_text o asks t) = let a = session_length o text t in omega arith
+pub nothing-text : (text : List ℕ) → MayStand [] [] text → length text ≤ 1000
+nothing-text text (of_usage n e) = let a = ap length e in omega arith
+nothing-text text (of_text o asks t) = let a = session_length o text t in omega arith
+nothing-text text (of_generated_text o n asks t) =
+    let a = ap length asks.split in
+    let b = length-append asks.first asks.last in
+    let c = ap length asks.generate.spelled in
+    omega arith

@@ -7,5 +7,5 @@ pub run-status-requires-clause-room : goal.run-status-requires-clause-room
 run-status-requires-clause-room g c κs = λ text stands.
     let room = ap (λ s. s.room) c.in_ok-sink.ensures in
     let bytes : c.new-source.result ≡ [] = c.new-source.ensures ∙ c.in_ok-to_vec.ensures.items_if_clones_equal (λ x y e. e) in
-    let fits = nothing-text [] text (subst (λ (b : List ℕ). MayStand [] b text) bytes stands) in
+    let fits = nothing-text text (subst (λ (b : List ℕ). MayStand [] b text) bytes stands) in
     omega (arith, room, fits)
