@@ -35,6 +35,8 @@ mod queries;
 #[cfg(test)]
 mod refusals;
 #[cfg(test)]
+mod sizes;
+#[cfg(test)]
 mod streaming;
 #[cfg(test)]
 mod subtyping;
