@@ -32,7 +32,8 @@ module _ (tables : Tables) (goal : ClosedType) where
   begins_so (inr (inr (inr (inr (inr (inr (inr (inl v)))))))) e = absurd (true≢false (asked_audit (inr (inr (inr (inr (inr (inr (inr (inl v)))))))) e))
   begins_so (inr (inr (inr (inr (inr (inr (inr (inr (inl v))))))))) e = absurd (true≢false (asked_audit (inr (inr (inr (inr (inr (inr (inr (inr (inl v))))))))) e))
   begins_so (inr (inr (inr (inr (inr (inr (inr (inr (inr (inl v)))))))))) e = absurd (true≢false (asked_audit (inr (inr (inr (inr (inr (inr (inr (inr (inr (inl v)))))))))) e))
-  begins_so (inr (inr (inr (inr (inr (inr (inr (inr (inr (inr v)))))))))) e = absurd v
+  begins_so (inr (inr (inr (inr (inr (inr (inr (inr (inr (inr (inl v))))))))))) e = absurd (true≢false (asked_audit (inr (inr (inr (inr (inr (inr (inr (inr (inr (inr (inl v))))))))))) e))
+  begins_so (inr (inr (inr (inr (inr (inr (inr (inr (inr (inr (inr v))))))))))) e = absurd v
 
 pub audits_named : AuditsAreNamed
 audits_named line other tables goal constructors read =
