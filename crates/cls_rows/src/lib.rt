@@ -12,6 +12,7 @@ mod ends;
 mod examples;
 #[cfg(test)]
 mod faults;
+#[cfg(test)]
 mod generated;
 #[cfg(test)]
 mod grammars;
