@@ -9,7 +9,7 @@ const TWO: &str = "inhabited\nterm c1(c2(z))\ndone\ninhabited\nuninhabited\nyes\
 /// The same if fewer than three terms may be held.
 const TWO_IN_A_SMALL_POOL: &str = "inhabited\nerror too-many-terms\ninhabited\nuninhabited\nyes\n";
 
-/// Over a chain of 64 steps, the one term of both goals has more than 64 occurrences.
+/// Over a chain of 300 steps, the one term of both goals has more than 64 occurrences.
 const MANY: &str = "inhabited\ndone\ninhabited\nuninhabited\nyes\n";
 
 /// Words that end with a number for the generator, and what is written for its text.
@@ -22,8 +22,8 @@ const SHORT_CHAINS: [(&[&str], &str); 5] = [
 ];
 
 const LONG_CHAINS: [(&[&str], &str); 2] = [
-    (&["--workers", "1", "generate", "64"], MANY),
-    (&["--workers", "8", "generate", "64"], MANY),
+    (&["--workers", "1", "generate", "300"], MANY),
+    (&["--workers", "8", "generate", "300"], MANY),
 ];
 
 /// Words that ask for nothing, since `generate` and a number from 1 to 300 aren't the last two after the options.
