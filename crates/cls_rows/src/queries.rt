@@ -40,7 +40,7 @@ fn errors_have_their_words(rt: HostRuntime) -> Result<(), Fail> {
         ("list A max 1025 take 1", "error number"),
         ("texts A max 1 take 0", "error number"),
         ("hello", "error syntax 0"),
-        ("finite A", "error syntax 0"),
+        ("finite A", "read"),
         ("list A omega 3 take 1", "error syntax 7"),
         ("inhabit $omega", "error reserved 9"),
         ("paths omega", "error reserved 6"),
