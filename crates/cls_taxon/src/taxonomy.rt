@@ -89,7 +89,7 @@ impl Taxonomy {
     {
         let pairs = copy_of(alloc, &self.pairs)?;
         let variances = self.variances.copy()?;
-        let places = self.places.copy()?;
+        let places = self.places.copy(alloc)?;
         let below = copy_sets(alloc, &self.below)?;
         Ok(Taxonomy {
             pairs,
