@@ -10,7 +10,7 @@ use Rattle.cls_library.specs.Arrows.{MultiArrow, leading_arrows, with_source, sp
 use Rattle.cls_library.specs.Splits.{sources_at, split_at, source_at, places_from, arrows_at_places}
 
 -- a path with fewer leading arrows isn't split
-split-few : (n : ℕ) (p : TypePath) → leading_arrows p < n → split n p ≡ None
+pub split-few : (n : ℕ) (p : TypePath) → leading_arrows p < n → split n p ≡ None
 split-few zero p h = absurd (omega arith)
 split-few (suc k) (function n p) h = ap (with_source n) (split-few k p (omega arith))
 split-few (suc k) (atom c) h = refl
@@ -20,7 +20,7 @@ split-few (suc k) (left p) h = refl
 split-few (suc k) (right p) h = refl
 split-few (suc k) (sealed c n) h = refl
 
-split-many : (n : ℕ) (p : TypePath) → n ≤ leading_arrows p → split n p ≡ Some (split_at n p)
+pub split-many : (n : ℕ) (p : TypePath) → n ≤ leading_arrows p → split n p ≡ Some (split_at n p)
 split-many zero p h = refl
 split-many (suc k) (function n p) h = ap (with_source n) (split-many k p (omega arith))
 split-many (suc k) (atom c) h = absurd (omega arith)
@@ -30,10 +30,10 @@ split-many (suc k) (left p) h = absurd (omega arith)
 split-many (suc k) (right p) h = absurd (omega arith)
 split-many (suc k) (sealed c n) h = absurd (omega arith)
 
-few : (a n : ℕ) → nat_lt a n ≡ true → a < n
+pub few : (a n : ℕ) → nat_lt a n ≡ true → a < n
 few a n e = grind (arith, nat_tests)
 
-many : (a n : ℕ) → nat_lt a n ≡ false → n ≤ a
+pub many : (a n : ℕ) → nat_lt a n ≡ false → n ≤ a
 many a n e = grind (arith, nat_tests)
 
 is-few : (a n : ℕ) → a < n → nat_lt a n ≡ true

@@ -1,5 +1,5 @@
 //! A component of a library.
-ghost use Rattle.std.specs.Prelude.{◌≡◌, ◌≤◌, IfOk};
+ghost use Rattle.std.specs.Prelude.{◌≡◌, ◌≤◌, [], false, IfOk};
 ghost use Rattle.cls_base.specs.Limits.{max_arity};
 ghost use Rattle.cls_path.specs.Paths.{listed, Suits, SuitsAll};
 ghost use Rattle.cls_library.specs.Arrows.{arity_of, arrows_of};
@@ -104,6 +104,13 @@ impl Component {
         ensures { result ≡ arrows_of count self.now.paths }
     {
         Arrows::new(self.paths.paths(), self.columns[count].as_slice(), count)
+    }
+
+    /// Whether one of them may have a target below the path, by what its path is at its end. If not, none has.
+    pub fn may_reach(&self, taxonomy: &Taxonomy, count: usize, path: &Path) -> bool
+        ensures { result ≡ false → IsFamilyIn taxonomy.now (arrows_of count self.now.paths) path.now [] }
+    {
+        self.endings.may_reach(taxonomy, count, Ending::of(path))
     }
 
     /// The strictly ascending positions of those of them whose target is below the path. Only those are tested that have as

@@ -1,5 +1,6 @@
 //! The endings of the paths of a component.
 ghost use Rattle.std.specs.Prelude.{◌≡◌, map, IfOk};
+ghost use Rattle.std.specs.List.{list_any};
 ghost use Rattle.cls_taxon.specs.Decisions.{is_below};
 ghost use Rattle.cls_library.specs.Endings.{AreEndings, may_end_below};
 
@@ -40,6 +41,18 @@ impl Endings {
         let mut places = Vec::new(alloc);
         places.extend_from_slice(&self.places)?;
         Ok(Endings { kinds, places })
+    }
+
+    /// Whether a path of some ending, behind its first `count` arrows, may be below one of the ending `upper`.
+    pub fn may_reach(&self, taxonomy: &Taxonomy, count: usize, upper: Ending) -> bool
+        ensures { result ≡ list_any (λ lower. may_end_below (is_below taxonomy.now) count lower upper) self.now.kinds.keys }
+    {
+        for lower in self.kinds.as_slice() {
+            if lower.may_end_below(taxonomy, count, upper) {
+                return true;
+            }
+        }
+        false
     }
 
     /// Whether a path of each ending, behind its first `count` arrows, may be below one of the ending `upper`.

@@ -1,5 +1,5 @@
 //! Libraries: components over an order of names.
-ghost use Rattle.std.specs.Prelude.{◌≡◌, ◌+◌, ◌≤◌, ◌<◌, length, map, remove, IfOk, IfErr, OnOk, OnErr};
+ghost use Rattle.std.specs.Prelude.{◌≡◌, ◌+◌, ◌≤◌, ◌<◌, [], false, length, map, remove, IfOk, IfErr, OnOk, OnErr};
 ghost use Rattle.cls_base.specs.Limits.{max_library_weight};
 ghost use Rattle.cls_base.specs.Schemas.{schema_of};
 ghost use Rattle.cls_path.specs.Paths.{listed, Suits};
@@ -145,6 +145,14 @@ impl Library {
         ensures { result.now ≡ self.now.taxonomy }
     {
         &self.taxonomy
+    }
+
+    /// Whether an arrow that takes so many arguments may have a target below the path. If not, none has. It takes no memory.
+    pub fn may_reach(&self, x: u32, n: u32, path: &Path) -> bool
+        requires { x < length self.now.components }
+        ensures { result ≡ false → IsFamilyIn self.now.taxonomy (arrows_at self.now x n) path.now [] }
+    {
+        self.components[x as usize].may_reach(&self.taxonomy, n as usize, path)
     }
 
     /// The strictly ascending positions of the arrows that take so many arguments and whose target is below the path. The only error is
