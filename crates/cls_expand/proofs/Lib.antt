@@ -7,3 +7,4 @@ pub mod Languages
 pub mod Making
 pub mod Places
 pub mod Sources
+pub mod Unreached

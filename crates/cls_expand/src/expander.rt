@@ -1,8 +1,9 @@
 //! The rules of a goal: for each component and each number of arguments the minimal covers of the goal by its arrows,
 //! and for each cover one rule.
-ghost use Rattle.std.specs.Prelude.{◌≡◌, ℕ, ◌+◌, ◌<◌, ◌≤◌, Contains, IfOk, MatchBool, List, [], length, map};
+ghost use Rattle.std.specs.Prelude.{◌≡◌, ℕ, ◌+◌, ◌<◌, ◌≤◌, Contains, IfOk, MatchBool, List, [], false, length, map};
 ghost use Rattle.cls_path.specs.Paths.{TypePath, Paths, more, listed};
 ghost use Rattle.cls_library.specs.Arrows.{arity_of};
+ghost use Rattle.cls_library.specs.Families.{IsFamilyIn};
 ghost use Rattle.cls_library.specs.Libraries.{paths_at, arrows_at};
 ghost use Rattle.cls_library.specs.Rules.{IsWideBy, IsChoice, omega_rules};
 ghost use Rattle.cls_expand.specs.Answers.{IsAnswer, IsAnswerBy, IsReady, rule_of};
@@ -213,6 +214,18 @@ fn add_covers(
     Ok(true)
 }
 
+/// Whether an arrow of the component that takes so many arguments may lead to the first path of the goal. If not, none does.
+fn may_begin(lib: &Library, goal: &Nf, x: u32, n: u32) -> bool
+    requires { x < length lib.now.components }
+    ensures { result ≡ false → (q : TypePath) (rest : Paths) → listed goal.now ≡ more q rest
+        → IsFamilyIn lib.now.taxonomy (arrows_at lib.now x n) q [] }
+{
+    match goal.paths().first() {
+        Some(path) => lib.may_reach(x, n, path),
+        None => true,
+    }
+}
+
 /// Adds the rules of one number of arguments, and answers whether the goal isn't wide by them.
 fn add_places(
     alloc: Global,
@@ -230,6 +243,9 @@ fn add_places(
         → MatchBool narrow (AreBegun lib.now (listed goal.now) from x (n + 1) [] spines.new.keys)
         (IsWideBy lib.now x (listed goal.now))) }
 {
+    if !may_begin(lib, goal, x, n) {
+        return Ok(true);
+    }
     let families = families_of(alloc, lib, goal, x, n)?;
     match covers(alloc, families.as_slice(), MAX_COVERS) {
         Ok(list) => add_covers(alloc, lib, x, n, list.as_slice(), spines),
