@@ -55,7 +55,7 @@ target-leading (suc n) (left p) h = absurd (omega arith)
 target-leading (suc n) (right p) h = absurd (omega arith)
 target-leading (suc n) (sealed c s) h = absurd (omega arith)
 
-equal : (a b : ℕ) → a ≡ b → (a == b) ≡ true
+pub equal : (a b : ℕ) → a ≡ b → (a == b) ≡ true
 equal a b e = grind (arith, nat_tests)
 
 -- a path whose target is below another path has an ending that may lead there
@@ -68,11 +68,11 @@ may-end test variance n p q l h =
     let head : may_be_below test (head_of p) (head_of q) ≡ true = subst (λ x. may_be_below test x (head_of q) ≡ true) (target-head n p) (may-le test variance h) in
     (λ j. counts j && head j)
 
-both : (a b : Bool) → (a && b) ≡ true → (a ≡ true) × (b ≡ true)
+pub both : (a b : Bool) → (a && b) ≡ true → (a ≡ true) × (b ≡ true)
 both true b h = (refl, h)
 both false b h = cc
 
-same-head : (x y : Head) → heads.eq-value.it x y ≡ true → x ≡ y
+pub same-head : (x y : Head) → heads.eq-value.it x y ≡ true → x ≡ y
 same-head (Covariant c) (Covariant d) h = ap (λ (n : ℕ). Covariant (record { 0 = n })) (eqb-true c.0 d.0 h)
 same-head (Covariant c) Product h = cc
 same-head (Covariant c) (Sealed d) h = cc

@@ -1,5 +1,5 @@
 -- internal: what a path is at its end, behind its leading arrows
-use Rattle.std.specs.Prelude.{ℕ, ◌≡◌, ◌+◌, ◌==◌, ◌&&◌, ◌≤◌, min, Bool, true, false, List, [], ◌∷◌, length, slice_get, slice_index_or, Some}
+use Rattle.std.specs.Prelude.{ℕ, ◌≡◌, ◌+◌, ◌==◌, ◌&&◌, ◌≤◌, min, Bool, true, false, not, List, [], ◌∷◌, length, slice_get, slice_index_or, Some}
 use Rattle.cls_base.specs.Limits.{max_arity}
 use Rattle.cls_path.specs.Paths.{TypePath, atom, inside, unit, left, right, function, sealed, listed}
 use Rattle.cls_library.specs.declared.ending.Head.{Head}
@@ -21,6 +21,16 @@ head_of (sealed c n) = Sealed (record { 0 = c })
 -- the number of leading arrows, which counts up to one more than a component may take, with the head
 abbrev pub ending_of : TypePath → Ending
 ending_of p = record { arrows = min (max_arity + 1) (leading_arrows p); head = head_of p }
+
+-- the ending of a path that has n arrows before a path of this one
+abbrev pub ending_behind : ℕ → Ending → Ending
+ending_behind n f = record { arrows = min (max_arity + 1) (n + f.arrows); head = f.head }
+
+-- whether the head is a product, or a name that has a class of its own
+abbrev pub is_alone : (ℕ → ℕ) → Head → Bool
+is_alone class (Covariant c) = not (class c.0 == 0)
+is_alone class Product = true
+is_alone class (Sealed c) = not (class c.0 == 0)
 
 module _ (test : ℕ → ℕ → Bool) where
   -- whether a path of the one head may be below one of the other

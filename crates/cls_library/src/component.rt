@@ -127,6 +127,9 @@ impl Component {
         requires suits { Suits (variances_in taxonomy.now) path.now }
         ensures { IfOk result (IsFamilyIn taxonomy.now (arrows_of count self.now.paths) path.now) }
     {
+        if !self.may_reach(taxonomy, count, path) {
+            return Ok(Numbers::new(Vec::new(alloc)));
+        }
         let marks = self
             .endings
             .marks(alloc, taxonomy, count, Ending::of(path))?;

@@ -1,7 +1,8 @@
 //! What paths are at their ends, behind their leading arrows.
 ghost use Rattle.std.specs.Prelude.{◌≡◌};
 ghost use Rattle.cls_taxon.specs.Decisions.{is_below};
-ghost use Rattle.cls_library.specs.Endings.{ending_of, head_of, may_be_below, may_end_below};
+ghost use Rattle.cls_taxon.specs.Orders.{class_by};
+ghost use Rattle.cls_library.specs.Endings.{ending_of, ending_behind, head_of, is_alone, may_be_below, may_end_below};
 
 use crate::measure::{TOO_MANY, leading_arrows};
 use cls_base::{Name, Taxa};
@@ -39,6 +40,16 @@ impl Head {
         }
     }
 
+    /// Whether no other head may be below this one.
+    pub fn is_alone(self, taxonomy: &Taxonomy) -> bool
+        ensures { result ≡ is_alone (class_by taxonomy.now.pairs) self }
+    {
+        match self {
+            Head::Covariant(name) | Head::Sealed(name) => taxonomy.class(name) != 0,
+            Head::Product => true,
+        }
+    }
+
     /// Whether a path of this head may be below one of the other.
     pub fn may_be_below(self, taxonomy: &Taxonomy, upper: Head) -> bool
         ensures { result ≡ may_be_below (is_below taxonomy.now) self upper }
@@ -61,6 +72,16 @@ impl Ending {
         Ending {
             arrows: leading_arrows(path),
             head: Head::of(path),
+        }
+    }
+
+    /// The ending of a path that has `count` arrows before a path of this one.
+    pub fn behind(self, count: usize) -> Ending
+        ensures { result ≡ ending_behind count self }
+    {
+        Ending {
+            arrows: TOO_MANY.min(count.saturating_add(self.arrows)),
+            head: self.head,
         }
     }
 

@@ -47,6 +47,9 @@ impl Endings {
     pub fn may_reach(&self, taxonomy: &Taxonomy, count: usize, upper: Ending) -> bool
         ensures { result ≡ list_any (λ lower. may_end_below (is_below taxonomy.now) count lower upper) self.now.kinds.keys }
     {
+        if upper.head.is_alone(taxonomy) {
+            return self.kinds.contains(&upper.behind(count));
+        }
         for lower in self.kinds.as_slice() {
             if lower.may_end_below(taxonomy, count, upper) {
                 return true;
