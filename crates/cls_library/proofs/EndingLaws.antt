@@ -1,10 +1,9 @@
 -- Endings of paths, and where they are kept.
-use Rattle.std.proofs.Common.{◌≡◌, ℕ, zero, suc, ◌+◌, ◌<◌, ◌≤◌, min, Bool, true, false, List, [], ◌∷◌, ◌++◌, length, map, get_or, Some, refl, sym, subst, ap, ◌∙◌, arith, rules, eqb-true}
+use Rattle.std.proofs.Common.{◌≡◌, ℕ, zero, suc, ◌+◌, ◌<◌, ◌≤◌, min, Bool, true, false, List, [], ◌∷◌, ◌++◌, length, get_or, Some, refl, subst, ap, ◌∙◌, arith, rules, eqb-true}
 use Rattle.std.specs.Prelude.{slice_get, slice_index_or, if◌then◌else◌, ◌==◌, ◌&&◌}
 use Rattle.std.specs.List.{list_any}
-use Rattle.std.specs.Option.{option_map}
 use Rattle.std.proofs.lemmas.Bool.Decides.{nat_tests}
-use Rattle.std.proofs.lemmas.Option.{slice_get_within, slice_get-map, get_or_from_slice_get}
+use Rattle.std.proofs.lemmas.Option.{slice_get_within, get_or_from_slice_get}
 use Rattle.indexmap.specs.IndexSet.{insert_key}
 use Rattle.cls_base.specs.Limits.{max_arity}
 use Rattle.cls_base.specs.Taxonomies.{Variance}
@@ -17,7 +16,7 @@ use Rattle.cls_library.specs.contracts.ending.HeadPartialEq.TheImpl as heads
 use Rattle.cls_library.specs.contracts.ending.EndingPartialEq.TheImpl.{eq-value}
 use Rattle.cls_library.specs.Arrows.{leading_arrows}
 use Rattle.cls_library.specs.Splits.{target_at}
-use Rattle.cls_library.specs.Endings.{head_of, ending_of, may_be_below, may_end_below, AreEndings, AreMarks}
+use Rattle.cls_library.specs.Endings.{head_of, ending_of, may_be_below, may_end_below, AreEndings}
 use Rattle.cls_library.proofs.Splitting.{leading-le}
 
 -- a path below another one has a head that may be below
@@ -115,33 +114,31 @@ endings-more hs (j ∷ ks) (b ∷ ps) k p h e = (h.0, endings-more hs ks ps k p 
 endings-more hs [] (b ∷ ps) k p h e = absurd h
 endings-more hs (j ∷ ks) [] k p h e = absurd h
 
--- marks of the endings are marks of the paths
-pub marks-of_endings : (test : ℕ → ℕ → Bool) (n : ℕ) (q : TypePath) (hs : List Ending) (ks : List ℕ) (ps : List TypePath) → AreEndings hs ks ps → AreMarks test n q (map (λ lower. may_end_below test n lower (ending_of q)) hs) ks ps
-marks-of_endings test n q hs [] [] h = tt
-marks-of_endings test n q hs (k ∷ ks) (p ∷ ps) h =
-    (slice_get-map (λ lower. may_end_below test n lower (ending_of q)) hs k ∙ ap (option_map (λ lower. may_end_below test n lower (ending_of q))) h.0, marks-of_endings test n q hs ks ps h.1)
-marks-of_endings test n q hs [] (p ∷ ps) h = h
-marks-of_endings test n q hs (k ∷ ks) [] h = h
+module _ (kinds : List Ending) where
+  kind-at : (ks : List ℕ) (ps : List TypePath) (i : ℕ) → AreEndings kinds ks ps → i < length ps
+      → (i < length ks) × (slice_get kinds (get_or ks i 0) ≡ Some (ending_of (slice_index_or ps i unit)))
+  kind-at [] [] i h l = absurd (omega arith)
+  kind-at (k ∷ ks) (p ∷ ps) zero h l = (omega arith, h.0)
+  kind-at (k ∷ ks) (p ∷ ps) (suc i) h l = let r = kind-at ks ps i h.1 (omega arith) in (omega arith, r.1)
+  kind-at [] (p ∷ ps) i h l = absurd h
+  kind-at (k ∷ ks) [] i h l = absurd h
 
-module _ (test : ℕ → ℕ → Bool) (n : ℕ) (q : TypePath) (marks : List Bool) where
-  mark-at : (ks : List ℕ) (ps : List TypePath) (i : ℕ) → AreMarks test n q marks ks ps → i < length ps
-      → (i < length ks) × (slice_get marks (get_or ks i 0) ≡ Some (may_end_below test n (ending_of (slice_index_or ps i unit)) (ending_of q)))
-  mark-at [] [] i h l = absurd (omega arith)
-  mark-at (k ∷ ks) (p ∷ ps) zero h l = (omega arith, h.0)
-  mark-at (k ∷ ks) (p ∷ ps) (suc i) h l = let r = mark-at ks ps i h.1 (omega arith) in (omega arith, r.1)
-  mark-at [] (p ∷ ps) i h l = absurd h
-  mark-at (k ∷ ks) [] i h l = absurd h
-
-  module _ (ks : List ℕ) (ps : List TypePath) (i : ℕ) (h : AreMarks test n q marks ks ps) (l : i < length ps) where
+  module _ (ks : List ℕ) (ps : List TypePath) (i : ℕ) (h : AreEndings kinds ks ps) (l : i < length ps) where
     pub place-within : i < length ks
-    place-within = (mark-at ks ps i h l).0
+    place-within = (kind-at ks ps i h l).0
 
-    pub mark-within : get_or ks i 0 < length marks
-    mark-within = slice_get_within marks (get_or ks i 0) _ (mark-at ks ps i h l).1
+    pub kind-within : get_or ks i 0 < length kinds
+    kind-within = slice_get_within kinds (get_or ks i 0) _ (kind-at ks ps i h l).1
 
-    pub not-marked : (variance : ℕ → Variance) → n ≤ leading_arrows (slice_index_or ps i unit) → get_or marks (get_or ks i 0) false ≡ false → PathLe (Below test) variance (target_at n (slice_index_or ps i unit)) q → ⊥
-    not-marked variance many e le =
-        differs (sym e ∙ get_or_from_slice_get marks (get_or ks i 0) _ false (mark-at ks ps i h l).1 ∙ may-end test variance n (slice_index_or ps i unit) q many le)
+    -- a path whose ending may not be below doesn't lead there
+    pub not-below :
+        (test : ℕ → ℕ → Bool) (n : ℕ) (q : TypePath) (variance : ℕ → Variance) (upper d : Ending) → upper ≡ ending_of q
+        → n ≤ leading_arrows (slice_index_or ps i unit) → false ≡ may_end_below test n (get_or kinds (get_or ks i 0) d) upper
+        → PathLe (Below test) variance (target_at n (slice_index_or ps i unit)) q → ⊥
+    not-below test n q variance upper d u many f le =
+        let same : get_or kinds (get_or ks i 0) d ≡ ending_of (slice_index_or ps i unit) = get_or_from_slice_get kinds (get_or ks i 0) _ d (kind-at ks ps i h l).1 in
+        let none : false ≡ may_end_below test n (ending_of (slice_index_or ps i unit)) (ending_of q) = f ∙ (λ j. may_end_below test n (same j) (u j)) in
+        differs (none ∙ may-end test variance n (slice_index_or ps i unit) q many le)
       where
         differs : false ≡ true → ⊥
         differs e = cc

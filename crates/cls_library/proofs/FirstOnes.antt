@@ -1,6 +1,6 @@
 -- What stands for the first time in a list, in the order of its first places.
-use Rattle.std.proofs.Common.{◌≡◌, sym, subst, ap, refl, ◌⊎◌, inl, inr, List, [], ◌∷◌, Contains}
-use Rattle.cls_base.proofs.Lists.{Contains-nil, Contains-here, Contains-later, Contains-cases}
+use Rattle.std.proofs.Common.{◌≡◌, sym, subst, ap, refl, ◌⊎◌, inl, inr, List, ◌∷◌, Contains}
+use Rattle.cls_base.proofs.Lists.{Contains-here, Contains-later, Contains-cases}
 use Rattle.cls_library.specs.Rules.{FirstOnes, no_more, fresh, again}
 
 module _ {A : Type 0} where

@@ -4,7 +4,7 @@ use Rattle.cls_base.specs.Terms.{component}
 use Rattle.cls_base.specs.Spines.{spine}
 use Rattle.cls_base.specs.declared.rule.Rule.{Rule}
 use Rattle.cls_base.specs.declared.rule.Rule.TheVariants.{Head}
-use Rattle.cls_path.specs.Paths.{Paths, none, more, type_of_paths, SuitsAll, first_in}
+use Rattle.cls_path.specs.Paths.{Paths, more, type_of_paths, SuitsAll, first_in}
 use Rattle.std.specs.List.{AllZip}
 use Rattle.cls_base.proofs.Lists.{Contains-nil}
 use Rattle.cls_cover.specs.Members.{Member}

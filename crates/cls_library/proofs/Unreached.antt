@@ -1,6 +1,6 @@
 -- A component without an ending that may lead to a path has no arrow there.
 use Rattle.std.proofs.Common.{◌≡◌, ℕ, zero, suc, ◌≤◌, inl, inr, Bool, true, false, List, [], ◌∷◌, None, Some, refl, sym, subst, ap, ◌∙◌, arith}
-use Rattle.std.specs.Prelude.{Contains, slice_get, nat_lt, IsSomeAnd, ◌||◌}
+use Rattle.std.specs.Prelude.{slice_get, nat_lt, IsSomeAnd, ◌||◌}
 use Rattle.std.specs.List.{list_any}
 use Rattle.std.proofs.lemmas.Bool.{cases_Bool}
 use Rattle.cls_base.proofs.Lists.{Contains-nil}

@@ -50,13 +50,6 @@ AreEndings kinds [] [] = Unit {0}
 AreEndings kinds (k ∷ ks) (p ∷ ps) = (slice_get kinds k ≡ Some (ending_of p)) × AreEndings kinds ks ps
 AreEndings kinds _ _ = ⊥
 
--- at the place of each path stands whether it may be below the path q behind its first n arrows
-abbrev pub AreMarks : (ℕ → ℕ → Bool) → ℕ → TypePath → List Bool → List ℕ → List TypePath → Type 0
-AreMarks test n q marks [] [] = Unit {0}
-AreMarks test n q marks (k ∷ ks) (p ∷ ps) =
-    (slice_get marks k ≡ Some (may_end_below test n (ending_of p) (ending_of q))) × AreMarks test n q marks ks ps
-AreMarks test n q marks _ _ = ⊥
-
 -- what is kept of a component: for each number of arguments the places of its arrows, and the endings of its paths
 pub record IsKept (paths : List TypePath) (columns : List (List ℕ)) (kinds : List Ending) (places : List ℕ) : Type 0 where
   pub count : length columns ≡ arity_of (listed paths) + 1

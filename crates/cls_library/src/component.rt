@@ -10,7 +10,7 @@ use crate::arrow::Arrows;
 use crate::column::Column;
 use crate::ending::Ending;
 use crate::endings::Endings;
-use crate::family::marked_family;
+use crate::family::family_of;
 use crate::measure::arity;
 use cls_base::{Numbers, OutOfMemory};
 use cls_path::{Nf, Path};
@@ -130,17 +130,14 @@ impl Component {
         if !self.may_reach(taxonomy, count, path) {
             return Ok(Numbers::new(Vec::new(alloc)));
         }
-        let marks = self
-            .endings
-            .marks(alloc, taxonomy, count, Ending::of(path))?;
-        let family = marked_family(
+        let family = family_of(
             alloc,
             taxonomy,
             self.paths.paths(),
             self.columns[count].as_slice(),
             count,
+            self.endings.kinds.as_slice(),
             &self.endings.places,
-            &marks,
             path,
         )?;
         Ok(Numbers::new(family))

@@ -1,5 +1,5 @@
 //! The endings of the paths of a component.
-ghost use Rattle.std.specs.Prelude.{◌≡◌, map, IfOk};
+ghost use Rattle.std.specs.Prelude.{◌≡◌, IfOk};
 ghost use Rattle.std.specs.List.{list_any};
 ghost use Rattle.cls_taxon.specs.Decisions.{is_below};
 ghost use Rattle.cls_library.specs.Endings.{AreEndings, may_end_below};
@@ -56,23 +56,5 @@ impl Endings {
             }
         }
         false
-    }
-
-    /// Whether a path of each ending, behind its first `count` arrows, may be below one of the ending `upper`.
-    pub fn marks(
-        &self,
-        alloc: Global,
-        taxonomy: &Taxonomy,
-        count: usize,
-        upper: Ending,
-    ) -> Result<Vec<bool>, OutOfMemory>
-        ensures { IfOk result (λ marks.
-            marks.items ≡ map (λ lower. may_end_below (is_below taxonomy.now) count lower upper) self.now.kinds.keys) }
-    {
-        let mut marks = Vec::with_capacity(alloc, self.kinds.len())?;
-        for lower in self.kinds.as_slice() {
-            marks.push(lower.may_end_below(taxonomy, count, upper))?;
-        }
-        Ok(marks)
     }
 }

@@ -1,40 +1,44 @@
 //! The family of a path: the arrows of a component that lead to it.
 ghost use Rattle.std.specs.Prelude.{◌≡◌, IfOk};
 ghost use Rattle.cls_path.specs.Paths.{listed, Suits, SuitsAll};
-ghost use Rattle.cls_taxon.specs.Decisions.{is_below};
-ghost use Rattle.cls_library.specs.Endings.{AreMarks};
+ghost use Rattle.cls_library.specs.Endings.{AreEndings};
 ghost use Rattle.cls_library.specs.Families.{IsFamilyIn};
 ghost use Rattle.cls_library.specs.Libraries.{variances_in};
 ghost use Rattle.cls_library.specs.Splits.{arrows_at_places, places_from};
 
 use crate::arrow::target_of;
+use crate::ending::Ending;
 use cls_base::OutOfMemory;
 use cls_path::Path;
 use cls_taxon::Taxonomy;
 use std::alloc::Global;
 
-/// The strictly ascending positions of the arrows in the column whose target is below the path. The mark of an arrow's ending
-/// says whether it may be.
-pub(crate) fn marked_family(
+/// The strictly ascending positions of the arrows in the column whose target is below the path. The place of a path's ending
+/// among the kinds stands at its own place, and only those are tested whose ending may be below that of the path.
+pub(crate) fn family_of(
     alloc: Global,
     taxonomy: &Taxonomy,
     paths: &[Path],
     column: &[usize],
     count: usize,
+    kinds: &[Ending],
     endings: &[usize],
-    marks: &[bool],
     path: &Path,
 ) -> Result<Vec<u32>, OutOfMemory>
     requires column { column.now ≡ places_from count 0 paths.now }
-    requires marked { AreMarks (is_below taxonomy.now) count path.now marks.now endings.now paths.now }
+    requires endings { AreEndings kinds.now endings.now paths.now }
     requires paths { SuitsAll (variances_in taxonomy.now) (listed paths.now) }
     requires suits { Suits (variances_in taxonomy.now) path.now }
     ensures { IfOk result (λ family.
         IsFamilyIn taxonomy.now (arrows_at_places count paths.now column.now) path.now family.items) }
 {
+    let upper = Ending::of(path);
     let mut family = Vec::new(alloc);
     for (i, place) in column.iter().enumerate() {
-        if marks[endings[*place]] && target_of(&paths[*place], count).le(taxonomy, path) {
+        let lower = kinds[endings[*place]];
+        if lower.may_end_below(taxonomy, count, upper)
+            && target_of(&paths[*place], count).le(taxonomy, path)
+        {
             let Ok(position) = u32::try_from(i) else {
                 return Err(OutOfMemory);
             };

@@ -1,28 +1,20 @@
 use Rattle.std.proofs.Common.{◌≡◌, subst, sym, ap}
 use Rattle.cls_path.specs.Paths.{listed, SuitsAll}
-use Rattle.cls_taxon.specs.Decisions.{is_below}
 use Rattle.cls_library.specs.Arrows.{arrows_of}
 use Rattle.cls_library.specs.Libraries.{Component, variances_in}
 use Rattle.cls_library.specs.Splits.{arrows_at_places}
 use Rattle.cls_library.proofs.Columns.{column-places, column-arrows}
-use Rattle.cls_library.proofs.EndingLaws.{marks-of_endings}
 use Rattle.cls_library.proofs.component.Component.family.Goals as goal
 
-pub marked_family-requires-clause-column : goal.marked_family-requires-clause-column
-marked_family-requires-clause-column c =
+pub family_of-requires-clause-column : goal.family_of-requires-clause-column
+family_of-requires-clause-column c =
     let inside = c.self.inside in
     let same : listed inside.paths ≡ c.args.self.now.paths = ap (λ (x : Component). x.paths) c.self.view_is in
     rw (c.as_slice.ensures, c.paths.ensures)
     (column-places inside.paths inside.columns.items inside.endings.kinds.keys inside.endings.places.items c.self.invariant c.args.self.now.paths same c.args.count c.requires.within c.index.result.now c.index.ensures)
 
-pub marked_family-requires-clause-marked : goal.marked_family-requires-clause-marked
-marked_family-requires-clause-marked c =
-    let inside = c.self.inside in
-    rw (c.deref-2.ensures.value, c.deref.ensures.value, c.in_ok-marks.ensures, c.of.ensures, c.paths.ensures)
-    (marks-of_endings (is_below c.args.taxonomy.now) c.args.count c.args.path.now inside.endings.kinds.keys inside.endings.places.items inside.paths c.self.invariant.endings)
-
-pub marked_family-requires-clause-paths : goal.marked_family-requires-clause-paths
-marked_family-requires-clause-paths c =
+pub family_of-requires-clause-paths : goal.family_of-requires-clause-paths
+family_of-requires-clause-paths c =
     let same : listed c.self.inside.paths ≡ c.args.self.now.paths = ap (λ (x : Component). x.paths) c.self.view_is in
     rw c.paths.ensures (subst (SuitsAll (variances_in c.args.taxonomy.now)) (sym same) c.requires.paths)
 

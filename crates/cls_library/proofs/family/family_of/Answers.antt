@@ -7,11 +7,11 @@ use Rattle.cls_library.specs.Arrows.{MultiArrow}
 use Rattle.cls_library.specs.Families.{IsFamilyIn}
 use Rattle.cls_library.specs.Libraries.{below_in, variances_in}
 use Rattle.cls_library.specs.Splits.{split_at, target_at}
-use Rattle.cls_library.proofs.EndingLaws.{place-within, mark-within, not-marked, suits-at}
+use Rattle.cls_library.proofs.EndingLaws.{place-within, kind-within, not-below, suits-at}
 use Rattle.cls_library.proofs.FamilyLaws.{family-skip, family-take}
 use Rattle.cls_library.proofs.Places.{IsPlace, place-in}
-use Rattle.cls_library.proofs.family.marked_family.Goals as goal
-use Rattle.cls_library.proofs.family.marked_family.Goals.{then-marks-endings+then-le+in-Ok+in_ok-push, else-marks-endings, else-marks-endings-via-then-marks-endings+else-le, else-marks-endings-via-else-marks-endings}
+use Rattle.cls_library.proofs.family.family_of.Goals as goal
+use Rattle.cls_library.proofs.family.family_of.Goals.{then-may_end_below+then-le+in-Ok+in_ok-push, else-may_end_below, else-may_end_below-via-then-may_end_below+else-le, else-may_end_below-via-else-may_end_below}
 
 differs : false ≡ true → ⊥
 differs e = cc
@@ -19,12 +19,12 @@ differs e = cc
 pub bounds-endings-place : goal.bounds-endings-place
 bounds-endings-place c =
     let place = place-in c.args.count c.args.paths.now c.args.column.now c.requires.column c.loop-i.i c.loop-i-test.true in
-    place-within (is_below c.args.taxonomy.now) c.args.count c.args.path.now c.args.marks.now c.args.endings.now c.args.paths.now (get_or c.args.column.now c.loop-i.i 0) c.requires.marked place.within
+    place-within c.args.kinds.now c.args.endings.now c.args.paths.now (get_or c.args.column.now c.loop-i.i 0) c.requires.endings place.within
 
-pub bounds-marks-endings : goal.bounds-marks-endings
-bounds-marks-endings c =
+pub bounds-kinds-endings : goal.bounds-kinds-endings
+bounds-kinds-endings c =
     let place = place-in c.args.count c.args.paths.now c.args.column.now c.requires.column c.loop-i.i c.loop-i-test.true in
-    mark-within (is_below c.args.taxonomy.now) c.args.count c.args.path.now c.args.marks.now c.args.endings.now c.args.paths.now (get_or c.args.column.now c.loop-i.i 0) c.requires.marked place.within
+    kind-within c.args.kinds.now c.args.endings.now c.args.paths.now (get_or c.args.column.now c.loop-i.i 0) c.requires.endings place.within
 
 pub bounds-paths-place : goal.bounds-paths-place
 bounds-paths-place c = (place-in c.args.count c.args.paths.now c.args.column.now c.requires.column c.loop-i.i c.loop-i-test.true).within
@@ -49,16 +49,16 @@ loop-i-preserved c =
     let place : IsPlace n paths k = place-in n paths column c.requires.column i c.loop-i-test.true in
     let is : k ≡ get_or column i k = get_or_default column i 0 k c.loop-i-test.true in
     let target = λ (p : TypePath) (e : p ≡ get_or paths k p). ap (target_at n) (e ∙ get_or_default paths k p unit place.within) in
-    elim c.if-marks-endings.branch [
-      | then-marks-endings+then-le+in-Ok+in_ok-push w ↦ (let p : w.in-Ok.position ≡ i = search rules in
+    elim c.if-may_end_below.branch [
+      | then-may_end_below+then-le+in-Ok+in_ok-push w ↦ (let p : w.in-Ok.position ≡ i = search rules in
           rw w.family-is (family-take (below_in d) (variances_in d) q arrow_at column i k c.loop-i-test.true is c.loop-i.family.items c.loop-i.invariant
           (subst (λ x. PathLe (below_in d) (variances_in d) x q) (w.target_of.ensures ∙ target w.index-paths-place.result w.index-paths-place.is) (w.le.ensures.cases.0 w.if-le.true))
           w.push.new.self.items (w.in_ok-push.ensures.items ∙ ap (λ m. c.loop-i.family.items ++ m ∷ []) p)))
-      | else-marks-endings w ↦ rw w.family-is (family-skip (below_in d) (variances_in d) q arrow_at column i k c.loop-i-test.true is c.loop-i.family.items c.loop-i.invariant
-          (elim w.else-marks-endings.branch [
-            | else-marks-endings-via-then-marks-endings+else-le w' ↦ (λ l. differs (sym w'.if-le.false ∙ w'.le.ensures.cases.1
+      | else-may_end_below w ↦ rw w.family-is (family-skip (below_in d) (variances_in d) q arrow_at column i k c.loop-i-test.true is c.loop-i.family.items c.loop-i.invariant
+          (elim w.else-may_end_below.branch [
+            | else-may_end_below-via-then-may_end_below+else-le w' ↦ (λ l. differs (sym w'.if-le.false ∙ w'.le.ensures.cases.1
                 (subst (λ x. PathLe (below_in d) (variances_in d) x q) (sym (w'.target_of.ensures ∙ target w'.index-paths-place.result w'.index-paths-place.is)) l)))
-            | else-marks-endings-via-else-marks-endings w' ↦ not-marked (is_below d) n q c.args.marks.now c.args.endings.now paths k c.requires.marked place.within (variances_in d) place.enough w'.if-marks-endings.false
+            | else-may_end_below-via-else-may_end_below w' ↦ not-below c.args.kinds.now c.args.endings.now paths k c.requires.endings place.within (is_below d) n q (variances_in d) c.of-upper.result _ c.of-upper.ensures place.enough w'.if-may_end_below.ensures
           ]))
     ]
 
@@ -70,10 +70,16 @@ returns c =
 pub offset_bounds-endings-place : goal.offset_bounds-endings-place
 offset_bounds-endings-place c =
     let place = place-in c.args.count c.args.paths.now c.args.column.now c.requires.column c.loop-i.i c.loop-i-test.true in
-    let within = place-within (is_below c.args.taxonomy.now) c.args.count c.args.path.now c.args.marks.now c.args.endings.now c.args.paths.now (get_or c.args.column.now c.loop-i.i 0) c.requires.marked place.within in
+    let within = place-within c.args.kinds.now c.args.endings.now c.args.paths.now (get_or c.args.column.now c.loop-i.i 0) c.requires.endings place.within in
     search rules
 
 pub offset_bounds-paths-place : goal.offset_bounds-paths-place
 offset_bounds-paths-place c =
     let within = (place-in c.args.count c.args.paths.now c.args.column.now c.requires.column c.loop-i.i c.loop-i-test.true).within in
+    search rules
+
+pub offset_bounds-kinds-endings : goal.offset_bounds-kinds-endings
+offset_bounds-kinds-endings c =
+    let place = place-in c.args.count c.args.paths.now c.args.column.now c.requires.column c.loop-i.i c.loop-i-test.true in
+    let within = kind-within c.args.kinds.now c.args.endings.now c.args.paths.now (get_or c.args.column.now c.loop-i.i 0) c.requires.endings place.within in
     search rules
