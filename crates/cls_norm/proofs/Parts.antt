@@ -19,9 +19,6 @@ none_some p e = cc
 some_is : (p q : TypePath) → ◌≡◌ {A = Option TypePath} (Some p) (Some q) → p ≡ q
 some_is p q e = cc
 
-apart : {j k : ℕ} → j < k → j ≡ k → ⊥
-apart h e = omega arith
-
 pub drop_item : (xs : List (Bor Ty)) (i : ℕ) (x : Bor Ty) → i < length xs → x ≡ get_or xs i x → drop i xs ≡ x ∷ drop (i + 1) xs
 drop_item xs i x h e = drop_more xs i x h ∙ ap (λ (y : Bor Ty). y ∷ drop (i + 1) xs) (sym e)
 
@@ -60,6 +57,15 @@ module _ (below : ℕ → ℕ → Type 0) (variance : ℕ → Variance) where
 
   not_con : (w : Variance) (c : ℕ) (n : Paths) (q : TypePath) (k : ℕ) → 0 < k → k < 3 → shape q ≡ k → Over (constructor_paths w c n) q → ⊥
   not_con w c n q k h j e o = elim (con_shape w c n q o) [ inl a ↦ omega arith | inr b ↦ omega arith ]
+
+  -- a name below the covariant one
+  pub name_at :
+      ((c d : ℕ) → below c d → variance c ≡ variance d) → (c d : ℕ) (s : ClosedType) → variance d ≡ covariant
+      → below c d ↔ Over (P (constructor c s)) (atom d)
+  name_at same c d s v = (
+    (λ b. subst (λ (w : Variance). Over (constructor_paths w c (P s)) (atom d)) (sym (same c d b ∙ v)) (to_atom below variance c d (P s) b)),
+    (λ h. con_atom (variance c) c d (P s) h),
+  )
 
   pub name_entered :
       ((c d : ℕ) → below c d → variance c ≡ variance d) → (step : Step) (c : ℕ) (s : ClosedType) (t : Bor Ty) (old new : List (Bor Ty))

@@ -159,6 +159,13 @@ module _ (below : ℕ → ℕ → Type 0) (variance : ℕ → Variance) where
   single_below c d n m (here (invariants v w b h k)) = b
   single_below c d n m (there a) = elim a [ ]
 
+  -- a covariant name over omega
+  pub bare_upper : (x : Paths) (c : ℕ) (n : Paths) → n ≡ none → Over x (atom c) ↔ Le x (constructor_paths covariant c n)
+  bare_upper x c n e = subst (λ (m : Paths). Over x (atom c) ↔ Le x (constructor_paths covariant c m)) (sym e) ((λ a. each a empty), (λ h. first_of x (atom c) none h))
+
+  pub nowhere : (q : TypePath) → Over none q → ⊥
+  nowhere q h = elim h [ ]
+
   pub name_below : (w : Variance) (c d : ℕ) (n m : Paths) → Over (constructor_paths w c n) (sealed d m) → below c d
   name_below covariant c d n m h = let e : ◌≡◌ {A = ℕ} 3 0 = some_shape below variance 0 (or_one (atom c) (map_paths (inside c) n)) (sealed d m) (covariant_shape c n) h in absurd (omega arith)
   name_below contravariant c d n m h = single_below c d n m h
@@ -191,6 +198,13 @@ module _ (below : ℕ → ℕ → Type 0) (variance : ℕ → Variance) where
 
   arrow_not_sealed : (s u : ClosedType) (d : ℕ) (m : Paths) → Over (P (arrow s u)) (sealed d m) → ⊥
   arrow_not_sealed s u d m h = let e : ◌≡◌ {A = ℕ} 3 2 = some_shape below variance 2 (P (arrow s u)) (sealed d m) (arrow_shape (P s) (P u)) h in omega arith
+
+  pub other_not_named : (t : ClosedType) → IsOther t → (d : ℕ) → Over (P t) (atom d) → ⊥
+  other_not_named types.omega o d h = elim h [ ]
+  other_not_named (constructor c s) o d h = o
+  other_not_named (product s u) o d h = let e : ◌≡◌ {A = ℕ} 0 1 = some_shape below variance 1 (P (product s u)) (atom d) (product_shape (P s) (P u)) h in omega arith
+  other_not_named (arrow s u) o d h = let e : ◌≡◌ {A = ℕ} 0 2 = some_shape below variance 2 (P (arrow s u)) (atom d) (arrow_shape (P s) (P u)) h in omega arith
+  other_not_named (meet s u) o d h = o
 
   pub other_not_sealed : (t : ClosedType) → IsOther t → (d : ℕ) (m : Paths) → Over (P t) (sealed d m) → ⊥
   other_not_sealed types.omega o d m h = elim h [ ]

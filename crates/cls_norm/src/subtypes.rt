@@ -6,11 +6,12 @@
 //! with each part of the other once at most, and no path is made. Only what stands under invariant names is compared by
 //! normal forms: a comparison both ways would double the work at each depth.
 ghost use Rattle.std.specs.Prelude.{◌≡◌, ◌↔◌, [], IfOk, OnOk, IsTrue};
-ghost use Rattle.cls_base.specs.Types.{nodes};
+ghost use Rattle.cls_base.specs.Types.{nodes, omega};
+ghost use Rattle.cls_base.specs.Taxonomies.{covariant};
 ghost use Rattle.cls_base.specs.Ty.{type_of};
 ghost use Rattle.cls_base.specs.Taxa.{Below};
 ghost use Rattle.cls_base.specs.Subtyping.{Subtype};
-ghost use Rattle.cls_path.specs.Paths.{sealed, PathsLe, SomeLe, paths_of};
+ghost use Rattle.cls_path.specs.Paths.{atom, sealed, PathsLe, SomeLe, paths_of};
 ghost use Rattle.cls_path.specs.Laws.{AreEquivalent};
 ghost use Rattle.cls_norm.specs.Subtypes.{Adds, Stands, IsEntered, IsLacking, IsSealing, paths_behind, paths_of_all, nodes_of_all};
 
@@ -66,6 +67,9 @@ fn are_below<T: Taxa>(
         Ty::Omega => Ok(true),
         Ty::Con(name, argument) => match taxa.variance(*name) {
             Variance::Co => {
+                if is_omega(argument) {
+                    return Ok(have_name(taxa, lowers, *name));
+                }
                 let step = Step::Name(*name);
                 Ok(parts_are_below(alloc, taxa, lowers, step, argument)?)
             }
@@ -194,6 +198,42 @@ fn is_entered<T: Taxa>(taxa: &T, step: Step<'_>, name: Name) -> bool
     match step {
         Step::Name(upper) => taxa.below(name, upper),
         Step::Source(_) | Step::Left | Step::Right => false,
+    }
+}
+
+/// Whether the type is omega.
+fn is_omega(ty: &Ty) -> bool
+    ensures { IsTrue result ↔ (type_of ty.now ≡ omega) }
+{
+    matches!(ty, Ty::Omega)
+}
+
+/// Whether one of the types has a name that is below the covariant name. It ends with the first one.
+fn have_name<T: Taxa>(taxa: &T, lowers: &[&Ty], name: Name) -> bool
+    requires { T.variance_of_name taxa.now name.0 ≡ covariant }
+    ensures { IsTrue result
+        ↔ SomeLe (Below (T.is_below taxa.now)) (T.variance_of_name taxa.now)
+        (paths_of_all (T.variance_of_name taxa.now) lowers.now) (atom name.0) }
+{
+    for lower in lowers {
+        if has_name(taxa, *lower, name) {
+            return true;
+        }
+    }
+    false
+}
+
+/// Whether the type has a name that is below the covariant name.
+fn has_name<T: Taxa>(taxa: &T, lower: &Ty, name: Name) -> bool
+    requires { T.variance_of_name taxa.now name.0 ≡ covariant }
+    ensures { IsTrue result
+        ↔ SomeLe (Below (T.is_below taxa.now)) (T.variance_of_name taxa.now)
+        (paths_of (T.variance_of_name taxa.now) (type_of lower.now)) (atom name.0) }
+{
+    match lower {
+        Ty::Con(other, _) => taxa.below(*other, name),
+        Ty::Meet(first, second) => has_name(taxa, first, name) || has_name(taxa, second, name),
+        Ty::Omega | Ty::Prod(..) | Ty::Arrow(..) => false,
     }
 }
 

@@ -12,7 +12,7 @@ use Rattle.cls_path.proofs.PathLaws.{derivations_are_decided}
 use Rattle.cls_norm.specs.Subtypes.{Adds, IsLacking, IsSealing, paths_of_all, nodes_of_all}
 use Rattle.cls_norm.proofs.Steps.{append_none, both, to_append_first, to_append_second, from_append}
 use Rattle.cls_norm.proofs.Parts.{drop_item, name_entered, name_passed, left_part, right_part, product_name, product_source, source_above, source_passed, arrow_name, arrow_left, arrow_right, none_added, le_append}
-use Rattle.cls_norm.proofs.Uppers.{nodes_at, not_covariant, parts_decide, parts_lack, sides_decide, sealed_upper, name_below, contra_decides, inv_decides, other_not_sealed, some_at, none_at}
+use Rattle.cls_norm.proofs.Uppers.{nodes_at, not_covariant, parts_decide, parts_lack, sides_decide, sealed_upper, name_below, contra_decides, inv_decides, other_not_sealed, some_at, none_at, nowhere, bare_upper}
 use Rattle.cls_norm.proofs.subtypes.+below.Goals as goal
 
 no : {A : Type 0} → (A → ⊥) → (◌≡◌ false true → A) × (A → ◌≡◌ false true)
@@ -20,9 +20,6 @@ no f = ((λ h. absurd (false≢true h)), (λ a. absurd (f a)))
 
 yes : {A : Type 0} → A → (◌≡◌ true true → A) × (A → ◌≡◌ true true)
 yes a = ((λ h. a), (λ h. refl))
-
-nowhere : (below : ℕ → ℕ → Type 0) (variance : ℕ → Variance) (q : TypePath) → SomeLe below variance none q → ⊥
-nowhere below variance q h = elim h [ ]
 
 pub are_below-returns-in-Omega : goal.are_below-returns-in-Omega
 are_below-returns-in-Omega g t c =
@@ -33,7 +30,7 @@ are_below-returns-in_ok-parts_are_below-in-Co g t c =
     let b = Below (g.T.Taxa.is_below c.args.taxa.now) in
     let v = g.T.Taxa.variance_of_name c.args.taxa.now in
     let k : covariant ≡ v c.in-Con.name.0 = ap variance_of (sym c.in-Co.is) ∙ c.variance.ensures.is in
-    rw (c.in-Con.is, ← k, ← c.deref.ensures) c.in_ok-parts_are_below-in-Co.ensures
+    rw (c.in-Con.is, ← k, ← c.deref-in-Co.ensures) c.in_ok-parts_are_below-in-Co.ensures
 
 pub are_below-returns-in_ok-has_name_below-in-Contra : goal.are_below-returns-in_ok-has_name_below-in-Contra
 are_below-returns-in_ok-has_name_below-in-Contra g t c =
@@ -86,6 +83,17 @@ are_below-returns-in_ok-are_below-in-Meet-2 g t c =
     let f = c.in_ok-are_below-in-Meet-2.ensures in
     let k = le_append b v x (paths_of v (type_of c.deref-in-Meet.result.now)) (paths_of v (type_of c.deref-in-Meet-2.result.now)) in
     rw (c.in-Meet.is, ← c.deref-in-Meet.ensures, ← c.deref-in-Meet-2.ensures) ((λ h. k.1 (e.0 c.if-not-branch-2.false, f.0 h)), (λ l. f.1 (k.0 l).1))
+
+pub are_below-returns-then-is_omega : goal.are_below-returns-then-is_omega
+are_below-returns-then-is_omega g t c =
+    let b = Below (g.T.Taxa.is_below c.args.taxa.now) in
+    let v = g.T.Taxa.variance_of_name c.args.taxa.now in
+    let x = paths_of_all v c.args.lowers.now in
+    let k : covariant ≡ v c.in-Con.name.0 = ap variance_of (sym c.in-Co.is) ∙ c.variance.ensures.is in
+    let s = type_of c.deref.result.now in
+    let a = bare_upper b v x c.in-Con.name.0 (paths_of v s) (ap (paths_of v) (c.is_omega.ensures.0 c.if-is_omega.true)) in
+    let e = c.have_name.ensures in
+    rw (c.in-Con.is, ← k, ← c.deref.ensures) ((λ h. a.0 (e.0 h)), (λ l. e.1 (a.1 l)))
 
 pub has_name_below-is_name_below-requires : goal.has_name_below-is_name_below-requires
 has_name_below-is_name_below-requires g t c κs within =
@@ -248,7 +256,7 @@ parts_behind-loop-lower-preserved g t c =
     let mid = c.put_parts.new.parts.items in
     let k = nodes (type_of item.now) in
     λ new a. c.loop-lower.invariant new (subst (λ (l : List (Bor Ty)). Adds b v c.args.step (paths_of_all v l) (nodes_of_all l) old new) (sym e)
-    (both b v c.args.step (paths_of v (type_of item.now)) (paths_of_all v rest) k (nodes_of_all rest) (1 + k + nodes_of_all rest) old mid new (omega arith) c.in_ok-put_parts.ensures a))
+        (both b v c.args.step (paths_of v (type_of item.now)) (paths_of_all v rest) k (nodes_of_all rest) (1 + k + nodes_of_all rest) old mid new (omega arith) c.in_ok-put_parts.ensures a))
 
 pub parts_behind-returns : goal.parts_behind-returns
 parts_behind-returns g t c =
