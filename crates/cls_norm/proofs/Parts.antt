@@ -10,7 +10,7 @@ use Rattle.cls_base.specs.declared.ty.Ty.{Ty}
 use Rattle.cls_path.specs.Paths.{TypePath, atom, inside, unit, left, right, function, sealed, Paths, none, more, PathLe, atoms, inside_atom, insides, units, left_unit, right_unit, lefts, rights, functions, contravariants, invariants, SomeLe, here, there, PathsLe, empty, each, append, map_paths, or_one, constructor_paths, paths_of}
 use Rattle.cls_norm.specs.declared.subtypes.Step.{Step}
 use Rattle.cls_norm.specs.declared.subtypes.Step.TheVariants.{Name, Source, Left, Right}
-use Rattle.cls_norm.specs.Subtypes.{paths_of_all, nodes_of_all, IsFilled, Stands, IsEntered, IsLacking, IsSealing, nodes_of_step, path_behind, path_at, paths_behind, Adds}
+use Rattle.cls_norm.specs.Subtypes.{paths_of_all, nodes_of_all, IsFilled, Stands, IsEntered, IsLacking, IsSealing, Joins, nodes_of_step, path_behind, path_at, paths_behind, Adds}
 use Rattle.cls_norm.proofs.Steps.{shape, AllOf, product_shape, arrow_shape, covariant_shape, append_none, Above, some_shape, from_append, to_append_first, to_append_second, from_inside, to_inside, from_atom, to_atom, from_function, to_function, from_left, to_left, from_right, to_right, to_unit, A, nothing, one}
 
 none_some : (p : TypePath) → ◌≡◌ {A = Option TypePath} None (Some p) → ⊥
@@ -18,6 +18,20 @@ none_some p e = cc
 
 some_is : (p q : TypePath) → ◌≡◌ {A = Option TypePath} (Some p) (Some q) → p ≡ q
 some_is p q e = cc
+
+append_assoc : (n m l : Paths) → append (append n m) l ≡ append n (append m l)
+append_assoc none m l = refl
+append_assoc (more p n) m l = ap (more p) (append_assoc n m l)
+
+pub joins_one : (old : List (Bor Ty)) (t : Bor Ty) → Joins (type_of t.now) old (old ++ (t ∷ []))
+joins_one [] t v = append_none (paths_of v (type_of t.now))
+joins_one (u ∷ old) t v =
+    let n = paths_of v (type_of u.now) in
+    ap (append n) (joins_one old t v) ∙ sym (append_assoc n (paths_of_all v old) (paths_of v (type_of t.now)))
+
+pub joins_both : (s t : ClosedType) (old mid new : List (Bor Ty)) → Joins s old mid → Joins t mid new → Joins (meet s t) old new
+joins_both s t old mid new a b v =
+    b v ∙ (ap (λ (n : Paths). append n (paths_of v t)) (a v) ∙ append_assoc (paths_of_all v old) (paths_of v s) (paths_of v t))
 
 pub drop_item : (xs : List (Bor Ty)) (i : ℕ) (x : Bor Ty) → i < length xs → x ≡ get_or xs i x → drop i xs ≡ x ∷ drop (i + 1) xs
 drop_item xs i x h e = drop_more xs i x h ∙ ap (λ (y : Bor Ty). y ∷ drop (i + 1) xs) (sym e)

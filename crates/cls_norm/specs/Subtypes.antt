@@ -1,7 +1,7 @@
 -- internal: intersections of several types, and the steps from a type into its parts
 use Rattle.std.specs.Prelude.{ℕ, ◌+◌, ◌≤◌, ◌≡◌, ◌↔◌, ◌⊎◌, List, [], ◌∷◌, Option, Some, None}
 use Rattle.std.specs.Borrow.{Bor}
-use Rattle.cls_base.specs.Types.{nodes}
+use Rattle.cls_base.specs.Types.{ClosedType, nodes}
 use Rattle.cls_base.specs.Taxonomies.{Variance, covariant, contravariant, invariant}
 use Rattle.cls_base.specs.Ty.{type_of}
 use Rattle.cls_base.specs.declared.ty.Ty.{Ty}
@@ -13,6 +13,10 @@ use Rattle.cls_norm.specs.declared.subtypes.Step.TheVariants.{Name, Source, Left
 abbrev pub paths_of_all : (ℕ → Variance) → List (Bor Ty) → Paths
 paths_of_all v [] = none
 paths_of_all v (t ∷ ts) = append (paths_of v (type_of t.now)) (paths_of_all v ts)
+
+-- the new list stands for the intersection of the old one and the type, whatever the variances of names
+abbrev pub Joins : ClosedType → List (Bor Ty) → List (Bor Ty) → Type 0
+Joins t old new = (v : ℕ → Variance) → paths_of_all v new ≡ append (paths_of_all v old) (paths_of v t)
 
 -- the nodes of the types, and one more for each
 abbrev pub nodes_of_all : List (Bor Ty) → ℕ

@@ -13,7 +13,7 @@ ghost use Rattle.cls_base.specs.Taxa.{Below};
 ghost use Rattle.cls_base.specs.Subtyping.{Subtype};
 ghost use Rattle.cls_path.specs.Paths.{atom, sealed, PathsLe, SomeLe, paths_of};
 ghost use Rattle.cls_path.specs.Laws.{AreEquivalent};
-ghost use Rattle.cls_norm.specs.Subtypes.{Adds, Stands, IsEntered, IsLacking, IsSealing, paths_behind, paths_of_all, nodes_of_all};
+ghost use Rattle.cls_norm.specs.Subtypes.{Adds, Stands, IsEntered, IsLacking, IsSealing, Joins, paths_behind, paths_of_all, nodes_of_all};
 
 use crate::normals::normal;
 use cls_base::{Name, OutOfMemory, Taxa, Ty, Variance};
@@ -47,7 +47,22 @@ pub fn subtype<T: Taxa>(
         ↔ Subtype (Below (T.is_below taxa.now)) (T.variance_of_name taxa.now)
         (type_of lower.now) (type_of upper.now)) }
 {
-    Ok(are_below(alloc, taxa, &[lower], upper)?)
+    let mut pieces = Vec::new(alloc);
+    put_pieces(lower, &mut pieces)?;
+    Ok(are_below(alloc, taxa, &pieces, upper)?)
+}
+
+/// Puts the types whose intersection the type is at the end.
+fn put_pieces<'a>(ty: &'a Ty, pieces: &mut Vec<&'a Ty>) -> Result<(), OutOfMemory>
+    ensures { OnOk result (Joins (type_of ty.now) pieces.old.items pieces.new.items) }
+{
+    match ty {
+        Ty::Meet(first, second) => {
+            put_pieces(first, pieces)?;
+            Ok(put_pieces(second, pieces)?)
+        }
+        _ => Ok(pieces.push(ty)?),
+    }
 }
 
 /// Whether the intersection of the types is below the type.

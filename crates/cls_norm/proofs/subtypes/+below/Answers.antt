@@ -256,7 +256,7 @@ parts_behind-loop-lower-preserved g t c =
     let mid = c.put_parts.new.parts.items in
     let k = nodes (type_of item.now) in
     λ new a. c.loop-lower.invariant new (subst (λ (l : List (Bor Ty)). Adds b v c.args.step (paths_of_all v l) (nodes_of_all l) old new) (sym e)
-        (both b v c.args.step (paths_of v (type_of item.now)) (paths_of_all v rest) k (nodes_of_all rest) (1 + k + nodes_of_all rest) old mid new (omega arith) c.in_ok-put_parts.ensures a))
+    (both b v c.args.step (paths_of v (type_of item.now)) (paths_of_all v rest) k (nodes_of_all rest) (1 + k + nodes_of_all rest) old mid new (omega arith) c.in_ok-put_parts.ensures a))
 
 pub parts_behind-returns : goal.parts_behind-returns
 parts_behind-returns g t c =
