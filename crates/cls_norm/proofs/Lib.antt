@@ -1,3 +1,6 @@
 pub mod Counts
+pub mod Parts
 pub mod PathLists
 pub mod Sizes
+pub mod Steps
+pub mod Uppers

@@ -8,8 +8,10 @@
 mod fits;
 mod normals;
 mod paths;
+mod subtypes;
 mod types;
 
 pub use fits::fit;
-pub use normals::{normal, subtype};
+pub use normals::normal;
+pub use subtypes::subtype;
 pub use types::{path_type, type_of};

@@ -1,4 +1,4 @@
-ghost use Rattle.std.specs.Prelude.{◌↔◌, IfOk, IsTrue};
+ghost use Rattle.std.specs.Prelude.{IfOk};
 ghost use Rattle.cls_base.specs.Ty.{type_of};
 ghost use Rattle.cls_base.specs.Taxa.{Below};
 ghost use Rattle.cls_base.specs.Subtyping.{Subtype};
@@ -27,21 +27,4 @@ pub fn normal<T: Taxa>(alloc: Global, taxa: &T, ty: &Ty) -> Result<Nf, OutOfMemo
 {
     let paths = paths_of(alloc, taxa, ty)?;
     Ok(Nf::from_paths(alloc, taxa, paths)?)
-}
-
-/// Whether the first type is a subtype of the second: yes if and only if a derivation by the rules exists. The only error
-/// is out of memory. What bounds the work is said at [`normal`].
-pub fn subtype<T: Taxa>(
-    alloc: Global,
-    taxa: &T,
-    lower: &Ty,
-    upper: &Ty,
-) -> Result<bool, OutOfMemory>
-    ensures { IfOk result (λ answer. IsTrue answer
-        ↔ Subtype (Below (T.is_below taxa.now)) (T.variance_of_name taxa.now)
-        (type_of lower.now) (type_of upper.now)) }
-{
-    let lower = normal(alloc, taxa, lower)?;
-    let upper = normal(alloc, taxa, upper)?;
-    Ok(lower.le(taxa, &upper))
 }

@@ -1,0 +1,333 @@
+//! Subtyping by recursion on the types.
+//!
+//! The order is that of intersection types (Barendregt, Coppo and Dezani 1983) with names and products. A list of types
+//! stands for their intersection. It is below an arrow if the targets of those arrows of it whose source is above the
+//! arrow's are below the arrow's target, and likewise for products and covariant names. So each part of one type is compared
+//! with each part of the other once at most, and no path is made. Only what stands under invariant names is compared by
+//! normal forms: a comparison both ways would double the work at each depth.
+ghost use Rattle.std.specs.Prelude.{◌≡◌, ◌↔◌, [], IfOk, OnOk, IsTrue};
+ghost use Rattle.cls_base.specs.Types.{nodes, omega};
+ghost use Rattle.cls_base.specs.Taxonomies.{covariant};
+ghost use Rattle.cls_base.specs.Ty.{type_of};
+ghost use Rattle.cls_base.specs.Taxa.{Below};
+ghost use Rattle.cls_base.specs.Subtyping.{Subtype};
+ghost use Rattle.cls_path.specs.Paths.{atom, sealed, PathsLe, SomeLe, paths_of};
+ghost use Rattle.cls_path.specs.Laws.{AreEquivalent};
+ghost use Rattle.cls_norm.specs.Subtypes.{Adds, Stands, IsEntered, IsLacking, IsSealing, Joins, paths_behind, paths_of_all, nodes_of_all};
+
+use crate::normals::normal;
+use cls_base::{Name, OutOfMemory, Taxa, Ty, Variance};
+use std::alloc::Global;
+
+/// A step from a type into its parts.
+#[derive(Clone, Copy)]
+enum Step<'a> {
+    /// Into the argument of each name that is below this covariant one.
+    Name(Name),
+    /// Into the target of each arrow whose source is above this type.
+    Source(&'a Ty),
+    /// Into the left side of each product.
+    Left,
+    /// Into the right side of each product.
+    Right,
+}
+
+/// Whether the first type is a subtype of the second: yes if and only if a derivation by the rules exists. The only error
+/// is out of memory.
+///
+/// Time is bounded by the product of the nodes of the two types, but for the types under invariant names, where it is
+/// bounded by their spread. The stack is bounded by the depth of the types as trees.
+pub fn subtype<T: Taxa>(
+    alloc: Global,
+    taxa: &T,
+    lower: &Ty,
+    upper: &Ty,
+) -> Result<bool, OutOfMemory>
+    ensures { IfOk result (λ answer. IsTrue answer
+        ↔ Subtype (Below (T.is_below taxa.now)) (T.variance_of_name taxa.now)
+        (type_of lower.now) (type_of upper.now)) }
+{
+    let mut pieces = Vec::new(alloc);
+    put_pieces(lower, &mut pieces)?;
+    Ok(are_below(alloc, taxa, &pieces, upper)?)
+}
+
+/// Puts the types whose intersection the type is at the end.
+fn put_pieces<'a>(ty: &'a Ty, pieces: &mut Vec<&'a Ty>) -> Result<(), OutOfMemory>
+    ensures { OnOk result (Joins (type_of ty.now) pieces.old.items pieces.new.items) }
+{
+    match ty {
+        Ty::Meet(first, second) => {
+            put_pieces(first, pieces)?;
+            Ok(put_pieces(second, pieces)?)
+        }
+        _ => Ok(pieces.push(ty)?),
+    }
+}
+
+/// Whether the intersection of the types is below the type.
+#[cycle(below)]
+fn are_below<T: Taxa>(
+    alloc: Global,
+    taxa: &T,
+    lowers: &[&Ty],
+    upper: &Ty,
+) -> Result<bool, OutOfMemory>
+    ensures { IfOk result (λ answer. IsTrue answer
+        ↔ PathsLe (Below (T.is_below taxa.now)) (T.variance_of_name taxa.now)
+        (paths_of_all (T.variance_of_name taxa.now) lowers.now)
+        (paths_of (T.variance_of_name taxa.now) (type_of upper.now))) }
+{
+    match upper {
+        Ty::Omega => Ok(true),
+        Ty::Con(name, argument) => match taxa.variance(*name) {
+            Variance::Co => {
+                if is_omega(argument) {
+                    return Ok(have_name(taxa, lowers, *name));
+                }
+                let step = Step::Name(*name);
+                Ok(parts_are_below(alloc, taxa, lowers, step, argument)?)
+            }
+            Variance::Contra | Variance::Inv => {
+                Ok(has_name_below(alloc, taxa, lowers, *name, argument)?)
+            }
+        },
+        Ty::Prod(first, second) => {
+            if !parts_are_below(alloc, taxa, lowers, Step::Left, first)? {
+                return Ok(false);
+            }
+            Ok(parts_are_below(alloc, taxa, lowers, Step::Right, second)?)
+        }
+        Ty::Arrow(source, target) => {
+            let step = Step::Source(source);
+            Ok(parts_are_below(alloc, taxa, lowers, step, target)?)
+        }
+        Ty::Meet(first, second) => {
+            if !are_below(alloc, taxa, lowers, first)? {
+                return Ok(false);
+            }
+            Ok(are_below(alloc, taxa, lowers, second)?)
+        }
+    }
+}
+
+/// Whether the intersection of the types is below what has the upper type behind the step.
+#[cycle(below)]
+fn parts_are_below<T: Taxa>(
+    alloc: Global,
+    taxa: &T,
+    lowers: &[&Ty],
+    step: Step<'_>,
+    upper: &Ty,
+) -> Result<bool, OutOfMemory>
+    requires { Stands (T.variance_of_name taxa.now) step }
+    ensures { IfOk result (λ answer. IsTrue answer
+        ↔ PathsLe (Below (T.is_below taxa.now)) (T.variance_of_name taxa.now)
+        (paths_of_all (T.variance_of_name taxa.now) lowers.now)
+        (paths_behind (T.variance_of_name taxa.now) step.entry
+        (paths_of (T.variance_of_name taxa.now) (type_of upper.now)))) }
+{
+    let parts = parts_behind(alloc, taxa, lowers, step)?;
+    if lacks_part(step, &parts) {
+        return Ok(false);
+    }
+    Ok(are_below(alloc, taxa, &parts, upper)?)
+}
+
+/// The parts of the types that lie behind the step.
+#[cycle(below)]
+fn parts_behind<'a, T: Taxa>(
+    alloc: Global,
+    taxa: &T,
+    lowers: &[&'a Ty],
+    step: Step<'_>,
+) -> Result<Vec<&'a Ty>, OutOfMemory>
+    requires { Stands (T.variance_of_name taxa.now) step }
+    ensures { IfOk result (λ parts. Adds (Below (T.is_below taxa.now)) (T.variance_of_name taxa.now) step.entry
+        (paths_of_all (T.variance_of_name taxa.now) lowers.now) (nodes_of_all lowers.now) [] parts.items) }
+{
+    let mut parts = Vec::new(alloc);
+    for lower in lowers {
+        put_parts(alloc, taxa, *lower, step, &mut parts)?;
+    }
+    Ok(parts)
+}
+
+/// Puts the parts of the type that lie behind the step at the end.
+#[cycle(below)]
+fn put_parts<'a, T: Taxa>(
+    alloc: Global,
+    taxa: &T,
+    lower: &'a Ty,
+    step: Step<'_>,
+    parts: &mut Vec<&'a Ty>,
+) -> Result<(), OutOfMemory>
+    requires { Stands (T.variance_of_name taxa.now) step }
+    ensures { OnOk result (Adds (Below (T.is_below taxa.now)) (T.variance_of_name taxa.now) step.entry
+        (paths_of (T.variance_of_name taxa.now) (type_of lower.now)) (nodes (type_of lower.now))
+        parts.old.items parts.new.items) }
+{
+    match lower {
+        Ty::Omega => Ok(()),
+        Ty::Con(name, argument) => {
+            if is_entered(taxa, step, *name) {
+                parts.push(argument)?;
+            }
+            Ok(())
+        }
+        Ty::Prod(first, second) => match step {
+            Step::Left => Ok(parts.push(first)?),
+            Step::Right => Ok(parts.push(second)?),
+            Step::Name(_) | Step::Source(_) => Ok(()),
+        },
+        Ty::Arrow(source, target) => match step {
+            Step::Source(taken) => {
+                if are_below(alloc, taxa, &[taken], source)? {
+                    parts.push(target)?;
+                }
+                Ok(())
+            }
+            Step::Name(_) | Step::Left | Step::Right => Ok(()),
+        },
+        Ty::Meet(first, second) => {
+            put_parts(alloc, taxa, first, step, parts)?;
+            Ok(put_parts(alloc, taxa, second, step, parts)?)
+        }
+    }
+}
+
+/// Whether the step needs a part, as each but one behind a source does, and there is none.
+fn lacks_part(step: Step<'_>, parts: &[&Ty]) -> bool
+    ensures { IsTrue result ↔ IsLacking step.entry parts.now }
+{
+    match step {
+        Step::Source(_) => false,
+        Step::Name(_) | Step::Left | Step::Right => parts.is_empty(),
+    }
+}
+
+/// Whether the step goes into the argument of the name.
+fn is_entered<T: Taxa>(taxa: &T, step: Step<'_>, name: Name) -> bool
+    ensures { IsTrue result ↔ IsEntered (Below (T.is_below taxa.now)) step.entry name.0 }
+{
+    match step {
+        Step::Name(upper) => taxa.below(name, upper),
+        Step::Source(_) | Step::Left | Step::Right => false,
+    }
+}
+
+/// Whether the type is omega.
+fn is_omega(ty: &Ty) -> bool
+    ensures { IsTrue result ↔ (type_of ty.now ≡ omega) }
+{
+    matches!(ty, Ty::Omega)
+}
+
+/// Whether one of the types has a name that is below the covariant name. It ends with the first one.
+fn have_name<T: Taxa>(taxa: &T, lowers: &[&Ty], name: Name) -> bool
+    requires { T.variance_of_name taxa.now name.0 ≡ covariant }
+    ensures { IsTrue result
+        ↔ SomeLe (Below (T.is_below taxa.now)) (T.variance_of_name taxa.now)
+        (paths_of_all (T.variance_of_name taxa.now) lowers.now) (atom name.0) }
+{
+    for lower in lowers {
+        if has_name(taxa, *lower, name) {
+            return true;
+        }
+    }
+    false
+}
+
+/// Whether the type has a name that is below the covariant name.
+fn has_name<T: Taxa>(taxa: &T, lower: &Ty, name: Name) -> bool
+    requires { T.variance_of_name taxa.now name.0 ≡ covariant }
+    ensures { IsTrue result
+        ↔ SomeLe (Below (T.is_below taxa.now)) (T.variance_of_name taxa.now)
+        (paths_of (T.variance_of_name taxa.now) (type_of lower.now)) (atom name.0) }
+{
+    match lower {
+        Ty::Con(other, _) => taxa.below(*other, name),
+        Ty::Meet(first, second) => has_name(taxa, first, name) || has_name(taxa, second, name),
+        Ty::Omega | Ty::Prod(..) | Ty::Arrow(..) => false,
+    }
+}
+
+/// Whether one of the types has a name over a type that is below the name over the argument. The name is contravariant or
+/// invariant.
+#[cycle(below)]
+fn has_name_below<T: Taxa>(
+    alloc: Global,
+    taxa: &T,
+    lowers: &[&Ty],
+    name: Name,
+    argument: &Ty,
+) -> Result<bool, OutOfMemory>
+    requires { IsSealing (T.variance_of_name taxa.now name.0) }
+    ensures { IfOk result (λ answer. IsTrue answer
+        ↔ SomeLe (Below (T.is_below taxa.now)) (T.variance_of_name taxa.now)
+        (paths_of_all (T.variance_of_name taxa.now) lowers.now)
+        (sealed name.0 (paths_of (T.variance_of_name taxa.now) (type_of argument.now)))) }
+{
+    for lower in lowers {
+        if is_name_below(alloc, taxa, *lower, name, argument)? {
+            return Ok(true);
+        }
+    }
+    Ok(false)
+}
+
+/// Whether the type has a name over a type that is below the name over the argument. The name is contravariant or invariant.
+#[cycle(below)]
+fn is_name_below<T: Taxa>(
+    alloc: Global,
+    taxa: &T,
+    lower: &Ty,
+    name: Name,
+    argument: &Ty,
+) -> Result<bool, OutOfMemory>
+    requires { IsSealing (T.variance_of_name taxa.now name.0) }
+    ensures { IfOk result (λ answer. IsTrue answer
+        ↔ SomeLe (Below (T.is_below taxa.now)) (T.variance_of_name taxa.now)
+        (paths_of (T.variance_of_name taxa.now) (type_of lower.now))
+        (sealed name.0 (paths_of (T.variance_of_name taxa.now) (type_of argument.now)))) }
+{
+    match lower {
+        Ty::Con(other, inner) => {
+            if !taxa.below(*other, name) {
+                return Ok(false);
+            }
+            match taxa.variance(name) {
+                Variance::Inv => Ok(are_equivalent(alloc, taxa, inner, argument)?),
+                Variance::Co | Variance::Contra => {
+                    Ok(are_below(alloc, taxa, &[argument], inner)?)
+                }
+            }
+        }
+        Ty::Meet(first, second) => {
+            if is_name_below(alloc, taxa, first, name, argument)? {
+                return Ok(true);
+            }
+            Ok(is_name_below(alloc, taxa, second, name, argument)?)
+        }
+        Ty::Omega | Ty::Prod(..) | Ty::Arrow(..) => Ok(false),
+    }
+}
+
+/// Whether each of the types is below the other, which their normal forms tell.
+fn are_equivalent<T: Taxa>(
+    alloc: Global,
+    taxa: &T,
+    one: &Ty,
+    other: &Ty,
+) -> Result<bool, OutOfMemory>
+    ensures { IfOk result (λ answer. IsTrue answer
+        ↔ AreEquivalent (Below (T.is_below taxa.now)) (T.variance_of_name taxa.now)
+        (type_of one.now) (type_of other.now)) }
+{
+    if one.order(other).is_eq() {
+        return Ok(true);
+    }
+    let one = normal(alloc, taxa, one)?;
+    let other = normal(alloc, taxa, other)?;
+    Ok(one.order(&other).is_eq())
+}
