@@ -159,8 +159,9 @@ where
 /// The closure of the goal `start`, worked out by at least one worker and at most 64 (`max_workers`).
 ///
 /// The rows are those of a legal complete history from `start`, which names workers from 0 to their number, and each
-/// holds the answer of its goal. Each worker tells the gate of each claim that it makes. Once all have ended the
-/// caller, which is the worker 0, takes the table out and files what is left. `TooLarge` comes if and only if the
+/// holds the answer of its goal. Each worker tells the gate of each claim that it makes. The caller works as the
+/// worker 1, and has the others work beside it where there are rows enough. Once all have ended the caller, now as the
+/// worker 0, takes the table out and files what is left. `TooLarge` comes if and only if the
 /// closure has more goals or more rules than the limits. The only other error is out of memory.
 pub fn expand_all<E: Expand + Sync, T: Gate + Sync, R: Threads + Wait + Sync>(
     rt: &R,
