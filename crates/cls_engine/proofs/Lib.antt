@@ -3,8 +3,8 @@ pub mod Completions
 pub mod Faulting
 pub mod Finiteness
 pub mod Goals
+pub mod Keeping
 pub mod Languages
 pub mod Pages
-pub mod Recents
 pub mod Verdicts
 pub mod Widths

@@ -1,12 +1,11 @@
 -- What an engine is seen as, and what holds of each.
-use Rattle.std.specs.Prelude.{ℕ, ◌≡◌, ◌<◌, List, Option, IfSome}
+use Rattle.std.specs.Prelude.{ℕ, ◌≡◌, ◌<◌, List}
 use Rattle.cls_term.specs.Costs.{cost_of}
-use Rattle.cls_core.specs.Rows.{Row}
 use Rattle.cls_library.specs.Libraries.{Library}
 use Rattle.cls_engine.specs.declared.options.Options.{Options}
-use Rattle.cls_engine.specs.Goals.{Goal}
-use Rattle.cls_engine.specs.Closing.{IsKnown}
+use Rattle.cls_engine.specs.declared.recents.Kept.{Kept}
 use Rattle.cls_engine.specs.Options.{AreInRange}
+use Rattle.cls_engine.specs.Recents.{AreKnown}
 
 -- The library, the costs of its components, and what bounds the work on a query.
 pub record EngineSeen : Type 0 where
@@ -17,10 +16,10 @@ pub record EngineSeen : Type 0 where
 abbrev pub seen_as : Library → List ℕ → Options → EngineSeen
 seen_as lib costs o = record { library = lib; costs = costs; options = o }
 
--- What holds of each engine. The answers that it keeps are those of its library, and the grammar that it keeps is that
+-- What holds of each engine. The answers that it keeps are those of its library, and each grammar that it keeps is that
 -- of a goal, within the options.
-pub record IsEngine (e : EngineSeen) (kept_by : Library) (recent : Option (List (Row Goal))) : Type 0 where
+pub record IsEngine (e : EngineSeen) (kept_by : Library) (recents : List Kept) : Type 0 where
   pub in_range : AreInRange e.options
   pub costly : (x : ℕ) → 0 < cost_of e.costs x
   pub kept : kept_by ≡ e.library
-  pub known : IfSome recent (λ rows. (start : Goal) × IsKnown e.library e.options start rows)
+  pub known : AreKnown e.library e.options recents

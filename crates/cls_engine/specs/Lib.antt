@@ -6,5 +6,6 @@ pub mod Faults
 pub mod Goals
 pub mod Histories
 pub mod Options
+pub mod Recents
 pub mod Sizes
 pub mod Verdicts

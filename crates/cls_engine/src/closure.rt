@@ -12,7 +12,7 @@ use std::sync::Wait;
 use std::thread::Threads;
 
 impl Engine {
-    /// The grammar of the type's goal. If it is the goal of the last query, then its grammar is at hand.
+    /// The grammar of the type's goal. It is at hand if the goal is one of those that were asked for last.
     pub(crate) fn closure<R: Threads + Wait + Sync, T: Gate + Sync>(
         &mut self,
         rt: &R,

@@ -5,12 +5,13 @@ ghost use Rattle.cls_expand.specs.Answers.{IsReady};
 ghost use Rattle.cls_engine.specs.Closing.{IsKnown};
 ghost use Rattle.cls_engine.specs.Engines.{seen_as};
 ghost use Rattle.cls_engine.specs.Faults.{IsOversizedOr};
-ghost use Rattle.cls_engine.specs.Goals.{IsGoalOf, IsSpread};
+ghost use Rattle.cls_engine.specs.Goals.{Goal, IsGoalOf, IsSpread};
 ghost use Rattle.cls_engine.specs.Options.{AreInRange};
 
 use crate::fault::EngineFault;
 use crate::library_expander::LibraryExpander;
 use crate::options::Options;
+use crate::recents::Recents;
 use cls_base::limits::MAX_TYPE_SPREAD;
 use cls_base::{Numbers, OutOfMemory, Ty};
 use cls_expand::Store;
@@ -24,8 +25,8 @@ use std::marker::Model;
 /// Answers queries by a library that it owns, with workers and within bounds. It is seen as the library, the costs of
 /// the components and the options.
 ///
-/// It keeps the answers of the goals of earlier queries, and the grammar of the goal that it was asked for last: if a
-/// query has the same goal again, nothing is worked out anew.
+/// It keeps the answers of the goals of earlier queries, and the grammars of the goals that it was asked for last: if a
+/// query has such a goal again, nothing is worked out anew.
 #[derive(Drop)]
 pub struct Engine {
     pub(crate) expander: LibraryExpander,
@@ -33,8 +34,8 @@ pub struct Engine {
     pub(crate) options: Options,
     // The answers of the goals of earlier queries.
     pub(crate) store: Store<LibraryExpander>,
-    // The grammar of the last goal.
-    pub(crate) recent: Option<Grammar>,
+    // The grammars of the goals of the last queries.
+    pub(crate) recents: Recents,
 }
 
 impl Model for Engine {
@@ -48,7 +49,7 @@ impl Model for Engine {
 
     ghost view = { λ e. seen_as e.expander.library e.costs e.options };
 
-    ghost invariant = { λ e. IsEngine (seen_as e.expander.library e.costs e.options) e.store.tag e.recent };
+    ghost invariant = { λ e. IsEngine (seen_as e.expander.library e.costs e.options) e.store.tag e.recents.kept.items };
 }
 
 impl Engine {
@@ -66,7 +67,7 @@ impl Engine {
             costs,
             options,
             store,
-            recent: None,
+            recents: Recents::new(alloc),
         }
     }
 
@@ -113,13 +114,19 @@ impl Engine {
         Ok(goal)
     }
 
-    /// Takes the grammar that was kept, if it is that of the goal.
+    /// Takes the grammar of the goal, if it is kept.
     pub(crate) fn take_recent(&mut self, goal: &Nf) -> Option<Grammar>
         ensures same { self.new ≡ self.old }
         ensures known { IfSome result (IsKnown self.old.library self.old.options goal.now) }
     {
-        let grammar = self.recent.take()?;
-        let asked = grammar.goal(0) == goal;
-        if asked { Some(grammar) } else { None }
+        self.recents.take(goal)
+    }
+
+    /// Keeps the grammar of the goal for later queries, if there is memory for it.
+    pub(crate) fn keep_recent(&mut self, grammar: Grammar)
+        requires known { (start : Goal) × IsKnown self.old.library self.old.options start grammar }
+        ensures same { self.new ≡ self.old }
+    {
+        self.recents.put(grammar);
     }
 }

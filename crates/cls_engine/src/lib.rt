@@ -16,6 +16,7 @@ mod library_expander;
 mod listing;
 mod options;
 mod questions;
+mod recents;
 mod sizes;
 mod verdict;
 mod verify;

@@ -50,7 +50,7 @@ impl Engine {
     {
         let grammar = self.closure(rt, alloc, ty, gate)?;
         let inhabited = is_productive(alloc, &grammar)?;
-        self.recent = Some(grammar);
+        self.keep_recent(grammar);
         Ok(inhabited)
     }
 
@@ -89,7 +89,7 @@ impl Engine {
     {
         let grammar = self.closure(rt, alloc, ty, gate)?;
         let certificate = certify(alloc, self.library(), &grammar)?;
-        self.recent = Some(grammar);
+        self.keep_recent(grammar);
         Ok(certificate)
     }
 
@@ -109,8 +109,10 @@ impl Engine {
             (IsFaultOf (closure_faults self.old.library self.old.options (type_of ty.now))) }
     {
         let goal = self.goal(alloc, ty)?;
+        // A history is of work done anew. The grammar that comes of it stands in place of the one that is kept.
+        drop(self.take_recent(&goal));
         let closed = self.close(rt, alloc, goal, gate)?;
-        self.recent = Some(closed.grammar);
+        self.keep_recent(closed.grammar);
         Ok(closed.history)
     }
 }

@@ -55,7 +55,7 @@ impl Engine {
     {
         let grammar = self.closure(rt, alloc, ty, gate)?;
         let answer = self.sizes_of(alloc, &grammar);
-        self.recent = Some(grammar);
+        self.keep_recent(grammar);
         Ok(answer?)
     }
 }

@@ -98,7 +98,7 @@ impl<E: Expand> Progress<E> {
     }
 
     /// The number of rows.
-    fn count(&self) -> u32
+    pub(crate) fn count(&self) -> u32
         ensures goals { result ≡ length self.now.rows.goals }
         ensures states { result ≡ length self.now.rows.states }
         ensures within { length self.now.rows.goals ≤ self.now.tag.goals }

@@ -185,6 +185,19 @@ impl<E: Expand, L: Ledger> SharedTable<E, L> {
         self.turn.put(seat, table);
     }
 
+    /// Takes the turn, and asks how many rows nobody has claimed yet: what `Table::unclaimed` says at that holding.
+    /// Others may claim and file at once after it, so it's a hint on how to share the work, and nothing rests on it.
+    pub fn unclaimed<R: Wait>(&self, rt: &R, seat: &mut TableSeat<E, L>) -> u64
+        requires seat_of_this { seat.old.turn ≡ id_of self.now.turn }
+        ensures same { seat.new ≡ seat.old }
+    {
+        let TableSeat { seat, .. } = seat;
+        let table = self.turn.take(rt, seat);
+        let count = table.unclaimed();
+        self.turn.put(seat, table);
+        count
+    }
+
     // One holding of `read`.
     fn read_once<R: Wait>(
         &self,

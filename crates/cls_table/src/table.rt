@@ -1,4 +1,4 @@
-ghost use Rattle.std.specs.Prelude.{◌≡◌, ◌<◌, ◌≤◌, ◌+◌, [], true, false};
+ghost use Rattle.std.specs.Prelude.{◌≡◌, ◌<◌, ◌≤◌, ◌+◌, ◌-◌, [], true, false, length};
 ghost use Rattle.std.specs.Prelude.{IfOk, IfErr, IfSome, IfNone, OnOk, OnErr, IsErr, IsErrOf};
 
 use crate::claim::{Claim, ClaimAnswer, Filed};
@@ -152,6 +152,13 @@ impl<E: Expand, L: Ledger> Table<E, L> {
         }
         claim.spend();
         Ok(None)
+    }
+
+    /// How many rows nobody has claimed yet.
+    pub fn unclaimed(&self) -> u64
+        ensures { result ≡ length self.now.rows.goals - self.now.claims }
+    {
+        u64::from(self.progress.count()).saturating_sub(self.made)
     }
 
     /// Tells how the share stands to the claims made.

@@ -16,9 +16,10 @@ module _ {B G : Type 0} where
   abbrev pub HasMeaning : SeatSeen B G → B → Type 0
   HasMeaning seat by = ForSome seat.tag (λ t. t.by ≡ by)
 
-  -- The seat has a part of the ledger for each worker from `next` to `last`, and one for itself.
+  -- The seat has a part of the ledger for each worker from `next` to `last`, one for the worker 1, and one for itself.
   pub record HasPartsFor (seat : SeatSeen B G) (next last : ℕ) : Type 0 where
     pub within : next ≤ last + 1
+    pub some : 1 ≤ last
     pub last_small : last + 1 < 2 ^ 32
     pub last_named : ForSome seat.tag (λ t. last ≤ t.workers)
-    pub parts : seat.parts + next ≡ last + 2
+    pub parts : seat.parts + next ≡ last + 3

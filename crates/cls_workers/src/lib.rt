@@ -1,7 +1,8 @@
 //! Workers that work out the closure of a goal together.
 //!
-//! [`expand_all`] starts them, each in a thread of its own if one can be made, and gives the rows and the history of a
-//! legal complete history. Whatever the schedule, the rows are the closure of the goal.
+//! [`expand_all`] gives the rows and the history of a legal complete history. The caller works alone until there are
+//! enough free rows to share, and then beside the others, each in a thread of its own if one can be made. Whatever the
+//! schedule, the rows are the closure of the goal.
 #![tactic(auto)]
 
 mod run;

@@ -1,4 +1,5 @@
 ghost use Rattle.std.specs.Prelude.{◌≡◌, ◌<◌, ◌≤◌, ◌+◌, ◌-◌, ◌^◌, IfOk, IfErr, OnOk};
+ghost use Rattle.std.specs.Option.{ForSome};
 ghost use Rattle.std.specs.Thread.{IsSync, IsSend};
 ghost use Rattle.cls_base.specs.Limits.{max_workers};
 ghost use Rattle.cls_turn.specs.Seats.{id_of};
@@ -7,7 +8,7 @@ ghost use Rattle.cls_table.specs.Lawful.{IsLarge};
 ghost use Rattle.cls_table.specs.Completing.{IsComplete};
 ghost use Rattle.cls_workers.specs.Seats.{IsAfterWork, HasMeaning, HasPartsFor};
 
-use crate::work::work;
+use crate::work::{work, work_alone};
 use cls_base::Gate;
 use cls_core::{Expand, Finished};
 use cls_table::{ExpandFault, Limits, SharedTable, TableSeat};
@@ -17,8 +18,32 @@ use std::sync::Wait;
 use std::sync::ledger::{Blank, Ledger};
 use std::thread::{Threads, join};
 
-// Runs the workers from `next` to `last`, each in a thread of its own if one can be made, and gives the seat back with
-// their shares.
+// The caller works as the worker 1, alone until there are enough free rows for `others` more, which it says. The seat is
+// given back with its share.
+fn begin<E: Expand, L: Ledger, T: Gate, R: Wait>(
+    rt: &R,
+    alloc: Global,
+    table: &SharedTable<E, L>,
+    by: &E,
+    gate: &T,
+    seat: TableSeat<E, L>,
+    others: u32,
+) -> (TableSeat<E, L>, bool)
+    requires seat_of_table { seat.turn ≡ id_of table.now.turn }
+    requires meaning { HasMeaning seat (E.tag by.now) }
+    requires worker { ForSome seat.tag (λ t. 1 ≤ t.workers) }
+    requires parts { 1 < seat.parts }
+    ensures { IsAfterWork seat result.0 }
+{
+    let mut seat = seat;
+    let mine = table.split(&mut seat, 1);
+    let (mine, more) = work_alone(rt, alloc, table, by, gate, mine, others);
+    table.join(&mut seat, mine);
+    (seat, more)
+}
+
+// Runs the workers from `next` to `last`, each in a thread of its own if one can be made, and the worker 1 in the
+// caller's. The seat is given back with their shares.
 fn run_from<E: Expand + Sync, L: Ledger + Send + Sync, T: Gate + Sync, R: Threads + Wait + Sync>(
     rt: &R,
     alloc: Global,
@@ -37,10 +62,13 @@ where
     requires may_cross { IsSend E.Goal.row × IsSync E.row × IsSync T.row × IsSync R.row }
     ensures { IsAfterWork seat result }
 {
+    let mut seat = seat;
     if next > last {
+        let mine = table.split(&mut seat, 1);
+        let mine = work(rt, alloc, table, by, gate, mine);
+        table.join(&mut seat, mine);
         return seat;
     }
-    let mut seat = seat;
     let theirs = table.split(&mut seat, next);
     let (theirs, rest) = join(
         rt,
@@ -63,6 +91,36 @@ where
     rest
 }
 
+// Has the closure worked out: by the caller alone, as the worker 1, while there are too few free rows to share them, and
+// by all workers together for a while whenever there are enough. The seat is given back with their shares.
+fn share_out<E: Expand + Sync, L: Ledger + Send + Sync, T: Gate + Sync, R: Threads + Wait + Sync>(
+    rt: &R,
+    alloc: Global,
+    table: &SharedTable<E, L>,
+    by: &E,
+    gate: &T,
+    seat: TableSeat<E, L>,
+    workers: u32,
+) -> TableSeat<E, L>
+where
+    E::Goal: Send,
+    requires seat_of_table { seat.turn ≡ id_of table.now.turn }
+    requires meaning { HasMeaning seat (E.tag by.now) }
+    requires parts { HasPartsFor seat 2 workers }
+    requires may_cross { IsSend E.Goal.row × IsSync E.row × IsSync T.row × IsSync R.row }
+    ensures { IsAfterWork seat result }
+{
+    let mut seat = seat;
+    for _ in rt.forever() {
+        let (rest, more) = begin(rt, alloc, table, by, gate, seat, workers - 1);
+        if !more {
+            return rest;
+        }
+        seat = run_from(rt, alloc, table, by, gate, rest, 2, workers);
+    }
+    unreachable!()
+}
+
 // The same as `expand_all`, over any ledger.
 fn run<E: Expand + Sync, L: Ledger + Send + Sync, T: Gate + Sync, R: Threads + Wait + Sync>(
     rt: &R,
@@ -81,6 +139,7 @@ where
     requires ready { E.ready (E.tag by.now) start }
     requires one_goal { 0 < limits.goals }
     requires few_workers { workers < 2 ^ 32 - 1 }
+    requires some_worker { 0 < workers }
     ensures complete { IfOk result (IsComplete E.Goal.eq E.answers (tag_for (E.tag by.now) start limits workers)) }
     ensures within { OnOk result (IsLarge E.answers (tag_for (E.tag by.now) start limits workers) → ⊥) }
     ensures large { IfErr result (λ e. e ≡ ExpandFault.TooLarge
@@ -90,7 +149,7 @@ where
     else {
         return Err(ExpandFault::OutOfMemory);
     };
-    let seat = run_from(rt, alloc, &table, by, gate, seat, 1, workers);
+    let seat = share_out(rt, alloc, &table, by, gate, seat, workers);
     match table.close(rt, seat) {
         Ok(finished) => Ok(finished),
         Err(unfinished) => unfinished.table.complete(alloc, by),
@@ -100,8 +159,9 @@ where
 /// The closure of the goal `start`, worked out by at least one worker and at most 64 (`max_workers`).
 ///
 /// The rows are those of a legal complete history from `start`, which names workers from 0 to their number, and each
-/// holds the answer of its goal. Each worker tells the gate of each claim that it makes. Once all have ended the
-/// caller, which is the worker 0, takes the table out and files what is left. `TooLarge` comes if and only if the
+/// holds the answer of its goal. Each worker tells the gate of each claim that it makes. The caller works as the
+/// worker 1, and has the others work beside it where there are rows enough. Once all have ended the caller, now as the
+/// worker 0, takes the table out and files what is left. `TooLarge` comes if and only if the
 /// closure has more goals or more rules than the limits. The only other error is out of memory.
 pub fn expand_all<E: Expand + Sync, T: Gate + Sync, R: Threads + Wait + Sync>(
     rt: &R,

@@ -10,8 +10,58 @@ use std::sync::Wait;
 use std::sync::ledger::Ledger;
 use std::thread::yield_now;
 
-/// Claims, expands and files until nothing is left to do, the closure is too large or memory runs out. A worker that
-/// runs out of memory stops the table. The seat is given back, with the claims that the worker made.
+/// How often a worker beside others asks for a goal before it gives its seat back. Where there is nothing to claim for
+/// so long, the caller goes on alone.
+const MOST_ASKS: u32 = 1_000;
+
+/// How many rows are free for each other worker when they are started: enough to be worth a thread each.
+const ROWS_EACH: u64 = 2;
+
+/// Claims a goal, and expands and files it. A worker that runs out of memory stops the table. The seat is given back,
+/// and whether there may be more to do: nothing is left if all is filed, the closure is too large or memory ran out.
+fn step<E: Expand, L: Ledger, T: Gate, R: Wait>(
+    rt: &R,
+    alloc: Global,
+    table: &SharedTable<E, L>,
+    by: &E,
+    gate: &T,
+    seat: TableSeat<E, L>,
+) -> (TableSeat<E, L>, bool)
+    requires seat_of_table { seat.turn ≡ id_of table.now.turn }
+    requires meaning { HasMeaning seat (E.tag by.now) }
+    ensures { IsAfterWork seat result.0 }
+{
+    let mut seat = seat;
+    let Ok(answer) = table.claim(rt, alloc, &mut seat) else {
+        return (seat, false);
+    };
+    match answer {
+        ClaimAnswer::Job(claim) => {
+            gate.at_claim(claim.worker(), claim.number());
+            let filed = match claim.expand(alloc, by) {
+                Ok(filed) => filed,
+                Err(claim) => {
+                    table.stop(rt, &mut seat, claim);
+                    return (seat, false);
+                }
+            };
+            if let Err(filed) = table.file(rt, alloc, &mut seat, filed) {
+                table.stop(rt, &mut seat, filed.claim());
+                return (seat, false);
+            }
+            (seat, true)
+        }
+        ClaimAnswer::Again => {
+            yield_now();
+            (seat, true)
+        }
+        ClaimAnswer::Finished => (seat, false),
+        ClaimAnswer::TooLarge => (seat, false),
+    }
+}
+
+/// Works beside others: asks for a goal at most so often, and ends sooner if nothing is left to do. The seat is given
+/// back, with the claims that the worker made.
 pub(crate) fn work<E: Expand, L: Ledger, T: Gate, R: Wait>(
     rt: &R,
     alloc: Global,
@@ -25,28 +75,39 @@ pub(crate) fn work<E: Expand, L: Ledger, T: Gate, R: Wait>(
     ensures { IsAfterWork seat result }
 {
     let mut seat = seat;
+    for _ in 0..MOST_ASKS {
+        let (back, more) = step(rt, alloc, table, by, gate, seat);
+        if !more {
+            return back;
+        }
+        seat = back;
+    }
+    seat
+}
+
+/// Works alone, until nothing is left to do or there are enough free rows for `others` more workers, which it says.
+pub(crate) fn work_alone<E: Expand, L: Ledger, T: Gate, R: Wait>(
+    rt: &R,
+    alloc: Global,
+    table: &SharedTable<E, L>,
+    by: &E,
+    gate: &T,
+    seat: TableSeat<E, L>,
+    others: u32,
+) -> (TableSeat<E, L>, bool)
+    requires seat_of_table { seat.turn ≡ id_of table.now.turn }
+    requires meaning { HasMeaning seat (E.tag by.now) }
+    ensures { IsAfterWork seat result.0 }
+{
+    let mut seat = seat;
     for _ in rt.forever() {
-        let Ok(answer) = table.claim(rt, alloc, &mut seat) else {
-            return seat;
-        };
-        match answer {
-            ClaimAnswer::Job(claim) => {
-                gate.at_claim(claim.worker(), claim.number());
-                let filed = match claim.expand(alloc, by) {
-                    Ok(filed) => filed,
-                    Err(claim) => {
-                        table.stop(rt, &mut seat, claim);
-                        return seat;
-                    }
-                };
-                if let Err(filed) = table.file(rt, alloc, &mut seat, filed) {
-                    table.stop(rt, &mut seat, filed.claim());
-                    return seat;
-                }
-            }
-            ClaimAnswer::Again => yield_now(),
-            ClaimAnswer::Finished => return seat,
-            ClaimAnswer::TooLarge => return seat,
+        let (back, more) = step(rt, alloc, table, by, gate, seat);
+        if !more {
+            return (back, false);
+        }
+        seat = back;
+        if others > 0 && table.unclaimed(rt, &mut seat) / ROWS_EACH >= u64::from(others) {
+            return (seat, true);
         }
     }
     unreachable!()

@@ -14,7 +14,7 @@ returns-in-Ok-close-clause-within g c =
     let B : Type 0 = g.row.E-Tag.Denot in
     let G : Type 0 = g.row.E-Goal.Denot in
     let tag : Tag B G = tag_for (g.E.Expand.tag c.args.by.now) c.args.start c.args.limits c.args.workers in
-    (c.in-Ok-close.ensures.complete tag (c.run_from-seat.ensures.tag ∙ c.in-Ok.ensures.tag)).not_large
+    (c.in-Ok-close.ensures.complete tag (c.share_out-seat.ensures.tag ∙ c.in-Ok.ensures.tag)).not_large
 
 pub returns-in-Err-clause-complete : goal.returns-in-Err-clause-complete
 returns-in-Err-clause-complete g c =
@@ -24,7 +24,7 @@ returns-in-Err-clause-complete g c =
     let IsAnswer = g.E.Expand.answers in
     let t = c.in-Err.unfinished.table in
     let tag : Tag B G = tag_for (g.E.Expand.tag c.args.by.now) c.args.start c.args.limits c.args.workers in
-    let same : Some t.tag ≡ Some tag = sym c.in-Err.ensures.tag ∙ (c.run_from-seat.ensures.tag ∙ c.in-Ok.ensures.tag) in
+    let same : Some t.tag ≡ Some tag = sym c.in-Err.ensures.tag ∙ (c.share_out-seat.ensures.tag ∙ c.in-Ok.ensures.tag) in
     subst (λ (u : Tag B G). IfOk c.complete.result (IsComplete eq IsAnswer u)) (same-tag t.tag tag same)
     (IfOk-weaker c.complete.result (IsCompletion eq IsAnswer (progress_of t)) (IsComplete eq IsAnswer t.tag)
     (λ f h. h.complete) c.complete.ensures.completion)
@@ -35,7 +35,7 @@ returns-in-Err-clause-within g c =
     let G : Type 0 = g.row.E-Goal.Denot in
     let t = c.in-Err.unfinished.table in
     let tag : Tag B G = tag_for (g.E.Expand.tag c.args.by.now) c.args.start c.args.limits c.args.workers in
-    let same : Some t.tag ≡ Some tag = sym c.in-Err.ensures.tag ∙ (c.run_from-seat.ensures.tag ∙ c.in-Ok.ensures.tag) in
+    let same : Some t.tag ≡ Some tag = sym c.in-Err.ensures.tag ∙ (c.share_out-seat.ensures.tag ∙ c.in-Ok.ensures.tag) in
     subst (λ (u : Tag B G). OnOk c.complete.result (IsLarge g.E.Expand.answers u → ⊥)) (same-tag t.tag tag same)
     c.complete.ensures.within
 
@@ -45,6 +45,6 @@ returns-in-Err-clause-large g c =
     let G : Type 0 = g.row.E-Goal.Denot in
     let t = c.in-Err.unfinished.table in
     let tag : Tag B G = tag_for (g.E.Expand.tag c.args.by.now) c.args.start c.args.limits c.args.workers in
-    let same : Some t.tag ≡ Some tag = sym c.in-Err.ensures.tag ∙ (c.run_from-seat.ensures.tag ∙ c.in-Ok.ensures.tag) in
+    let same : Some t.tag ≡ Some tag = sym c.in-Err.ensures.tag ∙ (c.share_out-seat.ensures.tag ∙ c.in-Ok.ensures.tag) in
     subst (λ (u : Tag B G). IfErr c.complete.result (λ e. e ≡ TooLarge → IsLarge g.E.Expand.answers u))
     (same-tag t.tag tag same) c.complete.ensures.large
