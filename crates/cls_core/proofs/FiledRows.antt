@@ -1,11 +1,11 @@
 -- Rows that are all filed, as one list.
-use Rattle.std.proofs.Common.{◌≡◌, ℕ, zero, suc, List, [], ◌∷◌, Some, length, slice_get, refl, ap, arith}
+use Rattle.std.proofs.Common.{◌≡◌, ℕ, zero, suc, List, [], ◌∷◌, Some, length, map, slice_get, refl, ap, arith}
 use Rattle.std.specs.Prelude.{option_map}
 use Rattle.cls_core.specs.declared.state.RowState.{RowState}
 use Rattle.cls_core.specs.declared.state.RowState.TheVariants.{Free, Held, Filed}
 use Rattle.cls_core.specs.declared.answer.Answer.{Answer}
 use Rattle.cls_core.specs.Machine.{IsFiled, EachFiled}
-use Rattle.cls_core.specs.Rows.{Row, filed_rows}
+use Rattle.cls_core.specs.Rows.{Row, filed_rows, answers_in}
 use Rattle.cls_core.specs.Closure.{goals_of}
 use Rattle.cls_core.proofs.Columns.{some-inside}
 
@@ -63,6 +63,15 @@ module _ {G : Type 0} where
   filed-goals (x ∷ gs) (Free ∷ ss) e f = absurd (f zero Free refl)
   filed-goals (x ∷ gs) (Held worker ∷ ss) e f = absurd (f zero (Held worker) refl)
   filed-goals (x ∷ gs) (Filed a ∷ ss) e f = ap (λ l. x ∷ l) (filed-goals gs ss (omega arith) (λ k s h. f (suc k) s h))
+
+  pub filed-answers : (gs : List G) (ss : List RowState) → length ss ≡ length gs → EachFiled ss
+      → answers_in ss ≡ map (λ (r : Row G). r.answer) (filed_rows gs ss)
+  filed-answers [] [] e f = refl
+  filed-answers [] (s ∷ ss) e f = absurd (omega arith)
+  filed-answers (x ∷ gs) [] e f = absurd (omega arith)
+  filed-answers (x ∷ gs) (Free ∷ ss) e f = absurd (f zero Free refl)
+  filed-answers (x ∷ gs) (Held worker ∷ ss) e f = absurd (f zero (Held worker) refl)
+  filed-answers (x ∷ gs) (Filed a ∷ ss) e f = ap (λ l. a ∷ l) (filed-answers gs ss (omega arith) (λ k s h. f (suc k) s h))
 
   -- the goal and the state of a row of the list
   pub filed-parts : (gs : List G) (ss : List RowState) (k : ℕ) (r : Row G) → slice_get (filed_rows gs ss) k ≡ Some r

@@ -30,3 +30,9 @@ filed_rows (g ∷ gs) [] = []
 filed_rows (g ∷ gs) (Filed a ∷ ss) = record { goal = g; answer = a } ∷ filed_rows gs ss
 filed_rows (g ∷ gs) (Free ∷ ss) = []
 filed_rows (g ∷ gs) (Held worker ∷ ss) = []
+
+-- the answers of the states that are filed
+abbrev pub answers_in : List RowState → List (Answer ℕ)
+answers_in [] = []
+answers_in (Filed a ∷ ss) = a ∷ answers_in ss
+answers_in (_ ∷ ss) = answers_in ss

@@ -1,11 +1,14 @@
-ghost use Rattle.std.specs.Prelude.{◌≡◌, ◌<◌, Some, length, slice_get, option_map};
+ghost use Rattle.std.specs.Prelude.{◌≡◌, ◌<◌, Some, length, map, slice_get, option_map, IfOk};
+ghost use Rattle.cls_core.specs.Closure.{goals_of};
 ghost use Rattle.cls_core.specs.Machine.{EachFiled};
+ghost use Rattle.cls_core.specs.Rows.{answers_in};
 
 use crate::answer::Answer;
 use crate::entry::History;
 use crate::state::RowState;
-use cls_base::Key;
+use cls_base::{Key, OutOfMemory};
 use indexmap::IndexSet;
+use std::alloc::Global;
 use std::marker::Model;
 
 /// Rows that are all filed, seen as the list of their goals with their answers. The goals of the answers are numbers of
@@ -67,6 +70,29 @@ impl<G: Key + Drop> Rows<G> {
             _ => unreachable!(),
         }
     }
+
+    /// The goals of the rows, and their answers beside them. The only error is out of memory.
+    pub fn into_parts(self, alloc: Global) -> Result<(IndexSet<G>, Vec<Answer<u32>>), OutOfMemory>
+        ensures goals { IfOk result (λ parts. parts.0.keys ≡ goals_of self) }
+        ensures answers { IfOk result (λ parts. parts.1.items ≡ map (λ (r : Row G). r.answer) self) }
+    {
+        let Rows { goals, states } = self;
+        let answers = answers_of(alloc, states)?;
+        Ok((goals, answers))
+    }
+}
+
+/// The answers of the states that are filed.
+fn answers_of(alloc: Global, states: Vec<RowState>) -> Result<Vec<Answer<u32>>, OutOfMemory>
+    ensures { IfOk result (λ answers. answers.items ≡ answers_in states.items) }
+{
+    let mut answers = Vec::with_capacity(alloc, states.len())?;
+    for state in states {
+        if let RowState::Filed(answer) = state {
+            answers.push(answer)?;
+        }
+    }
+    Ok(answers)
 }
 
 /// What is left of a core whose rows are all filed.

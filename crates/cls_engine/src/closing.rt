@@ -14,8 +14,8 @@ use crate::fault::EngineFault;
 use crate::library_expander::LibraryExpander;
 use cls_base::{Gate, OutOfMemory};
 use cls_core::laws::{complete_histories_make_grammars, renumbered_rows_are_canonical};
-use cls_core::{Finished, History};
-use cls_expand::{Memo, Stored};
+use cls_core::{Finished, History, Rows};
+use cls_expand::Stored;
 use cls_grammar::Grammar;
 use cls_path::Nf;
 use cls_table::{ExpandFault, Limits};
@@ -55,12 +55,12 @@ impl Engine {
     }
 
     /// Keeps the answers of the rows for later queries.
-    fn keep(&mut self, alloc: Global, finished: &Finished<Nf>) -> Result<(), OutOfMemory>
-        requires complete { AreComplete same (IsAnswer self.old.library) finished.now.rows }
-        requires fit { FitMemo finished.now.rows }
+    fn keep(&mut self, alloc: Global, rows: Rows<Nf>) -> Result<(), OutOfMemory>
+        requires complete { AreComplete same (IsAnswer self.old.library) rows }
+        requires fit { FitMemo rows }
         ensures { self.new ≡ self.old }
     {
-        self.store.keep(alloc, finished)
+        self.store.keep(alloc, rows)
     }
 
     /// Works out the closure of the goal, and keeps its answers for later queries.
@@ -81,10 +81,12 @@ impl Engine {
         complete_histories_make_grammars::<LibraryExpander>();
         renumbered_rows_are_canonical::<LibraryExpander>();
         self.facts();
-        let finished = self.expand(rt, alloc, goal, gate)?;
-        self.keep(alloc, &finished)?;
-        let Finished { rows, history } = finished;
-        let grammar = Grammar::of(alloc, rows)?;
-        Ok(Closed { grammar, history })
+        let Finished { rows, history } = self.expand(rt, alloc, goal, gate)?;
+        let grammar = Grammar::of(alloc, &rows);
+        self.keep(alloc, rows)?;
+        Ok(Closed {
+            grammar: grammar?,
+            history,
+        })
     }
 }

@@ -20,7 +20,7 @@ use Rattle.cls_core.proofs.Closure.{answer-alike, mapped-count}
 use Rattle.cls_core.proofs.Insertion.{all-again, stays}
 use Rattle.cls_core.proofs.Members.{contains-any, all-keeps, all-contains}
 use Rattle.cls_core.proofs.OneToOne.{answer-twice}
-use Rattle.cls_expand.specs.Memos.{rules_together, FitMemo, StoreSeen, HasRoom, emptied, AreComplete, IsHeld, IsStore, placed, newcomers, together}
+use Rattle.cls_expand.specs.Memos.{rules_together, FitMemo, StoreSeen, HasRoom, alone, AreComplete, IsHeld, IsStore, placed, newcomers, together}
 use Rattle.cls_expand.proofs.Adding.{goals-count, up-to}
 
 -- goals in place of numbers in place of goals
@@ -68,6 +68,18 @@ module _ {A B : Type 0} (R : A → B → Type 0) where
   zip-at (x ∷ xs) [] i d e z l = absurd z
   zip-at (x ∷ xs) (y ∷ ys) zero d e z l = z.0
   zip-at (x ∷ xs) (y ∷ ys) (suc i) d e z l = zip-at xs ys i d e z.1 (omega arith)
+
+module _ {G : Type 0} where
+  zip-parts : (S : G → Answer ℕ → Type 0) (rows : List (Row G)) → ((k : ℕ) (r : Row G) → slice_get rows k ≡ Some r → S r.goal r.answer)
+      → AllZip S (goals_of rows) (map (λ (r : Row G). r.answer) rows)
+  zip-parts S [] h = tt
+  zip-parts S (r ∷ rows) h = (h 0 r refl, zip-parts S rows (λ k q e. h (suc k) q e))
+
+  rules-of-rows : (rows : List (Row G)) → rules_together (map (λ (r : Row G). r.answer) rows) ≡ sum_by (λ (r : Row G). rule_count r.answer) rows
+  rules-of-rows [] = refl
+  rules-of-rows (r ∷ rows) =
+      let h = rules-of-rows rows in
+      omega (arith, h, sum_by-cons (λ (r : Row G). rule_count r.answer) r rows, sum_by-cons rule_count r.answer (map (λ (r : Row G). r.answer) rows))
 
 module _ {G : Type 0} (eq : G → G → Bool) where
   key-at-most : (gs : List G) (x : G) → length (insert_key eq gs x) ≤ length gs + 1
@@ -179,15 +191,20 @@ module _ {G : Type 0} (eq : G → G → Bool) (exact : (x y : G) → eq x y ≡ 
       room = room;
     }
 
-    emptied-store : (s : StoreSeen B G) → IsStore eq IsAnswer (emptied s)
-    emptied-store s = record { answered = tt; room = (omega arith, omega arith) }
-
-    emptied-room : (s : StoreSeen B G) (rows : List (Row G)) → FitMemo rows → HasRoom (together eq (emptied s) rows)
-    emptied-room s rows fit =
-        (let a = all-at-most eq [] (goals_of rows) in omega (arith, goals-count rows, fit.0), (let b = placed-at-most eq (insert_all eq [] (goals_of rows)) [] rows in omega (arith, fit.1)))
-
-    pub alone-store : (s : StoreSeen B G) (rows : List (Row G)) → AreComplete eq (IsAnswer s.tag) rows → FitMemo rows → IsStore eq IsAnswer (together eq (emptied s) rows)
-    alone-store s rows c fit = together-store (emptied s) rows (emptied-store s) c (emptied-room s rows fit)
+    -- so are rows alone
+    pub alone-store : (s : StoreSeen B G) (rows : List (Row G)) → AreComplete eq (IsAnswer s.tag) rows → FitMemo rows → IsStore eq IsAnswer (alone s rows)
+    alone-store s rows c fit =
+        let closure = c.1 in
+        record {
+          answered = zip-parts (IsHeld eq (IsAnswer s.tag) (goals_of rows)) rows (λ k r e.
+              let w = closure.answered k r e in record {
+                answer = w.0;
+                is_answer = w.1;
+                closed = λ x m. closure.whole x (at_argument r.goal x w.0 (closure.reached r.goal (Contains-at (goals_of rows) k r.goal (up-to rows k r e).2)) w.1 m);
+                is_numbered = w.2;
+              });
+          room = (let a = goals-count rows in omega (arith, fit.0), let b = rules-of-rows rows in omega (arith, fit.1));
+        }
 
     -- what an addition makes of a store
     pub added-is : (s : StoreSeen B G) (rows : List (Row G)) (tag : B) (ks ls more : List G) (us vs extra : List (Answer ℕ)) → record { tag = tag; goals = ks; answers = us } ≡ s
@@ -200,14 +217,10 @@ module _ {G : Type 0} (eq : G → G → Bool) (exact : (x y : G) → eq x y ≡ 
         λ j. record { tag = t j; goals = k j; answers = u j }
 
 -- what rows alone make of a store
-module _ {B G : Type 0} (eq : G → G → Bool) where
-  pub alone-is : (s : StoreSeen B G) (rows : List (Row G)) (tag : B) (ks ls : List G) (vs : List (Answer ℕ)) → tag ≡ s.tag → ks ≡ []
-      → ks ++ ls ≡ insert_all eq ks (goals_of rows) → vs ≡ newcomers eq (placed eq (insert_all eq ks (goals_of rows)) rows) ks rows
-      → record { tag = tag; goals = ls; answers = vs } ≡ together eq (emptied s) rows
-  alone-is s rows tag ks ls vs t k e f =
-      let l : ls ≡ insert_all eq [] (goals_of rows) = subst (λ (ks : List G). ks ++ ls ≡ insert_all eq ks (goals_of rows)) k e in
-      let v : vs ≡ newcomers eq (placed eq (insert_all eq [] (goals_of rows)) rows) [] rows = subst (λ (ks : List G). vs ≡ newcomers eq (placed eq (insert_all eq ks (goals_of rows)) rows) ks rows) k f in
-      λ j. record { tag = t j; goals = l j; answers = v j }
+module _ {B G : Type 0} where
+  pub alone-is : (s : StoreSeen B G) (rows : List (Row G)) (tag : B) (ls : List G) (vs : List (Answer ℕ)) → tag ≡ s.tag
+      → ls ≡ goals_of rows → vs ≡ map (λ (r : Row G). r.answer) rows → record { tag = tag; goals = ls; answers = vs } ≡ alone s rows
+  alone-is s rows tag ls vs t l v = λ j. record { tag = t j; goals = l j; answers = v j }
 
 module _ {G : Type 0} where
   -- filed rows are no more, and have no more rules together, than the goals and states of the machine

@@ -1,5 +1,5 @@
 -- What a memo of answers is asked and given, and what the store of answers is.
-use Rattle.std.specs.Prelude.{◌≡◌, ◌≤◌, ℕ, Bool, List, [], ◌∷◌, ◌++◌, Contains, length, map, slice_index_or, if◌then◌else◌}
+use Rattle.std.specs.Prelude.{◌≡◌, ◌<◌, ◌≤◌, ℕ, Bool, List, [], ◌∷◌, ◌++◌, Contains, length, map, slice_index_or, if◌then◌else◌}
 use Rattle.std.specs.List.{AllZip, list_any, position_or_len, sum_by}
 use Rattle.indexmap.specs.IndexSet.{insert_key, insert_all}
 use Rattle.cls_core.specs.declared.answer.Answer.{Answer}
@@ -34,8 +34,9 @@ pub record StoreSeen (B G : Type 0) : Type 0 where
 abbrev pub HasRoom : {B G : Type 0} → StoreSeen B G → Type 0
 HasRoom s = (length s.goals ≤ max_memo_goals) × (rules_together s.answers ≤ max_memo_rules)
 
-abbrev pub emptied : {B G : Type 0} → StoreSeen B G → StoreSeen B G
-emptied s = record { tag = s.tag; goals = []; answers = [] }
+-- the store with the rows alone
+abbrev pub alone : {B G : Type 0} → StoreSeen B G → List (Row G) → StoreSeen B G
+alone s rows = record { tag = s.tag; goals = goals_of rows; answers = map (λ r. r.answer) rows }
 
 -- each goal of the rows is among the goals
 abbrev pub HasGoalsOf : {G : Type 0} → List (Row G) → List G → Type 0
@@ -74,8 +75,11 @@ module _ {G : Type 0} (eq : G → G → Bool) where
       let all = insert_all eq s.goals (goals_of rows) in
       record { tag = s.tag; goals = all; answers = s.answers ++ newcomers (placed all rows) s.goals rows }
 
-  -- The store s became t by keeping the rows: what it had stays if there is room for both, and goes otherwise.
+  -- what the store has stays beside the rows: it has something, and there is room for both
+  abbrev pub KeepsBoth : {B : Type 0} → StoreSeen B G → List (Row G) → Type 0
+  KeepsBoth s rows = (0 < length s.goals) × HasRoom (together s rows)
+
+  -- The store s became t by keeping the rows.
   abbrev pub IsKept : {B : Type 0} → StoreSeen B G → List (Row G) → StoreSeen B G → Type 0
   IsKept s rows t =
-      (HasRoom (together s rows) → t ≡ together s rows)
-      × ((HasRoom (together s rows) → ⊥) → t ≡ together (emptied s) rows)
+      (KeepsBoth s rows → t ≡ together s rows) × ((KeepsBoth s rows → ⊥) → t ≡ alone s rows)

@@ -5,7 +5,7 @@ use crate::additions::Additions;
 use crate::memo::Memo;
 use crate::naming::name_answer;
 use cls_base::OutOfMemory;
-use cls_core::{Answer, Expand, Finished, Rows};
+use cls_core::{Answer, Expand, Rows};
 use indexmap::IndexSet;
 use std::alloc::Global;
 use std::marker::Model;
@@ -50,7 +50,7 @@ fn count_rules(answers: &[Answer<u32>]) -> u64
 }
 
 impl<E: Expand> Store<E> {
-    ghost use Rattle.cls_expand.specs.Memos.{StoreSeen, IsStore, AreComplete, FitMemo, HasRoom, IsKept, together, emptied};
+    ghost use Rattle.cls_expand.specs.Memos.{StoreSeen, IsStore, AreComplete, FitMemo, HasRoom, IsKept, together, alone};
 
     /// A store that holds no goal, for expanders that mean what this one does. It takes no memory.
     pub fn new(alloc: Global, by: &E) -> Store<E>
@@ -81,7 +81,7 @@ impl<E: Expand> Store<E> {
 }
 
 impl<E: Expand> Store<E> {
-    ghost use Rattle.cls_expand.specs.Memos.{IsStore, AreComplete, FitMemo, HasRoom, IsKept, together, emptied};
+    ghost use Rattle.cls_expand.specs.Memos.{IsStore, AreComplete, FitMemo, HasRoom, IsKept, together, alone};
 
     /// Whether there is room for what it lacks of the rows.
     fn has_room(&self, more: &Additions<E::Goal>) -> bool
@@ -121,24 +121,43 @@ impl<E: Expand> Store<E> {
     }
 
     /// Has the rows alone from then on.
-    fn replace(&mut self, alloc: Global, rows: &Rows<E::Goal>) -> Result<(), OutOfMemory>
-        requires complete { AreComplete E.Goal.eq (E.answers self.old.tag) rows.now }
-        requires fit { FitMemo rows.now }
-        ensures ok { OnOk result (self.new ≡ together E.Goal.eq (emptied self.old) rows.now) }
-        ensures held { OnOk result (HasGoalsOf rows.now self.new.goals) }
+    fn replace(&mut self, alloc: Global, rows: Rows<E::Goal>) -> Result<(), OutOfMemory>
+        requires complete { AreComplete E.Goal.eq (E.answers self.old.tag) rows }
+        requires fit { FitMemo rows }
+        ensures ok { OnOk result (self.new ≡ alone self.old rows) }
+        ensures held { OnOk result (HasGoalsOf rows self.new.goals) }
         ensures err { OnErr result (self.new ≡ self.old) }
     {
-        let none = IndexSet::new(alloc);
-        let Additions { goals, answers } = Additions::of(alloc, &none, rows)?;
+        let (goals, answers) = rows.into_parts(alloc)?;
         self.goals = goals;
         self.answers = answers;
         Ok(())
+    }
+
+    /// Holds the goal of each row from then on. What it held stays, unless there is no room for both: then it goes first. The
+    /// only error is out of memory, which leaves the store as it was.
+    pub fn keep(&mut self, alloc: Global, rows: Rows<E::Goal>) -> Result<(), OutOfMemory>
+        requires complete { AreComplete E.Goal.eq (E.answers self.old.tag) rows }
+        requires fit { FitMemo rows }
+        ensures tag { self.new.tag ≡ self.old.tag }
+        ensures held { OnOk result (HasGoalsOf rows self.new.goals) }
+        ensures kept { OnOk result (IsKept E.Goal.eq self.old rows self.new) }
+        ensures err { OnErr result (self.new ≡ self.old) }
+    {
+        if self.goals.is_empty() {
+            return self.replace(alloc, rows);
+        }
+        let more = Additions::of(alloc, &self.goals, &rows)?;
+        if self.has_room(&more) {
+            self.add(&rows, more)
+        } else {
+            self.replace(alloc, rows)
+        }
     }
 }
 
 impl<E: Expand> Memo<E> for Store<E> {
     ghost use Rattle.std.specs.Prelude.{Contains};
-    ghost use Rattle.cls_expand.specs.Memos.{AreComplete, FitMemo, IsKept};
 
     ghost tag = { λ s. s.tag };
 
@@ -155,22 +174,5 @@ impl<E: Expand> Memo<E> for Store<E> {
         };
         let answer = name_answer(alloc, self.goals.as_slice(), goal, &self.answers[place])?;
         Ok(Some(answer))
-    }
-
-    /// What it held stays, unless there is no room for both: then it goes first.
-    fn keep(&mut self, alloc: Global, finished: &Finished<E::Goal>) -> Result<(), OutOfMemory>
-        requires complete { AreComplete E.Goal.eq (E.answers self.old.tag) finished.now.rows }
-        requires fit { FitMemo finished.now.rows }
-        ensures tag { self.new.tag ≡ self.old.tag }
-        ensures held { OnOk result (HasGoalsOf finished.now.rows self.new.goals) }
-        ensures kept { OnOk result (IsKept E.Goal.eq self.old finished.now.rows self.new) }
-        ensures err { OnErr result (self.new ≡ self.old) }
-    {
-        let more = Additions::of(alloc, &self.goals, &finished.rows)?;
-        if self.has_room(&more) {
-            self.add(&finished.rows, more)
-        } else {
-            self.replace(alloc, &finished.rows)
-        }
     }
 }

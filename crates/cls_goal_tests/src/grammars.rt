@@ -38,7 +38,7 @@ pub fn grammar<R: Threads + Wait + Sync>(
         rules: 100,
     };
     let done = expand_all(rt, alloc, &by, goal, workers, limits, &OpenGate)?;
-    match Grammar::of(alloc, done.rows) {
+    match Grammar::of(alloc, &done.rows) {
         Ok(grammar) => Ok(grammar),
         Err(_) => Err("no grammar".into()),
     }

@@ -57,14 +57,14 @@ impl Grammar {
     /// The grammar of rows: their goals and rules, numbered breadth first from the first row in the order of rules and
     /// arguments. A row that is wide has no rules. If some row is, the answer is the goal of the first one in this
     /// numbering.
-    pub fn of(alloc: Global, rows: Rows<Nf>) -> Result<Grammar, GrammarFault>
-        requires { MakeGrammar rows }
-        ensures ok { IfOk result (λ g. g ≡ renumbered rows) }
-        ensures none_wide { OnOk result (first_wide rows ≡ None) }
-        ensures wide { IfErr result (IfWide (λ goal. first_wide (renumbered rows) ≡ Some goal)) }
+    pub fn of(alloc: Global, rows: &Rows<Nf>) -> Result<Grammar, GrammarFault>
+        requires { MakeGrammar rows.now }
+        ensures ok { IfOk result (λ g. g ≡ renumbered rows.now) }
+        ensures none_wide { OnOk result (first_wide rows.now ≡ None) }
+        ensures wide { IfErr result (IfWide (λ goal. first_wide (renumbered rows.now) ≡ Some goal)) }
     {
-        let found = breadth_first(alloc, &rows)?;
-        placed_rows(alloc, &rows, &found)
+        let found = breadth_first(alloc, rows)?;
+        placed_rows(alloc, rows, &found)
     }
 
     /// The rank of each goal: the least height of a derivation tree. The only error is out of memory.

@@ -16,7 +16,7 @@ fn a_memo_is_asked_before_its_expander(rt: HostRuntime) -> Result<(), Fail> {
         panic!(rt; "no answer")
     };
     let mut store = Store::new(alloc, &heap);
-    store.keep(alloc, &done)?;
+    store.keep(alloc, done.rows)?;
     let stored = Stored::new(&empty, &store);
     let Ok(again) = expand_all(&rt, alloc, &stored, Node { id: 0 }, 1, limits, &OpenGate) else {
         panic!(rt; "the expander was asked")
