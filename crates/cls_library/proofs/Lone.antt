@@ -74,7 +74,7 @@ module _ (d : Declared) (n : ℕ) (f : Ending) (h : is_alone (class_by d.pairs) 
   leads-itself = (λ j. equal (min (max_arity + 1) (n + f.arrows)) (min (max_arity + 1) (n + f.arrows)) refl j && head-itself d f.head j)
 
   -- one ending alone may be below
-  one-leads : (e : Ending) → may_end_below (is_below d) n e f ≡ eq-value.it wanted e
+  pub one-leads : (e : Ending) → may_end_below (is_below d) n e f ≡ eq-value.it wanted e
   one-leads e = same-bool (may_end_below (is_below d) n e f) (eq-value.it wanted e)
       (λ l.
       let r = both (e.arrows == min (max_arity + 1) (n + f.arrows)) (may_be_below (is_below d) e.head f.head) l in

@@ -92,4 +92,16 @@ impl Ending {
         let wanted = TOO_MANY.min(count.saturating_add(upper.arrows));
         self.arrows == wanted && self.head.may_be_below(taxonomy, upper.head)
     }
+
+    /// The same, where it is known whether another head may be below that of the other ending.
+    pub fn may_lead(self, taxonomy: &Taxonomy, count: usize, upper: Ending, alone: bool) -> bool
+        requires { alone ≡ is_alone (class_by taxonomy.now.pairs) upper.head }
+        ensures { result ≡ may_end_below (is_below taxonomy.now) count self upper }
+    {
+        if alone {
+            upper.behind(count) == self
+        } else {
+            self.may_end_below(taxonomy, count, upper)
+        }
+    }
 }

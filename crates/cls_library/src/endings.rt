@@ -11,6 +11,9 @@ use cls_taxon::Taxonomy;
 use indexmap::IndexSet;
 use std::alloc::Global;
 
+/// So many endings are gone over one by one.
+const FEW: usize = 8;
+
 /// Different endings, and for each path the place of its own among them.
 #[derive(Drop)]
 pub(crate) struct Endings {
@@ -47,7 +50,7 @@ impl Endings {
     pub fn may_reach(&self, taxonomy: &Taxonomy, count: usize, upper: Ending) -> bool
         ensures { result ≡ list_any (λ lower. may_end_below (is_below taxonomy.now) count lower upper) self.now.kinds.keys }
     {
-        if upper.head.is_alone(taxonomy) {
+        if self.kinds.len() > FEW && upper.head.is_alone(taxonomy) {
             return self.kinds.contains(&upper.behind(count));
         }
         for lower in self.kinds.as_slice() {

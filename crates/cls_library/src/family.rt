@@ -33,10 +33,11 @@ pub(crate) fn family_of(
         IsFamilyIn taxonomy.now (arrows_at_places count paths.now column.now) path.now family.items) }
 {
     let upper = Ending::of(path);
+    let alone = upper.head.is_alone(taxonomy);
     let mut family = Vec::new(alloc);
     for (i, place) in column.iter().enumerate() {
         let lower = kinds[endings[*place]];
-        if lower.may_end_below(taxonomy, count, upper)
+        if lower.may_lead(taxonomy, count, upper, alone)
             && target_of(&paths[*place], count).le(taxonomy, path)
         {
             let Ok(position) = u32::try_from(i) else {

@@ -11,7 +11,7 @@ use Rattle.cls_library.proofs.EndingLaws.{place-within, kind-within, not-below, 
 use Rattle.cls_library.proofs.FamilyLaws.{family-skip, family-take}
 use Rattle.cls_library.proofs.Places.{IsPlace, place-in}
 use Rattle.cls_library.proofs.family.family_of.Goals as goal
-use Rattle.cls_library.proofs.family.family_of.Goals.{then-may_end_below+then-le+in-Ok+in_ok-push, else-may_end_below, else-may_end_below-via-then-may_end_below+else-le, else-may_end_below-via-else-may_end_below}
+use Rattle.cls_library.proofs.family.family_of.Goals.{then-may_lead+then-le+in-Ok+in_ok-push, else-may_lead, else-may_lead-via-then-may_lead+else-le, else-may_lead-via-else-may_lead}
 
 differs : false ≡ true → ⊥
 differs e = cc
@@ -49,16 +49,16 @@ loop-i-preserved c =
     let place : IsPlace n paths k = place-in n paths column c.requires.column i c.loop-i-test.true in
     let is : k ≡ get_or column i k = get_or_default column i 0 k c.loop-i-test.true in
     let target = λ (p : TypePath) (e : p ≡ get_or paths k p). ap (target_at n) (e ∙ get_or_default paths k p unit place.within) in
-    elim c.if-may_end_below.branch [
-      | then-may_end_below+then-le+in-Ok+in_ok-push w ↦ (let p : w.in-Ok.position ≡ i = search rules in
+    elim c.if-may_lead.branch [
+      | then-may_lead+then-le+in-Ok+in_ok-push w ↦ (let p : w.in-Ok.position ≡ i = search rules in
           rw w.family-is (family-take (below_in d) (variances_in d) q arrow_at column i k c.loop-i-test.true is c.loop-i.family.items c.loop-i.invariant
           (subst (λ x. PathLe (below_in d) (variances_in d) x q) (w.target_of.ensures ∙ target w.index-paths-place.result w.index-paths-place.is) (w.le.ensures.cases.0 w.if-le.true))
           w.push.new.self.items (w.in_ok-push.ensures.items ∙ ap (λ m. c.loop-i.family.items ++ m ∷ []) p)))
-      | else-may_end_below w ↦ rw w.family-is (family-skip (below_in d) (variances_in d) q arrow_at column i k c.loop-i-test.true is c.loop-i.family.items c.loop-i.invariant
-          (elim w.else-may_end_below.branch [
-            | else-may_end_below-via-then-may_end_below+else-le w' ↦ (λ l. differs (sym w'.if-le.false ∙ w'.le.ensures.cases.1
+      | else-may_lead w ↦ rw w.family-is (family-skip (below_in d) (variances_in d) q arrow_at column i k c.loop-i-test.true is c.loop-i.family.items c.loop-i.invariant
+          (elim w.else-may_lead.branch [
+            | else-may_lead-via-then-may_lead+else-le w' ↦ (λ l. differs (sym w'.if-le.false ∙ w'.le.ensures.cases.1
                 (subst (λ x. PathLe (below_in d) (variances_in d) x q) (sym (w'.target_of.ensures ∙ target w'.index-paths-place.result w'.index-paths-place.is)) l)))
-            | else-may_end_below-via-else-may_end_below w' ↦ not-below c.args.kinds.now c.args.endings.now paths k c.requires.endings place.within (is_below d) n q (variances_in d) c.of-upper.result _ c.of-upper.ensures place.enough w'.if-may_end_below.ensures
+            | else-may_lead-via-else-may_lead w' ↦ not-below c.args.kinds.now c.args.endings.now paths k c.requires.endings place.within (is_below d) n q (variances_in d) c.of-upper.result _ c.of-upper.ensures place.enough w'.if-may_lead.ensures
           ]))
     ]
 
