@@ -1,13 +1,13 @@
-use Rattle.std.proofs.Common.{rules, ◌≡◌, refl, sym, ◌∙◌, ap, subst, ℕ, ◌+◌, ◌↔◌, ◌⊎◌, inl, inr, List, [], ◌∷◌, ◌++◌, drop, arith, Bor, true, false}
+use Rattle.std.proofs.Common.{rules, ◌≡◌, refl, sym, ◌∙◌, ap, subst, ◌+◌, inl, inr, List, drop, arith, Bor, true, false}
 use Rattle.std.proofs.lemmas.List.{drop_all}
 use Rattle.std.proofs.lemmas.Bool.{false≢true}
-use Rattle.cls_base.specs.Types.{ClosedType, nodes}
+use Rattle.cls_base.specs.Types.{nodes}
 use Rattle.cls_base.specs.Ty.{type_of}
 use Rattle.cls_base.specs.Taxa.{Below, variance_of}
-use Rattle.cls_base.specs.Taxonomies.{Variance, covariant, contravariant, invariant}
+use Rattle.cls_base.specs.Taxonomies.{covariant, contravariant, invariant}
 use Rattle.cls_base.specs.declared.ty.Ty.{Ty}
 use Rattle.cls_path.specs.Laws.{IsPartialOrder}
-use Rattle.cls_path.specs.Paths.{TypePath, Paths, none, sealed, PathsLe, empty, SomeLe, paths_of}
+use Rattle.cls_path.specs.Paths.{Paths, sealed, PathsLe, empty, SomeLe, paths_of}
 use Rattle.cls_path.proofs.PathLaws.{derivations_are_decided}
 use Rattle.cls_norm.specs.Subtypes.{Adds, IsLacking, IsSealing, paths_of_all, nodes_of_all}
 use Rattle.cls_norm.proofs.Steps.{append_none, both, to_append_first, to_append_second, from_append}
