@@ -193,6 +193,12 @@ module _ (below : ℕ → ℕ → Type 0) (variance : ℕ → Variance) where
   inv_decides c d s m v w b = subst (λ (x : Variance). (Le (P s) m × Le m (P s)) ↔ Over (constructor_paths x c (P s)) (sealed d m)) (sym v)
       ((λ h. here (invariants v w b h.0 h.1)), (λ h. from_inv c d (P s) m v h))
 
+  pub sealing_needs :
+      ((c d : ℕ) → below c d → variance c ≡ variance d) → (c d : ℕ) (s : ClosedType) (m : Paths) → IsSealing (variance d)
+      → below c d → Over (P (constructor c s)) (sealed d m) → Le m (P s)
+  sealing_needs same c d s m (inl w) b o = (contra_decides c d s m (same c d b ∙ w) w b).1 o
+  sealing_needs same c d s m (inr w) b o = ((inv_decides c d s m (same c d b ∙ w) w b).1 o).1
+
   product_not_sealed : (s u : ClosedType) (d : ℕ) (m : Paths) → Over (P (product s u)) (sealed d m) → ⊥
   product_not_sealed s u d m h = let e : ◌≡◌ {A = ℕ} 3 1 = some_shape below variance 1 (P (product s u)) (sealed d m) (product_shape (P s) (P u)) h in omega arith
 
