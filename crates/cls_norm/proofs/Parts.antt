@@ -1,17 +1,16 @@
 -- What each form of type adds behind a step, and what is below a type by its parts.
-use Rattle.std.proofs.Common.{◌≡◌, refl, sym, ◌∙◌, ap, subst, ℕ, zero, suc, ◌+◌, ◌≤◌, ◌<◌, ◌↔◌, ◌⊎◌, inl, inr, List, [], ◌∷◌, ◌++◌, length, get_or, drop, arith, Bor}
+use Rattle.std.proofs.Common.{◌≡◌, refl, sym, ◌∙◌, ap, subst, ℕ, ◌+◌, ◌<◌, ◌↔◌, ◌⊎◌, inl, inr, List, [], ◌∷◌, ◌++◌, length, get_or, drop, arith, Bor}
 use Rattle.std.proofs.lemmas.List.{drop_more}
 use Rattle.std.specs.Prelude.{Option, Some, None}
-use Rattle.cls_base.specs.Types as types
 use Rattle.cls_base.specs.Types.{ClosedType, constructor, product, arrow, meet, nodes}
 use Rattle.cls_base.specs.Taxonomies.{Variance, covariant, contravariant, invariant}
 use Rattle.cls_base.specs.Ty.{type_of}
 use Rattle.cls_base.specs.declared.ty.Ty.{Ty}
-use Rattle.cls_path.specs.Paths.{TypePath, atom, inside, unit, left, right, function, sealed, Paths, none, more, PathLe, atoms, inside_atom, insides, units, left_unit, right_unit, lefts, rights, functions, contravariants, invariants, SomeLe, here, there, PathsLe, empty, each, append, map_paths, or_one, constructor_paths, paths_of}
+use Rattle.cls_path.specs.Paths.{TypePath, atom, inside, unit, sealed, Paths, none, more, here, there, PathsLe, empty, each, append, map_paths, or_one, constructor_paths, paths_of}
 use Rattle.cls_norm.specs.declared.subtypes.Step.{Step}
 use Rattle.cls_norm.specs.declared.subtypes.Step.TheVariants.{Name, Source, Left, Right}
-use Rattle.cls_norm.specs.Subtypes.{paths_of_all, nodes_of_all, IsFilled, Stands, IsEntered, IsLacking, IsSealing, Joins, nodes_of_step, path_behind, path_at, paths_behind, Adds}
-use Rattle.cls_norm.proofs.Steps.{shape, AllOf, product_shape, arrow_shape, covariant_shape, append_none, Above, some_shape, from_append, to_append_first, to_append_second, from_inside, to_inside, from_atom, to_atom, from_function, to_function, from_left, to_left, from_right, to_right, to_unit, A, nothing, one}
+use Rattle.cls_norm.specs.Subtypes.{paths_of_all, Stands, IsEntered, Joins, Adds}
+use Rattle.cls_norm.proofs.Steps.{shape, product_shape, arrow_shape, covariant_shape, append_none, Above, some_shape, from_inside, to_inside, from_atom, to_atom, from_function, to_function, from_left, to_left, from_right, to_right, to_unit, nothing, one}
 
 none_some : (p : TypePath) → ◌≡◌ {A = Option TypePath} None (Some p) → ⊥
 none_some p e = cc

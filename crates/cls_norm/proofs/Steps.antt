@@ -1,15 +1,13 @@
 -- What lies behind a step in the paths of a type.
-use Rattle.std.proofs.Common.{◌≡◌, refl, sym, ◌∙◌, ap, subst, ℕ, zero, suc, ◌+◌, ◌≤◌, ◌<◌, ◌↔◌, ◌⊎◌, inl, inr, List, [], ◌∷◌, ◌++◌, length, get_or, drop, arith, Bor}
-use Rattle.std.specs.Prelude.{Option, Some, None}
-use Rattle.cls_base.specs.Types as types
-use Rattle.cls_base.specs.Types.{ClosedType, constructor, product, arrow, meet, nodes}
-use Rattle.cls_base.specs.Taxonomies.{Variance, covariant, contravariant, invariant}
+use Rattle.std.proofs.Common.{◌≡◌, refl, sym, ◌∙◌, ap, subst, ℕ, ◌+◌, ◌≤◌, ◌↔◌, ◌⊎◌, inl, inr, List, [], ◌∷◌, ◌++◌, arith, Bor}
+use Rattle.std.specs.Prelude.{Some}
+use Rattle.cls_base.specs.Types.{nodes}
+use Rattle.cls_base.specs.Taxonomies.{Variance}
 use Rattle.cls_base.specs.Ty.{type_of}
 use Rattle.cls_base.specs.declared.ty.Ty.{Ty}
-use Rattle.cls_path.specs.Paths.{TypePath, atom, inside, unit, left, right, function, sealed, Paths, none, more, PathLe, atoms, inside_atom, insides, units, left_unit, right_unit, lefts, rights, functions, contravariants, invariants, SomeLe, here, there, PathsLe, empty, each, append, map_paths, or_one, constructor_paths, paths_of}
+use Rattle.cls_path.specs.Paths.{TypePath, atom, inside, unit, left, right, function, sealed, Paths, none, more, PathLe, atoms, inside_atom, insides, units, left_unit, right_unit, lefts, rights, functions, contravariants, invariants, SomeLe, here, there, PathsLe, append, map_paths, or_one, paths_of}
 use Rattle.cls_norm.specs.declared.subtypes.Step.{Step}
-use Rattle.cls_norm.specs.declared.subtypes.Step.TheVariants.{Name, Source, Left, Right}
-use Rattle.cls_norm.specs.Subtypes.{paths_of_all, nodes_of_all, IsFilled, Stands, IsEntered, IsSealing, nodes_of_step, path_behind, path_at, paths_behind, Adds}
+use Rattle.cls_norm.specs.Subtypes.{paths_of_all, nodes_of_all, IsFilled, path_behind, path_at, Adds}
 
 -- the forms of types that paths come from
 abbrev pub shape : TypePath → ℕ

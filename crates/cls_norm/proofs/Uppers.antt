@@ -1,6 +1,6 @@
 -- When types are below a type, by the form of that type.
-use Rattle.std.proofs.Common.{◌≡◌, refl, sym, ◌∙◌, ap, subst, ℕ, zero, suc, ◌+◌, ◌<◌, ◌↔◌, ◌⊎◌, inl, inr, List, [], ◌∷◌, length, get_or, drop, arith, Bor, true}
-use Rattle.std.specs.Prelude.{Option, Some, None}
+use Rattle.std.proofs.Common.{◌≡◌, refl, sym, ◌∙◌, ap, subst, ℕ, zero, suc, ◌+◌, ◌<◌, ◌↔◌, inl, inr, List, [], ◌∷◌, length, get_or, drop, arith, Bor, true}
+use Rattle.std.specs.Prelude.{Some}
 use Rattle.std.specs.Ordering.{is_eq}
 use Rattle.std.proofs.lemmas.Bool.{false≢true}
 use Rattle.std.specs.declared.cmp.Ordering.{Ordering}
@@ -10,11 +10,11 @@ use Rattle.cls_base.specs.Types.{ClosedType, constructor, product, arrow, meet, 
 use Rattle.cls_base.specs.Taxonomies.{Variance, covariant, contravariant, invariant}
 use Rattle.cls_base.specs.Ty.{type_of}
 use Rattle.cls_base.specs.declared.ty.Ty.{Ty}
-use Rattle.cls_path.specs.Paths.{TypePath, atom, inside, unit, left, right, function, sealed, Paths, none, more, PathLe, inside_atom, insides, left_unit, right_unit, lefts, rights, contravariants, invariants, SomeLe, here, there, PathsLe, empty, each, append, map_paths, or_one, constructor_paths, paths_of, listed}
+use Rattle.cls_path.specs.Paths.{TypePath, atom, inside, unit, left, right, function, sealed, Paths, none, more, PathLe, inside_atom, insides, left_unit, right_unit, lefts, rights, contravariants, invariants, here, there, PathsLe, empty, each, append, map_paths, or_one, constructor_paths, paths_of, listed}
 use Rattle.cls_norm.specs.declared.subtypes.Step.{Step}
 use Rattle.cls_norm.specs.declared.subtypes.Step.TheVariants.{Name, Source, Left, Right}
 use Rattle.cls_norm.specs.Subtypes.{paths_of_all, nodes_of_all, IsFilled, IsLacking, IsSealing, path_behind, path_at, paths_behind, Adds}
-use Rattle.cls_norm.proofs.Steps.{shape, product_shape, arrow_shape, covariant_shape, Above, some_shape, from_append, to_append_first, to_append_second}
+use Rattle.cls_norm.proofs.Steps.{product_shape, arrow_shape, covariant_shape, Above, some_shape, from_append, to_append_first, to_append_second}
 use Rattle.cls_norm.proofs.Parts.{drop_item, le_append, le_through}
 
 pub equal_of : (o : Ordering) → is_eq o ≡ true → o ≡ Equal
@@ -192,6 +192,12 @@ module _ (below : ℕ → ℕ → Type 0) (variance : ℕ → Variance) where
       → (Le (P s) m × Le m (P s)) ↔ Over (P (constructor c s)) (sealed d m)
   inv_decides c d s m v w b = subst (λ (x : Variance). (Le (P s) m × Le m (P s)) ↔ Over (constructor_paths x c (P s)) (sealed d m)) (sym v)
       ((λ h. here (invariants v w b h.0 h.1)), (λ h. from_inv c d (P s) m v h))
+
+  pub sealing_needs :
+      ((c d : ℕ) → below c d → variance c ≡ variance d) → (c d : ℕ) (s : ClosedType) (m : Paths) → IsSealing (variance d)
+      → below c d → Over (P (constructor c s)) (sealed d m) → Le m (P s)
+  sealing_needs same c d s m (inl w) b o = (contra_decides c d s m (same c d b ∙ w) w b).1 o
+  sealing_needs same c d s m (inr w) b o = ((inv_decides c d s m (same c d b ∙ w) w b).1 o).1
 
   product_not_sealed : (s u : ClosedType) (d : ℕ) (m : Paths) → Over (P (product s u)) (sealed d m) → ⊥
   product_not_sealed s u d m h = let e : ◌≡◌ {A = ℕ} 3 1 = some_shape below variance 1 (P (product s u)) (sealed d m) (product_shape (P s) (P u)) h in omega arith

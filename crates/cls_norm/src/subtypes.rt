@@ -3,8 +3,8 @@
 //! The order is that of intersection types (Barendregt, Coppo and Dezani 1983) with names and products. A list of types
 //! stands for their intersection. It is below an arrow if the targets of those arrows of it whose source is above the
 //! arrow's are below the arrow's target, and likewise for products and covariant names. So each part of one type is compared
-//! with each part of the other once at most, and no path is made. Only what stands under invariant names is compared by
-//! normal forms: a comparison both ways would double the work at each depth.
+//! with each part of the other once at most, and no path is made. Only under invariant names a type that is below another is
+//! compared with it by normal forms: a comparison both ways would double the work at each depth.
 ghost use Rattle.std.specs.Prelude.{◌≡◌, ◌↔◌, [], IfOk, OnOk, IsTrue};
 ghost use Rattle.cls_base.specs.Types.{nodes, omega};
 ghost use Rattle.cls_base.specs.Taxonomies.{covariant};
@@ -35,8 +35,8 @@ enum Step<'a> {
 /// Whether the first type is a subtype of the second: yes if and only if a derivation by the rules exists. The only error
 /// is out of memory.
 ///
-/// Time is bounded by the product of the nodes of the two types, but for the types under invariant names, where it is
-/// bounded by their spread. The stack is bounded by the depth of the types as trees.
+/// Time is bounded by the product of the nodes of the two types, where no invariant name stands over types that are equivalent
+/// and not equal: their normal forms are made, as [`normal`] does. The stack is bounded by the depth of the types as trees.
 pub fn subtype<T: Taxa>(
     alloc: Global,
     taxa: &T,
@@ -296,11 +296,12 @@ fn is_name_below<T: Taxa>(
             if !taxa.below(*other, name) {
                 return Ok(false);
             }
+            if !are_below(alloc, taxa, &[argument], inner)? {
+                return Ok(false);
+            }
             match taxa.variance(name) {
                 Variance::Inv => Ok(are_equivalent(alloc, taxa, inner, argument)?),
-                Variance::Co | Variance::Contra => {
-                    Ok(are_below(alloc, taxa, &[argument], inner)?)
-                }
+                Variance::Co | Variance::Contra => Ok(true),
             }
         }
         Ty::Meet(first, second) => {

@@ -1,18 +1,18 @@
-use Rattle.std.proofs.Common.{rules, ◌≡◌, refl, sym, ◌∙◌, ap, subst, ℕ, ◌+◌, ◌↔◌, ◌⊎◌, inl, inr, List, [], ◌∷◌, ◌++◌, drop, arith, Bor, true, false}
+use Rattle.std.proofs.Common.{rules, ◌≡◌, refl, sym, ◌∙◌, ap, subst, ◌+◌, inl, inr, List, drop, arith, Bor, true, false}
 use Rattle.std.proofs.lemmas.List.{drop_all}
 use Rattle.std.proofs.lemmas.Bool.{false≢true}
-use Rattle.cls_base.specs.Types.{ClosedType, nodes}
+use Rattle.cls_base.specs.Types.{nodes}
 use Rattle.cls_base.specs.Ty.{type_of}
 use Rattle.cls_base.specs.Taxa.{Below, variance_of}
-use Rattle.cls_base.specs.Taxonomies.{Variance, covariant, contravariant, invariant}
+use Rattle.cls_base.specs.Taxonomies.{covariant, contravariant, invariant}
 use Rattle.cls_base.specs.declared.ty.Ty.{Ty}
 use Rattle.cls_path.specs.Laws.{IsPartialOrder}
-use Rattle.cls_path.specs.Paths.{TypePath, Paths, none, sealed, PathsLe, empty, SomeLe, paths_of}
+use Rattle.cls_path.specs.Paths.{Paths, sealed, PathsLe, empty, SomeLe, paths_of}
 use Rattle.cls_path.proofs.PathLaws.{derivations_are_decided}
 use Rattle.cls_norm.specs.Subtypes.{Adds, IsLacking, IsSealing, paths_of_all, nodes_of_all}
 use Rattle.cls_norm.proofs.Steps.{append_none, both, to_append_first, to_append_second, from_append}
 use Rattle.cls_norm.proofs.Parts.{drop_item, name_entered, name_passed, left_part, right_part, product_name, product_source, source_above, source_passed, arrow_name, arrow_left, arrow_right, none_added, le_append}
-use Rattle.cls_norm.proofs.Uppers.{nodes_at, not_covariant, parts_decide, parts_lack, sides_decide, sealed_upper, name_below, contra_decides, inv_decides, other_not_sealed, some_at, none_at, nowhere, bare_upper}
+use Rattle.cls_norm.proofs.Uppers.{nodes_at, not_covariant, parts_decide, parts_lack, sides_decide, sealed_upper, name_below, contra_decides, inv_decides, other_not_sealed, sealing_needs, some_at, none_at, nowhere, bare_upper}
 use Rattle.cls_norm.proofs.subtypes.+below.Goals as goal
 
 no : {A : Type 0} → (A → ⊥) → (◌≡◌ false true → A) × (A → ◌≡◌ false true)
@@ -131,6 +131,20 @@ is_name_below-returns-then-not-below g t c =
     let n = paths_of v (type_of c.in-Con.inner.value) in
     rw c.in-Con.is (no (λ o. false≢true (sym c.if-not-below.true ∙ (c.below.ensures.is ∙ name_below b v (v c.in-Con.other.0) c.in-Con.other.0 d n m o))))
 
+pub is_name_below-returns-then-not-branch : goal.is_name_below-returns-then-not-branch
+is_name_below-returns-then-not-branch g t c =
+    let b = Below (g.T.Taxa.is_below c.args.taxa.now) in
+    let v = g.T.Taxa.variance_of_name c.args.taxa.now in
+    let m = paths_of v (type_of c.args.argument.now) in
+    let d = c.args.name.0 in
+    let met = g.met.T.Taxa in
+    let l : b c.in-Con.other.0 d = sym c.below.ensures.is ∙ c.if-not-below.false in
+    let f = append_none m in
+    let s = type_of c.deref.result.now in
+    let e = c.in_ok-are_below-in-Con.ensures in
+    rw (c.in-Con.is, ← c.deref.ensures) (no (λ o. false≢true (sym c.if-not-branch.true ∙ e.1 (subst (λ (x : Paths). PathsLe b v x (paths_of v s)) (sym f)
+    (sealing_needs b v (met.one_variance c.args.taxa.now) c.in-Con.other.0 d s m c.requires l o)))))
+
 pub is_name_below-returns-in_ok-are_equivalent-in-Inv : goal.is_name_below-returns-in_ok-are_equivalent-in-Inv
 is_name_below-returns-in_ok-are_equivalent-in-Inv g t c =
     let b = Below (g.T.Taxa.is_below c.args.taxa.now) in
@@ -138,39 +152,37 @@ is_name_below-returns-in_ok-are_equivalent-in-Inv g t c =
     let m = paths_of v (type_of c.args.argument.now) in
     let d = c.args.name.0 in
     let met = g.met.T.Taxa in
+    let l : b c.in-Con.other.0 d = sym c.below.ensures.is ∙ c.if-not-below.false in
+    let f = append_none m in
     let order : IsPartialOrder b = record { reflexive = met.reflexive c.args.taxa.now; transitive = met.transitive c.args.taxa.now; antisymmetric = met.antisymmetric c.args.taxa.now } in
     let exact = derivations_are_decided (g.T.Taxa.is_below c.args.taxa.now) v order in
-    let l : b c.in-Con.other.0 d = sym c.below.ensures.is ∙ c.if-not-below.false in
     let w : v d ≡ invariant = sym c.variance.ensures.is ∙ ap variance_of c.in-Inv.is in
-    let s = type_of c.deref.result.now in
+    let s = type_of c.deref-in-Inv.result.now in
     let u = type_of c.args.argument.now in
     let k = inv_decides b v c.in-Con.other.0 d s m (met.one_variance c.args.taxa.now c.in-Con.other.0 d l ∙ w) w l in
     let e = c.in_ok-are_equivalent-in-Inv.ensures in
-    rw (c.in-Con.is, ← c.deref.ensures) (
+    rw (c.in-Con.is, ← c.deref-in-Inv.ensures) (
       (λ h. let r = e.0 h in k.0 ((exact s u).0 r.0, (exact u s).0 r.1)),
       (λ o. let r = k.1 o in e.1 ((exact s u).1 r.0, (exact u s).1 r.1)),
     )
 
-pub is_name_below-returns-in_ok-are_below-in-Co : goal.is_name_below-returns-in_ok-are_below-in-Co
-is_name_below-returns-in_ok-are_below-in-Co g t c =
+pub is_name_below-returns-in-Co : goal.is_name_below-returns-in-Co
+is_name_below-returns-in-Co g t c =
     let b = Below (g.T.Taxa.is_below c.args.taxa.now) in
     let v = g.T.Taxa.variance_of_name c.args.taxa.now in
     let m = paths_of v (type_of c.args.argument.now) in
     let d = c.args.name.0 in
     let met = g.met.T.Taxa in
     let l : b c.in-Con.other.0 d = sym c.below.ensures.is ∙ c.if-not-below.false in
+    let f = append_none m in
     let w : v d ≡ contravariant = elim c.in-Co.is [
       | inl e ↦ absurd (not_covariant (v d) c.requires (ap variance_of (sym e) ∙ c.variance.ensures.is))
       | inr e ↦ sym c.variance.ensures.is ∙ ap variance_of e
     ] in
-    let s = type_of c.deref-in-Co.result.now in
+    let s = type_of c.deref.result.now in
     let k = contra_decides b v c.in-Con.other.0 d s m (met.one_variance c.args.taxa.now c.in-Con.other.0 d l ∙ w) w l in
-    let e = c.in_ok-are_below-in-Co.ensures in
-    let f = append_none m in
-    rw (c.in-Con.is, ← c.deref-in-Co.ensures) (
-      (λ h. k.0 (subst (λ (x : Paths). PathsLe b v x (paths_of v s)) f (e.0 h))),
-      (λ o. e.1 (subst (λ (x : Paths). PathsLe b v x (paths_of v s)) (sym f) (k.1 o))),
-    )
+    let e = c.in_ok-are_below-in-Con.ensures in
+    rw (c.in-Con.is, ← c.deref.ensures) (yes (k.0 (subst (λ (x : Paths). PathsLe b v x (paths_of v s)) f (e.0 c.if-not-branch.false))))
 
 pub is_name_below-returns-then-branch : goal.is_name_below-returns-then-branch
 is_name_below-returns-then-branch g t c =

@@ -1,4 +1,4 @@
-use Rattle.std.proofs.Common.{◌≡◌, ◌+◌, ◌*◌, [], List, drop, Bor}
+use Rattle.std.proofs.Common.{◌+◌, ◌*◌, [], List, drop, Bor}
 use Rattle.cls_base.specs.Types.{nodes}
 use Rattle.cls_base.specs.Ty.{type_of}
 use Rattle.cls_base.specs.Taxa.{Below}

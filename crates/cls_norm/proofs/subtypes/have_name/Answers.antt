@@ -1,4 +1,4 @@
-use Rattle.std.proofs.Common.{◌≡◌, refl, sym, ◌∙◌, subst, List, Bor, true, false}
+use Rattle.std.proofs.Common.{refl, sym, ◌∙◌, subst, List, Bor}
 use Rattle.std.proofs.lemmas.List.{drop_all}
 use Rattle.std.proofs.lemmas.Bool.{false≢true}
 use Rattle.cls_base.specs.Taxa.{Below}

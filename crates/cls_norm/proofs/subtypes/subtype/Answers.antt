@@ -18,7 +18,7 @@ returns g c =
     let m = paths_of v (type_of c.args.upper.now) in
     let n = paths_of v (type_of c.args.lower.now) in
     let e : paths_of_all v c.deref.result.now ≡ n =
-        ap (paths_of_all v) c.deref.ensures.value ∙ (c.in_ok-put_pieces.ensures v ∙ ap (λ (l : List (Bor Ty)). append (paths_of_all v l) n) c.new-pieces.ensures.items) in
+    ap (paths_of_all v) c.deref.ensures.value ∙ (c.in_ok-put_pieces.ensures v ∙ ap (λ (l : List (Bor Ty)). append (paths_of_all v l) n) c.new-pieces.ensures.items) in
     let f = c.in_ok-are_below.ensures in (
       (λ h. exact.1 (subst (λ (x : Paths). PathsLe b v x m) e (f.0 h))),
       (λ d. f.1 (subst (λ (x : Paths). PathsLe b v x m) (sym e) (exact.0 d))),
