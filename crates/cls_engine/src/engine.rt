@@ -7,6 +7,7 @@ ghost use Rattle.cls_engine.specs.Engines.{seen_as};
 ghost use Rattle.cls_engine.specs.Faults.{IsOversizedOr};
 ghost use Rattle.cls_engine.specs.Goals.{Goal, IsGoalOf, IsSpread};
 ghost use Rattle.cls_engine.specs.Options.{AreInRange};
+ghost use Rattle.cls_engine.specs.Recents.{IsVerdict, IsVerdictOn};
 
 use crate::fault::EngineFault;
 use crate::library_expander::LibraryExpander;
@@ -122,11 +123,19 @@ impl Engine {
         self.recents.take(goal)
     }
 
-    /// Keeps the grammar of the goal for later queries, if there is memory for it.
-    pub(crate) fn keep_recent(&mut self, grammar: Grammar)
+    /// Whether the start of the goal's grammar is productive, if that is kept.
+    pub(crate) fn recent_verdict(&self, goal: &Nf) -> Option<bool>
+        ensures { IfSome result (IsVerdictOn self.now.library self.now.options goal.now) }
+    {
+        self.recents.productive(goal)
+    }
+
+    /// Keeps the grammar of a goal for later queries, and whether its start is productive, if there is memory for it.
+    pub(crate) fn keep_recent(&mut self, grammar: Grammar, productive: Option<bool>)
         requires known { (start : Goal) × IsKnown self.old.library self.old.options start grammar }
+        requires verdict { IfSome productive (IsVerdict grammar) }
         ensures same { self.new ≡ self.old }
     {
-        self.recents.put(grammar);
+        self.recents.put(grammar, productive);
     }
 }

@@ -48,9 +48,13 @@ impl Engine {
         ensures fault { IfErr result
             (IsFaultOf (closure_faults self.old.library self.old.options (type_of ty.now))) }
     {
+        let goal = self.goal(alloc, ty)?;
+        if let Some(inhabited) = self.recent_verdict(&goal) {
+            return Ok(inhabited);
+        }
         let grammar = self.closure(rt, alloc, ty, gate)?;
         let inhabited = is_productive(alloc, &grammar)?;
-        self.keep_recent(grammar);
+        self.keep_recent(grammar, Some(inhabited));
         Ok(inhabited)
     }
 
@@ -89,7 +93,7 @@ impl Engine {
     {
         let grammar = self.closure(rt, alloc, ty, gate)?;
         let certificate = certify(alloc, self.library(), &grammar)?;
-        self.keep_recent(grammar);
+        self.keep_recent(grammar, None);
         Ok(certificate)
     }
 
@@ -112,7 +116,7 @@ impl Engine {
         // A history is of work done anew. The grammar that comes of it stands in place of the one that is kept.
         drop(self.take_recent(&goal));
         let closed = self.close(rt, alloc, goal, gate)?;
-        self.keep_recent(closed.grammar);
+        self.keep_recent(closed.grammar, None);
         Ok(closed.history)
     }
 }

@@ -1,6 +1,6 @@
 //! The grammars of the goals that were asked for last.
 ghost use Rattle.std.specs.Prelude.{◌≡◌, ◌⊎◌, [], Contains, IfSome, IsTrue};
-ghost use Rattle.cls_engine.specs.Recents.{HasFirstGoal, IsOneOf};
+ghost use Rattle.cls_engine.specs.Recents.{HasFirstGoal, IsOneOf, HasVerdict};
 ghost use Rattle.cls_engine.specs.declared.recents.Kept.{Kept as KeptSeen};
 
 use cls_grammar::Grammar;
@@ -17,6 +17,8 @@ const MOST_TOGETHER: u64 = 200_000;
 #[derive(Drop)]
 pub(crate) struct Kept {
     pub(crate) grammar: Grammar,
+    // Whether its start is productive, if that was asked.
+    pub(crate) productive: Option<bool>,
     // How many goals and rules it has.
     size: u64,
 }
@@ -79,8 +81,16 @@ impl Recents {
         ensures others { (k : KeptSeen) → Contains self.new.kept.items k → Contains self.old.kept.items k }
     {
         let place = self.place_of(goal)?;
-        let Kept { grammar, size: _ } = self.kept.remove(place);
+        let Kept { grammar, .. } = self.kept.remove(place);
         Some(grammar)
+    }
+
+    /// Whether the start of the goal's grammar is productive, if that is kept.
+    pub(crate) fn productive(&self, goal: &Nf) -> Option<bool>
+        ensures { IfSome result (λ yes. HasVerdict self.now.kept.items goal.now yes) }
+    {
+        let place = self.place_of(goal)?;
+        self.kept[place].productive
     }
 
     /// Whether a grammar with so many goals and rules may be kept beside the others.
@@ -101,14 +111,19 @@ impl Recents {
         }
     }
 
-    /// Keeps the grammar, and drops the oldest ones that there is no room for beside it. If memory runs out it isn't
-    /// kept.
-    pub(crate) fn put(&mut self, grammar: Grammar)
+    /// Keeps the grammar and whether its start is productive, and drops the oldest grammars that there is no room for
+    /// beside it. If memory runs out it isn't kept.
+    pub(crate) fn put(&mut self, grammar: Grammar, productive: Option<bool>)
         ensures { (k : KeptSeen) → Contains self.new.kept.items k
-            → Contains self.old.kept.items k ⊎ (k.grammar ≡ grammar) }
+            → Contains self.old.kept.items k ⊎ ((k.grammar ≡ grammar) × (k.productive ≡ productive)) }
     {
         let size = size_of(&grammar);
         self.make_room(size);
-        drop(self.kept.push(Kept { grammar, size }));
+        let kept = Kept {
+            grammar,
+            productive,
+            size,
+        };
+        drop(self.kept.push(kept));
     }
 }
