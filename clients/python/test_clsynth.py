@@ -4,6 +4,7 @@ import itertools
 import os
 import tempfile
 import unittest
+from collections.abc import Callable
 from pathlib import Path
 
 import clsynth
@@ -145,7 +146,7 @@ class Certificates(unittest.TestCase):
 
 class Errors(unittest.TestCase):
     def test_each_has_its_class(self) -> None:
-        queries = {
+        queries: dict[str, Callable[[Session], object]] = {
             "long": lambda it: it.inhabited("A" + " " * 70_000),
             "deep": lambda it: it.inhabited("(" * 65 + "A" + ")" * 65),
             "syntax": lambda it: it.inhabited("A ->"),
