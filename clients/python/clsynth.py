@@ -296,7 +296,7 @@ def parse_certificate(lines: Iterable[str]) -> Certificate:
     first, *rest = lines
     if first == "inhabited":
         return Inhabited(tuple(_row(line) for line in rest if line != "qed"))
-    return Empty(tuple(_members(rest)))
+    return Empty(_members(rest))
 
 
 class Verdict(NamedTuple):
@@ -577,7 +577,7 @@ def _row(line: str) -> Row:
     return Row(goal, component, int(count), _numbers(positions.split()))
 
 
-def _members(lines: Iterable[str]) -> Iterator[Member]:
+def _members(lines: Iterable[str]) -> tuple[Member, ...]:
     """Each member takes the blocks, layers and sets that stand under it."""
     members: list[tuple[str, list[tuple[str, int, list[list[tuple[int, ...]]]]]]] = []
     for line in lines:
@@ -591,5 +591,4 @@ def _members(lines: Iterable[str]) -> Iterator[Member]:
             members[-1][1][-1][2].append([])
         elif word == "set":
             members[-1][1][-1][2][-1].append(_numbers(rest.split()))
-    for goal, blocks in members:
-        yield Member(goal, tuple(Block(component, count, tuple(map(tuple, layers))) for component, count, layers in blocks))
+    return tuple(Member(goal, tuple(Block(name, n, tuple(map(tuple, layers))) for name, n, layers in blocks)) for goal, blocks in members)

@@ -32,7 +32,7 @@ def delivers(moves: list[str]) -> bool:
 
 def main() -> None:
     with Session((HERE / "repository.cls").read_text()) as session:
-        answers = [text.split() for _, text in itertools.islice(session.texts("Delivered", page_size=8), 50)]
+        answers = [(text or "").split() for _, text in itertools.islice(session.texts("Delivered", page_size=8), 50)]
     assert all(moves[0] == "start" and delivers(moves[1:]) for moves in answers)
     print(f"{len(answers)} answers deliver the parcel; they have {len(answers[0]) - 1} to {len(answers[-1]) - 1} moves")
 

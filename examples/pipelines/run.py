@@ -23,7 +23,7 @@ def main() -> None:
         for goal in GOALS:
             print(f"{goal}:")
             for _, text in session.text_page(goal, 3, max_size=6).entries:
-                result = eval(text, dict(DATA))
+                result = eval(text or "", dict(DATA))
                 assert all(test(result) for name, test in TESTS.items() if name in goal), text
                 print(f"  {text} = {result}")
 
