@@ -16,7 +16,7 @@ from __future__ import annotations
 import os
 import subprocess
 from collections.abc import Callable, Iterable, Iterator
-from contextlib import suppress
+from contextlib import contextmanager, suppress
 from dataclasses import dataclass
 from enum import Enum
 from types import TracebackType
@@ -317,14 +317,10 @@ class Step(NamedTuple):
 
 @dataclass(frozen=True)
 class Sizes:
-    """The greatest size of a term. It is None if it is over 1,000,000,000, or if a walk shows that there is none."""
+    """The greatest size of a term. It is None if it is over 1,000,000,000, or if a walk shows that there is no greatest one."""
 
     greatest: int | None
     walk: tuple[Step, ...] = ()
-
-    @property
-    def are_bounded(self) -> bool:
-        return not self.walk
 
 
 class Event(NamedTuple):
@@ -447,44 +443,51 @@ class Session:
 
     def sizes(self, goal: str) -> Sizes:
         """How large the terms of the type are."""
-        first = self._ask(f"finite {goal}")
-        if first != "infinite":
-            told = first.removeprefix("finite ")
-            return Sizes(None if told == "over" else int(told))
-        walk = (line.split(" ") for line in self._rest("done"))
-        return Sizes(None, tuple(Step(int(number), int(rule), int(place)) for _, number, _, rule, _, place in walk))
+        with self._reply(f"finite {goal}") as first:
+            if first != "infinite":
+                told = first.removeprefix("finite ")
+                return Sizes(None if told == "over" else int(told))
+            walk = (line.split(" ") for line in iter(self._program.line, "done"))
+            return Sizes(None, tuple(Step(int(number), int(rule), int(place)) for _, number, _, rule, _, place in walk))
 
     def history(self, goal: str) -> list[Event]:
         """Which worker claimed and filed which row of the closure."""
         events = (line.split(" ") for line in self._lines(f"audit {goal}", "done"))
         return [Event(kind, int(worker), int(row)) for kind, worker, row in events]
 
-    def _ask(self, query: str, more_lines: Iterable[str] = ()) -> str:
-        """The first line of the reply. If it is an error, that is raised."""
+    @contextmanager
+    def _reply(self, query: str, more_lines: Iterable[str] = ()) -> Iterator[str]:
+        """The first line of the reply. If it is an error, that is raised. If the reply isn't read to its end, the session ends."""
         if "\n" in query:
             raise ValueError("a line feed stands in a query")
         self._program.send("".join(f"{line}\n" for line in (query, *more_lines)))
-        first = self._program.line()
-        if first.startswith("error "):
-            _, word, *detail = first.split(" ", 2)
-            raise ERRORS.get(word, QueryError)(query, *detail)
-        return first
+        try:
+            first = self._program.line()
+            if not first.startswith("error "):
+                yield first
+                return
+        except BaseException:
+            self._program.abandon()
+            raise
+        _, word, *detail = first.split(" ", 2)
+        raise ERRORS.get(word, QueryError)(query, *detail)
 
-    def _rest(self, last: str) -> Iterator[str]:
-        """The further lines of a reply, up to the last one and without it."""
-        return iter(self._program.line, last)
+    def _ask(self, query: str, more_lines: Iterable[str] = ()) -> str:
+        """The one line of the reply."""
+        with self._reply(query, more_lines) as line:
+            return line
 
     def _lines(self, query: str, last: str) -> list[str]:
         """The lines of a reply without its last one."""
-        first = self._ask(query)
-        return [] if first == last else [first, *self._rest(last)]
+        with self._reply(query) as first:
+            return [] if first == last else [first, *iter(self._program.line, last)]
 
     def _page(self, query: str, entry_of: Callable[[str], Entry]) -> Page[Entry]:
         entries = []
-        line = self._ask(query)
-        while line not in ("more", "done"):
-            entries.append(entry_of(line.removeprefix("term ")))
-            line = self._program.line()
+        with self._reply(query) as line:
+            while line not in ("more", "done"):
+                entries.append(entry_of(line.removeprefix("term ")))
+                line = self._program.line()
         return Page(entries, line == "more")
 
     def _with_text(self, term: str) -> TermText:

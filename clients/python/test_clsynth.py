@@ -4,6 +4,7 @@ import itertools
 import os
 import tempfile
 import unittest
+import unittest.mock
 from collections.abc import Callable
 from pathlib import Path
 
@@ -91,14 +92,11 @@ class Answers(unittest.TestCase):
             self.assertEqual(chain.sizes("B"), clsynth.Sizes(7))
             self.assertEqual(chain.sizes("C"), clsynth.Sizes(0))
             self.assertEqual(chain.sizes("A"), clsynth.Sizes(None, (Step(0, 1, 0),)))
-            self.assertFalse(chain.sizes("A").are_bounded)
 
     def test_a_greatest_size_over_the_bound(self) -> None:
         doubling = "".join(f"comp f{step} : A{step} -> A{step} -> A{step + 1}\n" for step in range(31))
         with session(doubling + "comp x : A0\n") as tree:
-            sizes = tree.sizes("A31")
-            self.assertEqual(sizes, clsynth.Sizes(None))
-            self.assertTrue(sizes.are_bounded)
+            self.assertEqual(tree.sizes("A31"), clsynth.Sizes(None))
 
     def test_history(self) -> None:
         with session(CHAIN, workers=2) as chain:
@@ -233,6 +231,13 @@ class Processes(unittest.TestCase):
         self.assertEqual(fault.exception.status, clsynth.Status.NO_MEMORY)
         with self.assertRaises(clsynth.SessionClosed):
             session.inhabited("A")
+
+    def test_a_reply_that_is_not_read_ends_the_session(self) -> None:
+        chain = session(CHAIN)
+        with self.assertRaises(KeyboardInterrupt), unittest.mock.patch.object(chain, "_with_text", side_effect=KeyboardInterrupt):
+            chain.text_page("A", 3)
+        with self.assertRaises(clsynth.SessionClosed):
+            chain.inhabited("A")
 
     def test_a_fault_at_the_end(self) -> None:
         session = Session(CHAIN, program=self.fake("echo yes; cat >/dev/null; exit 4"))
