@@ -2,5 +2,6 @@ pub mod Counts
 pub mod Parts
 pub mod PathLists
 pub mod Sizes
+pub mod SmallTypes
 pub mod Steps
 pub mod Uppers

@@ -12,13 +12,20 @@ use std::alloc::Global;
 /// One more than the greatest number of nodes that is fit.
 const TOO_MANY: u64 = MAX_TYPE_NODES + 1;
 
+/// A type of at most so many nodes keeps the limits of depth and spread too: its spread is below 2 to the power of its nodes.
+const FEW: u64 = 13;
+
 /// Whether the type of the normal form keeps the limits of nodes, depth and spread. The only error is out of memory.
 ///
-/// The nodes are counted first, so no type of more nodes is made, however long the list.
+/// The nodes are counted first, so no type of many nodes is made, however long the list, nor one of few.
 pub fn fit(alloc: Global, nf: &Nf) -> Result<bool, OutOfMemory>
     ensures { IfOk result (λ answer. IsTrue answer ↔ IsFit (type_of_paths (listed nf.now))) }
 {
-    if list_nodes(nf) == TOO_MANY {
+    let nodes = list_nodes(nf);
+    if nodes <= FEW {
+        return Ok(true);
+    }
+    if nodes == TOO_MANY {
         return Ok(false);
     }
     let ty = type_of(alloc, nf)?;
