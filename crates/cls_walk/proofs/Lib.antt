@@ -1,11 +1,17 @@
+pub mod Building
 pub mod Capped
 pub mod Columns
 pub mod Counts
+pub mod Decodes
 pub mod Endings
+pub mod Forms
+pub mod Fronts
 pub mod Lists
 pub mod OrderSteps
+pub mod PageFronts
 pub mod Pools
 pub mod RefusalSteps
+pub mod Repeats
 pub mod RunSteps
 pub mod Runs
 pub mod Sure

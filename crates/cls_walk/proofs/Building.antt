@@ -1,0 +1,84 @@
+-- Steps of making the forms of a node, and of testing their order.
+use Rattle.std.proofs.Common.{◌≡◌, ℕ, zero, suc, ◌+◌, ◌<◌, ◌≤◌, List, [], ◌∷◌, ◌++◌, length, map, take, get_or, refl, sym, ap, ◌∙◌, subst, inl, inr, arith, append-nil, append_assoc, true, false}
+use Rattle.std.specs.Prelude.{◌⊎◌, Option, None, Some, slice_index_or, Contains}
+use Rattle.std.specs.List.{flat_map}
+use Rattle.std.proofs.lemmas.Bool.{cases_lt}
+use Rattle.std.proofs.lemmas.List.{get_or_past}
+use Rattle.cls_base.specs.declared.rule.Rule.{Rule}
+use Rattle.cls_base.specs.declared.rule.Rule.TheVariants.{Head, Any}
+use Rattle.cls_base.specs.Languages.{NodeRule, rules_at}
+use Rattle.cls_base.proofs.Lists.{Contains-nil}
+use Rattle.cls_enum.specs.Members.{IsIn}
+use Rattle.cls_enum.proofs.Members.{in_cases}
+use Rattle.cls_walk.specs.Counts.{HeadRule, heads_of, pairs_of}
+use Rattle.cls_walk.specs.Forms.{HasForm, headed, applied, IsEarlier, AreRising, AreForms}
+use Rattle.cls_walk.specs.Repeats.{IsRepeat, repeated, forms_by}
+use Rattle.cls_walk.proofs.Columns.{rules-next}
+
+pairs_of-push : (rs : List (Rule ℕ)) (r : Rule ℕ) → pairs_of (rs ++ r ∷ []) ≡ pairs_of rs ++ pairs_of (r ∷ [])
+pairs_of-push [] r = refl
+pairs_of-push (Head x ns ∷ rs) r = pairs_of-push rs r
+pairs_of-push (Any l m ∷ rs) r = ap (λ (ps : List (ℕ × ℕ)). (l, m) ∷ ps) (pairs_of-push rs r)
+
+heads_of-push : (rs : List (Rule ℕ)) (r : Rule ℕ) → heads_of (rs ++ r ∷ []) ≡ heads_of rs ++ heads_of (r ∷ [])
+heads_of-push [] r = refl
+heads_of-push (Head x ns ∷ rs) r = ap (λ (hs : List HeadRule). (x, ns) ∷ hs) (heads_of-push rs r)
+heads_of-push (Any l m ∷ rs) r = heads_of-push rs r
+
+flat_map-push : {A B : Type 0} (f : A → List B) (xs ys : List A) → flat_map f (xs ++ ys) ≡ flat_map f xs ++ flat_map f ys
+flat_map-push f [] ys = refl
+flat_map-push {A} {B} f (x ∷ xs) ys = ap (λ (zs : List B). f x ++ zs) (flat_map-push f xs ys) ∙ sym (append_assoc (f x) (flat_map f xs) (flat_map f ys))
+
+-- a head rule more
+pub repeat-head : (n x : ℕ) (ns : List ℕ) (repeat : Option ℕ) (rs : List (Rule ℕ)) → IsRepeat n rs repeat → IsRepeat n (rs ++ Head x ns ∷ []) repeat
+repeat-head n x ns None rs h = pairs_of-push rs (Head x ns) ∙ append-nil (pairs_of rs) ∙ h
+repeat-head n x ns (Some m) rs h = pairs_of-push rs (Head x ns) ∙ append-nil (pairs_of rs) ∙ h
+
+-- the first pair of nodes
+pub repeat-pair : (n m : ℕ) (rs : List (Rule ℕ)) → IsRepeat n rs None → IsRepeat n (rs ++ Any n m ∷ []) (Some m)
+repeat-pair n m rs h = pairs_of-push rs (Any n m) ∙ ap (λ (ps : List (ℕ × ℕ)). ps ++ (n, m) ∷ []) h
+
+pub repeat-next : (n : ℕ) (old new : Option ℕ) (rs : List (Rule ℕ)) (i : ℕ) (r : Rule ℕ) → i < length rs → r ≡ get_or rs i r → IsRepeat n (take i rs) old → ((qs : List (Rule ℕ)) → IsRepeat n qs old → IsRepeat n (qs ++ r ∷ []) new) → IsRepeat n (take (i + 1) rs) new
+repeat-next n old new rs i r l p h f =
+    let P : List (Rule ℕ) → Type 0 = λ qs. IsRepeat n qs new in
+    subst P (sym (rules-next rs i r l p)) (f (take i rs) h)
+
+forms_by-push : (repeat : Option ℕ) (size : ℕ) (rs : List (Rule ℕ)) (r : Rule ℕ) → forms_by repeat size (rs ++ r ∷ []) ≡ forms_by repeat size rs ++ forms_by repeat size (r ∷ [])
+forms_by-push repeat size rs r = ap (flat_map (repeated repeat size)) (heads_of-push rs r) ∙ flat_map-push (repeated repeat size) (heads_of rs) (heads_of (r ∷ []))
+
+-- the forms by one rule more
+pub forms-next : (repeat : Option ℕ) (size : ℕ) (rs : List (Rule ℕ)) (i : ℕ) (r : Rule ℕ) (old new : List HeadRule) → i < length rs → r ≡ get_or rs i r → old ≡ forms_by repeat size (take i rs) → new ≡ old ++ forms_by repeat size (r ∷ []) → new ≡ forms_by repeat size (take (i + 1) rs)
+forms-next repeat size rs i r old new l p h q =
+    q ∙ ap (λ (fs : List HeadRule). fs ++ forms_by repeat size (r ∷ [])) h ∙ sym (forms_by-push repeat size (take i rs) r) ∙ ap (forms_by repeat size) (sym (rules-next rs i r l p))
+
+earlier-trans : (f g h : HeadRule) → IsEarlier f g → IsEarlier g h → IsEarlier f h
+earlier-trans f g h (inl a) (inl b) = inl (omega arith)
+earlier-trans f g h (inl a) (inr b) = inl (let z = b.0 in omega arith)
+earlier-trans f g h (inr a) (inl b) = inl (let z = a.0 in omega arith)
+earlier-trans f g h (inr a) (inr b) = inr (a.0 ∙ b.0, (let y = a.1 in let z = b.1 in omega arith))
+
+-- one more form behind the last one
+pub rising-push : (hs : List HeadRule) (last h : HeadRule) → AreRising (hs ++ last ∷ []) → IsEarlier last h → AreRising ((hs ++ last ∷ []) ++ h ∷ [])
+rising-push [] last h r e = ((λ g i. elim i [ inl p ↦ (let P : HeadRule → Type 0 = λ z. IsEarlier last z in subst P p e) | inr z ↦ absurd z ]), ((λ g i. absurd i), tt))
+rising-push (f ∷ hs) last h r e = (
+  (λ g i. elim (in_cases (hs ++ last ∷ []) (h ∷ []) g i) [
+    | inl j ↦ r.0 g j
+    | inr j ↦ elim j [
+      | inl p ↦ (let P : HeadRule → Type 0 = λ z. IsEarlier f z in subst P p (earlier-trans f last h (r.0 last (last-in hs last)) e))
+      | inr z ↦ absurd z
+    ]
+  ]),
+  rising-push hs last h r.1 e,
+)
+  where
+    last-in : (hs : List HeadRule) (last : HeadRule) → IsIn (hs ++ last ∷ []) last
+    last-in [] last = inl refl
+    last-in (f ∷ hs) last = inr (last-in hs last)
+
+-- behind the last node there are no rules, and so no forms
+none-past : (book : List (List (Rule ℕ))) (n x : ℕ) (ns : List ℕ) → length book ≤ n → HasForm book n x ns → ⊥
+none-past book n x ns l (headed c) = let P : List (Rule ℕ) → Type 0 = λ rs. Contains rs (Head x ns) in Contains-nil (Head x ns) (subst P (get_or_past book n [] l) c)
+none-past book n x ns l (applied {l = k} {m = m} c f p) = let P : List (Rule ℕ) → Type 0 = λ rs. Contains rs (Any k m) in Contains-nil (Any k m) (subst P (get_or_past book n [] l) c)
+
+pub forms-past : (book : List (List (Rule ℕ))) (most n : ℕ) → length book ≤ n → AreForms book most n []
+forms-past book most n l = record { rising = tt; each = λ h i. absurd i; all = λ x ns f m. absurd (none-past book n x ns l f) }
