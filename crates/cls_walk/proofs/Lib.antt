@@ -4,6 +4,7 @@ pub mod Columns
 pub mod Counts
 pub mod Decodes
 pub mod Endings
+pub mod Filled
 pub mod Forms
 pub mod Fronts
 pub mod Lists
@@ -12,7 +13,9 @@ pub mod PageFronts
 pub mod Pools
 pub mod RefusalSteps
 pub mod Repeats
+pub mod Rounds
 pub mod RunSteps
 pub mod Runs
 pub mod Sure
 pub mod Tables
+pub mod Walks

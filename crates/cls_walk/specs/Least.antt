@@ -4,8 +4,10 @@ use Rattle.cls_enum.specs.Members.{IsIn}
 use Rattle.cls_walk.specs.Counts.{HeadRule}
 use Rattle.cls_walk.specs.Filled.{needs}
 
-abbrev pub AreAtMost : ℕ → List ℕ → Type 0
-AreAtMost most least = (n : ℕ) → slice_index least n ≤ most
+-- none is over `most`, and past the last node there is none
+pub record AreWithin (width most : ℕ) (least : List ℕ) : Type 0 where
+  pub small : (n : ℕ) → slice_index least n ≤ most
+  pub none : (n : ℕ) → width ≤ n → slice_index least n ≡ 0
 
 -- the greatest number that is at most `most` and at most what any of the forms comes to
 pub record IsLeastOf (cost : ℕ → ℕ) (least : List ℕ) (most : ℕ) (forms : List HeadRule) (best : ℕ) : Type 0 where

@@ -12,6 +12,7 @@ ghost use Rattle.cls_enum.specs.Requests.{request};
 ghost use Rattle.cls_enum.specs.States.{FitsPool};
 ghost use Rattle.cls_walk.specs.Attempts.{AreDueCodes, AreFormsUpTo, IsStart};
 ghost use Rattle.cls_walk.specs.Counts.{up_below};
+ghost use Rattle.cls_walk.specs.Filled.{EachRise};
 ghost use Rattle.cls_walk.specs.PageFronts.{IsDueCode};
 ghost use Rattle.cls_walk.specs.Tables.{capped, number_at, Holds};
 ghost use Rattle.cls_walk.specs.Totals.{total_held};
@@ -126,9 +127,10 @@ fn walk_size(
 ) -> Result<bool, OutOfMemory>
     requires some { 1 ≤ size }
     requires short { size ≤ max_term_length }
-    requires start { IsStart (cost_of plan.now.costs.now) (option_copied after.entry) from code.now }
+    requires start { IsStart (cost_of plan.now.costs.now) (option_copied after) from code.now }
     requires resting { (walk.old.awaited.items ≡ []) × (walk.old.code.items ≡ []) }
     requires few { length walk.old.codes.items ≤ plan.now.take }
+    requires rising { EachRise plan.now.forms.now }
     ensures back { IfOk result (IsBack plan.now walk.old walk.new) }
     ensures listed { (book : List (List (Rule ℕ))) (last max : ℕ)
         → let r = request plan.now.costs.now (option_copied after.entry) max plan.now.take in
@@ -157,8 +159,9 @@ fn walk_sizes(
 ) -> Result<u32, OutOfMemory>
     requires some { 1 ≤ last }
     requires short { last ≤ max_term_length }
-    requires start { IsStart (cost_of plan.now.costs.now) (option_copied after.entry) from code.now }
+    requires start { IsStart (cost_of plan.now.costs.now) (option_copied after) from code.now }
     requires resting { (walk.old.awaited.items ≡ []) × (walk.old.code.items ≡ []) × (walk.old.codes.items ≡ []) }
+    requires rising { EachRise plan.now.forms.now }
     ensures within { IfOk result (λ size. size ≤ last) }
     ensures ends { IfOk result (λ size. (plan.now.take < length walk.new.codes.items) ⊎ (size ≡ last)) }
     ensures listed { (book : List (List (Rule ℕ))) (max : ℕ)

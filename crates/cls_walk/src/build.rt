@@ -1,9 +1,11 @@
 //! The forms of the nodes of a rule book. They are made only for books in which a node has at most one pair of nodes, of
 //! itself and another node, and in which no two forms of a node begin alike. So each code has one derivation.
-ghost use Rattle.std.specs.Prelude.{◌≡◌, ℕ, ◌++◌, ◌+◌, ◌∷◌, [], true, IfOk, IfSome, OnOk, List, reverse, slice_index_or};
+ghost use Rattle.std.specs.Prelude.{◌≡◌, ℕ, ◌++◌, ◌∷◌, [], true, IfOk, IfSome, OnOk, List};
 ghost use Rattle.cls_base.specs.declared.rule.Rule.{Rule};
 ghost use Rattle.cls_walk.specs.Counts.{HeadRule};
-ghost use Rattle.cls_walk.specs.Forms.{AreForms, AreRising, IsEarlier};
+ghost use Rattle.cls_walk.specs.Attempts.{AreFormsUpTo};
+ghost use Rattle.cls_walk.specs.Filled.{EachRise};
+ghost use Rattle.cls_walk.specs.Forms.{AreRising, IsEarlier};
 ghost use Rattle.cls_walk.specs.Repeats.{copies, forms_by, repeated, IsRepeat};
 
 use crate::form::{Form, Forms};
@@ -38,17 +40,6 @@ fn repeat_of(node: u32, rules: &[Rule<u32>]) -> Option<Option<u32>>
     Some(repeat)
 }
 
-/// So many times the node.
-fn repeats(alloc: Global, node: u32, count: u32) -> Result<Vec<u32>, OutOfMemory>
-    ensures { IfOk result (λ all. reverse all.items ≡ copies node count) }
-{
-    let mut all = Vec::new(alloc);
-    for _place in 0..count {
-        all.push(node)?;
-    }
-    Ok(all)
-}
-
 /// A head rule with so many arguments of a node more. A form of 2^32 arguments is refused as out of memory.
 fn form_with(
     alloc: Global,
@@ -59,10 +50,11 @@ fn form_with(
 ) -> Result<Form, OutOfMemory>
     ensures { IfOk result (λ form. form ≡ (component, nodes.now ++ copies node count)) }
 {
-    let mut all = repeats(alloc, node, count)?;
-    for argument in nodes.iter().rev() {
-        all.push(*argument)?;
+    let mut all = Vec::from_slice(alloc, nodes)?;
+    for _place in 0..count {
+        all.push(node)?;
     }
+    all.reverse();
     let Ok(total) = u32::try_from(all.len()) else {
         return Err(OutOfMemory);
     };
@@ -154,8 +146,8 @@ pub(crate) fn forms_of<B: RuleBook>(
     book: &B,
     size: u32,
 ) -> Result<Option<Forms>, OutOfMemory>
-    ensures { IfOk result (λ answer. IfSome answer (λ forms. (n most : ℕ) → most + 1 ≡ size
-        → AreForms (B.book book.now) most n (slice_index_or forms n []))) }
+    ensures forms { IfOk result (λ answer. IfSome answer (λ forms. AreFormsUpTo (B.book book.now) size forms)) }
+    ensures rising { IfOk result (λ answer. IfSome answer EachRise) }
 {
     let mut nodes = Vec::new(alloc);
     for node in 0..book.count() {

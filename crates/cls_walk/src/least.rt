@@ -1,11 +1,11 @@
 //! A size for each node than which no term of it is smaller. It is raised round by round: a form comes to the cost of its
 //! component and the sizes of its nodes so far.
-ghost use Rattle.std.specs.Prelude.{◌≡◌, ℕ, ◌+◌, ◌<◌, ◌≤◌, IfOk, IfSome, List, length, slice_index};
+ghost use Rattle.std.specs.Prelude.{◌≡◌, ℕ, ◌+◌, ◌<◌, ◌≤◌, IfOk, IfSome, List, length, min, slice_index};
 ghost use Rattle.std.specs.Option.{IsNone};
 ghost use Rattle.cls_term.specs.Costs.{cost_of};
 ghost use Rattle.cls_enum.specs.Members.{IsIn};
 ghost use Rattle.cls_walk.specs.Counts.{HeadRule};
-ghost use Rattle.cls_walk.specs.Least.{AreAtMost, IsLeastOf};
+ghost use Rattle.cls_walk.specs.Least.{AreWithin, IsLeastOf};
 ghost use Rattle.cls_walk.specs.Tables.{capped};
 ghost use Rattle.cls_walk.specs.Filled.{needs, AreLeast, forms_at};
 
@@ -57,16 +57,20 @@ pub(crate) fn left_behind(
     Some(slack - extra as u32)
 }
 
+/// The lesser of the two.
+fn lesser(a: u32, b: u64) -> u32
+    ensures { result ≡ min a b }
+{
+    if b < u64::from(a) { b as u32 } else { a }
+}
+
 /// The least that a form comes to, and `most` where each comes to more.
 fn node_size(costs: &Numbers, least: &Numbers, forms: &[Form], most: u32) -> u32
     ensures { IsLeastOf (cost_of costs.now) least.now most forms.now result }
 {
     let mut best = most;
     for form in forms {
-        let size = form_size(costs, least, form);
-        if size < u64::from(best) {
-            best = size as u32;
-        }
+        best = lesser(best, form_size(costs, least, form));
     }
     best
 }
@@ -79,9 +83,9 @@ fn raised(
     least: &Numbers,
     most: u32,
 ) -> Result<Numbers, OutOfMemory>
-    requires most { AreAtMost most least.now }
+    requires most { AreWithin (length forms.now) most least.now }
     requires least { AreLeast forms.now (cost_of costs.now) least.now }
-    ensures most { IfOk result (λ new. AreAtMost most new) }
+    ensures most { IfOk result (λ new. AreWithin (length forms.now) most new) }
     ensures least { IfOk result (λ new. AreLeast forms.now (cost_of costs.now) new) }
 {
     let mut new = Vec::new(alloc);

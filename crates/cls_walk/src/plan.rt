@@ -1,7 +1,7 @@
 //! What a walk goes by.
 ghost use Rattle.std.specs.Prelude.{ℕ, ◌≤◌};
 ghost use Rattle.cls_term.specs.Costs.{cost_of};
-ghost use Rattle.cls_walk.specs.Filled.{AreLeast, EachRise};
+ghost use Rattle.cls_walk.specs.Filled.{AreLeast};
 
 use crate::form::Forms;
 use cls_base::Numbers;
@@ -15,6 +15,5 @@ pub(crate) struct Plan<'a> {
     pub(crate) least: &'a Numbers,
     pub(crate) take: u32,
     pub ghost positive: { (x : ℕ) → 1 ≤ cost_of costs.now x },
-    pub ghost rising: { EachRise forms.now },
     pub ghost least_sizes: { AreLeast forms.now (cost_of costs.now) least.now },
 }

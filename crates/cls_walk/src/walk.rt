@@ -2,7 +2,7 @@
 //! awaited next. A form that comes to more than is left is passed over, and so is one before the cursor.
 ghost use Rattle.std.specs.Prelude.{◌≡◌, ℕ, ◌+◌, ◌-◌, ◌≤◌, [], ◌∷◌, IfOk, List, length, reverse, slice_index};
 ghost use Rattle.cls_term.specs.Costs.{cost_of};
-ghost use Rattle.cls_walk.specs.Filled.{needs};
+ghost use Rattle.cls_walk.specs.Filled.{needs, EachRise};
 ghost use Rattle.cls_walk.specs.Walks.{IsWanted, IsWantedBy, IsBack, Lists};
 
 use crate::cursor::Cursor;
@@ -46,7 +46,7 @@ fn emit(
     requires none { walk.old.awaited.items ≡ [] }
     requires few { length walk.old.codes.items ≤ plan.now.take }
     ensures back { IfOk result (IsBack plan.now walk.old walk.new) }
-    ensures listed { IfOk result (Lists (IsWanted plan.now [] slack cursor) walk.old walk.new) }
+    ensures listed { IfOk result (Lists (IsWanted plan.now [] slack cursor.entry) walk.old walk.new) }
 {
     if slack == 0 && cursor.passed {
         let code = Vec::from_slice(alloc, walk.code.as_slice())?;
@@ -65,10 +65,11 @@ fn go(
     slack: u32,
     cursor: Cursor,
 ) -> Result<bool, OutOfMemory>
+    requires rising { EachRise plan.now.forms.now }
     requires few { length walk.old.codes.items ≤ plan.now.take }
     ensures back { IfOk result (IsBack plan.now walk.old walk.new) }
     ensures listed { let ns = reverse walk.old.awaited.items in
-        IfOk result (Lists (IsWanted plan.now ns (needs plan.now.least.now ns + slack) cursor) walk.old walk.new) }
+        IfOk result (Lists (IsWanted plan.now ns (needs plan.now.least.now ns + slack) cursor.entry) walk.old walk.new) }
 {
     let Some(node) = walk.awaited.pop() else {
         return emit(alloc, plan, walk, slack, cursor);
@@ -88,10 +89,11 @@ pub(crate) fn each_form(
     slack: u32,
     cursor: Cursor,
 ) -> Result<bool, OutOfMemory>
+    requires rising { EachRise plan.now.forms.now }
     requires few { length walk.old.codes.items ≤ plan.now.take }
     ensures back { IfOk result (IsBack plan.now walk.old walk.new) }
     ensures listed { let ns = node ∷ reverse walk.old.awaited.items in
-        IfOk result (Lists (IsWanted plan.now ns (needs plan.now.least.now ns + slack) cursor) walk.old walk.new) }
+        IfOk result (Lists (IsWanted plan.now ns (needs plan.now.least.now ns + slack) cursor.entry) walk.old walk.new) }
 {
     let least = number_of(plan.least, node);
     for form in plan.forms.of(node) {
@@ -118,7 +120,7 @@ fn follow(
     ensures back { IfOk result (IsBack plan.now walk.old walk.new) }
     ensures listed { let ns = reverse walk.old.awaited.items in
         let size = least + needs plan.now.least.now ns + slack in
-        IfOk result (Lists (IsWantedBy plan.now form.now ns size cursor) walk.old walk.new) }
+        IfOk result (Lists (IsWantedBy plan.now form.now ns size cursor.entry) walk.old walk.new) }
 {
     let Some(left) = left_behind(plan.costs, plan.least, form, least, slack) else {
         return Ok(true);
