@@ -19,10 +19,10 @@ needs-reverse least (n ∷ ns) =
     let p : needs least (reverse (n ∷ ns)) ≡ needs least (reverse ns ++ n ∷ []) = ap (needs least) (reverse-append (n ∷ []) ns) in
     omega (arith, p, needs-append least (reverse ns) (n ∷ []), needs-reverse least ns)
 
-pub size-next : (cost : ℕ) (least ns : List ℕ) (i n total x new : ℕ) → i < length ns → n ≡ get_or ns i n → total ≡ capped (cost + needs least (take i ns)) → x ≡ slice_index least n → new ≡ capped (total + x) → new ≡ capped (cost + needs least (take (i + 1) ns))
-size-next cost least ns i n total x new l p h q r =
-    let a : take (i + 1) ns ≡ take i ns ++ n ∷ [] = take_more ns i n l ∙ ap (λ (z : ℕ). take i ns ++ z ∷ []) (sym p) in
-    let b : needs least (take (i + 1) ns) ≡ needs least (take i ns ++ n ∷ []) = ap (needs least) a in
+pub size-next : (cost : ℕ) (least ns : List ℕ) (i total x new : ℕ) → i < length ns → total ≡ capped (cost + needs least (take i ns)) → x ≡ slice_index least (get_or ns i 0) → new ≡ capped (total + x) → new ≡ capped (cost + needs least (take (i + 1) ns))
+size-next cost least ns i total x new l h q r =
+    let n = get_or ns i 0 in
+    let b : needs least (take (i + 1) ns) ≡ needs least (take i ns ++ n ∷ []) = ap (needs least) (take_more ns i 0 l) in
     let c = needs-append least (take i ns) (n ∷ []) in
     omega (arith, b, c, h, q, r)
 

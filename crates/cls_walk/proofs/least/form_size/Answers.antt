@@ -1,17 +1,12 @@
-use Rattle.std.proofs.Common.{rules, ◌≡◌, ℕ, ◌+◌, ◌<◌, ◌≤◌, IfOk, IfSome, List, length, min, slice_index, ◌-◌, ◌*◌, ◌/◌, ◌%◌, Bool, true, false, nat_eq, nat_lt, [], ◌∷◌, ◌++◌, slice_index_or, slice_set, bit_and, bit_or, Fits, w8, w32, w64, Bor, MutBor}
-use Rattle.std.specs.Option.{IsNone}
+use Rattle.std.proofs.Common.{List, ℕ, arith, ap, ◌∙◌, reverse}
 use Rattle.cls_term.specs.Costs.{cost_of}
-use Rattle.cls_enum.specs.Members.{IsIn}
-use Rattle.cls_walk.specs.Counts.{HeadRule}
-use Rattle.cls_walk.specs.Least.{AreWithin, IsLeastOf}
-use Rattle.cls_walk.specs.Tables.{capped}
-use Rattle.cls_walk.specs.Filled.{needs, AreLeast, forms_at}
+use Rattle.cls_walk.proofs.Rounds.{size-next, size-whole}
 use Rattle.cls_walk.proofs.least.form_size.Goals as goal
 
--- src/least.rt:33:5
 pub loop-node-preserved : goal.loop-node-preserved
-loop-node-preserved c = ?
+loop-node-preserved c = size-next (cost_of c.args.costs.now c.args.form.now.0) c.args.least.now c.deref-node-items.result.now c.loop-node.node-index c.loop-node.total c.from.result c.plus-total.result (omega (arith, c.loop-node-test.true)) c.loop-node.invariant (c.from.ensures ∙ c.number_of.ensures) c.plus-total.ensures
 
--- src/least.rt:29:1
 pub returns : goal.returns
-returns c = ?
+returns c = size-whole (cost_of c.args.costs.now c.args.form.now.0) c.args.least.now c.deref-node-items.result.now c.loop-node.node-index c.loop-node.total c.args.form.now c.form.inside.component
+    (ap (λ (ms : List ℕ). (c.form.inside.component, reverse ms)) c.deref-node-items.ensures.value ∙ c.form.view_is)
+    (omega (arith, c.loop-node-test.false)) c.loop-node.invariant
