@@ -1,11 +1,13 @@
 -- Steps of the walk: what is listed by one form after another, and behind a component.
-use Rattle.std.proofs.Common.{◌≡◌, ℕ, zero, suc, ◌+◌, ◌<◌, ◌≤◌, List, [], ◌∷◌, ◌++◌, length, map, refl, sym, ap, ◌∙◌, subst, inl, inr, arith, append-nil, append_assoc, Bool, true, false}
-use Rattle.std.specs.Prelude.{◌⊎◌, ◌↔◌}
-use Rattle.std.proofs.lemmas.List.{map-append}
+use Rattle.std.proofs.Common.{◌≡◌, ◌≢◌, ℕ, zero, suc, ◌+◌, ◌<◌, ◌≤◌, List, [], ◌∷◌, ◌++◌, length, map, take, drop, reverse, get_or, refl, sym, ap, ◌∙◌, subst, inl, inr, arith, append-nil, append_assoc, Bool, true, false}
+use Rattle.std.specs.Prelude.{◌⊎◌, ◌↔◌, slice_index}
+use Rattle.std.proofs.Common.{take-append-drop}
+use Rattle.std.proofs.lemmas.List.{length-reverse, map-append, reverse-append, take_more}
+use Rattle.cls_base.proofs.Lists.{take_whole}
 use Rattle.cls_base.specs.Terms.{Precedes}
 use Rattle.cls_term.specs.Costs.{cost_of}
 use Rattle.cls_enum.specs.Members.{IsIn}
-use Rattle.cls_enum.proofs.Members.{in_cases, in_left, in_right}
+use Rattle.cls_enum.proofs.Members.{in_at, in_cases, in_left, in_right, in-take}
 use Rattle.cls_walk.specs.Counts.{HeadRule}
 use Rattle.cls_walk.specs.Filled.{forms_at, code_size, needs}
 use Rattle.cls_walk.specs.Forms.{IsEarlier, AreRising}
@@ -14,7 +16,7 @@ use Rattle.cls_walk.specs.Walks.{IsBehind, IsWanted, IsWantedBy, IsWantedByOne, 
 use Rattle.cls_walk.specs.declared.cursor.Cursor.{Cursor}
 use Rattle.cls_walk.specs.declared.plan.Plan.{Plan}
 use Rattle.cls_walk.specs.declared.walk.Walk.{Walk}
-use Rattle.cls_walk.proofs.Filled.{filled-least, filled-first, first-filled, needs-append}
+use Rattle.cls_walk.proofs.Filled.{filled-least, filled-first, first-filled, none-filled, needs-append}
 use Rattle.cls_walk.proofs.Fronts.{front-none, front-same, front-append, front-full, front-behind}
 
 true_no_false : true ≡ false → ⊥
@@ -69,6 +71,11 @@ rising-cross : (hs gs : List HeadRule) (h g : HeadRule) → AreRising (hs ++ gs)
 rising-cross [] gs h g r i j = absurd i
 rising-cross (f ∷ hs) gs h g r (inl p) j = let P : HeadRule → Type 0 = λ z. IsEarlier z g in subst P p (r.0 g (in_right hs gs g j))
 rising-cross (f ∷ hs) gs h g r (inr i) j = rising-cross hs gs h g r.1 i j
+
+rising-take : (n : ℕ) (fs : List HeadRule) → AreRising fs → AreRising (take n fs)
+rising-take zero fs r = tt
+rising-take (suc n) [] r = tt
+rising-take (suc n) (f ∷ fs) r = ((λ g i. r.0 g (in-take n g fs i)), rising-take n fs r.1)
 
 begins : (x k y m : ℕ) (v w : List ℕ) → (x < y) ⊎ ((x ≡ y) × (k < m)) → Precedes (x ∷ k ∷ v) (y ∷ m ∷ w)
 begins x k y m v w (inl l) = inl l
@@ -178,3 +185,87 @@ module _ (plan : Plan) (ms : List ℕ) (size : ℕ) (cursor : Cursor) where
   -- the form comes before the cursor
   pub too-early : (h : HeadRule) → ((v : List ℕ) → IsBehind cursor (h.0 ∷ length h.1 ∷ v) → ⊥) → (w : List ℕ) → By h w → ⊥
   too-early h b w q = let B : List ℕ → Type 0 = IsBehind cursor in b q.rest (subst B q.begins q.behind)
+
+  -- one form after another
+  pub each-step : (fs : List HeadRule) (i : ℕ) (h : HeadRule) (a b c : Walk) (going : Bool) → AreRising fs → i < length fs → h ≡ get_or fs i h → b.code.items ≡ a.code.items → Lists (Some (take i fs)) a b true → Lists (By h) b c going → Lists (Some (take (i + 1) fs)) a c going
+  each-step fs i h a b c going r l p q k m =
+      let e : take (i + 1) fs ≡ take i fs ++ h ∷ [] = take_more fs i h l ∙ ap (λ (z : HeadRule). take i fs ++ z ∷ []) (sym p) in
+      let P : List HeadRule → Type 0 = λ gs. AreRising gs in
+      let Q : List HeadRule → Type 0 = λ gs. Lists (Some gs) a c going in
+      subst Q (sym e) (lists-form (take i fs) [] h a b c going (subst P e (rising-take (i + 1) fs r)) q k m)
+
+  -- the list is full
+  pub each-stop : (fs : List HeadRule) (i n : ℕ) (a c : Walk) → AreRising fs → fs ≡ forms_at plan.forms.now n → Lists (Some (take i fs)) a c false → Lists (IsWanted plan (n ∷ ms) size cursor) a c false
+  each-stop fs i n a c r p l =
+      let P : List HeadRule → Type 0 = λ gs. AreRising gs in
+      let Q : List HeadRule → Type 0 = λ gs. Lists (Some gs) a c false in
+      lists-first n a c false (subst Q (take-append-drop i fs ∙ p) (lists-stop (take i fs) (drop i fs) a c (subst P (sym (take-append-drop i fs)) r) l))
+
+  -- each form is done
+  pub each-whole : (fs : List HeadRule) (i n : ℕ) (a c : Walk) (going : Bool) → length fs ≤ i → fs ≡ forms_at plan.forms.now n → Lists (Some (take i fs)) a c going → Lists (IsWanted plan (n ∷ ms) size cursor) a c going
+  each-whole fs i n a c going l p h =
+      let Q : List HeadRule → Type 0 = λ gs. Lists (Some gs) a c going in
+      lists-first n a c going (subst Q (take_whole fs i l ∙ p) h)
+
+-- the same for other names of the nodes and of the least size
+pub by-same : (plan : Plan) (h : HeadRule) (cursor : Cursor) (ms ns : List ℕ) (own n slack : ℕ) (b c : Walk) (going goes : Bool) → ms ≡ ns → own ≡ slice_index plan.least.now n → going ≡ goes
+  → Lists (IsWantedBy plan h (reverse ms) (own + needs plan.least.now (reverse ms) + slack) cursor) b c going
+  → Lists (IsWantedBy plan h (reverse ns) (needs plan.least.now (n ∷ reverse ns) + slack) cursor) b c goes
+by-same plan h cursor ms ns own n slack b c going goes p q e l =
+    let P : List ℕ → Type 0 = λ xs. Lists (IsWantedBy plan h (reverse xs) (own + needs plan.least.now (reverse xs) + slack) cursor) b c going in
+    let Q : ℕ → Type 0 = λ k. Lists (IsWantedBy plan h (reverse ns) (k + needs plan.least.now (reverse ns) + slack) cursor) b c going in
+    let R : Bool → Type 0 = λ g. Lists (IsWantedBy plan h (reverse ns) (needs plan.least.now (n ∷ reverse ns) + slack) cursor) b c g in
+    subst R e (subst Q q (subst P p l))
+
+-- a form is one of its node
+pub item-in : (forms : List (List HeadRule)) (n : ℕ) (fs : List HeadRule) (i : ℕ) (h : HeadRule) → fs ≡ forms_at forms n → i < length fs → h ≡ get_or fs i h → IsIn (forms_at forms n) h
+item-in forms n fs i h p l q = let P : List HeadRule → Type 0 = λ gs. IsIn gs h in subst P p (in_at fs h i l (sym q))
+
+-- what a form begins with, as it is kept
+pub kept-form : (x k : ℕ) (ns : List ℕ) (h : HeadRule) → (x, reverse ns) ≡ h → k ≡ length ns → (Q : ℕ → ℕ → Type 0) → Q x k → Q h.0 (length h.1)
+kept-form x k ns h p q Q b =
+    let e : k ≡ length h.1 = q ∙ sym (length-reverse ns) ∙ ap (λ (g : HeadRule). length g.1) p in
+    let R : ℕ → Type 0 = λ j. Q x j in
+    let S : ℕ → Type 0 = λ y. Q y (length h.1) in
+    subst S (ap (λ (g : HeadRule). g.0) p) (subst R e b)
+
+-- the awaited nodes, once those of a form are put before them
+pub awaited-next : (x : ℕ) (old ns new : List ℕ) (h : HeadRule) → (x, reverse ns) ≡ h → new ≡ old ++ ns → reverse new ≡ h.1 ++ reverse old
+awaited-next x old ns new h p q = ap (λ (xs : List ℕ). reverse xs) q ∙ reverse-append old ns ∙ ap (λ (g : HeadRule). g.1 ++ reverse old) p
+
+-- where no node is awaited
+module _ (plan : Plan) (cursor : Cursor) (old new : Walk) (slack : ℕ) (going : Bool) where
+  abbrev Now : List ℕ → Type 0
+  Now = IsWanted plan [] slack cursor
+
+  -- the code so far is listed
+  pub emit-one : slack ≡ 0 → cursor.passed ≡ true → new.codes.items ≡ old.codes.items ++ old.code.items ∷ [] → Lists Now old new going
+  emit-one s p c = (
+    [] ∷ [],
+    record {
+      ascends = ((λ v i. absurd i), tt);
+      each = λ w i. elim i [
+        | inl e ↦ (let P : List ℕ → Type 0 = Now in subst P e (record { filled = tt; sized = sym s; behind = λ f. absurd (true_no_false (sym p ∙ f)) }))
+        | inr z ↦ absurd z
+      ];
+      all = λ w q. inl (inl (sym (none-filled plan.forms.now w q.filled)));
+    },
+    c ∙ ap (λ (w : List ℕ). old.codes.items ++ w ∷ []) (sym (append-nil old.code.items)),
+  )
+
+  -- it isn't, where it doesn't come to the size or doesn't come after the cursor
+  pub emit-none : (slack ≢ 0) ⊎ (cursor.passed ≡ false) → new.codes.items ≡ old.codes.items → Lists Now old new going
+  emit-none h c = (
+    [],
+    front-none Now (going ≡ false) (λ w q.
+      let e = none-filled plan.forms.now w q.filled in
+      elim h [
+        | inl n ↦ n (sym q.sized ∙ ap (code_size (cost_of plan.costs.now)) e)
+        | inr p ↦ (let P : List ℕ → Type 0 = λ u. Precedes cursor.code.now u in none-before cursor.code.now (subst P e (q.behind p)))
+      ]),
+    c ∙ sym (append-nil old.codes.items),
+  )
+    where
+      none-before : (xs : List ℕ) → Precedes xs [] → ⊥
+      none-before [] h = h
+      none-before (x ∷ xs) h = h

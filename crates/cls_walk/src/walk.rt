@@ -115,6 +115,7 @@ fn follow(
     slack: u32,
     cursor: Cursor,
 ) -> Result<bool, OutOfMemory>
+    requires rising { EachRise plan.now.forms.now }
     requires few { length walk.old.codes.items ≤ plan.now.take }
     requires least { least ≤ cost_of plan.now.costs.now form.now.0 + needs plan.now.least.now form.now.1 }
     ensures back { IfOk result (IsBack plan.now walk.old walk.new) }
