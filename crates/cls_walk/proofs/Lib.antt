@@ -1,3 +1,4 @@
+pub mod Attempts
 pub mod Building
 pub mod Capped
 pub mod Columns

@@ -1,5 +1,5 @@
 //! Makes a page by the walk, if the forms of the rule book and the upper bounds allow it.
-ghost use Rattle.std.specs.Prelude.{◌≡◌, ℕ, ◌+◌, ◌≤◌, ◌<◌, ◌^◌, ◌⊎◌, ◌↔◌, [], IfOk, IfSome};
+ghost use Rattle.std.specs.Prelude.{◌≡◌, ℕ, ◌+◌, ◌≤◌, ◌<◌, ◌^◌, ◌⊎◌, ◌↔◌, [], IfOk, IfSome, OnOk};
 ghost use Rattle.std.specs.Prelude.{List, length, map, nat_lt, option_copied, take};
 ghost use Rattle.std.specs.Option.{IsNone};
 ghost use Rattle.cls_base.specs.declared.rule.Rule.{Rule};
@@ -44,6 +44,23 @@ struct Counted {
     last: u32,
 }
 
+/// Adds the upper bounds for one more size.
+fn add_size<B: RuleBook>(
+    alloc: Global,
+    book: &B,
+    costs: &Numbers,
+    table: &mut Table,
+    size: u32,
+) -> Result<(), OutOfMemory>
+    requires small { size < 2 ^ 31 }
+    requires table { Holds (up_below (B.book book.now) (cost_of costs.now) size) size table.old }
+    ensures { OnOk result (Holds (up_below (B.book book.now) (cost_of costs.now) (size + 1)) (size + 1) table.new) }
+{
+    let column = upper_column(alloc, &Stage { table, costs, size }, book)?;
+    table.push(column)?;
+    Ok(())
+}
+
 /// The upper bounds up to the size at which more than `wanted` terms may be due, which are those from size `from` on, and
 /// no further than `last`.
 fn count<B: RuleBook>(
@@ -62,15 +79,13 @@ fn count<B: RuleBook>(
     let mut table = Table::new(alloc);
     let mut due = 0;
     for size in 0..last {
-        let column = upper_column(alloc, &Stage { table: &table, costs, size }, book)?;
-        table.push(column)?;
+        add_size(alloc, book, costs, &mut table, size)?;
         due = plus(due, due_of(&table, size, from));
         if due > wanted {
             return Ok(Counted { table, last: size });
         }
     }
-    let column = upper_column(alloc, &Stage { table: &table, costs, size: last }, book)?;
-    table.push(column)?;
+    add_size(alloc, book, costs, &mut table, last)?;
     Ok(Counted { table, last })
 }
 
