@@ -1,27 +1,35 @@
 -- A walk from size to size.
-use Rattle.std.proofs.Common.{◌≡◌, ℕ, zero, suc, ◌+◌, ◌-◌, ◌<◌, ◌≤◌, List, [], ◌∷◌, ◌++◌, length, map, refl, sym, ap, ◌∙◌, subst, inl, inr, arith, Bool, true, false}
-use Rattle.std.specs.Prelude.{◌⊎◌, ◌↔◌, slice_index, Option, IfSome}
+use Rattle.std.proofs.Common.{◌≡◌, ℕ, zero, suc, ◌+◌, ◌-◌, ◌<◌, ◌≤◌, List, [], ◌∷◌, ◌++◌, length, map, take, refl, sym, ap, ◌∙◌, subst, inl, inr, arith, Bool, true, false}
+use Rattle.std.specs.Prelude.{◌⊎◌, ◌↔◌, slice_index, nat_lt, Option, IfSome}
 use Rattle.std.proofs.lemmas.List.{map-append}
 use Rattle.cls_base.specs.Terms.{Applicative, length_of, size_of, code_of, Before}
 use Rattle.cls_base.specs.declared.rule.Rule.{Rule}
 use Rattle.cls_base.specs.Languages.{IsGenerated}
-use Rattle.cls_base.specs.Pages.{Request, IsDue}
+use Rattle.cls_base.specs.Pages.{Request, IsDue, IsPage}
+use Rattle.cls_base.specs.Pools.{IsEnough}
 use Rattle.cls_term.specs.Costs.{cost_of}
 use Rattle.cls_enum.specs.Members.{IsIn}
 use Rattle.cls_enum.specs.Requests.{request}
+use Rattle.cls_enum.specs.States.{FitsPool}
 use Rattle.cls_enum.proofs.CellLaws.{costs_something}
 use Rattle.cls_walk.specs.Attempts.{AreDueCodes, AreFormsUpTo}
+use Rattle.cls_walk.specs.Counts.{total_below, up_below}
 use Rattle.cls_walk.specs.Filled.{forms_at, IsFilled, code_size, needs}
 use Rattle.cls_walk.specs.Forms.{AreForms}
 use Rattle.cls_walk.specs.Fronts.{IsFront}
 use Rattle.cls_walk.specs.PageFronts.{IsDueFront, IsDueCode}
+use Rattle.cls_walk.specs.Tables.{capped, number_at, Holds}
+use Rattle.cls_walk.specs.Totals.{total_held}
 use Rattle.cls_walk.specs.Walks.{IsBehind, IsWanted, Lists}
 use Rattle.cls_walk.specs.declared.cursor.Cursor.{Cursor}
 use Rattle.cls_walk.specs.declared.plan.Plan.{Plan}
 use Rattle.cls_walk.specs.declared.walk.Walk.{Walk}
+use Rattle.cls_walk.proofs.Capped.{capped-plus, capped-total}
 use Rattle.cls_walk.proofs.Filled.{filled-least, filled-one, one-filled}
-use Rattle.cls_walk.proofs.PageFronts.{front-size}
+use Rattle.cls_walk.proofs.PageFronts.{front-size, front_decides, front_is_page}
+use Rattle.cls_walk.proofs.Pools.{accepted}
 use Rattle.cls_walk.proofs.Sure.{length-size}
+use Rattle.cls_walk.proofs.Tables.{capped-twice}
 use Rattle.cls_walk.proofs.Walks.{lists-none, lists-same}
 
 module _ (book : List (List (Rule ℕ))) (plan : Plan) (after : Option Applicative) (max last size : ℕ) (forms : AreFormsUpTo book last plan.forms.now) (some : 1 ≤ size) (within : size ≤ last) (least : size ≤ max) (short : size ≤ 64) where
@@ -142,3 +150,28 @@ due-codes book r positive size es old new going code codes front l full =
     let n = front-next Due r.cost positive size es old new going code codes front l in
     let a : length new.codes.items ≡ length n.0 = ap (λ (ws : List (List ℕ)). length ws) n.1 ∙ same-long n.0 in
     (n.0, n.1, front-full Due r.cost positive (size + 1) r.take n.0 going (λ f. let z = full f in omega (arith, a, z)) n.2)
+
+-- sums of numbers that are capped
+same-held : (count other : ℕ → ℕ → ℕ) → ((t n : ℕ) → capped (count t n) ≡ capped (other t n)) → (width s : ℕ) → capped (total_held count width s) ≡ capped (total_held other width s)
+same-held count other h width s =
+    let f : ℕ → ℕ = λ t. total_below width (λ n. count t n) in
+    let g : ℕ → ℕ = λ t. total_below width (λ n. other t n) in
+    let p : capped (total_below s f) ≡ capped (total_below s g) = capped-total s f g (λ t l. capped-total width (λ n. count t n) (λ n. other t n) (λ n m. h t n)) in
+    sym (capped-plus (total_below s f) (count s 0)) ∙ (λ i. capped (p i + h s 0 i)) ∙ capped-plus (total_below s g) (other s 0)
+
+-- the page is known at a size, and the upper bound of its pool is within the bound
+pub page-within : (book : List (List (Rule ℕ))) (r : Request) → ((x : ℕ) → 1 ≤ r.cost x) → 0 < length book → (last s pool width : ℕ) (table : List (List ℕ)) → width ≡ length book → Holds (up_below book r.cost (last + 1)) (last + 1) table → s ≤ last → IsEnough (IsDue (IsGenerated book 0) r) r.cost r.take s ⊎ (s ≡ r.max) → ((n : ℕ) → capped n ≡ capped (total_held (number_at table) width s) → n ≤ pool) → FitsPool book r pool
+page-within book r positive some last s pool width table e holds l known within =
+    let up : ℕ → ℕ → ℕ = up_below book r.cost (last + 1) in
+    let p : capped (total_held up width s) ≡ capped (total_held (number_at table) width s) = same-held up (number_at table) (λ t n. sym (capped-twice (up t n)) ∙ ap capped (sym (holds.1 t n))) width s in
+    let P : ℕ → Type 0 = λ k. total_held up k s ≤ pool in
+    accepted book r positive (last + 1) some s (omega (arith, l)) pool known (subst P e (within (total_held up width s) p))
+
+-- the codes of the due terms up to a size at which the page is known
+pub page-known : (book : List (List (Rule ℕ))) (r : Request) → 1 ≤ r.take → (s : ℕ) (codes : List (List ℕ)) → s ≤ r.max → (h : AreDueCodes book r (s + 1) codes) → (r.take < length codes) ⊎ (s ≡ r.max)
+  → IsPage (IsGenerated book 0) r (take r.take h.0) (nat_lt r.take (length codes)) × (IsEnough (IsDue (IsGenerated book 0) r) r.cost r.take s ⊎ (s ≡ r.max))
+page-known book r some s codes within h known =
+    let a : length codes ≡ length h.0 = ap (λ (ws : List (List ℕ)). length ws) h.1 ∙ same-long h.0 in
+    let d : (r.take < length h.0) ⊎ (s ≡ r.max) = elim known [ inl l ↦ inl (omega (arith, a, l)) | inr p ↦ inr p ] in
+    let P : ℕ → Type 0 = λ k. IsPage (IsGenerated book 0) r (take r.take h.0) (nat_lt r.take k) in
+    (subst P (sym a) (front_is_page (IsGenerated book 0) r some s h.0 within h.2 d), front_decides (IsGenerated book 0) r some s h.0 within h.2 d)

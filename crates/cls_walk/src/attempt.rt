@@ -1,5 +1,5 @@
 //! Makes a page by the walk, if the forms of the rule book and the upper bounds allow it.
-ghost use Rattle.std.specs.Prelude.{◌≡◌, ℕ, ◌+◌, ◌≤◌, ◌<◌, ◌^◌, ◌⊎◌, ◌↔◌, [], IfOk, IfSome, OnOk};
+ghost use Rattle.std.specs.Prelude.{◌≡◌, ℕ, true, ◌+◌, ◌≤◌, ◌<◌, ◌^◌, ◌⊎◌, ◌↔◌, [], IfOk, IfSome, OnOk};
 ghost use Rattle.std.specs.Prelude.{List, length, map, nat_lt, option_copied, take};
 ghost use Rattle.std.specs.Option.{IsNone};
 ghost use Rattle.cls_base.specs.declared.rule.Rule.{Rule};
@@ -98,6 +98,14 @@ fn held_at(table: &Table, size: u32, width: u32) -> u64
         made = plus(made, column_total(table, smaller, width));
     }
     plus(made, table.get(size, 0))
+}
+
+/// Whether the upper bound tells that no more pairs than `pool` are pooled at this size.
+fn is_within(table: &Table, size: u32, width: u32, pool: u64) -> bool
+    ensures { result ≡ true → (n : ℕ) → capped n ≡ capped (total_held (number_at table.now) width size) → n ≤ pool }
+{
+    let held = held_at(table, size, width);
+    held <= pool && held < u64::MAX
 }
 
 /// What is left of the cursor where codes of this size are written, None where terms of this size come before it.
@@ -243,7 +251,7 @@ pub(crate) fn walk_page<B: RuleBook>(
     let counted = count(alloc, book, costs, from, u64::from(take) + 1, end)?;
     let last = counted.last;
     let width = book.count();
-    if last == 0 || held_at(&counted.table, last, width) > pool {
+    if last == 0 || !is_within(&counted.table, last, width, pool) {
         return Ok(None);
     }
     let Some(forms) = forms_of(alloc, book, last)? else {
@@ -259,8 +267,8 @@ pub(crate) fn walk_page<B: RuleBook>(
     let code = code_of_cursor(alloc, after)?;
     let mut walk = Walk::new(alloc);
     let size = walk_sizes(alloc, &plan, after, from, code.as_slice(), last, &mut walk)?;
-    let is_full = walk.codes.len() > take as usize;
-    if (!is_full && size < max_size) || held_at(&counted.table, size, width) > pool {
+    let is_known = walk.codes.len() > take as usize || size == max_size;
+    if !is_known || !is_within(&counted.table, size, width, pool) {
         return Ok(None);
     }
     Ok(Some(page_of(alloc, walk.codes.as_slice(), take)?))
