@@ -1,8 +1,8 @@
 -- A walk from size to size.
-use Rattle.std.proofs.Common.{◌≡◌, ℕ, zero, suc, ◌+◌, ◌-◌, ◌<◌, ◌≤◌, List, [], ◌∷◌, ◌++◌, length, map, take, refl, sym, ap, ◌∙◌, subst, inl, inr, arith, Bool, true, false}
+use Rattle.std.proofs.Common.{◌≡◌, ℕ, suc, ◌+◌, ◌-◌, ◌<◌, ◌≤◌, List, [], ◌∷◌, ◌++◌, length, map, take, refl, sym, ap, ◌∙◌, subst, inl, inr, arith, Bool, true, false}
 use Rattle.std.specs.Prelude.{◌⊎◌, ◌↔◌, slice_index, nat_lt, Option, IfSome}
 use Rattle.std.proofs.lemmas.List.{map-append}
-use Rattle.cls_base.specs.Terms.{Applicative, length_of, size_of, code_of, Before}
+use Rattle.cls_base.specs.Terms.{Applicative, size_of, code_of, Before}
 use Rattle.cls_base.specs.declared.rule.Rule.{Rule}
 use Rattle.cls_base.specs.Languages.{IsGenerated}
 use Rattle.cls_base.specs.Pages.{Request, IsDue, IsPage}
@@ -14,7 +14,7 @@ use Rattle.cls_enum.specs.States.{FitsPool}
 use Rattle.cls_enum.proofs.CellLaws.{costs_something}
 use Rattle.cls_walk.specs.Attempts.{AreDueCodes, AreFormsUpTo}
 use Rattle.cls_walk.specs.Counts.{total_below, up_below}
-use Rattle.cls_walk.specs.Filled.{forms_at, IsFilled, code_size, needs}
+use Rattle.cls_walk.specs.Filled.{forms_at, needs}
 use Rattle.cls_walk.specs.Forms.{AreForms}
 use Rattle.cls_walk.specs.Fronts.{IsFront}
 use Rattle.cls_walk.specs.PageFronts.{IsDueFront, IsDueCode}
@@ -51,19 +51,23 @@ module _ (book : List (List (Rule ℕ))) (plan : Plan) (after : Option Applicati
   wanted-due : (cursor : Cursor) → ((e : Applicative) → size_of cost e ≡ size → IfSome after (λ a. Before cost a e) ↔ IsBehind cursor (code_of e)) → (w : List ℕ) → IsWanted plan (0 ∷ []) size cursor w ↔ Code w
   wanted-due cursor c w = (
     (λ h.
-      let q = filled-one book cost plan.positive plan.forms.now most all-forms 0 size w h.filled h.sized in
-      let B : List ℕ → Type 0 = IsBehind cursor in
-      let k = length-size cost plan.positive q.0 in
-      (q.0, record {
-        typed = q.1;
-        small = (let z = q.2 in omega (arith, z, least));
-        short = (let z = q.2 in omega (arith, z, k, short));
-        later = (c q.0 q.2).1 (subst B q.3 h.behind);
-      }, q.2, q.3)),
+        let q = filled-one book cost plan.positive plan.forms.now most all-forms 0 size w h.filled h.sized in
+        let B : List ℕ → Type 0 = IsBehind cursor in
+        let k = length-size cost plan.positive q.0 in (
+          q.0,
+          record {
+            typed = q.1;
+            small = (let z = q.2 in omega (arith, z, least));
+            short = (let z = q.2 in omega (arith, z, k, short));
+            later = (c q.0 q.2).1 (subst B q.3 h.behind);
+          },
+          q.2,
+          q.3,
+        )),
     (λ h.
-      let q = one-filled book cost plan.positive plan.forms.now most all-forms 0 size h.0 h.1.typed h.2 (omega (arith, within, some)) in
-      let P : List ℕ → Type 0 = λ u. IsWanted plan (0 ∷ []) size cursor u in
-      subst P (sym h.3) (record { filled = q.0; sized = q.1; behind = (c h.0 h.2).0 h.1.later })),
+        let q = one-filled book cost plan.positive plan.forms.now most all-forms 0 size h.0 h.1.typed h.2 (omega (arith, within, some)) in
+        let P : List ℕ → Type 0 = λ u. IsWanted plan (0 ∷ []) size cursor u in
+        subst P (sym h.3) (record { filled = q.0; sized = q.1; behind = (c h.0 h.2).0 h.1.later })),
   )
 
   -- what the walk lists of a size
@@ -81,10 +85,10 @@ module _ (book : List (List (Rule ℕ))) (plan : Plan) (after : Option Applicati
   -- terms of node 0 are greater
   pub none-small : (old : Walk) → size < slice_index plan.least.now 0 → Lists Code old old true
   none-small old l = lists-none Code old (λ w h.
-    let q = one-filled book cost plan.positive plan.forms.now most all-forms 0 size h.0 h.1.typed h.2 (omega (arith, within, some)) in
-    let a = filled-least plan.forms.now cost plan.least.now plan.least_sizes (0 ∷ []) (code_of h.0) q.0 in
-    let b = q.1 in
-    omega (arith, a, b, l))
+      let q = one-filled book cost plan.positive plan.forms.now most all-forms 0 size h.0 h.1.typed h.2 (omega (arith, within, some)) in
+      let a = filled-least plan.forms.now cost plan.least.now plan.least_sizes (0 ∷ []) (code_of h.0) q.0 in
+      let b = q.1 in
+      omega (arith, a, b, l))
 
 -- the terms of codes
 terms-of : (ws : List (List ℕ)) → ((w : List ℕ) → IsIn ws w → (e : Applicative) × (w ≡ code_of e)) → (es : List Applicative) × (map code_of es ≡ ws)
@@ -119,9 +123,9 @@ module _ (Due : Applicative → Type 0) (cost : ℕ → ℕ) (positive : (x : �
       let P : List (List ℕ) → Type 0 = λ vs. IsFront (IsDueCode Due cost size) (going ≡ false) vs in (
         es ++ t.0,
         h.2
-        ∙ (λ i. codes i ++ map-same ws old.code.items code i)
-        ∙ ap (λ (vs : List (List ℕ)). map code_of es ++ vs) (sym t.1)
-        ∙ sym (map-append code_of es t.0),
+            ∙ (λ i. codes i ++ map-same ws old.code.items code i)
+            ∙ ap (λ (vs : List (List ℕ)). map code_of es ++ vs) (sym t.1)
+            ∙ sym (map-append code_of es t.0),
         front-size Due cost size (going ≡ false) es t.0 front (subst P (sym t.1) f),
       )
 
@@ -169,7 +173,7 @@ page-within book r positive some last s pool width table e holds l known within 
 
 -- the codes of the due terms up to a size at which the page is known
 pub page-known : (book : List (List (Rule ℕ))) (r : Request) → 1 ≤ r.take → (s : ℕ) (codes : List (List ℕ)) → s ≤ r.max → (h : AreDueCodes book r (s + 1) codes) → (r.take < length codes) ⊎ (s ≡ r.max)
-  → IsPage (IsGenerated book 0) r (take r.take h.0) (nat_lt r.take (length codes)) × (IsEnough (IsDue (IsGenerated book 0) r) r.cost r.take s ⊎ (s ≡ r.max))
+    → IsPage (IsGenerated book 0) r (take r.take h.0) (nat_lt r.take (length codes)) × (IsEnough (IsDue (IsGenerated book 0) r) r.cost r.take s ⊎ (s ≡ r.max))
 page-known book r some s codes within h known =
     let a : length codes ≡ length h.0 = ap (λ (ws : List (List ℕ)). length ws) h.1 ∙ same-long h.0 in
     let d : (r.take < length h.0) ⊎ (s ≡ r.max) = elim known [ inl l ↦ inl (omega (arith, a, l)) | inr p ↦ inr p ] in

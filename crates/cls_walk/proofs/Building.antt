@@ -1,12 +1,12 @@
 -- Steps of making the forms of a node, and of testing their order.
-use Rattle.std.proofs.Common.{◌≡◌, ℕ, zero, suc, ◌+◌, ◌-◌, ◌<◌, ◌≤◌, List, [], ◌∷◌, ◌++◌, length, map, take, get_or, refl, sym, ap, ◌∙◌, subst, inl, inr, arith, append-nil, append_assoc, true, false}
-use Rattle.std.specs.Prelude.{◌⊎◌, Option, None, Some, slice_index_or, is_some, Contains}
+use Rattle.std.proofs.Common.{◌≡◌, ℕ, zero, suc, ◌+◌, ◌-◌, ◌<◌, ◌≤◌, List, [], ◌∷◌, ◌++◌, length, map, take, get_or, refl, sym, ap, ◌∙◌, subst, inl, inr, arith, append-nil, append_assoc, false}
+use Rattle.std.specs.Prelude.{Option, None, Some, slice_index_or, is_some, Contains}
 use Rattle.std.specs.List.{flat_map}
 use Rattle.std.proofs.lemmas.Bool.{cases_lt}
 use Rattle.std.proofs.lemmas.List.{get_or_past, take_more}
 use Rattle.cls_base.specs.declared.rule.Rule.{Rule}
 use Rattle.cls_base.specs.declared.rule.Rule.TheVariants.{Head, Any}
-use Rattle.cls_base.specs.Languages.{NodeRule, rules_at}
+use Rattle.cls_base.specs.Languages.{rules_at}
 use Rattle.cls_base.proofs.Lists.{Contains-nil}
 use Rattle.cls_enum.specs.Candidates.{over}
 use Rattle.cls_enum.specs.Members.{IsIn}

@@ -1,6 +1,5 @@
 -- Codes that begin as the forms of nodes say are those of terms of the nodes, and none is smaller than the least sizes.
-use Rattle.std.proofs.Common.{◌≡◌, ℕ, zero, suc, ◌+◌, ◌<◌, ◌≤◌, List, [], ◌∷◌, ◌++◌, length, refl, sym, ap, ◌∙◌, subst, inl, inr, arith, append_assoc, append-nil, length-append}
-use Rattle.std.specs.Prelude.{◌↔◌, slice_index}
+use Rattle.std.proofs.Common.{◌≡◌, ℕ, ◌+◌, ◌≤◌, List, [], ◌∷◌, ◌++◌, length, refl, sym, ap, ◌∙◌, subst, arith, append_assoc, append-nil, length-append}
 use Rattle.cls_base.specs.Terms.{Applicative, component, apply, size_of, head_of, argument_codes, code_of}
 use Rattle.cls_base.specs.Spines.{sizes_of, codes_of}
 use Rattle.cls_base.specs.declared.rule.Rule.{Rule}
@@ -8,7 +7,7 @@ use Rattle.cls_base.specs.Languages.{IsGenerated}
 use Rattle.cls_enum.specs.Members.{IsIn}
 use Rattle.cls_enum.proofs.CellLaws.{costs_something}
 use Rattle.cls_walk.specs.Counts.{HeadRule}
-use Rattle.cls_walk.specs.Forms.{HasForm, AreOf, Fills, AreForms}
+use Rattle.cls_walk.specs.Forms.{HasForm, Fills, AreForms}
 use Rattle.cls_walk.specs.Filled.{forms_at, IsFilled, code_size, needs, AreLeast}
 use Rattle.cls_walk.proofs.Forms.{as_many, fills-first, first-fills, none-fills, one-fills, fills-one}
 

@@ -1,8 +1,7 @@
 -- The codes of a node's terms begin as its forms say.
-use Rattle.std.proofs.Common.{◌≡◌, ℕ, zero, suc, ◌+◌, ◌≤◌, List, [], ◌∷◌, ◌++◌, length, refl, sym, ap, ◌∙◌, subst, inl, inr, arith, append-nil, append_assoc, length-append}
-use Rattle.std.specs.Prelude.{◌↔◌}
-use Rattle.cls_base.specs.Terms.{Applicative, component, apply, size_of, head_of, argument_count, argument_codes, code_of}
-use Rattle.cls_base.specs.Spines.{spine, sizes_of, codes_of}
+use Rattle.std.proofs.Common.{◌≡◌, ℕ, suc, ◌+◌, List, [], ◌∷◌, ◌++◌, length, refl, sym, ap, ◌∙◌, subst, arith, append-nil, length-append}
+use Rattle.cls_base.specs.Terms.{Applicative, component, apply, head_of, argument_count, argument_codes, code_of}
+use Rattle.cls_base.specs.Spines.{spine, codes_of}
 use Rattle.cls_base.specs.declared.rule.Rule.{Rule}
 use Rattle.cls_base.specs.Languages.{NodeRule, IsGenerated, Applies, done, next, by_head, by_any}
 use Rattle.cls_term.proofs.Spines.{code_of-spine, codes_of-append}

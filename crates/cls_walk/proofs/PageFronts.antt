@@ -1,9 +1,9 @@
 -- A listing of terms by size is a page, once it is full or has all.
-use Rattle.std.proofs.Common.{◌≡◌, ℕ, zero, suc, ◌+◌, ◌<◌, ◌≤◌, List, [], ◌∷◌, ◌++◌, length, map, take, drop, refl, sym, ap, ◌∙◌, subst, inl, inr, arith, add-one, length-append, take-append-drop, Bool, true, false}
+use Rattle.std.proofs.Common.{◌≡◌, ℕ, zero, suc, ◌+◌, ◌<◌, ◌≤◌, List, [], ◌∷◌, ◌++◌, length, map, take, drop, refl, sym, ap, ◌∙◌, subst, inl, inr, arith, length-append, take-append-drop, Bool, true, false}
 use Rattle.std.specs.Prelude.{◌⊎◌, ◌↔◌, IsTrue, nat_lt, Contains}
 use Rattle.std.proofs.lemmas.Bool.{cases_lt}
 use Rattle.std.proofs.lemmas.Bool.Decides.{nat_tests}
-use Rattle.cls_base.specs.Terms.{Applicative, size_of, code_of, Before, Precedes}
+use Rattle.cls_base.specs.Terms.{Applicative, size_of, code_of, Before}
 use Rattle.cls_base.specs.Lists.{AreDistinct}
 use Rattle.cls_base.specs.Pages.{Request, IsDue, IsPage, Rises, AfterLast}
 use Rattle.cls_base.specs.Pools.{IsEnough}
@@ -185,9 +185,9 @@ module _ (Due : Applicative → Type 0) (cost : ℕ → ℕ) where
   front-size s F es fs h k =
       let member : (e : Applicative) → IsIn fs e → Due e × (size_of cost e ≡ s) = λ e i.
       (let c = k.each (code_of e) (code-in fs e i) in
-        let p : c.0 ≡ e = code_of-one_to_one c.0 e (sym c.3) in
-        let P : Applicative → Type 0 = λ z. Due z × (size_of cost z ≡ s) in
-        subst P p (c.1, c.2)) in
+      let p : c.0 ≡ e = code_of-one_to_one c.0 e (sym c.3) in
+      let P : Applicative → Type 0 = λ z. Due z × (size_of cost z ≡ s) in
+      subst P p (c.1, c.2)) in
       record {
         rises = rises-append cost es fs h.rises (rises-codes s fs (λ e i. (member e i).1) k.ascends)
             (λ x y i j. inl (let a = (h.each x i).1 in let b = (member y j).1 in omega (arith, a, b)));
@@ -201,10 +201,13 @@ module _ (Due : Applicative → Type 0) (cost : ℕ → ℕ) where
               let p : size_of cost e ≡ s = omega (arith, z, l) in
               elim (k.all (code_of e) (e, t, p, refl)) [
                 | inl j ↦ inl (in_right es fs e (in-code fs e j))
-                | inr j ↦ inr (j.0, (λ f i. elim (in_cases es fs f i) [
-                  | inl o ↦ inl (let a = (h.each f o).1 in omega (arith, a, p))
-                  | inr o ↦ inr ((member f o).1 ∙ sym p, j.1 (code_of f) (code-in fs f o))
-                ]))
+                | inr j ↦ inr (
+                  j.0,
+                  (λ f i. elim (in_cases es fs f i) [
+                    | inl o ↦ inl (let a = (h.each f o).1 in omega (arith, a, p))
+                    | inr o ↦ inr ((member f o).1 ∙ sym p, j.1 (code_of f) (code-in fs f o))
+                  ]),
+                )
               ]
         ];
       }

@@ -1,11 +1,9 @@
 -- These are the node's forms.
 use Rattle.std.proofs.Common.{◌≡◌, ℕ, zero, suc, ◌+◌, ◌<◌, ◌≤◌, List, [], ◌∷◌, ◌++◌, length, refl, sym, ap, ◌∙◌, subst, inl, inr, arith, append-nil, append_assoc, length-append}
-use Rattle.std.specs.Prelude.{◌⊎◌, Option, None, Some, Contains}
-use Rattle.std.specs.List.{flat_map}
+use Rattle.std.specs.Prelude.{Option, None, Some}
 use Rattle.cls_base.specs.declared.rule.Rule.{Rule}
 use Rattle.cls_base.specs.declared.rule.Rule.TheVariants.{Head, Any}
 use Rattle.cls_base.specs.Languages.{NodeRule, rules_at}
-use Rattle.cls_enum.specs.Candidates.{over}
 use Rattle.cls_enum.specs.Members.{IsIn}
 use Rattle.cls_enum.proofs.Members.{in_from, in_to, in_over, over_in, in_flat_map, flat_map_in}
 use Rattle.cls_walk.specs.Counts.{HeadRule, heads_of, pairs_of}

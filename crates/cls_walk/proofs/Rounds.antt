@@ -1,16 +1,15 @@
 -- Steps of raising the least sizes of the nodes.
-use Rattle.std.proofs.Common.{◌≡◌, ℕ, zero, suc, ◌+◌, ◌<◌, ◌≤◌, ◌^◌, min, List, [], ◌∷◌, ◌++◌, length, take, reverse, get_or, refl, sym, ap, ◌∙◌, subst, inl, inr, arith}
+use Rattle.std.proofs.Common.{◌≡◌, ℕ, ◌+◌, ◌<◌, ◌≤◌, ◌^◌, min, List, [], ◌∷◌, ◌++◌, length, take, reverse, get_or, refl, sym, ap, ◌∙◌, subst, inl, inr, arith}
 use Rattle.std.specs.Prelude.{slice_index}
 use Rattle.std.proofs.lemmas.Bool.{cases_lt}
 use Rattle.std.proofs.lemmas.List.{get_or_past, take_more, reverse-append}
 use Rattle.cls_base.proofs.Lists.{take_whole}
-use Rattle.cls_enum.specs.Members.{IsIn}
 use Rattle.cls_enum.proofs.Members.{in_cases, in_left, in_right}
 use Rattle.cls_walk.specs.Counts.{HeadRule}
 use Rattle.cls_walk.specs.Filled.{forms_at, needs, AreLeast}
 use Rattle.cls_walk.specs.Least.{AreWithin, IsLeastOf}
 use Rattle.cls_walk.specs.Tables.{capped}
-use Rattle.cls_walk.proofs.Capped.{capped-plus, get-push, get-last}
+use Rattle.cls_walk.proofs.Capped.{get-push, get-last}
 use Rattle.cls_walk.proofs.Filled.{needs-append}
 
 pub needs-reverse : (least ns : List ℕ) → needs least (reverse ns) ≡ needs least ns
@@ -42,9 +41,9 @@ least-push cost least most hs h best size new m o p q = record {
     ]
   ];
   greatest = λ k l f.
-    let a = o.greatest k l (λ g i. f g (in_left hs (h ∷ []) g i)) in
-    let b = f h (in_right hs (h ∷ []) h (inl refl)) in
-    omega (arith, a, b, p, q, l, m);
+      let a = o.greatest k l (λ g i. f g (in_left hs (h ∷ []) g i)) in
+      let b = f h (in_right hs (h ∷ []) h (inl refl)) in
+      omega (arith, a, b, p, q, l, m);
 }
 
 pub least-next : (cost : ℕ → ℕ) (least : List ℕ) (most : ℕ) (hs : List HeadRule) (i : ℕ) (h : HeadRule) (best size new : ℕ) → i < length hs → h ≡ get_or hs i h → most < 2 ^ 32 → IsLeastOf cost least most (take i hs) best → size ≡ capped (cost h.0 + needs least h.1) → new ≡ min best size → IsLeastOf cost least most (take (i + 1) hs) new

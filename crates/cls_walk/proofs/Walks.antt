@@ -46,9 +46,9 @@ lists-more P Q a b c going e p h k = (
   h.0 ++ k.0,
   front-append P Q (going ≡ false) h.0 k.0 e (front-going P h.0 h.1) k.1,
   k.2
-  ∙ (λ i. h.2 i ++ map (λ w. p i ++ w) k.0)
-  ∙ append_assoc a.codes.items (map (λ w. a.code.items ++ w) h.0) (map (λ w. a.code.items ++ w) k.0)
-  ∙ ap (λ (ws : List (List ℕ)). a.codes.items ++ ws) (sym (map-append (λ w. a.code.items ++ w) h.0 k.0)),
+      ∙ (λ i. h.2 i ++ map (λ w. p i ++ w) k.0)
+      ∙ append_assoc a.codes.items (map (λ w. a.code.items ++ w) h.0) (map (λ w. a.code.items ++ w) k.0)
+      ∙ ap (λ (ws : List (List ℕ)). a.codes.items ++ ws) (sym (map-append (λ w. a.code.items ++ w) h.0 k.0)),
 )
 
 -- some, and the list is full
@@ -123,15 +123,15 @@ module _ (plan : Plan) (ms : List ℕ) (size : ℕ) (cursor : Cursor) where
   lists-form hs gs h a b c going r p l k =
       lists-same (λ w. Some hs w ⊎ By h w) (Some (hs ++ h ∷ [])) a c going (one_more hs h)
       (lists-more (Some hs) (By h) a b c going
-        (λ v w x y. by-earlier x.0 h v w (rising-cross hs (h ∷ gs) x.0 h r x.1 (inl refl)) x.2 y)
-        p l k)
+      (λ v w x y. by-earlier x.0 h v w (rising-cross hs (h ∷ gs) x.0 h r x.1 (inl refl)) x.2 y)
+      p l k)
 
   pub lists-stop : (hs gs : List HeadRule) (a b : Walk) → AreRising (hs ++ gs) → Lists (Some hs) a b false → Lists (Some (hs ++ gs)) a b false
   lists-stop hs gs a b r l =
       lists-same (λ w. Some hs w ⊎ Some gs w) (Some (hs ++ gs)) a b false (further hs gs)
       (lists-full (Some hs) (Some gs) a b
-        (λ v w x y. by-earlier x.0 y.0 v w (rising-cross hs gs x.0 y.0 r x.1 y.1) x.2 y.2)
-        l)
+      (λ v w x y. by-earlier x.0 y.0 v w (rising-cross hs gs x.0 y.0 r x.1 y.1) x.2 y.2)
+      l)
 
   -- the codes that are wanted are those by one of the forms of the first node
   pub lists-first : (n : ℕ) (a b : Walk) (going : Bool) → Lists (Some (forms_at plan.forms.now n)) a b going → Lists (IsWanted plan (n ∷ ms) size cursor) a b going
@@ -150,9 +150,9 @@ module _ (plan : Plan) (ms : List ℕ) (size : ℕ) (cursor : Cursor) where
 
   -- behind the component and the number of a form
   pub lists-by : (h : HeadRule) (left : ℕ) (next : Cursor) (old new in_old in_new : Walk) (going : Bool)
-    → size ≡ cost h.0 + left → ((v : List ℕ) → IsBehind cursor (h.0 ∷ length h.1 ∷ v) ↔ IsBehind next v)
-    → in_old.code.items ≡ old.code.items ++ h.0 ∷ length h.1 ∷ [] → in_old.codes.items ≡ old.codes.items → new.codes.items ≡ in_new.codes.items
-    → Lists (IsWanted plan (h.1 ++ ms) left next) in_old in_new going → Lists (By h) old new going
+      → size ≡ cost h.0 + left → ((v : List ℕ) → IsBehind cursor (h.0 ∷ length h.1 ∷ v) ↔ IsBehind next v)
+      → in_old.code.items ≡ old.code.items ++ h.0 ∷ length h.1 ∷ [] → in_old.codes.items ≡ old.codes.items → new.codes.items ≡ in_new.codes.items
+      → Lists (IsWanted plan (h.1 ++ ms) left next) in_old in_new going → Lists (By h) old new going
   lists-by h left next old new in_old in_new going s b c o n l =
       let P : List ℕ → Type 0 = IsWanted plan (h.1 ++ ms) left next in
       let B : List ℕ → Type 0 = IsBehind cursor in
@@ -165,11 +165,15 @@ module _ (plan : Plan) (ms : List ℕ) (size : ℕ) (cursor : Cursor) where
           sized = begins-size h p.0 w p.1 ∙ ap (λ (k : ℕ). cost h.0 + k) p.2.sized ∙ sym s;
           behind = subst B (sym p.1) ((b p.0).1 p.2.behind);
         }),
-        (λ q. (q.rest, q.begins, record {
-          filled = q.filled;
-          sized = (let z = begins-size h q.rest w q.begins in let y = q.sized in omega (arith, z, y, s));
-          behind = (b q.rest).0 (subst B q.begins q.behind);
-        })),
+        (λ q. (
+          q.rest,
+          q.begins,
+          record {
+            filled = q.filled;
+            sized = (let z = begins-size h q.rest w q.begins in let y = q.sized in omega (arith, z, y, s));
+            behind = (b q.rest).0 (subst B q.begins q.behind);
+          },
+        )),
       ))
       (lists-behind h.0 (length h.1) P old new in_old in_new going c o n l)
 
@@ -209,8 +213,8 @@ module _ (plan : Plan) (ms : List ℕ) (size : ℕ) (cursor : Cursor) where
 
 -- the same for other names of the nodes and of the least size
 pub by-same : (plan : Plan) (h : HeadRule) (cursor : Cursor) (ms ns : List ℕ) (own n slack : ℕ) (b c : Walk) (going goes : Bool) → ms ≡ ns → own ≡ slice_index plan.least.now n → going ≡ goes
-  → Lists (IsWantedBy plan h (reverse ms) (own + needs plan.least.now (reverse ms) + slack) cursor) b c going
-  → Lists (IsWantedBy plan h (reverse ns) (needs plan.least.now (n ∷ reverse ns) + slack) cursor) b c goes
+    → Lists (IsWantedBy plan h (reverse ms) (own + needs plan.least.now (reverse ms) + slack) cursor) b c going
+    → Lists (IsWantedBy plan h (reverse ns) (needs plan.least.now (n ∷ reverse ns) + slack) cursor) b c goes
 by-same plan h cursor ms ns own n slack b c going goes p q e l =
     let P : List ℕ → Type 0 = λ xs. Lists (IsWantedBy plan h (reverse xs) (own + needs plan.least.now (reverse xs) + slack) cursor) b c going in
     let Q : ℕ → Type 0 = λ k. Lists (IsWantedBy plan h (reverse ns) (k + needs plan.least.now (reverse ns) + slack) cursor) b c going in
@@ -258,11 +262,11 @@ module _ (plan : Plan) (cursor : Cursor) (old new : Walk) (slack : ℕ) (going :
   emit-none h c = (
     [],
     front-none Now (going ≡ false) (λ w q.
-      let e = none-filled plan.forms.now w q.filled in
-      elim h [
-        | inl n ↦ n (sym q.sized ∙ ap (code_size (cost_of plan.costs.now)) e)
-        | inr p ↦ (let P : List ℕ → Type 0 = λ u. Precedes cursor.code.now u in none-before cursor.code.now (subst P e (q.behind p)))
-      ]),
+        let e = none-filled plan.forms.now w q.filled in
+        elim h [
+          | inl n ↦ n (sym q.sized ∙ ap (code_size (cost_of plan.costs.now)) e)
+          | inr p ↦ (let P : List ℕ → Type 0 = λ u. Precedes cursor.code.now u in none-before cursor.code.now (subst P e (q.behind p)))
+        ]),
     c ∙ sym (append-nil old.codes.items),
   )
     where

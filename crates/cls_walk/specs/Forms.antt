@@ -1,5 +1,5 @@
 -- Forms: with which component a term of a node begins, and of which nodes its arguments are.
-use Rattle.std.specs.Prelude.{ℕ, ◌≡◌, ◌<◌, ◌≤◌, ◌⊎◌, ◌↔◌, List, [], ◌∷◌, ◌++◌, length}
+use Rattle.std.specs.Prelude.{ℕ, ◌≡◌, ◌<◌, ◌≤◌, ◌⊎◌, List, [], ◌∷◌, ◌++◌, length}
 use Rattle.cls_base.specs.Terms.{Applicative}
 use Rattle.cls_base.specs.Spines.{codes_of}
 use Rattle.cls_base.specs.declared.rule.Rule.{Rule}

@@ -109,15 +109,10 @@ fn is_within(table: &Table, size: u32, width: u32, pool: u64) -> bool
 }
 
 /// What is left of the cursor where codes of this size are written, None where terms of this size come before it.
-fn cursor_at<'a>(
-    after: Option<&Term>,
-    from: u64,
-    code: &'a [u32],
-    size: u32,
-) -> Option<Cursor<'a>>
+fn cursor_at<'a>(after: Option<&Term>, from: u64, code: &'a [u32], size: u32) -> Option<Cursor<'a>>
     ensures some { (cost : ℕ → ℕ) → IsStart cost (option_copied after.entry) from code.now
         → IfSome result (λ c. (e : Applicative) → size_of cost e ≡ size
-            → IfSome (option_copied after.entry) (λ a. Before cost a e) ↔ IsBehind c (code_of e)) }
+        → IfSome (option_copied after.entry) (λ a. Before cost a e) ↔ IsBehind c (code_of e)) }
     ensures none { (cost : ℕ → ℕ) → IsStart cost (option_copied after.entry) from code.now → IsNone result
         → (e : Applicative) → size_of cost e ≡ size → IfSome (option_copied after.entry) (λ a. Before cost a e) → ⊥ }
 {

@@ -19,7 +19,10 @@ fn repeat_with(node: u32, repeat: Option<u32>, rule: &Rule<u32>) -> Option<Optio
         → IsRepeat node rules repeat → IsRepeat node (rules ++ rule.now ∷ []) new) }
 {
     match rule {
-        Rule::Head { component: _, args: _ } => Some(repeat),
+        Rule::Head {
+            component: _,
+            args: _,
+        } => Some(repeat),
         Rule::Any { left, right } => {
             if repeat.is_some() || *left != node {
                 return None;

@@ -34,13 +34,21 @@ impl<'a> Cursor<'a> {
             return Some(passed());
         };
         if *first != component {
-            return if *first < component { Some(passed()) } else { None };
+            return if *first < component {
+                Some(passed())
+            } else {
+                None
+            };
         }
         let Some(second) = self.code.get(1) else {
             return Some(passed());
         };
         if *second != count {
-            return if *second < count { Some(passed()) } else { None };
+            return if *second < count {
+                Some(passed())
+            } else {
+                None
+            };
         }
         Some(Cursor {
             code: &self.code[2..],

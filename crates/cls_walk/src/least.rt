@@ -18,11 +18,7 @@ use std::alloc::Global;
 pub(crate) fn number_of(numbers: &Numbers, place: u32) -> u32
     ensures { result ≡ slice_index numbers.now place }
 {
-    numbers
-        .as_slice()
-        .get(place as usize)
-        .copied()
-        .unwrap_or(0)
+    numbers.as_slice().get(place as usize).copied().unwrap_or(0)
 }
 
 /// What the component and the nodes of a form come to.

@@ -1,9 +1,9 @@
-use Rattle.std.proofs.Common.{◌≡◌, ◌+◌, ◌<◌, ◌≤◌, List, ℕ, Bool, ap, arith, inl, inr, length, map, take, subst, sym, ◌∙◌}
+use Rattle.std.proofs.Common.{◌≡◌, ◌<◌, ◌≤◌, List, ℕ, Bool, ap, arith, inl, inr, length, subst, sym, ◌∙◌}
 use Rattle.std.specs.Prelude.{◌⊎◌, nat_lt, option_copied, IfSome}
 use Rattle.std.proofs.lemmas.Bool.{eqb-true}
 use Rattle.cls_base.specs.Languages.{IsGenerated}
 use Rattle.cls_base.specs.Pages.{IsPage}
-use Rattle.cls_base.specs.Terms.{Applicative, code_of}
+use Rattle.cls_base.specs.Terms.{Applicative}
 use Rattle.cls_enum.specs.Requests.{request}
 use Rattle.cls_walk.specs.Attempts.{AreFormsUpTo}
 use Rattle.cls_walk.proofs.Attempts.{page-known, page-within}
@@ -34,7 +34,7 @@ returns-clause-page g c =
     let P : List Applicative → Type 0 = λ es. IsPage (IsGenerated book 0) r es (nat_lt r.take (length codes)) in
     let Q : Bool → Type 0 = λ b. IsPage (IsGenerated book 0) r c.in_ok-page_of.field-0.terms b in
     subst Q (sym (c.in_ok-page_of.ensures.more ∙ ap (λ (ws : List (List ℕ)). nat_lt r.take (length ws)) c.as_slice-2.ensures.value))
-      (subst P (sym (c.in_ok-page_of.ensures.terms h.0 (c.as_slice-2.ensures.value ∙ h.1))) q.0)
+    (subst P (sym (c.in_ok-page_of.ensures.terms h.0 (c.as_slice-2.ensures.value ∙ h.1))) q.0)
 
 pub returns-clause-within : goal.returns-clause-within
 returns-clause-within g c =

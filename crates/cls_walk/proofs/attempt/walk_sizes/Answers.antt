@@ -1,4 +1,4 @@
-use Rattle.std.proofs.Common.{◌≡◌, ◌+◌, List, ℕ, [], Bool, ap, arith, length, subst, ◌∙◌, true, false}
+use Rattle.std.proofs.Common.{◌≡◌, ◌+◌, List, ℕ, [], Bool, ap, arith, length, subst, ◌∙◌, false}
 use Rattle.std.specs.Prelude.{option_copied}
 use Rattle.cls_base.specs.Languages.{IsGenerated}
 use Rattle.cls_base.specs.Pages.{IsDue}
@@ -39,13 +39,13 @@ loop-size-preserved c =
       code = c.in_ok-walk_size.ensures.back.code ∙ c.loop-size.invariant.code;
       few = c.in_ok-walk_size.ensures.back.few c.if-not-branch.false;
       listed = λ book max forms l.
-        let r = request plan.costs.now (option_copied c.args.after) max plan.take in
-        let Due : Applicative → Type 0 = IsDue (IsGenerated book 0) r in
-        let h = c.loop-size.invariant.listed book max forms l in
-        let w = c.in_ok-walk_size.ensures.listed book c.args.last max forms (omega (arith, c.loop-size-test.true)) (omega (arith, c.loop-size-test.true, l)) in
-        let n = front-next Due r.cost plan.positive s h.0 c.loop-size.walk c.walk_size.new.walk c.in_ok-walk_size.field-0 c.loop-size.invariant.code h.1 h.2 w in
-        let P : Bool → Type 0 = λ b. IsDueFront Due r.cost (s + 1) (b ≡ false) n.0 in
-        (n.0, n.1, front-still Due r.cost plan.positive (s + 1) n.0 (subst P c.if-not-branch.false n.2));
+          let r = request plan.costs.now (option_copied c.args.after) max plan.take in
+          let Due : Applicative → Type 0 = IsDue (IsGenerated book 0) r in
+          let h = c.loop-size.invariant.listed book max forms l in
+          let w = c.in_ok-walk_size.ensures.listed book c.args.last max forms (omega (arith, c.loop-size-test.true)) (omega (arith, c.loop-size-test.true, l)) in
+          let n = front-next Due r.cost plan.positive s h.0 c.loop-size.walk c.walk_size.new.walk c.in_ok-walk_size.field-0 c.loop-size.invariant.code h.1 h.2 w in
+          let P : Bool → Type 0 = λ b. IsDueFront Due r.cost (s + 1) (b ≡ false) n.0 in
+          (n.0, n.1, front-still Due r.cost plan.positive (s + 1) n.0 (subst P c.if-not-branch.false n.2));
     }
 
 pub returns-clause-listed : goal.returns-clause-listed

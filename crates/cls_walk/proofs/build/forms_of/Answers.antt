@@ -1,8 +1,6 @@
-use Rattle.std.proofs.Common.{rules, ◌≡◌, ◌+◌, List, ℕ, [], ◌∷◌, ◌++◌, arith, ap, sym, subst, length, map, ◌∙◌}
+use Rattle.std.proofs.Common.{rules, ◌≡◌, [], ◌∷◌, ◌++◌, arith, ap, length, map, ◌∙◌}
 use Rattle.std.proofs.lemmas.List.{map-append, length_push}
-use Rattle.cls_walk.specs.Counts.{HeadRule}
 use Rattle.cls_walk.specs.Forms.{AreForms, AreRising}
-use Rattle.cls_walk.specs.declared.form.Form.{Form}
 use Rattle.cls_walk.proofs.Building.{each-push, each-whole, forms-here, forms-past, same-length}
 use Rattle.cls_walk.proofs.build.forms_of.Goals as goal
 

@@ -1,8 +1,7 @@
-use Rattle.std.proofs.Common.{◌≡◌, ◌+◌, ◌++◌, ◌∷◌, [], List, ℕ, ap, append_assoc, arith, refl, reverse, sym, subst, ◌∙◌, true, false, length}
-use Rattle.std.specs.Prelude.{◌↔◌, slice_index}
-use Rattle.cls_term.specs.Costs.{cost_of}
+use Rattle.std.proofs.Common.{◌≡◌, ◌+◌, ◌++◌, ◌∷◌, [], List, ℕ, ap, append_assoc, arith, refl, reverse, sym, subst, ◌∙◌, true, false}
+use Rattle.std.specs.Prelude.{◌↔◌}
 use Rattle.cls_walk.specs.Counts.{HeadRule}
-use Rattle.cls_walk.specs.Filled.{forms_at, needs}
+use Rattle.cls_walk.specs.Filled.{needs}
 use Rattle.cls_walk.specs.Forms.{AreRising}
 use Rattle.cls_walk.specs.Walks.{IsBehind, IsWanted, IsWantedBy, Lists}
 use Rattle.cls_walk.specs.declared.walk.Walk.{Walk}
@@ -82,7 +81,7 @@ follow-returns-in_default-step-clause-listed t c =
     let h = c.args.form.now in
     let size = c.args.least + needs plan.least.now ms + c.args.slack in
     lists-none (IsWantedBy plan h ms size c.args.cursor) c.args.walk.now (too-early plan ms size c.args.cursor h
-      (kept-form c.form.inside.component c.form.inside.count c.form.inside.nodes.items h c.form.view_is c.form.invariant (λ x k. (v : List ℕ) → IsBehind c.args.cursor (x ∷ k ∷ v) → ⊥) (c.in_default-step.ensures.none refl)))
+    (kept-form c.form.inside.component c.form.inside.count c.form.inside.nodes.items h c.form.view_is c.form.invariant (λ x k. (v : List ℕ) → IsBehind c.args.cursor (x ∷ k ∷ v) → ⊥) (c.in_default-step.ensures.none refl)))
 
 pub follow-go-requires : goal.follow-go-requires
 follow-go-requires t c =
@@ -91,8 +90,8 @@ follow-go-requires t c =
     let h = c.args.form.now in
     let ms = reverse c.args.walk.now.awaited.items in
     let p : reverse c.extend_from_slice.new.self.items ≡ h.1 ++ ms =
-      awaited-next c.form.inside.component c.args.walk.now.awaited.items c.form.inside.nodes.items c.extend_from_slice.new.self.items h c.form.view_is
-      (c.in_ok-extend_from_slice.ensures.items ∙ ap (λ (xs : List ℕ). c.args.walk.now.awaited.items ++ xs) c.as_slice.ensures.value) in
+    awaited-next c.form.inside.component c.args.walk.now.awaited.items c.form.inside.nodes.items c.extend_from_slice.new.self.items h c.form.view_is
+    (c.in_ok-extend_from_slice.ensures.items ∙ ap (λ (xs : List ℕ). c.args.walk.now.awaited.items ++ xs) c.as_slice.ensures.value) in
     let q : needs least (reverse c.extend_from_slice.new.self.items) ≡ needs least (h.1 ++ ms) = ap (needs least) p in
     (omega (arith, c.decreases, q, needs-append least h.1 ms, c.in-Some.ensures.some, plan.positive h.0), (c.requires.rising, c.requires.few))
 
@@ -107,15 +106,15 @@ follow-returns-clause-listed t c =
     let next = c.in-Some-step.next in
     let old = c.args.walk.now in
     let p : reverse c.extend_from_slice.new.self.items ≡ h.1 ++ ms =
-      awaited-next c.form.inside.component c.args.walk.now.awaited.items c.form.inside.nodes.items c.extend_from_slice.new.self.items h c.form.view_is
-      (c.in_ok-extend_from_slice.ensures.items ∙ ap (λ (xs : List ℕ). c.args.walk.now.awaited.items ++ xs) c.as_slice.ensures.value) in
+    awaited-next c.form.inside.component c.args.walk.now.awaited.items c.form.inside.nodes.items c.extend_from_slice.new.self.items h c.form.view_is
+    (c.in_ok-extend_from_slice.ensures.items ∙ ap (λ (xs : List ℕ). c.args.walk.now.awaited.items ++ xs) c.as_slice.ensures.value) in
     let begun : Walk = record { awaited = c.extend_from_slice.new.self; code = c.push-2.new.self; codes = old.codes } in
     let P : List ℕ → Type 0 = λ ns. Lists (IsWanted plan ns (needs least ns + c.in-Some.left) next) begun c.go.new.walk c.in_ok-going.going in
     lists-by plan ms size cursor h (needs least (h.1 ++ ms) + c.in-Some.left) next old c.go.new.walk begun c.go.new.walk c.in_ok-going.going
-      (omega (arith, c.in-Some.ensures.some, needs-append least h.1 ms))
-      (kept-form c.form.inside.component c.form.inside.count c.form.inside.nodes.items h c.form.view_is c.form.invariant (λ x k. (v : List ℕ) → IsBehind cursor (x ∷ k ∷ v) ↔ IsBehind next v) c.in-Some-step.ensures.some)
-      (kept-form c.form.inside.component c.form.inside.count c.form.inside.nodes.items h c.form.view_is c.form.invariant (λ x k. c.push-2.new.self.items ≡ old.code.items ++ x ∷ k ∷ [])
-        (c.in_ok-push-2.ensures.items ∙ ap (λ (xs : List ℕ). xs ++ c.form.inside.count ∷ []) c.in_ok-push.ensures.items ∙ append_assoc old.code.items (c.form.inside.component ∷ []) (c.form.inside.count ∷ [])))
-      refl
-      refl
-      (subst P p c.in_ok-going.ensures.listed)
+    (omega (arith, c.in-Some.ensures.some, needs-append least h.1 ms))
+    (kept-form c.form.inside.component c.form.inside.count c.form.inside.nodes.items h c.form.view_is c.form.invariant (λ x k. (v : List ℕ) → IsBehind cursor (x ∷ k ∷ v) ↔ IsBehind next v) c.in-Some-step.ensures.some)
+    (kept-form c.form.inside.component c.form.inside.count c.form.inside.nodes.items h c.form.view_is c.form.invariant (λ x k. c.push-2.new.self.items ≡ old.code.items ++ x ∷ k ∷ [])
+    (c.in_ok-push-2.ensures.items ∙ ap (λ (xs : List ℕ). xs ++ c.form.inside.count ∷ []) c.in_ok-push.ensures.items ∙ append_assoc old.code.items (c.form.inside.component ∷ []) (c.form.inside.count ∷ [])))
+    refl
+    refl
+    (subst P p c.in_ok-going.ensures.listed)

@@ -1,4 +1,4 @@
-use Rattle.std.proofs.Common.{◌≡◌, ◌+◌, ◌*◌, ◌≤◌, ◌∷◌, ℕ, true, length, take, reverse}
+use Rattle.std.proofs.Common.{◌≡◌, ◌+◌, ◌*◌, ◌≤◌, ◌∷◌, true, length, take, reverse}
 use Rattle.cls_walk.specs.Filled.{needs}
 use Rattle.cls_walk.specs.Walks.{IsWantedByOne, Lists}
 use Rattle.cls_walk.proofs.walk.+descend.Given as goal
