@@ -129,13 +129,13 @@ module _ (cell : ℕ → ℕ → List Applicative) where
       let k = fills-kind (p.1 ∷ []) q.0 e (s - r.0) q.2 in
       omega (arith, k.1)
 
-heads-rule : (rs : List (Rule ℕ)) (h : HeadRule) → IsIn (heads_of rs) h → IsIn rs (Head h.0 h.1)
+pub heads-rule : (rs : List (Rule ℕ)) (h : HeadRule) → IsIn (heads_of rs) h → IsIn rs (Head h.0 h.1)
 heads-rule [] h i = absurd i
 heads-rule (Head x ns ∷ rs) h (inl p) = inl (λ i. Head (p i).0 (p i).1)
 heads-rule (Head x ns ∷ rs) h (inr i) = inr (heads-rule rs h i)
 heads-rule (Any l m ∷ rs) h i = inr (heads-rule rs h i)
 
-pairs-rule : (rs : List (Rule ℕ)) (p : ℕ × ℕ) → IsIn (pairs_of rs) p → IsIn rs (Any p.0 p.1)
+pub pairs-rule : (rs : List (Rule ℕ)) (p : ℕ × ℕ) → IsIn (pairs_of rs) p → IsIn rs (Any p.0 p.1)
 pairs-rule [] p i = absurd i
 pairs-rule (Head x ns ∷ rs) p i = inr (pairs-rule rs p i)
 pairs-rule (Any l m ∷ rs) p (inl q) = inl (λ i. Any (q i).0 (q i).1)

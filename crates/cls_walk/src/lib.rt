@@ -5,18 +5,26 @@
 //! - [`laws`] says what the bounds are good for.
 #![tactic(auto)]
 
+mod attempt;
 mod bounds;
+mod build;
+mod cursor;
+mod decode;
 mod ends;
+mod form;
 pub mod laws;
+mod least;
 mod lower;
 mod numbers;
 mod order;
 mod paging;
+mod plan;
 mod refusal;
 mod run;
 mod stage;
 mod table;
 mod upper;
+mod walk;
 mod ways;
 
 pub use paging::page;

@@ -8,6 +8,7 @@ ghost use Rattle.cls_enum.specs.Faults.{IfTooMany};
 ghost use Rattle.cls_enum.specs.Requests.{request};
 ghost use Rattle.cls_enum.specs.States.{ExceedsPool, FitsPool};
 
+use crate::attempt::walk_page;
 use crate::ends::last_size;
 use crate::order::is_ordered;
 use crate::refusal::is_refused;
@@ -47,6 +48,9 @@ pub fn page<B: RuleBook>(
     let last = last_size(book, costs, max_size);
     if is_ordered(book) && is_refused(alloc, book, costs, after, last, take, pool)? {
         return Err(PageFault::TooManyTerms);
+    }
+    if let Some(page) = walk_page(alloc, book, costs, after, last, take, pool)? {
+        return Ok(page);
     }
     cls_enum::page(alloc, book, costs, after, last, take, pool)
 }

@@ -20,7 +20,7 @@ use cls_term::Term;
 use std::alloc::Global;
 
 /// The numbers of all nodes for one size together.
-fn column_total(table: &Table, size: u32, width: u32) -> u64
+pub(crate) fn column_total(table: &Table, size: u32, width: u32) -> u64
     ensures { result ≡ capped (total_below width (λ n. number_at table.now size n)) }
 {
     let mut total = 0;
@@ -31,7 +31,7 @@ fn column_total(table: &Table, size: u32, width: u32) -> u64
 }
 
 /// The size of the cursor, 0 where there is none.
-fn size_of_cursor(costs: &Numbers, after: Option<&Term>) -> u64
+pub(crate) fn size_of_cursor(costs: &Numbers, after: Option<&Term>) -> u64
     requires { IfSome (option_copied after) (λ a. length_of a < 2 ^ 32) }
     ensures { result ≡ cursor_size (cost_of costs.now) (option_copied after.entry) }
 {
@@ -42,7 +42,7 @@ fn size_of_cursor(costs: &Numbers, after: Option<&Term>) -> u64
 }
 
 /// The number of node 0 for this size, 0 where the cursor is of greater size.
-fn due_of(table: &Table, size: u32, from: u64) -> u64
+pub(crate) fn due_of(table: &Table, size: u32, from: u64) -> u64
     ensures { result ≡ (if nat_le from size then number_at table.now size 0 else 0) }
 {
     if u64::from(size) < from {

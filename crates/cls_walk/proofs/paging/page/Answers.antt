@@ -1,8 +1,9 @@
-use Rattle.std.specs.Prelude.{option_copied}
+use Rattle.std.proofs.Common.{subst}
+use Rattle.std.specs.Prelude.{option_copied, IfSome}
 use Rattle.std.proofs.lemmas.Result.{IfOk-weaker}
 use Rattle.cls_term.specs.Costs.{cost_of}
 use Rattle.cls_enum.specs.Requests.{request}
-use Rattle.cls_enum.specs.States.{ExceedsPool}
+use Rattle.cls_enum.specs.States.{ExceedsPool, FitsPool}
 use Rattle.cls_walk.proofs.Endings.{fits-up, exceeds-up, too_many_weaker}
 use Rattle.cls_walk.proofs.paging.page.Goals as goal
 
@@ -27,3 +28,12 @@ returns-clause-over g c =
     too_many_weaker c.page.result (ExceedsPool book (request costs after last c.args.take) c.args.pool) (ExceedsPool book (request costs after c.args.max_size c.args.take) c.args.pool)
     (exceeds-up book (cost_of costs) c.args.take after last c.args.max_size c.last_size-last.ensures.within c.last_size-last.ensures.ends c.args.pool)
     c.page.ensures.over
+
+pub returns-in-Some-clause-within : goal.returns-in-Some-clause-within
+returns-in-Some-clause-within g c =
+    let book = g.B.RuleBook.book c.args.book.now in
+    let costs = c.args.costs.now in
+    let after = option_copied c.args.after in
+    let last = c.last_size-last.result in
+    fits-up book (cost_of costs) c.args.take after last c.args.max_size c.last_size-last.ensures.within c.last_size-last.ensures.ends c.args.pool
+    (subst (λ o. IfSome o (λ _. FitsPool book (request costs after last c.args.take) c.args.pool)) c.in-Some.is c.in_ok-page.ensures.within)

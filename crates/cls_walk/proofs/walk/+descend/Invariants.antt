@@ -1,0 +1,22 @@
+use Rattle.std.proofs.Common.{◌≡◌, ◌+◌, ◌*◌, ◌≤◌, ◌∷◌, true, length, take, reverse}
+use Rattle.cls_walk.specs.Filled.{needs}
+use Rattle.cls_walk.specs.Walks.{IsWantedByOne, Lists}
+use Rattle.cls_walk.proofs.walk.+descend.Given as goal
+
+abbrev pub decreases-go : goal.decreases-go
+decreases-go l = 4 * (needs l.plan.now.least.now (reverse l.walk.now.awaited.items) + l.slack) + 2
+
+abbrev pub decreases-each_form : goal.decreases-each_form
+decreases-each_form l = 4 * (needs l.plan.now.least.now (l.node ∷ reverse l.walk.now.awaited.items) + l.slack) + 1
+
+abbrev pub decreases-follow : goal.decreases-follow
+decreases-follow l = 4 * (l.least + needs l.plan.now.least.now (reverse l.walk.now.awaited.items) + l.slack)
+
+abbrev pub invariant-each_form-loop-form : goal.invariant-each_form-loop-form
+invariant-each_form-loop-form l = record {
+  awaited : l.walk.awaited.items ≡ l.fn.walk.awaited.items;
+  code : l.walk.code.items ≡ l.fn.walk.code.items;
+  few : length l.walk.codes.items ≤ l.plan.take;
+  listed : let ns = reverse l.fn.walk.awaited.items in
+      Lists (IsWantedByOne l.plan (take l.form-index l.form-items) ns (needs l.plan.least.now (l.node ∷ ns) + l.slack) l.cursor) l.fn.walk l.walk true;
+}

@@ -1,0 +1,270 @@
+//! Makes a page by the walk, if the forms of the rule book and the upper bounds allow it.
+ghost use Rattle.std.specs.Prelude.{◌≡◌, ℕ, true, ◌+◌, ◌≤◌, ◌<◌, ◌^◌, ◌⊎◌, ◌↔◌, [], IfOk, IfSome, OnOk};
+ghost use Rattle.std.specs.Prelude.{List, length, map, nat_lt, option_copied, take};
+ghost use Rattle.std.specs.Option.{IsNone};
+ghost use Rattle.cls_base.specs.declared.rule.Rule.{Rule};
+ghost use Rattle.cls_base.specs.Languages.{IsGenerated};
+ghost use Rattle.cls_base.specs.Limits.{max_term_length, max_term_size};
+ghost use Rattle.cls_base.specs.Pages.{IsPage, IsDue};
+ghost use Rattle.cls_base.specs.Terms.{Applicative, Before, code_of, length_of, size_of};
+ghost use Rattle.cls_term.specs.Costs.{cost_of};
+ghost use Rattle.cls_enum.specs.Requests.{request};
+ghost use Rattle.cls_enum.specs.States.{FitsPool};
+ghost use Rattle.cls_walk.specs.Attempts.{AreDueCodes, AreFormsUpTo, IsStart};
+ghost use Rattle.cls_walk.specs.Counts.{up_below};
+ghost use Rattle.cls_walk.specs.Filled.{EachRise};
+ghost use Rattle.cls_walk.specs.PageFronts.{IsDueCode};
+ghost use Rattle.cls_walk.specs.Tables.{capped, number_at, Holds};
+ghost use Rattle.cls_walk.specs.Totals.{total_held};
+ghost use Rattle.cls_walk.specs.Walks.{IsBack, IsBehind, Lists};
+
+use crate::build::forms_of;
+use crate::cursor::{Cursor, passed};
+use crate::decode::decode;
+use crate::form::Forms;
+use crate::least::{least_sizes, number_of};
+use crate::numbers::plus;
+use crate::plan::Plan;
+use crate::refusal::{column_total, due_of, size_of_cursor};
+use crate::stage::Stage;
+use crate::table::Table;
+use crate::upper::upper_column;
+use crate::walk::{Walk, each_form};
+use cls_base::limits::MAX_TERM_LENGTH;
+use cls_base::{Numbers, OutOfMemory};
+use cls_enum::Page;
+use cls_rulebook::RuleBook;
+use cls_term::{Term, Terms};
+use std::alloc::Global;
+
+/// The upper bounds by size and node, for all sizes up to `last`.
+#[derive(Drop)]
+struct Counted {
+    table: Table,
+    last: u32,
+}
+
+/// Adds the upper bounds for one more size.
+fn add_size<B: RuleBook>(
+    alloc: Global,
+    book: &B,
+    costs: &Numbers,
+    table: &mut Table,
+    size: u32,
+) -> Result<(), OutOfMemory>
+    requires small { size < 2 ^ 31 }
+    requires table { Holds (up_below (B.book book.now) (cost_of costs.now) size) size table.old }
+    ensures { OnOk result (Holds (up_below (B.book book.now) (cost_of costs.now) (size + 1)) (size + 1) table.new) }
+{
+    let column = upper_column(alloc, &Stage { table, costs, size }, book)?;
+    table.push(column)?;
+    Ok(())
+}
+
+/// The upper bounds up to the size at which more than `wanted` terms may be due, which are those from size `from` on, and
+/// no further than `last`.
+fn count<B: RuleBook>(
+    alloc: Global,
+    book: &B,
+    costs: &Numbers,
+    from: u64,
+    wanted: u64,
+    last: u32,
+) -> Result<Counted, OutOfMemory>
+    requires last { last ≤ max_term_length }
+    ensures within { IfOk result (λ counted. counted.last ≤ last) }
+    ensures table { IfOk result (λ counted.
+        Holds (up_below (B.book book.now) (cost_of costs.now) (counted.last + 1)) (counted.last + 1) counted.table) }
+{
+    let mut table = Table::new(alloc);
+    let mut due = 0;
+    for size in 0..last {
+        add_size(alloc, book, costs, &mut table, size)?;
+        due = plus(due, due_of(&table, size, from));
+        if due > wanted {
+            return Ok(Counted { table, last: size });
+        }
+    }
+    add_size(alloc, book, costs, &mut table, last)?;
+    Ok(Counted { table, last })
+}
+
+/// The upper bound of the number of pairs that are pooled at this size.
+fn held_at(table: &Table, size: u32, width: u32) -> u64
+    ensures { result ≡ capped (total_held (number_at table.now) width size) }
+{
+    let mut made = 0;
+    for smaller in 0..size {
+        made = plus(made, column_total(table, smaller, width));
+    }
+    plus(made, table.get(size, 0))
+}
+
+/// Whether the upper bound tells that no more pairs than `pool` are pooled at this size.
+fn is_within(table: &Table, size: u32, width: u32, pool: u64) -> bool
+    ensures { result ≡ true → (n : ℕ) → capped n ≡ capped (total_held (number_at table.now) width size) → n ≤ pool }
+{
+    let held = held_at(table, size, width);
+    held <= pool && held < u64::MAX
+}
+
+/// What is left of the cursor where codes of this size are written, None where terms of this size come before it.
+fn cursor_at<'a>(after: Option<&Term>, from: u64, code: &'a [u32], size: u32) -> Option<Cursor<'a>>
+    ensures some { (cost : ℕ → ℕ) → IsStart cost (option_copied after.entry) from code.now
+        → IfSome result (λ c. (e : Applicative) → size_of cost e ≡ size
+        → IfSome (option_copied after.entry) (λ a. Before cost a e) ↔ IsBehind c (code_of e)) }
+    ensures none { (cost : ℕ → ℕ) → IsStart cost (option_copied after.entry) from code.now → IsNone result
+        → (e : Applicative) → size_of cost e ≡ size → IfSome (option_copied after.entry) (λ a. Before cost a e) → ⊥ }
+{
+    match after {
+        None => Some(passed()),
+        Some(_) => {
+            if u64::from(size) < from {
+                return None;
+            }
+            if from < u64::from(size) {
+                return Some(passed());
+            }
+            Some(Cursor {
+                code,
+                passed: false,
+            })
+        }
+    }
+}
+
+/// Lists the codes of the due terms of this size, and says whether to go on.
+fn walk_size(
+    alloc: Global,
+    plan: &Plan,
+    after: Option<&Term>,
+    from: u64,
+    code: &[u32],
+    size: u32,
+    walk: &mut Walk,
+) -> Result<bool, OutOfMemory>
+    requires some { 1 ≤ size }
+    requires short { size ≤ max_term_length }
+    requires start { IsStart (cost_of plan.now.costs.now) (option_copied after) from code.now }
+    requires resting { (walk.old.awaited.items ≡ []) × (walk.old.code.items ≡ []) }
+    requires few { length walk.old.codes.items ≤ plan.now.take }
+    requires rising { EachRise plan.now.forms.now }
+    ensures back { IfOk result (IsBack plan.now walk.old walk.new) }
+    ensures listed { (book : List (List (Rule ℕ))) (last max : ℕ)
+        → let r = request plan.now.costs.now (option_copied after.entry) max plan.now.take in
+        AreFormsUpTo book last plan.now.forms.now → size ≤ last → size ≤ max
+        → IfOk result (Lists (IsDueCode (IsDue (IsGenerated book 0) r) r.cost size) walk.old walk.new) }
+{
+    let Some(cursor) = cursor_at(after, from, code, size) else {
+        return Ok(true);
+    };
+    let least = number_of(plan.least, 0);
+    if size < least {
+        return Ok(true);
+    }
+    Ok(each_form(alloc, plan, walk, 0, size - least, cursor)?)
+}
+
+/// Lists the codes of the due terms size after size, until the list is full or the last size is reached. Gives the size.
+fn walk_sizes(
+    alloc: Global,
+    plan: &Plan,
+    after: Option<&Term>,
+    from: u64,
+    code: &[u32],
+    last: u32,
+    walk: &mut Walk,
+) -> Result<u32, OutOfMemory>
+    requires some { 1 ≤ last }
+    requires short { last ≤ max_term_length }
+    requires start { IsStart (cost_of plan.now.costs.now) (option_copied after) from code.now }
+    requires resting { (walk.old.awaited.items ≡ []) × (walk.old.code.items ≡ []) × (walk.old.codes.items ≡ []) }
+    requires rising { EachRise plan.now.forms.now }
+    ensures within { IfOk result (λ size. size ≤ last) }
+    ensures ends { IfOk result (λ size. (plan.now.take < length walk.new.codes.items) ⊎ (size ≡ last)) }
+    ensures listed { (book : List (List (Rule ℕ))) (max : ℕ)
+        → let r = request plan.now.costs.now (option_copied after.entry) max plan.now.take in
+        AreFormsUpTo book last plan.now.forms.now → last ≤ max
+        → IfOk result (λ size. AreDueCodes book r (size + 1) walk.new.codes.items) }
+{
+    for size in 1..last {
+        if !walk_size(alloc, plan, after, from, code, size, walk)? {
+            return Ok(size);
+        }
+    }
+    let _going = walk_size(alloc, plan, after, from, code, last, walk)?;
+    Ok(last)
+}
+
+/// The page of the first `wanted` of the terms with these codes.
+fn page_of(alloc: Global, codes: &[Numbers], wanted: u32) -> Result<Page, OutOfMemory>
+    requires { (es : List Applicative) × (codes.now ≡ map code_of es) }
+    ensures terms { IfOk result (λ p. (es : List Applicative) → codes.now ≡ map code_of es → p.terms ≡ take wanted es) }
+    ensures more { IfOk result (λ p. p.more ≡ nat_lt wanted (length codes.now)) }
+{
+    let mut terms = Terms::new(alloc);
+    for code in &codes[..codes.len().min(wanted as usize)] {
+        terms.push(decode(alloc, code.as_slice())?)?;
+    }
+    Ok(Page {
+        terms,
+        more: codes.len() > wanted as usize,
+    })
+}
+
+/// The code of the cursor, and no number where there is none.
+fn code_of_cursor(alloc: Global, after: Option<&Term>) -> Result<Numbers, OutOfMemory>
+    ensures { IfOk result (λ code. IfSome (option_copied after.entry) (λ a. code ≡ code_of a)) }
+{
+    match after {
+        None => Ok(Numbers::new(Vec::new(alloc))),
+        Some(token) => Ok(token.code(alloc)?),
+    }
+}
+
+/// The page, if it is found by the walk and the upper bounds tell that there are not too many terms.
+pub(crate) fn walk_page<B: RuleBook>(
+    alloc: Global,
+    book: &B,
+    costs: &Numbers,
+    after: Option<&Term>,
+    max_size: u32,
+    take: u32,
+    pool: u64,
+) -> Result<Option<Page>, OutOfMemory>
+    requires max { max_size ≤ max_term_size }
+    requires some { 1 ≤ take }
+    requires costs { (x : ℕ) → 1 ≤ cost_of costs.now x }
+    requires token { IfSome (option_copied after) (λ a. length_of a < 2 ^ 32) }
+    ensures page { let r = request costs.now (option_copied after.entry) max_size take in
+        IfOk result (λ answer. IfSome answer (λ p. IsPage (IsGenerated (B.book book.now) 0) r p.terms p.more)) }
+    ensures within { let r = request costs.now (option_copied after.entry) max_size take in
+        IfOk result (λ answer. IfSome answer (λ _. FitsPool (B.book book.now) r pool)) }
+{
+    let from = size_of_cursor(costs, after);
+    let end = max_size.min(MAX_TERM_LENGTH as u32);
+    let counted = count(alloc, book, costs, from, u64::from(take) + 1, end)?;
+    let last = counted.last;
+    let width = book.count();
+    if last == 0 || !is_within(&counted.table, last, width, pool) {
+        return Ok(None);
+    }
+    let Some(forms) = forms_of(alloc, book, last)? else {
+        return Ok(None);
+    };
+    let least = least_sizes(alloc, costs, &forms, last + 1)?;
+    let plan = Plan {
+        costs,
+        forms: &forms,
+        least: &least,
+        take,
+    };
+    let code = code_of_cursor(alloc, after)?;
+    let mut walk = Walk::new(alloc);
+    let size = walk_sizes(alloc, &plan, after, from, code.as_slice(), last, &mut walk)?;
+    let is_known = walk.codes.len() > take as usize || size == max_size;
+    if !is_known || !is_within(&counted.table, size, width, pool) {
+        return Ok(None);
+    }
+    Ok(Some(page_of(alloc, walk.codes.as_slice(), take)?))
+}

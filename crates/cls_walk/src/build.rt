@@ -1,0 +1,168 @@
+//! The forms of the nodes of a rule book. They are made only for books in which a node has at most one pair of nodes, of
+//! itself and another node, and in which no two forms of a node begin alike. So each code has one derivation.
+ghost use Rattle.std.specs.Prelude.{◌≡◌, ℕ, ◌++◌, ◌∷◌, [], true, IfOk, IfSome, OnOk, List};
+ghost use Rattle.cls_base.specs.declared.rule.Rule.{Rule};
+ghost use Rattle.cls_walk.specs.Counts.{HeadRule};
+ghost use Rattle.cls_walk.specs.Attempts.{AreFormsUpTo};
+ghost use Rattle.cls_walk.specs.Filled.{EachRise};
+ghost use Rattle.cls_walk.specs.Forms.{AreRising, IsEarlier};
+ghost use Rattle.cls_walk.specs.Repeats.{copies, forms_by, repeated, IsRepeat};
+
+use crate::form::{Form, Forms};
+use cls_base::{OutOfMemory, Rule};
+use cls_rulebook::RuleBook;
+use std::alloc::Global;
+
+/// What the node may be applied to again and again, with one rule more. None, if it isn't as the head of this file says.
+fn repeat_with(node: u32, repeat: Option<u32>, rule: &Rule<u32>) -> Option<Option<u32>>
+    ensures { IfSome result (λ new. (rules : List (Rule ℕ))
+        → IsRepeat node rules repeat → IsRepeat node (rules ++ rule.now ∷ []) new) }
+{
+    match rule {
+        Rule::Head {
+            component: _,
+            args: _,
+        } => Some(repeat),
+        Rule::Any { left, right } => {
+            if repeat.is_some() || *left != node {
+                return None;
+            }
+            Some(Some(*right))
+        }
+    }
+}
+
+/// The same for all rules of the node.
+fn repeat_of(node: u32, rules: &[Rule<u32>]) -> Option<Option<u32>>
+    ensures { IfSome result (IsRepeat node rules.now) }
+{
+    let mut repeat = None;
+    for rule in rules {
+        repeat = repeat_with(node, repeat, rule)?;
+    }
+    Some(repeat)
+}
+
+/// A head rule with so many arguments of a node more. A form of 2^32 arguments is refused as out of memory.
+fn form_with(
+    alloc: Global,
+    component: u32,
+    nodes: &[u32],
+    node: u32,
+    count: u32,
+) -> Result<Form, OutOfMemory>
+    ensures { IfOk result (λ form. form ≡ (component, nodes.now ++ copies node count)) }
+{
+    let mut all = Vec::from_slice(alloc, nodes)?;
+    for _place in 0..count {
+        all.push(node)?;
+    }
+    all.reverse();
+    let Ok(total) = u32::try_from(all.len()) else {
+        return Err(OutOfMemory);
+    };
+    Ok(Form {
+        component,
+        count: total,
+        nodes: all,
+    })
+}
+
+/// Adds the forms by a head rule, with fewer than `size` arguments more.
+fn add_forms(
+    alloc: Global,
+    component: u32,
+    nodes: &[u32],
+    repeat: Option<u32>,
+    size: u32,
+    forms: &mut Vec<Form>,
+) -> Result<(), OutOfMemory>
+    ensures { OnOk result
+        (forms.new.items ≡ forms.old.items ++ repeated repeat size (component, nodes.now)) }
+{
+    let Some(node) = repeat else {
+        forms.push(form_with(alloc, component, nodes, 0, 0)?)?;
+        return Ok(());
+    };
+    for count in 0..size {
+        forms.push(form_with(alloc, component, nodes, node, count)?)?;
+    }
+    Ok(())
+}
+
+/// The same for a rule. A pair of nodes is no head rule.
+fn add_rule(
+    alloc: Global,
+    rule: &Rule<u32>,
+    repeat: Option<u32>,
+    size: u32,
+    forms: &mut Vec<Form>,
+) -> Result<(), OutOfMemory>
+    ensures { OnOk result (forms.new.items ≡ forms.old.items ++ forms_by repeat size (rule.now ∷ [])) }
+{
+    match rule {
+        Rule::Head { component, args } => {
+            add_forms(alloc, *component, args.as_slice(), repeat, size, forms)
+        }
+        Rule::Any { left: _, right: _ } => Ok(()),
+    }
+}
+
+/// The forms by these rules.
+fn node_forms(
+    alloc: Global,
+    rules: &[Rule<u32>],
+    repeat: Option<u32>,
+    size: u32,
+) -> Result<Vec<Form>, OutOfMemory>
+    ensures { IfOk result (λ forms. forms.items ≡ forms_by repeat size rules.now) }
+{
+    let mut forms = Vec::new(alloc);
+    for rule in rules {
+        add_rule(alloc, rule, repeat, size, &mut forms)?;
+    }
+    Ok(forms)
+}
+
+fn is_earlier(first: &Form, second: &Form) -> bool
+    ensures { result ≡ true → IsEarlier first.now second.now }
+{
+    first.component < second.component
+        || (first.component == second.component && first.count < second.count)
+}
+
+/// Whether each form is earlier than the next.
+fn are_rising(forms: &[Form]) -> bool
+    ensures { result ≡ true → AreRising forms.now }
+{
+    for place in 1..forms.len() {
+        if !is_earlier(&forms[place - 1], &forms[place]) {
+            return false;
+        }
+    }
+    true
+}
+
+/// The forms of each node with fewer arguments than `size`, if the book is as the head of this file says.
+pub(crate) fn forms_of<B: RuleBook>(
+    alloc: Global,
+    book: &B,
+    size: u32,
+) -> Result<Option<Forms>, OutOfMemory>
+    ensures forms { IfOk result (λ answer. IfSome answer (λ forms. AreFormsUpTo (B.book book.now) size forms)) }
+    ensures rising { IfOk result (λ answer. IfSome answer EachRise) }
+{
+    let mut nodes = Vec::new(alloc);
+    for node in 0..book.count() {
+        let rules = book.rules(node);
+        let Some(repeat) = repeat_of(node, rules) else {
+            return Ok(None);
+        };
+        let forms = node_forms(alloc, rules, repeat, size)?;
+        if !are_rising(forms.as_slice()) {
+            return Ok(None);
+        }
+        nodes.push(forms)?;
+    }
+    Ok(Some(Forms { nodes }))
+}

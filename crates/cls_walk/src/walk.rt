@@ -1,0 +1,141 @@
+//! The walk: codes are written from the left in their order, by depth-first search over the forms of the node that is
+//! awaited next. A form that comes to more than is left is passed over, and so is one before the cursor.
+ghost use Rattle.std.specs.Prelude.{◌≡◌, ℕ, ◌+◌, ◌-◌, ◌≤◌, [], ◌∷◌, IfOk, List, length, reverse, slice_index};
+ghost use Rattle.cls_term.specs.Costs.{cost_of};
+ghost use Rattle.cls_walk.specs.Filled.{needs, EachRise};
+ghost use Rattle.cls_walk.specs.Walks.{IsWanted, IsWantedBy, IsBack, Lists};
+
+use crate::cursor::Cursor;
+use crate::form::Form;
+use crate::least::{left_behind, number_of};
+use crate::plan::Plan;
+use cls_base::{Numbers, OutOfMemory};
+use std::alloc::Global;
+
+/// The nodes of which terms are awaited, from the last to the next, the code so far, and the codes that are listed.
+#[derive(Drop)]
+pub(crate) struct Walk {
+    pub(crate) awaited: Vec<u32>,
+    pub(crate) code: Vec<u32>,
+    pub(crate) codes: Vec<Numbers>,
+}
+
+impl Walk {
+    /// Nothing is awaited, written or listed.
+    pub(crate) fn new(alloc: Global) -> Walk
+        ensures awaited { result.awaited.items ≡ [] }
+        ensures code { result.code.items ≡ [] }
+        ensures codes { result.codes.items ≡ [] }
+    {
+        Walk {
+            awaited: Vec::new(alloc),
+            code: Vec::new(alloc),
+            codes: Vec::new(alloc),
+        }
+    }
+}
+
+/// Lists the code so far, if nothing is left and it comes after the cursor. No node is awaited.
+fn emit(
+    alloc: Global,
+    plan: &Plan,
+    walk: &mut Walk,
+    slack: u32,
+    cursor: Cursor,
+) -> Result<bool, OutOfMemory>
+    requires none { walk.old.awaited.items ≡ [] }
+    requires few { length walk.old.codes.items ≤ plan.now.take }
+    ensures back { IfOk result (IsBack plan.now walk.old walk.new) }
+    ensures listed { IfOk result (Lists (IsWanted plan.now [] slack cursor.entry) walk.old walk.new) }
+{
+    if slack == 0 && cursor.passed {
+        let code = Vec::from_slice(alloc, walk.code.as_slice())?;
+        walk.codes.push(Numbers::new(code))?;
+    }
+    Ok(walk.codes.len() <= plan.take as usize)
+}
+
+/// Lists the codes of terms of the awaited nodes that come to `slack` more than the least sizes of the nodes, and says
+/// whether to go on.
+#[cycle(descend)]
+fn go(
+    alloc: Global,
+    plan: &Plan,
+    walk: &mut Walk,
+    slack: u32,
+    cursor: Cursor,
+) -> Result<bool, OutOfMemory>
+    requires rising { EachRise plan.now.forms.now }
+    requires few { length walk.old.codes.items ≤ plan.now.take }
+    ensures back { IfOk result (IsBack plan.now walk.old walk.new) }
+    ensures listed { let ns = reverse walk.old.awaited.items in
+        IfOk result (Lists (IsWanted plan.now ns (needs plan.now.least.now ns + slack) cursor.entry) walk.old walk.new) }
+{
+    let Some(node) = walk.awaited.pop() else {
+        return emit(alloc, plan, walk, slack, cursor);
+    };
+    let going = each_form(alloc, plan, walk, node, slack, cursor)?;
+    walk.awaited.push(node)?;
+    Ok(going)
+}
+
+/// The same, where this node is awaited before the others.
+#[cycle(descend)]
+pub(crate) fn each_form(
+    alloc: Global,
+    plan: &Plan,
+    walk: &mut Walk,
+    node: u32,
+    slack: u32,
+    cursor: Cursor,
+) -> Result<bool, OutOfMemory>
+    requires rising { EachRise plan.now.forms.now }
+    requires few { length walk.old.codes.items ≤ plan.now.take }
+    ensures back { IfOk result (IsBack plan.now walk.old walk.new) }
+    ensures listed { let ns = node ∷ reverse walk.old.awaited.items in
+        IfOk result (Lists (IsWanted plan.now ns (needs plan.now.least.now ns + slack) cursor.entry) walk.old walk.new) }
+{
+    let least = number_of(plan.least, node);
+    for form in plan.forms.of(node) {
+        if !follow(alloc, plan, walk, form, least, slack, cursor)? {
+            return Ok(false);
+        }
+    }
+    Ok(true)
+}
+
+/// The same, for those codes alone that begin with this form of the node, which has this least size.
+#[cycle(descend)]
+fn follow(
+    alloc: Global,
+    plan: &Plan,
+    walk: &mut Walk,
+    form: &Form,
+    least: u32,
+    slack: u32,
+    cursor: Cursor,
+) -> Result<bool, OutOfMemory>
+    requires rising { EachRise plan.now.forms.now }
+    requires few { length walk.old.codes.items ≤ plan.now.take }
+    requires least { least ≤ cost_of plan.now.costs.now form.now.0 + needs plan.now.least.now form.now.1 }
+    ensures back { IfOk result (IsBack plan.now walk.old walk.new) }
+    ensures listed { let ns = reverse walk.old.awaited.items in
+        let size = least + needs plan.now.least.now ns + slack in
+        IfOk result (Lists (IsWantedBy plan.now form.now ns size cursor.entry) walk.old walk.new) }
+{
+    let Some(left) = left_behind(plan.costs, plan.least, form, least, slack) else {
+        return Ok(true);
+    };
+    let Some(next) = cursor.step(form.component, form.count) else {
+        return Ok(true);
+    };
+    let height = walk.awaited.len();
+    let length = walk.code.len();
+    walk.awaited.extend_from_slice(form.nodes.as_slice())?;
+    walk.code.push(form.component)?;
+    walk.code.push(form.count)?;
+    let going = go(alloc, plan, walk, left, next)?;
+    walk.code.truncate(length);
+    walk.awaited.truncate(height);
+    Ok(going)
+}
