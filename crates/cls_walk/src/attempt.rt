@@ -61,8 +61,8 @@ fn add_size<B: RuleBook>(
     Ok(())
 }
 
-/// The upper bounds up to the size at which more than `wanted` terms may be due, which are those from size `from` on, and
-/// no further than `last`.
+/// The upper bounds up to the size at which more than `wanted` terms may be due, which are those from size `from` on,
+/// and no further than `last`.
 fn count<B: RuleBook>(
     alloc: Global,
     book: &B,
@@ -165,7 +165,8 @@ fn walk_size(
     Ok(each_form(alloc, plan, walk, 0, size - least, cursor)?)
 }
 
-/// Lists the codes of the due terms size after size, until the list is full or the last size is reached. Gives the size.
+/// Lists the codes of the due terms size after size, until the list is full or the last size is reached. Gives the
+/// size.
 fn walk_sizes(
     alloc: Global,
     plan: &Plan,
