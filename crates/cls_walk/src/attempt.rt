@@ -203,12 +203,13 @@ fn page_of(alloc: Global, codes: &[Numbers], wanted: u32) -> Result<Page, OutOfM
     ensures terms { IfOk result (λ p. (es : List Applicative) → codes.now ≡ map code_of es → p.terms ≡ take wanted es) }
     ensures more { IfOk result (λ p. p.more ≡ nat_lt wanted (length codes.now)) }
 {
-    let mut terms = Terms::new(alloc);
-    for code in &codes[..codes.len().min(wanted as usize)] {
+    let count = codes.len().min(wanted as usize);
+    let mut terms = Vec::with_capacity(alloc, count)?;
+    for code in &codes[..count] {
         terms.push(decode(alloc, code.as_slice())?)?;
     }
     Ok(Page {
-        terms,
+        terms: Terms::from_vec(terms),
         more: codes.len() > wanted as usize,
     })
 }
