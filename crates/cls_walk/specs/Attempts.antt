@@ -20,4 +20,5 @@ IsStart cost after from code = IfSome after (λ a. (from ≡ size_of cost a) × 
 -- the codes are of the due terms of size below s, in their order; once the list is full, of the first of them
 abbrev pub AreDueCodes : List (List (Rule ℕ)) → Request → ℕ → List (List ℕ) → Type 0
 AreDueCodes book r s codes =
-    (es : List Applicative) × (codes ≡ map code_of es) × IsDueFront (IsDue (IsGenerated book 0) r) r.cost s (r.take < length es) es
+    (es : List Applicative) × (codes ≡ map code_of es)
+    × IsDueFront (IsDue (IsGenerated book 0) r) r.cost s (r.take < length es) es

@@ -7,4 +7,5 @@ abbrev pub BeginsWithTerm : List ℕ → Type 0
 BeginsWithTerm code = (e : Applicative) × (rest : List ℕ) × (code ≡ code_of e ++ rest)
 
 abbrev pub BeginsWithTerms : ℕ → List ℕ → Type 0
-BeginsWithTerms count code = (es : List Applicative) × (rest : List ℕ) × (length es ≡ count) × (code ≡ codes_of es ++ rest)
+BeginsWithTerms count code =
+    (es : List Applicative) × (rest : List ℕ) × (length es ≡ count) × (code ≡ codes_of es ++ rest)

@@ -14,7 +14,8 @@ IsFilled forms [] [] = Unit {0}
 IsFilled forms [] (x ∷ w) = ⊥
 IsFilled forms (n ∷ ns) [] = ⊥
 IsFilled forms (n ∷ ns) (x ∷ []) = ⊥
-IsFilled forms (n ∷ ns) (x ∷ k ∷ w) = (ms : List ℕ) × IsIn (forms_at forms n) (x, ms) × (length ms ≡ k) × IsFilled forms (ms ++ ns) w
+IsFilled forms (n ∷ ns) (x ∷ k ∷ w) =
+    (ms : List ℕ) × IsIn (forms_at forms n) (x, ms) × (length ms ≡ k) × IsFilled forms (ms ++ ns) w
 
 -- the costs of the components in codes
 abbrev pub code_size : (ℕ → ℕ) → List ℕ → ℕ
@@ -29,7 +30,8 @@ needs least (n ∷ ns) = slice_index least n + needs least ns
 
 -- no form of a node comes to less than the node's least size
 abbrev pub AreLeast : List (List HeadRule) → (ℕ → ℕ) → List ℕ → Type 0
-AreLeast forms cost least = (n : ℕ) (h : HeadRule) → IsIn (forms_at forms n) h → slice_index least n ≤ cost h.0 + needs least h.1
+AreLeast forms cost least =
+    (n : ℕ) (h : HeadRule) → IsIn (forms_at forms n) h → slice_index least n ≤ cost h.0 + needs least h.1
 
 -- the forms of each node are in their order, and no two begin alike
 abbrev pub EachRise : List (List HeadRule) → Type 0

@@ -6,7 +6,8 @@ use Rattle.cls_enum.specs.Members.{IsIn}
 
 -- the property of the terms that are due, and the costs
 module _ (Due : Applicative → Type 0) (cost : ℕ → ℕ) where
-  -- The due terms of size below s, none passed over. Where the list is full, some that come after all of it may be missing.
+  -- The due terms of size below s, none passed over. Where the list is full, some that come after all of it may be
+  -- missing.
   pub record IsDueFront (s : ℕ) (IsFull : Type 0) (es : List Applicative) : Type 0 where
     pub rises : Rises cost es
     pub each : (e : Applicative) → IsIn es e → Due e × (size_of cost e < s)

@@ -40,6 +40,9 @@ module _ (plan : Plan) where
     pub few : going ≡ true → length new.codes.items ≤ plan.take
     pub full : going ≡ false → plan.take < length new.codes.items
 
--- It listed the codes with P in their order, each behind the code so far. If it isn't to go on, some of the last ones may be missing.
+-- It listed the codes with P in their order, each behind the code so far. If it isn't to go on, some of the last ones
+-- may be missing.
 abbrev pub Lists : (List ℕ → Type 0) → Walk → Walk → Bool → Type 0
-Lists P old new going = (ws : List (List ℕ)) × IsFront P (going ≡ false) ws × (new.codes.items ≡ old.codes.items ++ map (λ w. old.code.items ++ w) ws)
+Lists P old new going =
+    (ws : List (List ℕ)) × IsFront P (going ≡ false) ws
+    × (new.codes.items ≡ old.codes.items ++ map (λ w. old.code.items ++ w) ws)

@@ -61,8 +61,8 @@ fn add_size<B: RuleBook>(
     Ok(())
 }
 
-/// The upper bounds up to the size at which more than `wanted` terms may be due, which are those from size `from` on, and
-/// no further than `last`.
+/// The upper bounds up to the size at which more than `wanted` terms may be due, which are those from size `from` on,
+/// and no further than `last`.
 fn count<B: RuleBook>(
     alloc: Global,
     book: &B,
@@ -165,7 +165,8 @@ fn walk_size(
     Ok(each_form(alloc, plan, walk, 0, size - least, cursor)?)
 }
 
-/// Lists the codes of the due terms size after size, until the list is full or the last size is reached. Gives the size.
+/// Lists the codes of the due terms size after size, until the list is full or the last size is reached. Gives the
+/// size.
 fn walk_sizes(
     alloc: Global,
     plan: &Plan,
@@ -202,12 +203,13 @@ fn page_of(alloc: Global, codes: &[Numbers], wanted: u32) -> Result<Page, OutOfM
     ensures terms { IfOk result (λ p. (es : List Applicative) → codes.now ≡ map code_of es → p.terms ≡ take wanted es) }
     ensures more { IfOk result (λ p. p.more ≡ nat_lt wanted (length codes.now)) }
 {
-    let mut terms = Terms::new(alloc);
-    for code in &codes[..codes.len().min(wanted as usize)] {
+    let count = codes.len().min(wanted as usize);
+    let mut terms = Vec::with_capacity(alloc, count)?;
+    for code in &codes[..count] {
         terms.push(decode(alloc, code.as_slice())?)?;
     }
     Ok(Page {
-        terms,
+        terms: Terms::from_vec(terms),
         more: codes.len() > wanted as usize,
     })
 }

@@ -1,5 +1,5 @@
-//! The forms of the nodes of a rule book. They are made only for books in which a node has at most one pair of nodes, of
-//! itself and another node, and in which no two forms of a node begin alike. So each code has one derivation.
+//! The forms of the nodes of a rule book. They are made only for books in which a node has at most one pair of nodes,
+//! of itself and another node, and in which no two forms of a node begin alike. So each code has one derivation.
 ghost use Rattle.std.specs.Prelude.{◌≡◌, ℕ, ◌++◌, ◌∷◌, [], true, IfOk, IfSome, OnOk, List};
 ghost use Rattle.cls_base.specs.declared.rule.Rule.{Rule};
 ghost use Rattle.cls_walk.specs.Counts.{HeadRule};
@@ -13,7 +13,8 @@ use cls_base::{OutOfMemory, Rule};
 use cls_rulebook::RuleBook;
 use std::alloc::Global;
 
-/// What the node may be applied to again and again, with one rule more. None, if it isn't as the head of this file says.
+/// What the node may be applied to again and again, with one rule more. None, if it isn't as the head of this file
+/// says.
 fn repeat_with(node: u32, repeat: Option<u32>, rule: &Rule<u32>) -> Option<Option<u32>>
     ensures { IfSome result (λ new. (rules : List (Rule ℕ))
         → IsRepeat node rules repeat → IsRepeat node (rules ++ rule.now ∷ []) new) }

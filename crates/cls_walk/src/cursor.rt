@@ -24,7 +24,8 @@ impl<'a> Cursor<'a> {
     /// What is left of the cursor behind a component and a number of arguments, None where no code that begins so
     /// comes after it.
     pub(crate) fn step(self, component: u32, count: u32) -> Option<Cursor<'a>>
-        ensures some { IfSome result (λ next. (v : List ℕ) → IsBehind self.entry (component ∷ count ∷ v) ↔ IsBehind next v) }
+        ensures some { IfSome result
+            (λ next. (v : List ℕ) → IsBehind self.entry (component ∷ count ∷ v) ↔ IsBehind next v) }
         ensures none { IsNone result → (v : List ℕ) → IsBehind self.entry (component ∷ count ∷ v) → ⊥ }
     {
         if self.passed {

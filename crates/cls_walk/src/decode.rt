@@ -29,14 +29,14 @@ fn read_terms<'a>(
     ensures many { IfOk result (λ r. length r.0 ≡ count) }
     ensures codes { IfOk result (λ r. code.now ≡ codes_of r.0 ++ r.1.now) }
 {
-    let mut terms = Terms::new(alloc);
+    let mut terms = Vec::with_capacity(alloc, count as usize)?;
     let mut rest = code;
     for _place in 0..count {
         let (term, after) = read_term(alloc, rest)?;
         terms.push(term)?;
         rest = after;
     }
-    Ok((terms, rest))
+    Ok((Terms::from_vec(terms), rest))
 }
 
 /// The term of this code.

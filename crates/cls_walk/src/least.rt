@@ -1,5 +1,5 @@
-//! A size for each node than which no term of it is smaller. It is raised round by round: a form comes to the cost of its
-//! component and the sizes of its nodes so far.
+//! A size for each node than which no term of it is smaller. It is raised round by round: a form comes to the cost of
+//! its component and the sizes of its nodes so far.
 ghost use Rattle.std.specs.Prelude.{◌≡◌, ℕ, ◌+◌, ◌<◌, ◌≤◌, IfOk, IfSome, List, length, min, slice_index};
 ghost use Rattle.std.specs.Option.{IsNone};
 ghost use Rattle.cls_term.specs.Costs.{cost_of};

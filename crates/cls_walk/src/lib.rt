@@ -1,7 +1,9 @@
 //! Pages by counting first: bounds of the numbers of terms by size and node, by arithmetic, before a term is made.
 //!
 //! - [`page`] gives a page of the terms of any rule book after any term, or says that more terms would have to be held
-//!   than are allowed. If the bounds tell this, no term is made for it. Otherwise `cls_enum` makes the page.
+//!   than are allowed. If the bounds tell this, no term is made for it. If they tell that there are not too many, and
+//!   each code has one derivation by the rules, the page is listed by a walk over codes, and nothing is made that isn't
+//!   listed. Otherwise `cls_enum` makes the page.
 //! - [`laws`] says what the bounds are good for.
 #![tactic(auto)]
 

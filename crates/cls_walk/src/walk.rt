@@ -69,7 +69,8 @@ fn go(
     requires few { length walk.old.codes.items ≤ plan.now.take }
     ensures back { IfOk result (IsBack plan.now walk.old walk.new) }
     ensures listed { let ns = reverse walk.old.awaited.items in
-        IfOk result (Lists (IsWanted plan.now ns (needs plan.now.least.now ns + slack) cursor.entry) walk.old walk.new) }
+        let size = needs plan.now.least.now ns + slack in
+        IfOk result (Lists (IsWanted plan.now ns size cursor.entry) walk.old walk.new) }
 {
     let Some(node) = walk.awaited.pop() else {
         return emit(alloc, plan, walk, slack, cursor);
@@ -93,7 +94,8 @@ pub(crate) fn each_form(
     requires few { length walk.old.codes.items ≤ plan.now.take }
     ensures back { IfOk result (IsBack plan.now walk.old walk.new) }
     ensures listed { let ns = node ∷ reverse walk.old.awaited.items in
-        IfOk result (Lists (IsWanted plan.now ns (needs plan.now.least.now ns + slack) cursor.entry) walk.old walk.new) }
+        let size = needs plan.now.least.now ns + slack in
+        IfOk result (Lists (IsWanted plan.now ns size cursor.entry) walk.old walk.new) }
 {
     let least = number_of(plan.least, node);
     for form in plan.forms.of(node) {

@@ -18,11 +18,11 @@ read_terms-read_term-requires t c = (
 
 pub read_terms-loop-place-preserved : goal.read_terms-loop-place-preserved
 read_terms-loop-place-preserved t c =
-    let es = c.loop-place.terms in
+    let es = c.loop-place.terms.items in
     let rest = c.loop-place.rest.now in
     let after = c.in_ok-term.after.now in
     let e = c.in_ok-term.term in
-    let p : c.push.new.self ≡ es ++ e ∷ [] = c.in_ok-push.ensures.ok in
+    let p : c.push.new.self.items ≡ es ++ e ∷ [] = c.in_ok-push.ensures.items in
     record {
       many = omega (arith, ap (λ (xs : List Applicative). length xs) p, length-append es (e ∷ []), c.loop-place.invariant.many);
       codes = (let P : List Applicative → Type 0 = λ xs. c.args.code.now ≡ codes_of xs ++ after in subst P (sym p) (terms_push c.args.code.now rest after es e c.loop-place.invariant.codes c.in_ok-term.ensures));

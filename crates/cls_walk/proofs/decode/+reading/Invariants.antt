@@ -11,8 +11,8 @@ decreases-read_terms l = 2 * length l.code.now + 1
 
 abbrev pub invariant-read_terms-loop-place : goal.invariant-read_terms-loop-place
 invariant-read_terms-loop-place l = record {
-  many : length l.terms ≡ l._place;
-  codes : l.code ≡ codes_of l.terms ++ l.rest;
+  many : length l.terms.items ≡ l._place;
+  codes : l.code ≡ codes_of l.terms.items ++ l.rest;
   left : BeginsWithTerms (l.count - l._place) l.rest;
   shorter : length l.rest ≤ length l.code;
 }
