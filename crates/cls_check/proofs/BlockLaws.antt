@@ -144,12 +144,12 @@ pub empty_length : (k : ℕ) → length (empty_layers k) ≡ k
 empty_length zero = refl
 empty_length (suc k) = ap suc (empty_length k)
 
-module _ (l : Library) (k x n : ℕ) where
-  empty_below : (count j : ℕ) → All (AllBelow count) (empty_layers j)
-  empty_below count zero i d m = absurd (omega arith)
-  empty_below count (suc j) zero d m = λ i e m. absurd (omega arith)
-  empty_below count (suc j) (suc i) d m = empty_below count j i d (omega arith)
+pub empty_below : (count j : ℕ) → All (AllBelow count) (empty_layers j)
+empty_below count zero i d m = absurd (omega arith)
+empty_below count (suc j) zero d m = λ i e m. absurd (omega arith)
+empty_below count (suc j) (suc i) d m = empty_below count j i d (omega arith)
 
+module _ (l : Library) (k x n : ℕ) where
   -- the layers for a place are as many as the paths, and have positions of its arrows
   pub layers_length : (blocks : List Block) → All (IsFormed l k) blocks → length (layers_for blocks k x n) ≡ k
   layers_length [] a = empty_length k

@@ -18,3 +18,4 @@ pub mod Stepping
 pub mod Terms
 pub mod Typing
 pub mod Verdicts
+pub mod Walking

@@ -1,5 +1,5 @@
 -- internal: what the tests of a certificate tell, by a table of the normal forms of goals
-use Rattle.std.specs.Prelude.{ℕ, zero, suc, ◌⊎◌, List, [], ◌∷◌, All, Option, None, Some, slice_index_or}
+use Rattle.std.specs.Prelude.{ℕ, zero, suc, ◌⊎◌, List, [], ◌∷◌, All, Contains, Option, None, Some, slice_index_or}
 use Rattle.cls_path.specs.Paths.{TypePath, Paths}
 use Rattle.cls_library.specs.Libraries.{Library, arrows_at}
 use Rattle.cls_proof.specs.Certificates.{ProofRow, Block}
@@ -7,9 +7,9 @@ use Rattle.cls_check.specs.declared.fault.Reason.{Reason}
 use Rattle.cls_check.specs.declared.fault.Reason.TheVariants.{Layers, Unblocked}
 use Rattle.cls_check.specs.declared.place.Place.{Place}
 use Rattle.cls_base.specs.Firsts.{First}
-use Rattle.cls_check.specs.Checking.{path_total, layers_for, row_causes, PassesRow, PassesLayers, PassesUnblocked, IsBlocked, BlockedFrom, Steps}
+use Rattle.cls_check.specs.Checking.{path_total, empty_layers, layers_for, row_causes, PassesRow, PassesLayers, PassesUnblocked, IsBlocked, BlockedFrom, Steps}
 use Rattle.cls_check.specs.Goals.{IsAboveGoal, IsBelowGoal}
-use Rattle.cls_check.specs.Places.{arrows_in}
+use Rattle.cls_check.specs.Places.{arrows_in, block_place}
 
 module _ (l : Library) (goals : List (List TypePath)) where
   -- a row passes, or the reason is its first test that fails
@@ -28,6 +28,14 @@ module _ (l : Library) (goals : List (List TypePath)) where
   -- the layers lead from the empty set to sets that are all blocked
   abbrev pub IsWalked : Place → Paths → List (List (List ℕ)) → Type 0
   IsWalked p form layers = BlockedFrom l (IsBelowGoal l goals) (arrows_in l p) p.n form ([] ∷ []) layers
+
+  -- the layers of the block do so at its place
+  abbrev pub IsBlockWalked : Paths → Block → Type 0
+  IsBlockWalked form b = IsWalked (block_place b) form b.layers
+
+  -- if there is no block at the place, layers without a set do so there
+  abbrev pub IsOtherWalked : List Place → Paths → Place → Type 0
+  IsOtherWalked places form p = (Contains places p → ⊥) → IsWalked p form (empty_layers (path_total form))
 
   -- the same for the layers of the blocks
   abbrev pub IsWalkedAt : List Block → Paths → ℕ → ℕ → Type 0

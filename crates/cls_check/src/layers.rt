@@ -34,7 +34,7 @@ pub(crate) fn block_places(
 }
 
 /// Where the block stands.
-fn place_of(block: &Block) -> Place
+pub(crate) fn place_of(block: &Block) -> Place
     ensures { result ≡ block_place (block_of block.now) }
 {
     Place {

@@ -1,20 +1,20 @@
 //! The members of a certificate.
-ghost use Rattle.std.specs.Prelude.{ℕ, ◌<◌, ◌≤◌, ◌≡◌, ◌↔◌, ◌^◌, length, map, IfOk, OnOk, IfErr, IsTrue};
-ghost use Rattle.cls_path.specs.Paths.{listed, type_of_paths, SuitsAll};
+ghost use Rattle.std.specs.Prelude.{ℕ, ◌<◌, ◌≤◌, ◌≡◌, ◌↔◌, ◌^◌, false, List, All, length, map, IfOk, OnOk, IfErr, IsTrue};
+ghost use Rattle.cls_path.specs.Paths.{TypePath, listed, type_of_paths, SuitsAll};
 ghost use Rattle.cls_library.specs.Arrows.{arity_of};
 ghost use Rattle.cls_library.specs.Libraries.{variances_in, paths_at, IsLibrary};
 ghost use Rattle.cls_proof.specs.Blocks.{block_of};
 ghost use Rattle.cls_proof.specs.Certificates.{empty};
 ghost use Rattle.cls_proof.specs.Members.{member_of};
-ghost use Rattle.cls_check.specs.Checking.{Accepts, IsPlace, PassesLayers, layers_for, path_total, empty_layers};
+ghost use Rattle.cls_check.specs.Checking.{Accepts, IsPlace, PassesLayers, path_total, empty_layers};
 ghost use Rattle.cls_check.specs.Goals.{AllSuit, AreForms, AreGoals};
-ghost use Rattle.cls_check.specs.Places.{block_place};
-ghost use Rattle.cls_check.specs.Tests.{TellsMember, IsWalkedAt};
+ghost use Rattle.cls_check.specs.Places.{Stands, block_place};
+ghost use Rattle.cls_check.specs.Tests.{TellsMember, IsBlockWalked, IsOtherWalked, IsWalked, IsWalkedAt};
 ghost use Rattle.cls_check.specs.Verdicts.{IsRefusedAs};
 
 use crate::fault::{CheckFault, Reason};
 use crate::goals::Goals;
-use crate::layers::block_places;
+use crate::layers::{block_places, place_of};
 use crate::place::Place;
 use crate::steps::is_walked;
 use cls_base::OutOfMemory;
@@ -123,39 +123,35 @@ fn is_unblocked(
     ensures { IfOk result (λ answer. IsTrue answer ↔ ((x n : ℕ) → IsPlace lib.now x n
         → IsWalkedAt lib.now goals.now (map block_of blocks.now) (listed form.now) x n)) }
 {
+    if !are_blocks_walked(alloc, lib, goals, form, blocks)? {
+        return Ok(false);
+    }
     let none = no_layers(alloc, form.paths().len())?;
     for component in 0..lib.count() {
-        if !is_component_unblocked(alloc, lib, goals, form, blocks, places, &none, component)? {
+        if !are_others_walked(alloc, lib, goals, form, places, &none, component)? {
             return Ok(false);
         }
     }
     Ok(true)
 }
 
-/// The same for one component. If it has no block, these layers without a set stand for its layers.
-fn is_component_unblocked(
+/// Whether the layers of each block do so.
+fn are_blocks_walked(
     alloc: Global,
     lib: &Library,
     goals: &Goals,
     form: &Nf,
     blocks: &[Block],
-    places: &IndexSet<Place>,
-    none: &[Layer],
-    component: u32,
 ) -> Result<bool, OutOfMemory>
-    requires library { IsLibrary lib.now }
     requires goals { AllSuit lib.now goals.now }
     requires suits { SuitsAll (variances_in lib.now.taxonomy) (listed form.now) }
     requires layers { PassesLayers lib.now (map block_of blocks.now) (path_total (listed form.now)) }
-    requires places { places.now.keys ≡ map block_place (map block_of blocks.now) }
-    requires none { none.now ≡ empty_layers (path_total (listed form.now)) }
-    requires component { component < length lib.now.components }
-    ensures { IfOk result (λ answer. IsTrue answer ↔ ((n : ℕ) → n ≤ arity_of (paths_at lib.now component)
-        → IsWalkedAt lib.now goals.now (map block_of blocks.now) (listed form.now) component n)) }
+    ensures { IfOk result (λ answer. IsTrue answer
+        ↔ All (IsBlockWalked lib.now goals.now (listed form.now)) (map block_of blocks.now)) }
 {
-    for n in 0..lib.arity(component) + 1 {
-        let place = Place { component, n };
-        let layers = layers_at(blocks, places, none, place);
+    for block in blocks {
+        let place = place_of(block);
+        let layers = block.layers.as_slice();
         if !is_walked(alloc, lib, goals, place, form, layers)? {
             return Ok(false);
         }
@@ -163,20 +159,68 @@ fn is_component_unblocked(
     Ok(true)
 }
 
-/// The layers of the block at the place, or these ones without a set if there is no such block.
-fn layers_at<'a>(
-    blocks: &'a [Block],
+/// Whether these layers without a set do so wherever the component has no block.
+fn are_others_walked(
+    alloc: Global,
+    lib: &Library,
+    goals: &Goals,
+    form: &Nf,
     places: &IndexSet<Place>,
-    none: &'a [Layer],
-    place: Place,
-) -> &'a [Layer]
-    requires places { places.now.keys ≡ map block_place (map block_of blocks.now) }
-    requires none { none.now ≡ empty_layers (length none.now) }
-    ensures { result.now ≡ layers_for (map block_of blocks.now) (length none.now) place.component place.n }
+    none: &[Layer],
+    component: u32,
+) -> Result<bool, OutOfMemory>
+    requires library { IsLibrary lib.now }
+    requires goals { AllSuit lib.now goals.now }
+    requires suits { SuitsAll (variances_in lib.now.taxonomy) (listed form.now) }
+    requires none { none.now ≡ empty_layers (path_total (listed form.now)) }
+    requires component { component < length lib.now.components }
+    ensures { IfOk result (λ answer. IsTrue answer ↔ ((n : ℕ) → n ≤ arity_of (paths_at lib.now component)
+        → IsOtherWalked lib.now goals.now places.now.keys (listed form.now) (record { component = component; n = n }))) }
 {
-    match places.get_index_of(&place) {
-        Some(i) => blocks[i].layers.as_slice(),
-        None => none,
+    for n in 0..lib.arity(component) + 1 {
+        let place = Place { component, n };
+        if !is_other_walked(alloc, lib, goals, form, places, none, place)? {
+            return Ok(false);
+        }
+    }
+    Ok(true)
+}
+
+/// The same for one place. What costs least is asked first.
+fn is_other_walked(
+    alloc: Global,
+    lib: &Library,
+    goals: &Goals,
+    form: &Nf,
+    places: &IndexSet<Place>,
+    none: &[Layer],
+    place: Place,
+) -> Result<bool, OutOfMemory>
+    requires place { Stands lib.now place }
+    requires goals { AllSuit lib.now goals.now }
+    requires suits { SuitsAll (variances_in lib.now.taxonomy) (listed form.now) }
+    requires none { none.now ≡ empty_layers (path_total (listed form.now)) }
+    ensures { IfOk result (λ answer. IsTrue answer
+        ↔ IsOtherWalked lib.now goals.now places.now.keys (listed form.now) place) }
+{
+    if !may_begin(lib, form, place) {
+        return Ok(true);
+    }
+    if places.contains(&place) {
+        return Ok(true);
+    }
+    is_walked(alloc, lib, goals, place, form, none)
+}
+
+/// Whether an arrow may lead to the first path of the goal. If not, layers without a set are enough.
+fn may_begin(lib: &Library, goal: &Nf, place: Place) -> bool
+    requires { Stands lib.now place }
+    ensures { result ≡ false → (goals : List (List TypePath))
+        → IsWalked lib.now goals place (listed goal.now) (empty_layers (path_total (listed goal.now))) }
+{
+    match goal.paths().first() {
+        Some(path) => lib.may_reach(place.component, place.n, path),
+        None => true,
     }
 }
 
