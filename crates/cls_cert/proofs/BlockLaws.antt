@@ -9,6 +9,7 @@ use Rattle.cls_path.specs.Paths.{TypePath, Paths, none, more, listed, type_of_pa
 use Rattle.cls_cover.specs.Lists.{IsAscending, Sublist, ends, drops}
 use Rattle.cls_cover.specs.Covers.{IsMinimal, AreMinimal, MeetsEach, AreCovers, HaveMore, AreWithinLimit}
 use Rattle.cls_library.specs.Arrows.{MultiArrow, arity_of}
+use Rattle.cls_library.specs.Families.{IsFamilyIn}
 use Rattle.cls_library.specs.Libraries.{Library, paths_at, arrows_at}
 use Rattle.cls_library.specs.Reaching.{CoversGoal}
 use Rattle.cls_library.specs.Rules.{IsWide, by_covers, max_covers}
@@ -132,6 +133,13 @@ module _ (l : Library) where
 
   pub has_no_first : (x n : ℕ) (goal : List TypePath) (fs : List (List ℕ)) → x < length l.components → n ≤ arity_of (paths_at l x) → AreFamilies l (arrows_at l x n) goal fs → (HasFirstFamily fs → ⊥) → HasFirst l (listed goal) x n → ⊥
   has_no_first x n goal fs d w h f k = f ((first_family x n goal fs d w h).1 k)
+
+  -- where no arrow leads to the first path there is no block
+  pub begins_nowhere : (x n : ℕ) (goal : List TypePath) (q : TypePath) → Some q ≡ slice_get goal 0 → IsFamilyIn l.taxonomy (arrows_at l x n) q [] → HasFirst l (listed goal) x n → ⊥
+  begins_nowhere x n [] q e is h = h
+  begins_nowhere x n (r ∷ rest) q e is h =
+      let f : q ≡ r = cc in
+      Contains-nil h.2.0 (((subst (λ (p : TypePath). IsFamilyIn l.taxonomy (arrows_at l x n) p []) f is).exactly h.2.0).1 h.2.1)
 
   pub first_place : (goal : Paths) (x n : ℕ) → HasFirst l goal x n → (x < length l.components) × (n ≤ arity_of (paths_at l x))
   first_place none x n h = absurd h

@@ -1,5 +1,5 @@
 //! The blocks of a member: for each component and number of arguments the minimal covers of the first paths of its goal.
-ghost use Rattle.std.specs.Prelude.{◌≡◌, ◌+◌, ◌<◌, ◌≤◌, ◌↔◌, All, IfOk, OnOk, IsTrue, length, map};
+ghost use Rattle.std.specs.Prelude.{◌≡◌, ◌+◌, ◌<◌, ◌≤◌, ◌↔◌, All, false, IfOk, OnOk, IsTrue, length, map};
 ghost use Rattle.cls_cover.specs.Lists.{IsAscending};
 ghost use Rattle.cls_cover.specs.Covers.{AreCovers, AreWithinLimit};
 ghost use Rattle.cls_path.specs.Paths.{listed};
@@ -8,6 +8,7 @@ ghost use Rattle.cls_library.specs.Libraries.{paths_at, IsLibrary};
 ghost use Rattle.cls_library.specs.Rules.{IsWide, max_covers};
 ghost use Rattle.cls_expand.specs.Answers.{IsReady};
 ghost use Rattle.cls_proof.specs.Blocks.{block_of};
+ghost use Rattle.cls_cert.specs.Making.{HasFirst};
 ghost use Rattle.cls_cert.specs.Building.{AreCoversOfFronts, HasFirstFamily, AddsBlock, AreBlocks};
 
 use cls_base::{Numbers, OutOfMemory};
@@ -58,6 +59,18 @@ fn has_first(families: &[Numbers]) -> bool
     }
 }
 
+/// Whether an arrow of the component that takes so many arguments may lead to the first path of the goal. If not, none
+/// does.
+fn may_begin(lib: &Library, goal: &Nf, x: u32, n: u32) -> bool
+    requires { x < length lib.now.components }
+    ensures { result ≡ false → HasFirst lib.now (listed goal.now) x n → ⊥ }
+{
+    match goal.paths().first() {
+        Some(path) => lib.may_reach(x, n, path),
+        None => true,
+    }
+}
+
 /// Adds the block of the arrows that take so many arguments, if one of them leads to the first path of the goal.
 fn add_block(
     alloc: Global,
@@ -74,6 +87,9 @@ fn add_block(
     ensures { OnOk result
         (AddsBlock lib.now (listed goal.now) x n (map block_of blocks.old.items) (map block_of blocks.new.items)) }
 {
+    if !may_begin(lib, goal, x, n) {
+        return Ok(());
+    }
     let families = families_of(alloc, lib, goal, x, n)?;
     if !has_first(families.as_slice()) {
         return Ok(());

@@ -20,6 +20,9 @@ front_covers-requires-clause-few c =
     let h = subst (λ (fs : List (List ℕ)). AreFamilies l (arrows_at l c.args.x c.args.n) c.args.goal.now fs) (sym c.as_slice-2.ensures.value) c.in_ok-families.ensures in
     few_covers l c.args.x c.args.n c.args.goal.now c.as_slice-2.result.now c.requires.declared c.requires.within c.requires.narrow h
 
+pub returns-then-not-may_begin : goal.returns-then-not-may_begin
+returns-then-not-may_begin c = without_block (c.may_begin.ensures c.if-not-may_begin.true) refl
+
 pub returns-then-not-has_first : goal.returns-then-not-has_first
 returns-then-not-has_first c =
     let l = c.args.lib.now in
