@@ -81,12 +81,11 @@ impl Engine {
         complete_histories_make_grammars::<LibraryExpander>();
         renumbered_rows_are_canonical::<LibraryExpander>();
         self.facts();
-        let Finished { rows, history } = self.expand(rt, alloc, goal, gate)?;
-        let grammar = Grammar::of(alloc, &rows);
+        let finished = self.expand(rt, alloc, goal, gate)?;
+        let Finished { rows, history } = finished;
+        let made = Grammar::of(alloc, &rows);
         self.keep(alloc, rows)?;
-        Ok(Closed {
-            grammar: grammar?,
-            history,
-        })
+        let grammar = made?;
+        Ok(Closed { grammar, history })
     }
 }
