@@ -1,7 +1,7 @@
 pub mod Closure
 pub mod Columns
 pub mod FiledRows
-pub mod Filing
+pub mod AfterFiling
 pub mod Finding
 pub mod Grammar
 pub mod Insertion

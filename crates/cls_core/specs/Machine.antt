@@ -1,5 +1,5 @@
 -- The core machine: its rows, its two events, and the histories that they make.
-use Rattle.std.specs.Prelude.{◌≡◌, ◌≢◌, ◌<◌, ℕ, ◌+◌, ◌-◌, Bool, List, [], ◌∷◌, ◌++◌, Some, length, replicate, slice_get, slice_set}
+use Rattle.std.specs.Prelude.{◌≡◌, ◌≢◌, ◌<◌, ℕ, ◌-◌, Bool, List, [], ◌∷◌, ◌++◌, Some, length, replicate, slice_get, slice_set}
 use Rattle.std.specs.List.{position_or_len, sum_by}
 use Rattle.indexmap.specs.IndexSet.{insert_all}
 use Rattle.cls_core.specs.declared.state.RowState.{RowState}
@@ -71,10 +71,6 @@ module _ {G : Type 0} (eq : G → G → Bool) where
   -- the goals, and behind them in order those of the answer's that aren't among them
   abbrev pub grown : List G → Answer G → List G
   grown gs answer = insert_all eq gs (arguments_of answer)
-
-  -- n of the answer's arguments, each counted once, aren't among the goals
-  abbrev pub AddsRows : List G → Answer G → ℕ → Type 0
-  AddsRows gs answer n = length (grown gs answer) ≡ length gs + n
 
   -- the answer with numbers of rows in place of goals
   abbrev pub numbered : List G → Answer G → Answer ℕ

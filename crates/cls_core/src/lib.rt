@@ -4,18 +4,19 @@
 //! - [`Answer`] is what is known of a goal once it was worked on, and [`Expand`] is what works on it. Which answer a
 //!   goal has is a relation, not a function. [`TypedExpand`] is an expander whose answers are the rules of a typing.
 //! - [`Core`] has a row for each goal that was reached. A row is free, held by a worker, or filed with its answer.
-//!   [`Core::claim`] and [`Core::file`] are its two events, and [`Entry`] and [`History`] record them.
+//!   [`Core::claim`] and [`Core::file`] are its two events, and [`Entry`] and [`History`] record them. [`Filing`] says what
+//!   became of a filing.
 //! - [`Finished`] is a core whose rows are all filed: [`Rows`] and the history. [`Core::finish`] makes it of a core,
 //!   and [`Core::read`] copies it out of one.
 //! - [`laws`] holds what is true of every history: which goals it reaches, and that the rows of a complete history
 //!   depend on the start goal alone, but for their order.
 #![tactic(auto)]
 
-mod adding;
 mod answer;
 mod copying;
 mod entry;
 mod expand;
+mod filing;
 mod finished;
 pub mod laws;
 mod machine;
@@ -27,6 +28,7 @@ pub use answer::Answer;
 pub use cls_base::{Goals, Rule, Rules};
 pub use entry::{Entry, History};
 pub use expand::Expand;
+pub use filing::Filing;
 pub use finished::{Finished, Rows};
 pub use machine::Core;
 pub use state::RowState;

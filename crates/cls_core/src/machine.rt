@@ -6,12 +6,12 @@ ghost use Rattle.cls_core.specs.Arguments.{rule_count};
 ghost use Rattle.cls_core.specs.declared.state.RowState.{RowState};
 ghost use Rattle.cls_core.specs.declared.state.RowState.TheVariants.{Free, Held};
 
-use crate::adding::added_by;
 use crate::answer::Answer;
 use crate::copying::{copy_goals, copy_states};
 use crate::entry::{Entry, History};
+use crate::filing::Filing;
 use crate::finished::{Finished, Rows};
-use crate::numbering::number_answer;
+use crate::numbering::{Numbered, Room, number_answer};
 use crate::state::RowState;
 use cls_base::{Key, OutOfMemory};
 use indexmap::IndexSet;
@@ -76,7 +76,7 @@ fn all_filed(states: &[RowState]) -> bool
 
 impl<G: Key + Drop> Core<G> {
     ghost use Rattle.cls_core.specs.declared.entry.Entry.TheVariants.{Claim, File};
-    ghost use Rattle.cls_core.specs.Machine.{begun, claimed, filed, grown, AddsRows};
+    ghost use Rattle.cls_core.specs.Machine.{begun, claimed, filed, grown};
     ghost use Rattle.cls_core.specs.Machine.{AllFiled, NoneFree, NoneFreeBelow, SomeHeld};
     ghost use Rattle.cls_core.specs.Finishing.{IsFinished};
 
@@ -161,15 +161,6 @@ impl<G: Key + Drop> Core<G> {
         }
     }
 
-    /// The number of argument goals of the answer that have no row yet, each counted once. The only error is out of
-    /// memory.
-    pub fn added(&self, alloc: Global, answer: &Answer<G>) -> Result<u64, OutOfMemory>
-        ensures { IfOk result (λ n. AddsRows G.eq self.now.rows.goals answer.now n) }
-    {
-        let added = added_by(alloc, &self.goals, answer)?;
-        Ok(added.len() as u64)
-    }
-
     /// The event Claim: the worker takes the row, which is free. Memory for the entry of its filing is taken, too. The
     /// only error is out of memory, which leaves the core as it was.
     pub fn claim(&mut self, worker: u32, row: u32) -> Result<(), OutOfMemory>
@@ -190,25 +181,37 @@ impl<G: Key + Drop> Core<G> {
     }
 
     /// The event File: the row, which the worker holds, is filed with the answer. Each argument goal that has no row
-    /// yet gets a free one. All memory is taken before a row changes. The Err means out of memory alone: it hands the
-    /// answer back, and the core is as it was.
+    /// yet gets a free one. If there would be more than `most` rows, nothing changes, which `OverLimits` says. All memory
+    /// is taken before a row changes. The Err means out of memory alone: it hands the answer back, and the core is as it was.
     pub fn file(
         &mut self,
         alloc: Global,
         worker: u32,
         row: u32,
         answer: Answer<G>,
-    ) -> Result<(), Answer<G>>
+        most: u32,
+    ) -> Result<Filing, Answer<G>>
         requires held { slice_get self.old.rows.states row ≡ Some (Held worker) }
-        requires room { length (grown G.eq self.old.rows.goals answer) < 2 ^ 32 }
+        requires few { length self.old.rows.goals ≤ most }
         requires rules { rules_in self.old.rows.states + rule_count answer < 2 ^ 64 }
-        ensures rows { OnOk result (self.new.rows ≡ filed G.eq self.old.rows row answer) }
-        ensures history { OnOk result (self.new.history ≡ self.old.history ++ File worker row ∷ []) }
+        ensures room { IfOk result (λ f. (f ≡ Filing.Kept) ↔ (length (grown G.eq self.old.rows.goals answer) ≤ most)) }
+        ensures rows { IfOk result (λ f. f ≡ Filing.Kept → self.new.rows ≡ filed G.eq self.old.rows row answer) }
+        ensures history { IfOk result (λ f. f ≡ Filing.Kept
+            → self.new.history ≡ self.old.history ++ File worker row ∷ []) }
+        ensures over { IfOk result (λ f. f ≡ Filing.OverLimits → self.new ≡ self.old) }
         ensures unchanged { IfErr result (λ a. (a ≡ answer) × (self.new ≡ self.old)) }
     {
-        let Ok((numbers, mut added)) = number_answer(alloc, &self.goals, &answer) else {
+        let rows = &self.goals;
+        let Ok(numbered) = number_answer(alloc, &Room { rows, most }, &answer) else {
             return Err(answer);
         };
+        let Some(numbered) = numbered else {
+            return Ok(Filing::OverLimits);
+        };
+        let Numbered {
+            answer: numbers,
+            mut added,
+        } = numbered;
         let count = added.len();
         let Ok(()) = self.states.reserve(count) else {
             return Err(answer);
@@ -221,7 +224,7 @@ impl<G: Key + Drop> Core<G> {
         self.states[row as usize] = RowState::Filed(numbers);
         self.held -= 1;
         self.history.push_reserved(Entry::File { worker, row });
-        Ok(())
+        Ok(Filing::Kept)
     }
 
     /// The rows and the history, copied. It is None if and only if some row isn't filed. The only error is out of

@@ -1,7 +1,7 @@
 use crate::heap::Node;
 use crate::renumbering::{heap_code, renumbered};
 use cls_base::OutOfMemory;
-use cls_core::{Answer, Core, Goals, RowState, Rule, Rules};
+use cls_core::{Answer, Core, Filing, Goals, RowState, Rule, Rules};
 use std::alloc::Global;
 use std::test::Fail;
 
@@ -34,13 +34,12 @@ fn file(alloc: Global, core: &mut Core<Node>, row: u32) -> Result<(), OutOfMemor
         return Err(OutOfMemory);
     }
     let answer = answer_in_heap(alloc, core.goal(row).id)?;
-    let added = core.added(alloc, &answer)?;
-    if added > 100 || core.count() > 100 || core.rules() > 100 || answer.rule_count() > 100 {
+    if core.count() > 100 || core.rules() > 100 || answer.rule_count() > 100 {
         return Err(OutOfMemory);
     }
-    match core.file(alloc, 1, row, answer) {
-        Ok(()) => Ok(()),
-        Err(_) => Err(OutOfMemory),
+    match core.file(alloc, 1, row, answer, 100) {
+        Ok(Filing::Kept) => Ok(()),
+        _ => Err(OutOfMemory),
     }
 }
 

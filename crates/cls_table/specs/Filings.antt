@@ -5,8 +5,8 @@ use Rattle.cls_core.specs.declared.entry.Entry.TheVariants.{File}
 use Rattle.cls_core.specs.declared.answer.Answer.{Answer}
 use Rattle.cls_table.specs.Seen.{ProgressSeen}
 use Rattle.cls_table.specs.Holdings.{HasRoom}
-use Rattle.cls_table.specs.declared.progress.Filing.{Filing}
-use Rattle.cls_table.specs.declared.progress.Filing.TheVariants.{Kept, OverLimits}
+use Rattle.cls_core.specs.declared.filing.Filing.{Filing}
+use Rattle.cls_core.specs.declared.filing.Filing.TheVariants.{Kept, OverLimits}
 
 -- p became q: either the row was filed within the limits, or that would have passed them and nothing changed
 abbrev pub FilingOutcome : {B G : Type 0} → (G → G → Bool) → ℕ → ℕ → Answer G → Filing

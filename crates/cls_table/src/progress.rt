@@ -6,7 +6,7 @@ ghost use Rattle.cls_core.specs.declared.state.RowState.TheVariants.{Free, Held}
 ghost use Rattle.cls_core.specs.declared.entry.Entry.TheVariants.{Claim as ClaimEntry, File};
 ghost use Rattle.cls_core.specs.Machine.{begun, claimed, AllFiled, NoneFree, SomeHeld};
 ghost use Rattle.cls_table.specs.Tags.{tag_for};
-ghost use Rattle.cls_table.specs.Holdings.{IsHeldClaim, IsClaimOf, HasRoom};
+ghost use Rattle.cls_table.specs.Holdings.{IsHeldClaim, IsClaimOf};
 ghost use Rattle.cls_table.specs.Lawful.{IsLawful, IsLarge, claims_in};
 ghost use Rattle.cls_table.specs.Completing.{Continues, IsFiledAt, IsComplete, IsCompletion};
 ghost use Rattle.cls_table.specs.Seen.{core_of};
@@ -17,7 +17,7 @@ use crate::fault::ExpandFault;
 use crate::limits::Limits;
 use crate::origin::Origin;
 use cls_base::{Key, OutOfMemory};
-use cls_core::{Answer, Core, Expand, Finished, RowState};
+use cls_core::{Answer, Core, Expand, Filing, Finished, RowState};
 use std::alloc::Global;
 use std::marker::Model;
 use std::snapshot::Snapshot;
@@ -42,14 +42,6 @@ impl<E: Expand> Model for Progress<E> {
 
     ghost invariant = { λ p. IsLawful E.Goal.eq E.answers E.ready
         (record { tag = p.origin; rows = p.core.rows; history = p.core.history }) };
-}
-
-/// What became of a filing.
-pub(crate) enum Filing {
-    /// The row is filed.
-    Kept,
-    /// That would have passed the limits, and nothing changed.
-    OverLimits,
 }
 
 impl<E: Expand> Progress<E> {
@@ -156,16 +148,6 @@ impl<E: Expand> Progress<E> {
         self.core.is_held(claim.worker, claim.row) && *self.core.goal(claim.row) == claim.goal
     }
 
-    // Whether the answer can be filed within the limits. The only error is out of memory.
-    fn has_room(&self, alloc: Global, answer: &Answer<E::Goal>) -> Result<bool, OutOfMemory>
-        ensures { IfOk result (λ b. IsTrue b ↔ HasRoom E.Goal.eq self.now.tag self.now.rows answer.now) }
-    {
-        let added = self.core.added(alloc, answer)?;
-        let goals = u64::from(self.origin.goals() - self.core.count());
-        let rules = u64::from(self.origin.rules()) - self.core.rules();
-        Ok(added <= goals && answer.rule_count() as u64 <= rules)
-    }
-
     /// Files the row, which the worker holds, with the answer that the tag gives for its goal, if that stays within the
     /// limits. The Err means out of memory alone, and hands the answer back.
     #[tactic(auto, using(crate::proofs::Counting::claims_in_file))]
@@ -184,14 +166,12 @@ impl<E: Expand> Progress<E> {
         ensures tag { self.new.tag ≡ self.old.tag }
         ensures err { IfErr result (λ a. (a ≡ answer) × (self.new ≡ self.old)) }
     {
-        let Ok(room) = self.has_room(alloc, &answer) else {
-            return Err(answer);
-        };
-        if !room {
+        let rules = u64::from(self.origin.rules()) - self.core.rules();
+        if answer.rule_count() as u64 > rules {
             return Ok(Filing::OverLimits);
         }
-        self.core.file(alloc, worker, row, answer)?;
-        Ok(Filing::Kept)
+        let most = self.origin.goals();
+        Ok(self.core.file(alloc, worker, row, answer, most)?)
     }
 
     /// The rows and the history. The Err comes if and only if some row isn't filed.

@@ -4,10 +4,10 @@ ghost use Rattle.std.specs.Prelude.{IfOk, IfErr, IfSome, IfNone, OnOk, OnErr, Is
 use crate::claim::{Claim, ClaimAnswer, Filed};
 use crate::fault::ExpandFault;
 use crate::limits::Limits;
-use crate::progress::{Filing, Progress};
+use crate::progress::Progress;
 use crate::tag::Tag;
 use cls_base::OutOfMemory;
-use cls_core::{Expand, Finished};
+use cls_core::{Expand, Filing, Finished};
 use cls_turn::Tagged;
 use std::alloc::Global;
 use std::marker::Model;

@@ -1,19 +1,35 @@
-use Rattle.std.proofs.Common.{arith, ap, ◌∙◌, ◌++◌, ◌+◌, length}
+use Rattle.std.proofs.Common.{arith, ap, subst, ◌≡◌, ◌<◌, ◌≤◌, ◌∙◌, ◌++◌, ◌+◌, length}
+use Rattle.std.specs.Prelude.{IfNone, IfSome}
+use Rattle.cls_core.specs.Adding.{AddsGoals}
+use Rattle.cls_core.specs.Numbers.{rule_from}
+use Rattle.indexmap.specs.IndexSet.{insert_all}
+use Rattle.cls_core.specs.Arguments.{arguments_of_rule}
 use Rattle.cls_core.proofs.Insertion.{rule-step, numbered-step, rules-take}
 use Rattle.cls_core.proofs.numbering.number_rules.Goals as goal
 
-pub number_rule-requires : goal.number_rule-requires
-number_rule-requires g c =
-    let gs = c.args.rows.now.keys ++ c.args.added.now.keys in
+pub returns-in_default-clause-many : goal.returns-in_default-clause-many
+returns-in_default-clause-many g c =
+    let gs = c.args.room.now.rows.now.keys ++ c.args.added.now.keys in
     let rs = c.args.rules.now in
-    let next = rule-step g.G.PartialEq.eq gs rs (c.args.rows.now.keys ++ c.loop-rule.added.keys) c.loop-rule.rule-index c.rule-item.result c.loop-rule-test.true c.loop-rule.invariant.0 c.rule-item.is in
-    record { room = omega (arith, ap length next, rules-take g.G.PartialEq.eq gs rs (c.loop-rule.rule-index + 1), c.requires.room) }
+    let eq = g.G.PartialEq.eq in
+    let ks = c.args.room.now.rows.now.keys ++ c.loop-rule.added.keys in
+    let next = rule-step eq gs rs ks c.loop-rule.rule-index c.rule-item.result c.loop-rule-test.true c.loop-rule.invariant.0 c.rule-item.is in
+    let over = subst (λ r. IfNone r (c.args.room.now.most < length (insert_all eq ks (arguments_of_rule c.rule-item.result)))) c.in_default.is c.in_ok-number.ensures.many in
+    omega (arith, over, ap length next, rules-take eq gs rs (c.loop-rule.rule-index + 1))
 
 pub loop-rule-preserved : goal.loop-rule-preserved
 loop-rule-preserved g c =
-    let gs = c.args.rows.now.keys ++ c.args.added.now.keys in
+    let eq = g.G.PartialEq.eq in
+    let rows = c.args.room.now.rows.now.keys in
+    let gs = rows ++ c.args.added.now.keys in
     let rs = c.args.rules.now in
-    let i = c.loop-rule.invariant in (
-      c.in_ok-number.ensures.added ∙ rule-step g.G.PartialEq.eq gs rs _ c.loop-rule.rule-index c.rule-item.result c.loop-rule-test.true i.0 c.rule-item.is,
-      numbered-step g.G.PartialEq.eq gs rs _ _ _ _ c.loop-rule.rule-index c.rule-item.result c.loop-rule-test.true i.0 c.rule-item.is i.1 c.in_ok-number.ensures.numbers c.in_ok-push.ensures.items,
+    let r = c.rule-item.result in
+    let new = c.number_rule.new.added.keys in
+    let i = c.loop-rule.invariant in
+    let added = subst (λ n. IfSome n (λ _. AddsGoals eq rows c.loop-rule.added.keys (arguments_of_rule r) new)) c.in-Some.is c.in_ok-number.ensures.added in
+    let number = subst (λ n. IfSome n (λ m. m ≡ rule_from eq (rows ++ c.loop-rule.added.keys) r)) c.in-Some.is c.in_ok-number.ensures.numbers in
+    let few = subst (λ n. IfSome n (λ _. length (rows ++ new) ≤ c.args.room.now.most)) c.in-Some.is c.in_ok-number.ensures.few in (
+      added ∙ rule-step eq gs rs _ c.loop-rule.rule-index r c.loop-rule-test.true i.0 c.rule-item.is,
+      numbered-step eq gs rs _ _ _ _ c.loop-rule.rule-index r c.loop-rule-test.true i.0 c.rule-item.is i.1 number c.in_ok-push.ensures.items,
+      few,
     )
