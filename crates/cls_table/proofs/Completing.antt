@@ -87,22 +87,6 @@ module _ {B G : Type 0} where
       (slice_get_within p.rows.states row Free free)
 
   module _ (eq : G → G → Bool) where
-    pub continues-file : (p q : ProgressSeen B G) (worker row : ℕ) (a : Answer G)
-        → slice_get p.rows.states row ≡ Some (Held worker) → q.tag ≡ p.tag → q.rows ≡ filed eq p.rows row a
-        → q.history ≡ p.history ++ File worker row ∷ [] → Continues p q
-    continues-file p q worker row a held t r h = record {
-      same_tag = t;
-      more = (File worker row ∷ [], h, one-file worker row);
-      stays_filed = λ k f. (
-        f.0,
-        ap (λ m. slice_get m.states k) r ∙ get-front
-            (set p.rows.states row (Filed (numbered eq (grown eq p.rows.goals a) a))) _ k (Filed f.0)
-            (get-set-other p.rows.states row k (Filed (numbered eq (grown eq p.rows.goals a) a))
-            (λ e. held-filed p.rows.states row worker f.0 held
-            (subst (λ j. slice_get p.rows.states j ≡ Some (Filed f.0)) e f.1)) ∙ f.1),
-      );
-    }
-
     pub file-filed : (p q : ProgressSeen B G) (worker row : ℕ) (a : Answer G)
         → slice_get p.rows.states row ≡ Some (Held worker) → q.rows ≡ filed eq p.rows row a → IsFiledAt q.rows row
     file-filed p q worker row a held r =

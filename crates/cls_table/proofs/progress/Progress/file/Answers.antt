@@ -1,4 +1,4 @@
-use Rattle.std.proofs.Common.{arith, inl, inr, refl, sym, ap, subst, ◌≡◌, ◌∙◌, ◌⊎◌, Some, slice_get}
+use Rattle.std.proofs.Common.{arith, inl, inr, refl, sym, subst, ◌≡◌, ◌⊎◌, Some, slice_get}
 use Rattle.std.specs.Prelude.{All}
 use Rattle.cls_core.specs.declared.filing.Filing.TheVariants.{the_data, Kept, OverLimits}
 use Rattle.cls_core.specs.declared.state.RowState.TheVariants.{Held}
