@@ -1,0 +1,74 @@
+#!/usr/bin/env python3
+"""Refuses each allocation of a run in turn, one number at a time, and tells how the runs end.
+
+    bench/refused_allocations.py PROGRAM INPUT [WORD ..]
+
+PROGRAM is crates/clsynth/out/clsynth, which tools/clsynth builds. A refused allocation has to end the run with status 5, and
+what was written by then has to begin what the whole run writes. Otherwise the run has to be the whole one: its allocation
+could be done without. In a history another worker may have done the work. It needs cc and the C library of GNU, whose malloc
+and realloc it stands before."""
+import collections
+import os
+import re
+import subprocess
+import sys
+import tempfile
+
+BEFORE = r"""
+#include <fcntl.h>
+#include <stddef.h>
+#include <stdlib.h>
+#include <sys/mman.h>
+#include <unistd.h>
+extern void *__libc_malloc(size_t), *__libc_realloc(void *, size_t);
+static long *count, at;
+static int refused(void) {
+    if (!count) {
+        int file = open(getenv("COUNT"), O_RDWR);
+        at = atol(getenv("REFUSE"));
+        count = mmap(NULL, sizeof *count, PROT_READ | PROT_WRITE, MAP_SHARED, file, 0);
+        close(file);
+    }
+    return __sync_add_and_fetch(count, 1) == at;
+}
+void *malloc(size_t n) { return refused() ? NULL : __libc_malloc(n); }
+void *realloc(void *p, size_t n) { return refused() ? NULL : __libc_realloc(p, n); }
+"""
+
+
+def run(program, words, source, room, number):
+    """The status and the output of a run whose allocation with this number is refused, and how many it made."""
+    counter = os.path.join(room, "count")
+    with open(counter, "wb") as it:
+        it.write(bytes(8))
+    library = os.path.join(room, "before.so")
+    given = {"LD_PRELOAD": library, "COUNT": counter, "REFUSE": str(number)}
+    with open(source, "rb") as it:
+        ended = subprocess.run([program, *words], stdin=it, stdout=subprocess.PIPE, env={**os.environ, **given})
+    text = re.sub(rb"(?m)^(claim|file) \d+ ", rb"\1 WORKER ", ended.stdout)
+    with open(counter, "rb") as it:
+        return ended.returncode, text, int.from_bytes(it.read(8), sys.byteorder)
+
+
+def main(program, source, *words):
+    words = words or ("--workers", "1")
+    with tempfile.TemporaryDirectory() as room:
+        with open(os.path.join(room, "before.c"), "w") as it:
+            it.write(BEFORE)
+        subprocess.run(["cc", "-shared", "-fPIC", "-O2", "-o", f"{room}/before.so", f"{room}/before.c"], check=True)
+        status, whole, count = run(program, words, source, room, 0)
+        ends, wrong = collections.Counter(), []
+        for number in range(1, count + 1):
+            ended, text, _ = run(program, words, source, room, number)
+            is_whole = (ended, text) == (status, whole)
+            if not is_whole and not (ended == 5 and whole.startswith(text)):
+                wrong.append(number)
+            ends["the whole run" if is_whole else f"status {ended}"] += 1
+    print(f"{count} allocations, each refused once: " + ", ".join(f"{n} times {what}" for what, n in sorted(ends.items())))
+    if wrong:
+        print("wrong at:", *wrong[:20])
+    return 1 if wrong else 0
+
+
+if __name__ == "__main__":
+    sys.exit(main(*sys.argv[1:]) if len(sys.argv) > 2 else __doc__)
