@@ -1,5 +1,5 @@
 -- Reading tokens without a `$` makes the same, whatever variables are.
-use Rattle.std.proofs.Common.{◌≡◌, ℕ, Bool, true, false, List, [], ◌∷◌, refl, ap, sym, ◌∙◌}
+use Rattle.std.proofs.Common.{◌≡◌, ℕ, true, List, [], ◌∷◌, refl, ap, sym, ◌∙◌}
 use Rattle.std.specs.Prelude.{Option, Some, None}
 use Rattle.std.specs.List.{list_any}
 use Rattle.std.proofs.lemmas.Bool.{or_parts, false≢true}
@@ -10,7 +10,7 @@ use Rattle.cls_lexer.specs.declared.token.TokenKind.TheVariants as kinds
 use Rattle.cls_lexer.specs.Words as word
 use Rattle.cls_lexer.specs.Words.{Word, name, number, sign, word_of, words}
 use Rattle.cls_syntax.specs.declared.sort.Sort.{Sort}
-use Rattle.cls_syntax.specs.declared.sort.Sort.TheVariants.{Omega, Name, To, And, Times, Open, Close, Comma, Dollar, Other}
+use Rattle.cls_syntax.specs.declared.sort.Sort.TheVariants.{Omega, Name, To, And, Times, Open, Close, Dollar}
 use Rattle.cls_syntax.specs.Sorts.{sort_of}
 use Rattle.cls_syntax.specs.ClosedTypes.{HasNoDollar}
 use Rattle.cls_syntax.specs.TypeTexts.{TypeText, type_words}
