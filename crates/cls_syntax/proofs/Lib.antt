@@ -1,4 +1,5 @@
 pub mod Building
+pub mod ClosedReading
 pub mod Dollars
 pub mod Exactness
 pub mod FrontFaults
@@ -30,7 +31,6 @@ pub mod TypeRuns
 pub mod TypeShapeReads
 pub mod TypeSpans
 pub mod TypeStates
-pub mod Variables
 pub mod WordFronts
 pub mod OmegaTexts
 pub mod WordLists

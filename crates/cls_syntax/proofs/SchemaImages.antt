@@ -109,8 +109,12 @@ module _ (constructor variable_number : List ℕ → ℕ) where
   step_name_is o l x (sign kinds.Open) = refl
   step_name_is o (reading.level ss m p) x w = ap (λ (t : OpenType). step_after (outer_image o) (tree.level (sources ss) (a_meet m) None) t (sort_of w)) (sym (product_is p (named x))) ∙ step_after_is o ss m (with_product p (named x)) w
 
+  -- a variable is its number
+  abbrev numbered : List ℕ → Option OpenType
+  numbered x = Some (schema.variable (variable_number x))
+
   abbrev schema_step : tree.State → Sort → List ℕ → Option tree.State
-  schema_step s sort text = step constructor variable_number s sort text
+  schema_step s sort text = step constructor numbered s sort text
 
   dollar_sign : (o : tree.Outer) (l : tree.Level) (kind : TokenKind) (text : List ℕ) → schema_step (tree.after_dollar o l) (sort_of (sign kind)) text ≡ None
   dollar_sign o l kinds.To text = refl
@@ -136,15 +140,15 @@ module _ (constructor variable_number : List ℕ → ℕ) where
   ended_is (reading.operand o l) = refl
   ended_is (reading.after_dollar o l) = refl
 
-  run_is : (ls : List Token) (s s' : reading.State) → run type_machine s (words ls) ≡ Some s' → schema_reading constructor variable_number (image s) ls ≡ ended (image s')
+  run_is : (ls : List Token) (s s' : reading.State) → run type_machine s (words ls) ≡ Some s' → schema_reading constructor numbered (image s) ls ≡ ended (image s')
   run_is [] s s' h = let e : s ≡ s' = cc in ap (λ (x : reading.State). ended (image x)) e
   run_is (l ∷ ls) s s' h =
-      let next : (o : Option reading.State) → (elim o as (λ _. Option reading.State) [ None ↦ None | Some t ↦ run type_machine t (words ls) ]) ≡ Some s' → (elim (option_map image o) as (λ _. Option OpenType) [ None ↦ None | Some t ↦ schema_reading constructor variable_number t ls ]) ≡ ended (image s')
-      = λ o. elim o as (λ o. (elim o as (λ _. Option reading.State) [ None ↦ None | Some t ↦ run type_machine t (words ls) ]) ≡ Some s' → (elim (option_map image o) as (λ _. Option OpenType) [ None ↦ None | Some t ↦ schema_reading constructor variable_number t ls ]) ≡ ended (image s')) [ None ↦ λ k. cc | Some t ↦ λ k. run_is ls t s' k ] in
-      ap (λ (o : Option tree.State). elim o as (λ _. Option OpenType) [ None ↦ None | Some t ↦ schema_reading constructor variable_number t ls ]) (step_is s (word_of l) l.text.now (kind_says l.kind l.text.now)) ∙ next (reading.step s (word_of l)) h
+      let next : (o : Option reading.State) → (elim o as (λ _. Option reading.State) [ None ↦ None | Some t ↦ run type_machine t (words ls) ]) ≡ Some s' → (elim (option_map image o) as (λ _. Option OpenType) [ None ↦ None | Some t ↦ schema_reading constructor numbered t ls ]) ≡ ended (image s')
+      = λ o. elim o as (λ o. (elim o as (λ _. Option reading.State) [ None ↦ None | Some t ↦ run type_machine t (words ls) ]) ≡ Some s' → (elim (option_map image o) as (λ _. Option OpenType) [ None ↦ None | Some t ↦ schema_reading constructor numbered t ls ]) ≡ ended (image s')) [ None ↦ λ k. cc | Some t ↦ λ k. run_is ls t s' k ] in
+      ap (λ (o : Option tree.State). elim o as (λ _. Option OpenType) [ None ↦ None | Some t ↦ schema_reading constructor numbered t ls ]) (step_is s (word_of l) l.text.now (kind_says l.kind l.text.now)) ∙ next (reading.step s (word_of l)) h
 
   -- the tokens of a type make its schema
-  pub schema_is : (ls : List Token) (t : TypeText) → words ls ≡ type_words t → schema_reading constructor variable_number (tree.operand tree.whole tree.empty_level) ls ≡ Some (type_schema constructor variable_number t)
+  pub schema_is : (ls : List Token) (t : TypeText) → words ls ≡ type_words t → schema_reading constructor (λ x. Some (schema.variable (variable_number x))) (tree.operand tree.whole tree.empty_level) ls ≡ Some (type_schema constructor variable_number t)
   schema_is ls t e =
       run_is ls reading.start (types.past t) (ap (run type_machine reading.start) e ∙ types.type_reads.runs t)
       ∙ (ended_is (types.past t) ∙ ap (option_map (type_schema constructor variable_number)) (types.type_reads.ends t))

@@ -22,14 +22,6 @@ opened (types.product s t) = schemas.product (opened s) (opened t)
 opened (types.arrow s t) = schemas.arrow (opened s) (opened t)
 opened (types.meet s t) = schemas.meet (opened s) (opened t)
 
-abbrev pub HasNoVariable : OpenType → Type 0
-HasNoVariable schemas.omega = Unit {0}
-HasNoVariable (schemas.constructor c s) = HasNoVariable s
-HasNoVariable (schemas.product s t) = HasNoVariable s × HasNoVariable t
-HasNoVariable (schemas.arrow s t) = HasNoVariable s × HasNoVariable t
-HasNoVariable (schemas.meet s t) = HasNoVariable s × HasNoVariable t
-HasNoVariable (schemas.variable v) = ⊥
-
 -- No `$` stands in the words.
 abbrev pub HasNoDollar : List Word → Type 0
 HasNoDollar ws = list_any is_dollar ws ≡ false

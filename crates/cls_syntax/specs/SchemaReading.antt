@@ -2,7 +2,7 @@
 use Rattle.std.specs.Prelude.{ℕ, List, [], ◌∷◌, ◌++◌, map, Option, Some, None}
 use Rattle.std.specs.Option.{option_map}
 use Rattle.cls_base.specs.Schemas as schema
-use Rattle.cls_base.specs.Schemas.{OpenType, schema_of}
+use Rattle.cls_base.specs.Schemas.{OpenType}
 use Rattle.cls_lexer.specs.declared.token.Token.{Token}
 use Rattle.cls_syntax.specs.declared.sort.Sort.{Sort}
 use Rattle.cls_syntax.specs.declared.sort.Sort.TheVariants.{Omega, Name, To, And, Times, Open, Close, Dollar}
@@ -69,8 +69,8 @@ ended (after whole l t) = Some (closed l t)
 ended (after_name whole (level ss m p) c) = Some (closed (level ss m None) (with_left schema.product p (schema.constructor c schema.omega)))
 ended _ = None
 
--- The numbers that constructors and variables have.
-module _ (constructor variable : List ℕ → ℕ) where
+-- The numbers that constructors have, and what variables are, where there may be any.
+module _ (constructor : List ℕ → ℕ) (variable : List ℕ → Option OpenType) where
   -- a token of this sort and text
   abbrev pub step : State → Sort → List ℕ → Option State
   step (operand o l) Omega text = Some (atom_read o l schema.omega)
@@ -78,7 +78,7 @@ module _ (constructor variable : List ℕ → ℕ) where
   step (operand o l) Dollar text = Some (after_dollar o l)
   step (operand o l) Open text = Some (operand (within o None l) empty_level)
   step (operand o l) _ text = None
-  step (after_dollar o l) Name text = Some (atom_read o l (schema.variable (variable text)))
+  step (after_dollar o l) Name text = option_map (atom_read o l) (variable text)
   step (after_dollar o l) _ text = None
   step (after_name o l c) sort text = step_name o l c sort
   step (after o l t) sort text = step_after o l t sort
@@ -87,24 +87,25 @@ module _ (constructor variable : List ℕ → ℕ) where
   schema_reading s [] = ended s
   schema_reading s (l ∷ ls) = elim (step s (sort_of (word_of l)) l.text.now) [ None ↦ None | Some t ↦ schema_reading t ls ]
 
--- the code's values
-abbrev pub level_of : BuiltLevel → Level
-level_of l = level (map schema_of l.sources.items) (option_map schema_of l.meet) (option_map schema_of l.product)
+-- the code's values, where `tree` says what the builder's trees are
+module _ {T : Type 0} (tree : T → OpenType) where
+  abbrev pub level_of : BuiltLevel T → Level
+  level_of l = level (map tree l.sources.items) (option_map tree l.meet) (option_map tree l.product)
 
--- the last frame is the innermost
-abbrev pub onto : Outer → List Frame → Outer
-onto o [] = o
-onto o (f ∷ fs) = onto (within o (option_map (λ c. c.0) f.name) (level_of f.level)) fs
+  -- the last frame is the innermost
+  abbrev pub onto : Outer → List (Frame T) → Outer
+  onto o [] = o
+  onto o (f ∷ fs) = onto (within o (option_map (λ c. c.0) f.name) (level_of f.level)) fs
 
-abbrev pub outer_of : List Frame → Outer
-outer_of fs = onto whole fs
+  abbrev pub outer_of : List (Frame T) → Outer
+  outer_of fs = onto whole fs
 
-abbrev pub state_of : Outer → Level → Place → State
-state_of o l place.Operand = operand o l
-state_of o l place.AfterDollar = after_dollar o l
-state_of o l (place.AfterName c) = after_name o l c.0
-state_of o l (place.After s) = after o l (schema_of s)
+  abbrev pub state_of : Outer → Level → Place T → State
+  state_of o l place.Operand = operand o l
+  state_of o l place.AfterDollar = after_dollar o l
+  state_of o l (place.AfterName c) = after_name o l c.0
+  state_of o l (place.After t) = after o l (tree t)
 
-abbrev pub next_of : Outer → Level → Option Place → Option State
-next_of o l None = None
-next_of o l (Some p) = Some (state_of o l p)
+  abbrev pub next_of : Outer → Level → Option (Place T) → Option State
+  next_of o l None = None
+  next_of o l (Some p) = Some (state_of o l p)

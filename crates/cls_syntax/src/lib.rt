@@ -10,7 +10,6 @@
 //! - [`laws`] holds what is true of every form of line and of every type.
 #![tactic(auto)]
 
-mod closing;
 mod cursor;
 mod depth;
 mod interning;
@@ -27,6 +26,7 @@ mod spelled_types;
 mod stop;
 mod syntax_fault;
 mod term_shape;
+mod tree;
 mod type_shape;
 mod word_list;
 

@@ -1,7 +1,7 @@
-//! Builds the schema that tokens spell, with a stack of its own in place of recursion.
+//! Builds the tree that tokens spell, a schema or a closed type, with a stack of its own in place of recursion.
 ghost use Rattle.std.specs.Prelude.{◌≡◌, ℕ, List, [], ◌∷◌, map, Option, Some, None, IfOk, OnOk};
 ghost use Rattle.std.specs.Option.{option_map};
-ghost use Rattle.cls_base.specs.Schemas.{OpenType, schema_of};
+ghost use Rattle.cls_base.specs.Schemas.{OpenType};
 ghost use Rattle.cls_base.specs.Schemas as schema;
 ghost use Rattle.cls_lexer.specs.Names.{number_of};
 ghost use Rattle.cls_syntax.specs.Sorts.{sort_of};
@@ -9,7 +9,8 @@ ghost use Rattle.cls_lexer.specs.Words.{word_of};
 ghost use Rattle.cls_syntax.specs.SchemaReading.{Outer, whole, within, empty_level, operand, applied, with_left, with_sources, closed, atom_read, step_after, step, ended, schema_reading, level_of, outer_of, state_of, next_of};
 
 use crate::sort::{Sort, sort_of};
-use cls_base::{Name, OutOfMemory, Schema};
+use crate::tree::Tree;
+use cls_base::{Name, OutOfMemory};
 use cls_lexer::{Names, Token};
 use std::alloc::Global;
 
@@ -24,36 +25,36 @@ pub(crate) struct Tables<'n> {
 
 /// What was read between two parentheses up to a place where an atom may stand.
 #[derive(Drop)]
-struct Level {
-    sources: Vec<Schema>,
-    meet: Option<Schema>,
-    product: Option<Schema>,
+struct Level<T: Tree> {
+    sources: Vec<T>,
+    meet: Option<T>,
+    product: Option<T>,
 }
 
 /// An open parenthesis, the name before it and what was read up to it.
 #[derive(Drop)]
-struct Frame {
+struct Frame<T: Tree> {
     name: Option<Name>,
-    level: Level,
+    level: Level<T>,
 }
 
 /// What may come next.
 #[derive(Drop)]
-enum Place {
+enum Place<T: Tree> {
     Operand,
     AfterDollar,
     AfterName(Name),
-    After(Schema),
+    After(T),
 }
 
-/// The schema that the tokens spell, if they spell one, with the numbers that the tables give its names.
-pub(crate) fn build(
+/// The tree that the tokens spell, if they spell one, with the numbers that the tables give its names.
+pub(crate) fn build<T: Tree>(
     alloc: Global,
     tables: Tables,
     tokens: &[Token],
-) -> Result<Option<Schema>, OutOfMemory>
-    ensures { IfOk result (λ t. option_map schema_of t
-        ≡ schema_reading (number_of tables.entry.constructors.now) (number_of tables.entry.variables.now)
+) -> Result<Option<T>, OutOfMemory>
+    ensures { IfOk result (λ t. option_map T.tree t
+        ≡ schema_reading (number_of tables.entry.constructors.now) (λ x. T.leaf (number_of tables.entry.variables.now x))
         (operand whole empty_level) tokens.now) }
 {
     let mut frames = Vec::new(alloc);
@@ -68,23 +69,23 @@ pub(crate) fn build(
     finish(alloc, frames, level, place)
 }
 
-fn step(
+fn step<T: Tree>(
     alloc: Global,
     tables: Tables,
-    frames: &mut Vec<Frame>,
-    level: &mut Level,
-    place: Place,
+    frames: &mut Vec<Frame<T>>,
+    level: &mut Level<T>,
+    place: Place<T>,
     token: &Token,
-) -> Result<Option<Place>, OutOfMemory>
-    ensures { IfOk result (λ p. next_of (outer_of frames.new.items) (level_of level.new) p
-        ≡ step (number_of tables.entry.constructors.now) (number_of tables.entry.variables.now)
-        (state_of (outer_of frames.old.items) (level_of level.old) place)
+) -> Result<Option<Place<T>>, OutOfMemory>
+    ensures { IfOk result (λ p. next_of T.tree (outer_of T.tree frames.new.items) (level_of T.tree level.new) p
+        ≡ step (number_of tables.entry.constructors.now) (λ x. T.leaf (number_of tables.entry.variables.now x))
+        (state_of T.tree (outer_of T.tree frames.old.items) (level_of T.tree level.old) place)
         (sort_of (word_of token.now)) token.now.text.now) }
 {
     let sort = sort_of(token);
     match place {
         Place::Operand => match sort {
-            Sort::Omega => Ok(Some(atom(alloc, level, Schema::Omega)?)),
+            Sort::Omega => Ok(Some(atom(alloc, level, T::omega())?)),
             Sort::Name => Ok(Some(Place::AfterName(tables.constructors.number(token.text)))),
             Sort::Dollar => Ok(Some(Place::AfterDollar)),
             Sort::Open => {
@@ -94,10 +95,10 @@ fn step(
             _ => Ok(None),
         },
         Place::AfterDollar => match sort {
-            Sort::Name => {
-                let variable = Schema::Var(tables.variables.number(token.text));
-                Ok(Some(atom(alloc, level, variable)?))
-            }
+            Sort::Name => match T::variable(tables.variables.number(token.text)) {
+                Some(variable) => Ok(Some(atom(alloc, level, variable)?)),
+                None => Ok(None),
+            },
             _ => Ok(None),
         },
         Place::AfterName(name) => match sort {
@@ -106,7 +107,7 @@ fn step(
                 Ok(Some(Place::Operand))
             }
             _ => {
-                let bare = Schema::Con(name, Box::new(alloc, Schema::Omega)?);
+                let bare = T::constructor(alloc, name, T::omega())?;
                 let product = product_of(alloc, level.product.take(), bare)?;
                 after(alloc, frames, level, product, sort)
             }
@@ -117,15 +118,15 @@ fn step(
 
 /// After an atom.
 #[tactic(auto, using(crate::proofs::Building::last_frame, crate::proofs::Building::pushed_source))]
-fn after(
+fn after<T: Tree>(
     alloc: Global,
-    frames: &mut Vec<Frame>,
-    level: &mut Level,
-    read: Schema,
+    frames: &mut Vec<Frame<T>>,
+    level: &mut Level<T>,
+    read: T,
     sort: Sort,
-) -> Result<Option<Place>, OutOfMemory>
-    ensures { IfOk result (λ p. next_of (outer_of frames.new.items) (level_of level.new) p
-        ≡ step_after (outer_of frames.old.items) (level_of level.old) (schema_of read) sort) }
+) -> Result<Option<Place<T>>, OutOfMemory>
+    ensures { IfOk result (λ p. next_of T.tree (outer_of T.tree frames.new.items) (level_of T.tree level.new) p
+        ≡ step_after (outer_of T.tree frames.old.items) (level_of T.tree level.old) (T.tree read) sort) }
 {
     match sort {
         Sort::Times => {
@@ -159,14 +160,14 @@ fn after(
 
 /// Where no token is left.
 #[tactic(auto, using(crate::proofs::Building::not_ended))]
-fn finish(
+fn finish<T: Tree>(
     alloc: Global,
-    frames: Vec<Frame>,
-    mut level: Level,
-    place: Place,
-) -> Result<Option<Schema>, OutOfMemory>
-    ensures { IfOk result (λ t. option_map schema_of t
-        ≡ ended (state_of (outer_of frames.items) (level_of level) place)) }
+    frames: Vec<Frame<T>>,
+    mut level: Level<T>,
+    place: Place<T>,
+) -> Result<Option<T>, OutOfMemory>
+    ensures { IfOk result (λ t. option_map T.tree t
+        ≡ ended (state_of T.tree (outer_of T.tree frames.items) (level_of T.tree level) place)) }
 {
     if !frames.is_empty() {
         return Ok(None);
@@ -174,7 +175,7 @@ fn finish(
     match place {
         Place::After(read) => Ok(Some(close(alloc, level, read)?)),
         Place::AfterName(name) => {
-            let bare = Schema::Con(name, Box::new(alloc, Schema::Omega)?);
+            let bare = T::constructor(alloc, name, T::omega())?;
             let product = product_of(alloc, level.product.take(), bare)?;
             Ok(Some(close(alloc, level, product)?))
         }
@@ -182,8 +183,8 @@ fn finish(
     }
 }
 
-fn new_level(alloc: Global) -> Level
-    ensures { level_of result ≡ empty_level }
+fn new_level<T: Tree>(alloc: Global) -> Level<T>
+    ensures { level_of T.tree result ≡ empty_level }
 {
     Level {
         sources: Vec::new(alloc),
@@ -194,15 +195,15 @@ fn new_level(alloc: Global) -> Level
 
 /// A parenthesis opens, behind the name where there is one.
 #[tactic(auto, using(crate::proofs::Building::last_frame))]
-fn open(
+fn open<T: Tree>(
     alloc: Global,
-    frames: &mut Vec<Frame>,
-    level: &mut Level,
+    frames: &mut Vec<Frame<T>>,
+    level: &mut Level<T>,
     name: Option<Name>,
 ) -> Result<(), OutOfMemory>
-    ensures outer { OnOk result (outer_of frames.new.items
-        ≡ within (outer_of frames.old.items) (option_map (λ c. c.0) name) (level_of level.old)) }
-    ensures level { OnOk result (level_of level.new ≡ empty_level) }
+    ensures outer { OnOk result (outer_of T.tree frames.new.items
+        ≡ within (outer_of T.tree frames.old.items) (option_map (λ c. c.0) name) (level_of T.tree level.old)) }
+    ensures level { OnOk result (level_of T.tree level.new ≡ empty_level) }
 {
     let outer = std::mem::replace(level, new_level(alloc));
     frames.push(Frame { name, level: outer })?;
@@ -210,17 +211,17 @@ fn open(
 }
 
 /// An atom was read.
-fn atom(alloc: Global, level: &mut Level, read: Schema) -> Result<Place, OutOfMemory>
-    ensures { IfOk result (λ p. (o : Outer) → state_of o (level_of level.new) p
-        ≡ atom_read o (level_of level.old) (schema_of read)) }
+fn atom<T: Tree>(alloc: Global, level: &mut Level<T>, read: T) -> Result<Place<T>, OutOfMemory>
+    ensures { IfOk result (λ p. (o : Outer) → state_of T.tree o (level_of T.tree level.new) p
+        ≡ atom_read o (level_of T.tree level.old) (T.tree read)) }
 {
     let product = product_of(alloc, level.product.take(), read)?;
     Ok(Place::After(product))
 }
 
 /// What was read between two parentheses, or in all.
-fn close(alloc: Global, level: Level, last: Schema) -> Result<Schema, OutOfMemory>
-    ensures { IfOk result (λ t. schema_of t ≡ closed (level_of level) (schema_of last)) }
+fn close<T: Tree>(alloc: Global, level: Level<T>, last: T) -> Result<T, OutOfMemory>
+    ensures { IfOk result (λ t. T.tree t ≡ closed (level_of T.tree level) (T.tree last)) }
 {
     let Level {
         sources,
@@ -233,39 +234,39 @@ fn close(alloc: Global, level: Level, last: Schema) -> Result<Schema, OutOfMemor
 }
 
 #[tactic(auto, using(crate::proofs::Building::last_source))]
-fn arrows(alloc: Global, mut sources: Vec<Schema>, target: Schema) -> Result<Schema, OutOfMemory>
-    ensures { IfOk result (λ t. schema_of t ≡ with_sources (map schema_of sources.items) (schema_of target)) }
+fn arrows<T: Tree>(alloc: Global, mut sources: Vec<T>, target: T) -> Result<T, OutOfMemory>
+    ensures { IfOk result (λ t. T.tree t ≡ with_sources (map T.tree sources.items) (T.tree target)) }
 {
     let mut whole = target;
     while let Some(source) = sources.pop() {
-        whole = Schema::Arrow(Box::new(alloc, source)?, Box::new(alloc, whole)?);
+        whole = T::arrow(alloc, source, whole)?;
     }
     Ok(whole)
 }
 
-fn product_of(alloc: Global, left: Option<Schema>, right: Schema) -> Result<Schema, OutOfMemory>
-    ensures { IfOk result (λ t. schema_of t ≡ with_left schema.product (option_map schema_of left) (schema_of right)) }
+fn product_of<T: Tree>(alloc: Global, left: Option<T>, right: T) -> Result<T, OutOfMemory>
+    ensures { IfOk result (λ t. T.tree t ≡ with_left schema.product (option_map T.tree left) (T.tree right)) }
 {
     match left {
         None => Ok(right),
-        Some(left) => Ok(Schema::Prod(Box::new(alloc, left)?, Box::new(alloc, right)?)),
+        Some(left) => Ok(T::product(alloc, left, right)?),
     }
 }
 
-fn meet_of(alloc: Global, left: Option<Schema>, right: Schema) -> Result<Schema, OutOfMemory>
-    ensures { IfOk result (λ t. schema_of t ≡ with_left schema.meet (option_map schema_of left) (schema_of right)) }
+fn meet_of<T: Tree>(alloc: Global, left: Option<T>, right: T) -> Result<T, OutOfMemory>
+    ensures { IfOk result (λ t. T.tree t ≡ with_left schema.meet (option_map T.tree left) (T.tree right)) }
 {
     match left {
         None => Ok(right),
-        Some(left) => Ok(Schema::Meet(Box::new(alloc, left)?, Box::new(alloc, right)?)),
+        Some(left) => Ok(T::meet(alloc, left, right)?),
     }
 }
 
-fn named(alloc: Global, name: Option<Name>, inner: Schema) -> Result<Schema, OutOfMemory>
-    ensures { IfOk result (λ t. schema_of t ≡ applied (option_map (λ c. c.0) name) (schema_of inner)) }
+fn named<T: Tree>(alloc: Global, name: Option<Name>, inner: T) -> Result<T, OutOfMemory>
+    ensures { IfOk result (λ t. T.tree t ≡ applied (option_map (λ c. c.0) name) (T.tree inner)) }
 {
     match name {
         None => Ok(inner),
-        Some(name) => Ok(Schema::Con(name, Box::new(alloc, inner)?)),
+        Some(name) => Ok(T::constructor(alloc, name, inner)?),
     }
 }

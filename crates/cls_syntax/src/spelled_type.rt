@@ -6,7 +6,6 @@ ghost use Rattle.cls_syntax.specs.TypeReading.{type_front};
 ghost use Rattle.cls_syntax.specs.TypeShapes.{held};
 ghost use Rattle.cls_syntax.specs.Spans.{is_whole, type_in};
 
-use crate::closing::closed;
 use crate::interning::intern_names;
 use crate::schema_builder::{Tables, build};
 use crate::stop::begins_reserved;
@@ -121,6 +120,7 @@ impl SpelledType<'_, '_> {
     }
 
     /// The same, but an error may leave more in the table.
+    #[tactic(auto, using(crate::proofs::TypeSpans::spelled_words))]
     fn numbered_type(&self, alloc: Global, constructors: &mut Names) -> Result<Ty, OutOfMemory>
         requires { HasNoDollar (words_in self.now) }
         ensures ty { IfOk result (λ ty. Spells (number_of constructors.new) (type_text self.now) (type_of ty)) }
@@ -129,7 +129,14 @@ impl SpelledType<'_, '_> {
         ensures kept { take (length constructors.old) constructors.new ≡ constructors.old }
     {
         let mut variables = Names::new(alloc);
-        let schema = self.numbered_schema(alloc, constructors, &mut variables)?;
-        Ok(closed(alloc, &schema)?)
+        intern_names(alloc, constructors, &mut variables, self.tokens)?;
+        let tables = Tables {
+            constructors,
+            variables: &variables,
+        };
+        match build(alloc, tables, self.tokens)? {
+            Some(ty) => Ok(ty),
+            None => unreachable!(),
+        }
     }
 }

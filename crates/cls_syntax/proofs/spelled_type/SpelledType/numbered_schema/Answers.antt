@@ -18,3 +18,11 @@ unreachable-requires c =
     let got = c.in_ok-schema.ensures in
     let nothing : Path (Option OpenType) None (Some (type_schema (number_of c.intern_names.new.constructors) (number_of c.intern_names.new.variables) (type_in (words ls)))) = sym (ap (option_map schema_of) c.in-None.is) ∙ (got ∙ made) in
     cc
+
+pub returns-clause-schema : goal.returns-clause-schema
+returns-clause-schema c =
+    let ls = c.args.self.now.tokens.now in
+    let said = spelled_words (words ls) c.args.self.now.spelled in
+    let made = schema_is (number_of c.intern_names.new.constructors) (number_of c.intern_names.new.variables) ls (type_in (words ls)) said in
+    let is : Path (Option OpenType) (Some (schema_of c.in-Some.schema)) (Some (type_schema (number_of c.intern_names.new.constructors) (number_of c.intern_names.new.variables) (type_in (words ls)))) = sym (ap (option_map schema_of) c.in-Some.is) ∙ (c.in_ok-schema.ensures ∙ made) in
+    cc
