@@ -44,7 +44,7 @@ type_closed t ps h =
     front_closed (type_words t) (map part_word ps)
     (subst (λ (ws : List Word). HasNoDollar ws) (map-append part_word (type_parts t) ps ∙ ap (λ (ws : List Word). ws ++ map part_word ps) (type_same t)) h)
 
-words_closed : (w : Written) → HasNoDollar (row_words certificate_rows (line_of w)) → HasNoDollar (goal_words w)
+pub words_closed : (w : Written) → HasNoDollar (row_words certificate_rows (line_of w)) → HasNoDollar (goal_words w)
 words_closed written.inhabited h = refl
 words_closed (written.row t x d ds) h = type_closed t (fixed (name (codes "by")) ∷ naming Component x ∷ numeral 0 greatest_number d ∷ fixed (sign Colon) ∷ map (numeral 0 greatest_number) ds) h
 words_closed written.empty h = refl

@@ -253,7 +253,7 @@ all_more : (n m k : ℕ) (ss : List Statement) → n ≤ m → AllByRecursion (I
 all_more n m k [] l h = tt
 all_more n m k (s ∷ ss) l h = (held_more n m k s l h.0, all_more n m k ss l h.1)
 
-all_both : (P : Statement → Type 0) (xs ys : List Statement) → AllByRecursion P xs → AllByRecursion P ys → AllByRecursion P (xs ++ ys)
+pub all_both : (P : Statement → Type 0) (xs ys : List Statement) → AllByRecursion P xs → AllByRecursion P ys → AllByRecursion P (xs ++ ys)
 all_both P [] ys h k = k
 all_both P (x ∷ xs) ys h k = (h.0, all_both P xs ys h.1 k)
 

@@ -51,3 +51,12 @@ PrintedCertificatesAreRead =
     (names components : List (List ℕ)) (c : Certificate) → IsDistinct bytes_eq names
     → IsCertificateSayable names components c
     → SaysCertificate names names components (lines_of (certificate_text names components c)) c
+
+-- What is read and then printed is read again as the certificate that it was, with the names as they are, if the names
+-- differed before and none of the printed lines is too long.
+abbrev pub ReadCertificatesAreReadAgain : Type 0
+ReadCertificatesAreReadAgain =
+    (old new components lines : List (List ℕ)) (c : Certificate) → IsDistinct bytes_eq old
+    → SaysCertificate old new components lines c
+    → AllByRecursion (λ line. length line ≤ max_line_bytes) (lines_of (certificate_text new components c))
+    → SaysCertificate new new components (lines_of (certificate_text new components c)) c

@@ -1,6 +1,6 @@
 //! What is true of all lines.
 ghost use Rattle.cls_proof.specs.ReadOnce.{SayOneCertificate, HaveOneFirstBad, AreExclusive};
-ghost use Rattle.cls_proof.specs.RoundTrips.{PrintedCertificatesAreRead};
+ghost use Rattle.cls_proof.specs.RoundTrips.{PrintedCertificatesAreRead, ReadCertificatesAreReadAgain};
 
 /// Law: lines say at most one certificate, by one table of constructors, if the names of components differ.
 pub fn lines_say_one_certificate()
@@ -21,4 +21,10 @@ pub fn readings_are_exclusive()
 /// lines and names differ.
 pub fn printed_certificates_are_read()
     ensures { PrintedCertificatesAreRead }
+{}
+
+/// Law: the text of a certificate that was read is read again as that certificate, and no name is new, if names differed
+/// before and no line of the text is too long.
+pub fn read_certificates_are_read_again()
+    ensures { ReadCertificatesAreReadAgain }
 {}

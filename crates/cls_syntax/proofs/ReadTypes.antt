@@ -29,7 +29,7 @@ use Rattle.cls_syntax.proofs.PrintedTexts.{Opens, one_word, join_opens, enclose_
 use Rattle.cls_syntax.proofs.ReadBack.{read_back}
 
 -- the nodes of a type that may have variables
-abbrev open_nodes : OpenType → ℕ
+abbrev pub open_nodes : OpenType → ℕ
 open_nodes schemas.omega = 1
 open_nodes (schemas.constructor c s) = 1 + open_nodes s
 open_nodes (schemas.product s t) = 1 + open_nodes s + open_nodes t
@@ -37,7 +37,7 @@ open_nodes (schemas.arrow s t) = 1 + open_nodes s + open_nodes t
 open_nodes (schemas.meet s t) = 1 + open_nodes s + open_nodes t
 open_nodes (schemas.variable v) = 1
 
-closed_nodes : (t : ClosedType) → open_nodes (opened t) ≡ nodes t
+pub closed_nodes : (t : ClosedType) → open_nodes (opened t) ≡ nodes t
 closed_nodes types.omega = refl
 closed_nodes (types.constructor c s) = λ i. 1 + closed_nodes s i
 closed_nodes (types.product s t) = λ i. 1 + closed_nodes s i + closed_nodes t i
@@ -46,7 +46,7 @@ closed_nodes (types.meet s t) = λ i. 1 + closed_nodes s i + closed_nodes t i
 
 module _ (c v : List ℕ → ℕ) where
   mutual
-    type_count : (t : TypeText) → open_nodes (type_schema c v t) ≡ type_nodes t
+    pub type_count : (t : TypeText) → open_nodes (type_schema c v t) ≡ type_nodes t
     type_count (only_meet m) = meet_count m
     type_count (arrow m t) = λ i. 1 + meet_count m i + type_count t i
 
@@ -66,7 +66,7 @@ module _ (c v : List ℕ → ℕ) where
     atom_count (inside t) = type_count t
 
 -- the parentheses that a text needs
-abbrev depth_at : ℕ → OpenType → ℕ
+abbrev pub depth_at : ℕ → OpenType → ℕ
 depth_at k schemas.omega = 0
 depth_at k (schemas.variable v) = 0
 depth_at k (schemas.constructor c schemas.omega) = 0
@@ -79,7 +79,7 @@ depth_at k (schemas.product s t) = if nat_lt 2 k then 1 + max (depth_at 2 s) (de
 depth_at k (schemas.arrow s t) = if nat_lt 0 k then 1 + max (depth_at 1 s) (depth_at 0 t) else max (depth_at 1 s) (depth_at 0 t)
 depth_at k (schemas.meet s t) = if nat_lt 1 k then 1 + max (depth_at 1 s) (depth_at 2 t) else max (depth_at 1 s) (depth_at 2 t)
 
-closed_depth : (k : ℕ) (t : ClosedType) → depth_at k (opened t) ≡ open_at k t
+pub closed_depth : (k : ℕ) (t : ClosedType) → depth_at k (opened t) ≡ open_at k t
 closed_depth k types.omega = refl
 closed_depth k (types.constructor c types.omega) = refl
 closed_depth k (types.constructor c (types.constructor d s)) = ap (λ n. 1 + n) (closed_depth 0 (types.constructor d s))
@@ -120,7 +120,7 @@ over c (schemas.meet s t) = omega arith
 
 -- the parentheses that are open at once in a text
 abbrev mutual
-  type_open : TypeText → ℕ
+  pub type_open : TypeText → ℕ
   type_open (only_meet m) = meet_open m
   type_open (arrow m t) = max (meet_open m) (type_open t)
 
@@ -141,7 +141,7 @@ abbrev mutual
 
 module _ (c v : List ℕ → ℕ) where
   mutual
-    type_depth : (t : TypeText) → depth_at 0 (type_schema c v t) ≤ type_open t
+    pub type_depth : (t : TypeText) → depth_at 0 (type_schema c v t) ≤ type_open t
     type_depth (only_meet m) = let g = (grows (meet_schema c v m)).first in let h = meet_depth m in omega (arith, g, h)
     type_depth (arrow m t) = let g = meet_depth m in let h = type_depth t in omega (arith, g, h)
 
@@ -160,14 +160,14 @@ module _ (c v : List ℕ → ℕ) where
     atom_depth (variable x) = omega arith
     atom_depth (inside t) = let g = (grows (type_schema c v t)).most in let h = type_depth t in omega (arith, g, h)
 
-abbrev none : ℕ → List ℕ
+abbrev pub none : ℕ → List ℕ
 none n = []
 
 dollar_name : (x : List ℕ) → Opens none (sign kinds.Dollar ∷ name x ∷ []) 0
 dollar_name x now most rest = ap (λ m. most_open now m rest) (omega arith)
 
 mutual
-  type_opens : (t : TypeText) → Opens none (type_words t) (type_open t)
+  pub type_opens : (t : TypeText) → Opens none (type_words t) (type_open t)
   type_opens (only_meet m) = meet_opens m
   type_opens (arrow m t) = join_opens none (meet_words m) (type_words t) (sign kinds.To) (meet_open m) (type_open t) (λ n. refl) (meet_opens m) (type_opens t)
 
@@ -186,7 +186,7 @@ mutual
   atom_opens (variable x) = dollar_name x
   atom_opens (inside t) = enclose_opens none (type_words t) (type_open t) (type_opens t)
 
-text_open : (t : TypeText) → most_open 0 0 (type_words t) ≡ type_open t
+pub text_open : (t : TypeText) → most_open 0 0 (type_words t) ≡ type_open t
 text_open t = ap (most_open 0 0) (sym (append-nil (type_words t))) ∙ (type_opens t 0 0 [] ∙ omega arith)
 
 -- each name in the words is one of these
@@ -201,13 +201,13 @@ module _ (Q : List ℕ → Type 0) where
   AllGood [] = Unit {0}
   AllGood (w ∷ ws) = GoodWord w × AllGood ws
 
-  parts : (xs ys : List Word) → AllGood (xs ++ ys) → AllGood xs × AllGood ys
+  pub parts : (xs ys : List Word) → AllGood (xs ++ ys) → AllGood xs × AllGood ys
   parts [] ys h = (tt, h)
   parts (x ∷ xs) ys h = let p = parts xs ys h.1 in ((h.0, p.0), p.1)
 
   -- and so are those of a type that they spell
   module _ (P : ℕ → Type 0) where
-    abbrev GoodNames : OpenType → Type 0
+    abbrev pub GoodNames : OpenType → Type 0
     GoodNames schemas.omega = Unit {0}
     GoodNames (schemas.constructor c s) = P c × GoodNames s
     GoodNames (schemas.product s t) = GoodNames s × GoodNames t
@@ -217,7 +217,7 @@ module _ (Q : List ℕ → Type 0) where
 
     module _ (c v : List ℕ → ℕ) (to : (x : List ℕ) → Q x → P (c x)) where
       mutual
-        type_good : (t : TypeText) → AllGood (type_words t) → GoodNames (type_schema c v t)
+        pub type_good : (t : TypeText) → AllGood (type_words t) → GoodNames (type_schema c v t)
         type_good (only_meet m) h = meet_good m h
         type_good (arrow m t) h = let p = parts (meet_words m) (sign kinds.To ∷ type_words t) h in (meet_good m p.0, type_good t p.1.1)
 
@@ -237,17 +237,17 @@ module _ (Q : List ℕ → Type 0) where
         atom_good (inside t) h = type_good t (parts (type_words t) (sign kinds.Close ∷ []) h.1).0
 
 module _ (known : List (List ℕ)) where
-  abbrev Held : List ℕ → Type 0
+  abbrev pub Held : List ℕ → Type 0
   Held x = list_any (bytes_eq x) known ≡ true
 
-  abbrev Below : ℕ → Type 0
+  abbrev pub Below : ℕ → Type 0
   Below n = n < length known
 
-  record IsGood (x : List ℕ) : Type 0 where
+  pub record IsGood (x : List ℕ) : Type 0 where
     held : Held x
     proper : IsProperName x
 
-  abbrev Proper : ℕ → Type 0
+  abbrev pub Proper : ℕ → Type 0
   Proper n = IsProperName (name_in known n)
 
   found_within : (table : List (List ℕ)) (x : List ℕ) → list_any (bytes_eq x) table ≡ true → (number_of table x < length table) × (get_or table (number_of table x) [] ≡ x)
@@ -262,32 +262,32 @@ module _ (known : List (List ℕ)) where
             (omega (arith, less), ap (λ n. get_or (y ∷ ys) n []) next ∙ r.1)
       ]) refl h
 
-  below_of : (x : List ℕ) → Held x → Below (number_of known x)
+  pub below_of : (x : List ℕ) → Held x → Below (number_of known x)
   below_of x h = (found_within known x h).0
 
-  proper_of : (x : List ℕ) → IsGood x → Proper (number_of known x)
+  pub proper_of : (x : List ℕ) → IsGood x → Proper (number_of known x)
   proper_of x g = subst (λ (y : List ℕ). IsProperName y) (sym (found_within known x g.held).1) g.proper
 
-  names_below : (t : ClosedType) → GoodNames Held Below (opened t) → HasNamesBelow (length known) t
+  pub names_below : (t : ClosedType) → GoodNames Held Below (opened t) → HasNamesBelow (length known) t
   names_below types.omega h = tt
   names_below (types.constructor c s) h = (h.0, names_below s h.1)
   names_below (types.product s t) h = (names_below s h.0, names_below t h.1)
   names_below (types.arrow s t) h = (names_below s h.0, names_below t h.1)
   names_below (types.meet s t) h = (names_below s h.0, names_below t h.1)
 
-  names_proper : (t : ClosedType) → GoodNames IsGood Proper (opened t) → HasProperNames (name_in known) t
+  pub names_proper : (t : ClosedType) → GoodNames IsGood Proper (opened t) → HasProperNames (name_in known) t
   names_proper types.omega h = tt
   names_proper (types.constructor c s) h = (h.0, names_proper s h.1)
   names_proper (types.product s t) h = (names_proper s h.0, names_proper t h.1)
   names_proper (types.arrow s t) h = (names_proper s h.0, names_proper t h.1)
   names_proper (types.meet s t) h = (names_proper s h.0, names_proper t h.1)
 
-  abbrev AllHeld : List (List ℕ) → Type 0
+  abbrev pub AllHeld : List (List ℕ) → Type 0
   AllHeld [] = Unit {0}
   AllHeld (x ∷ xs) = Held x × AllHeld xs
 
   -- words without a dollar whose names are held
-  all_held : (ws : List Word) → HasNoDollar ws → AllHeld (constructors_in false ws) → AllGood Held ws
+  pub all_held : (ws : List Word) → HasNoDollar ws → AllHeld (constructors_in false ws) → AllGood Held ws
   all_held [] d h = tt
   all_held (word.omega ∷ ws) d h = (tt, all_held ws d h)
   all_held (name x ∷ ws) d h = (h.0, all_held ws d h.1)
@@ -296,7 +296,7 @@ module _ (known : List (List ℕ)) where
       let q = or_parts (is_dollar (sign kind)) (list_any is_dollar ws) d in
       (tt, all_held ws q.1 (subst (λ (b : Bool). AllHeld (constructors_in b ws)) q.0 h))
 
-  all_good : (ws : List Word) → AllGood IsProperName ws → AllGood Held ws → AllGood IsGood ws
+  pub all_good : (ws : List Word) → AllGood IsProperName ws → AllGood Held ws → AllGood IsGood ws
   all_good [] p h = tt
   all_good (word.omega ∷ ws) p h = (tt, all_good ws p.1 h.1)
   all_good (name x ∷ ws) p h = (record { held = h.0; proper = p.0 }, all_good ws p.1 h.1)
@@ -323,7 +323,7 @@ stays_all : (texts xs : List (List ℕ)) (x : List ℕ) → list_any (bytes_eq x
 stays_all texts [] x h = h
 stays_all texts (y ∷ xs) x h = stays_all (with_text texts y) xs x (stays texts x y h)
 
-held_by : (texts xs ys : List (List ℕ)) → ys ≡ with_texts texts xs → AllHeld ys xs
+pub held_by : (texts xs ys : List (List ℕ)) → ys ≡ with_texts texts xs → AllHeld ys xs
 held_by texts [] ys e = tt
 held_by texts (x ∷ xs) ys e = (ap (list_any (bytes_eq x)) e ∙ stays_all (with_text texts x) xs x (comes_in texts x), held_by (with_text texts x) xs ys e)
 
@@ -362,7 +362,7 @@ tokens_proper : (line : List ℕ) (ts : List Located) → AllByRecursion (IsLong
 tokens_proper line [] h = tt
 tokens_proper line (t ∷ ts) h = (word_proper t.kind t.text h.0.is.spelled, tokens_proper line ts h.1)
 
-line_proper : (line : List ℕ) → AllGood IsProperName (words_of line)
+pub line_proper : (line : List ℕ) → AllGood IsProperName (words_of line)
 unfolding words_of
 line_proper line = tokens_proper line (tokens_of line) (tokens_longest line)
 
