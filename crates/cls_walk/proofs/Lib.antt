@@ -3,7 +3,6 @@ pub mod Building
 pub mod Capped
 pub mod Columns
 pub mod Counts
-pub mod Decodes
 pub mod Endings
 pub mod Filled
 pub mod Forms

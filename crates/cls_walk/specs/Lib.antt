@@ -1,6 +1,5 @@
 pub mod Attempts
 pub mod Counts
-pub mod Decodes
 pub mod Ends
 pub mod Filled
 pub mod Forms

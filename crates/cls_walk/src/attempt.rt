@@ -20,7 +20,6 @@ ghost use Rattle.cls_walk.specs.Walks.{IsBack, IsBehind, Lists};
 
 use crate::build::forms_of;
 use crate::cursor::{Cursor, passed};
-use crate::decode::decode;
 use crate::form::Forms;
 use crate::least::{least_sizes, number_of};
 use crate::numbers::plus;
@@ -34,7 +33,7 @@ use cls_base::limits::MAX_TERM_LENGTH;
 use cls_base::{Numbers, OutOfMemory};
 use cls_enum::Page;
 use cls_rulebook::RuleBook;
-use cls_term::{Term, Terms};
+use cls_term::{CodedTerms, NumberLists, Term};
 use std::alloc::Global;
 
 /// The upper bounds by size and node, for all sizes up to `last`.
@@ -135,7 +134,6 @@ fn cursor_at<'a>(after: Option<&Term>, from: u64, code: &'a [u32], size: u32) ->
 
 /// Lists the codes of the due terms of this size, and says whether to go on.
 fn walk_size(
-    alloc: Global,
     plan: &Plan,
     after: Option<&Term>,
     from: u64,
@@ -147,7 +145,7 @@ fn walk_size(
     requires short { size ≤ max_term_length }
     requires start { IsStart (cost_of plan.now.costs.now) (option_copied after) from code.now }
     requires resting { (walk.old.awaited.items ≡ []) × (walk.old.code.items ≡ []) }
-    requires few { length walk.old.codes.items ≤ plan.now.take }
+    requires few { length walk.old.codes ≤ plan.now.take }
     requires rising { EachRise plan.now.forms.now }
     ensures back { IfOk result (IsBack plan.now walk.old walk.new) }
     ensures listed { (book : List (List (Rule ℕ))) (last max : ℕ)
@@ -162,13 +160,12 @@ fn walk_size(
     if size < least {
         return Ok(true);
     }
-    Ok(each_form(alloc, plan, walk, 0, size - least, cursor)?)
+    Ok(each_form(plan, walk, 0, size - least, cursor)?)
 }
 
 /// Lists the codes of the due terms size after size, until the list is full or the last size is reached. Gives the
 /// size.
 fn walk_sizes(
-    alloc: Global,
     plan: &Plan,
     after: Option<&Term>,
     from: u64,
@@ -179,39 +176,37 @@ fn walk_sizes(
     requires some { 1 ≤ last }
     requires short { last ≤ max_term_length }
     requires start { IsStart (cost_of plan.now.costs.now) (option_copied after) from code.now }
-    requires resting { (walk.old.awaited.items ≡ []) × (walk.old.code.items ≡ []) × (walk.old.codes.items ≡ []) }
+    requires resting { (walk.old.awaited.items ≡ []) × (walk.old.code.items ≡ []) × (walk.old.codes ≡ []) }
     requires rising { EachRise plan.now.forms.now }
     ensures within { IfOk result (λ size. size ≤ last) }
-    ensures ends { IfOk result (λ size. (plan.now.take < length walk.new.codes.items) ⊎ (size ≡ last)) }
+    ensures ends { IfOk result (λ size. (plan.now.take < length walk.new.codes) ⊎ (size ≡ last)) }
     ensures listed { (book : List (List (Rule ℕ))) (max : ℕ)
         → let r = request plan.now.costs.now (option_copied after.entry) max plan.now.take in
         AreFormsUpTo book last plan.now.forms.now → last ≤ max
-        → IfOk result (λ size. AreDueCodes book r (size + 1) walk.new.codes.items) }
+        → IfOk result (λ size. AreDueCodes book r (size + 1) walk.new.codes) }
 {
     for size in 1..last {
-        if !walk_size(alloc, plan, after, from, code, size, walk)? {
+        if !walk_size(plan, after, from, code, size, walk)? {
             return Ok(size);
         }
     }
-    let _going = walk_size(alloc, plan, after, from, code, last, walk)?;
+    let _going = walk_size(plan, after, from, code, last, walk)?;
     Ok(last)
 }
 
 /// The page of the first `wanted` of the terms with these codes.
-fn page_of(alloc: Global, codes: &[Numbers], wanted: u32) -> Result<Page, OutOfMemory>
-    requires { (es : List Applicative) × (codes.now ≡ map code_of es) }
-    ensures terms { IfOk result (λ p. (es : List Applicative) → codes.now ≡ map code_of es → p.terms ≡ take wanted es) }
-    ensures more { IfOk result (λ p. p.more ≡ nat_lt wanted (length codes.now)) }
+fn page_of(codes: NumberLists, wanted: u32) -> Page
+    requires { (es : List Applicative) × (codes ≡ map code_of es) }
+    ensures terms { (es : List Applicative) → codes ≡ map code_of es → result.terms ≡ take wanted es }
+    ensures more { result.more ≡ nat_lt wanted (length codes) }
 {
-    let count = codes.len().min(wanted as usize);
-    let mut terms = Vec::with_capacity(alloc, count)?;
-    for code in &codes[..count] {
-        terms.push(decode(alloc, code.as_slice())?)?;
+    let more = codes.len() > wanted as usize;
+    let mut listed = codes;
+    listed.truncate(wanted as usize);
+    Page {
+        terms: CodedTerms::from_lists(listed),
+        more,
     }
-    Ok(Page {
-        terms: Terms::from_vec(terms),
-        more: codes.len() > wanted as usize,
-    })
 }
 
 /// The code of the cursor, and no number where there is none.
@@ -263,10 +258,10 @@ pub(crate) fn walk_page<B: RuleBook>(
     };
     let code = code_of_cursor(alloc, after)?;
     let mut walk = Walk::new(alloc);
-    let size = walk_sizes(alloc, &plan, after, from, code.as_slice(), last, &mut walk)?;
+    let size = walk_sizes(&plan, after, from, code.as_slice(), last, &mut walk)?;
     let is_known = walk.codes.len() > take as usize || size == max_size;
     if !is_known || !is_within(&counted.table, size, width, pool) {
         return Ok(None);
     }
-    Ok(Some(page_of(alloc, walk.codes.as_slice(), take)?))
+    Ok(Some(page_of(walk.codes, take)))
 }

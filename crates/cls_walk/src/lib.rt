@@ -11,7 +11,6 @@ mod attempt;
 mod bounds;
 mod build;
 mod cursor;
-mod decode;
 mod ends;
 mod form;
 pub mod laws;

@@ -2,10 +2,10 @@
 ghost use Rattle.std.specs.Prelude.{◌≡◌, ℕ, ◌++◌, IfOk, List, length};
 ghost use Rattle.cls_base.specs.Spines.{codes_of};
 ghost use Rattle.cls_base.specs.Terms.{Applicative, code_of};
-ghost use Rattle.cls_walk.specs.Decodes.{BeginsWithTerm, BeginsWithTerms};
+ghost use Rattle.cls_term.specs.Decodes.{BeginsWithTerm, BeginsWithTerms};
 
+use crate::{Term, Terms};
 use cls_base::OutOfMemory;
-use cls_term::{Term, Terms};
 use std::alloc::Global;
 
 /// The term with whose code the numbers begin, and the numbers behind it.

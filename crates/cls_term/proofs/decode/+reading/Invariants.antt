@@ -1,7 +1,7 @@
 use Rattle.std.proofs.Common.{◌≡◌, ◌+◌, ◌*◌, ◌-◌, ◌++◌, ◌≤◌, length}
 use Rattle.cls_base.specs.Spines.{codes_of}
-use Rattle.cls_walk.specs.Decodes.{BeginsWithTerms}
-use Rattle.cls_walk.proofs.decode.+reading.Given as goal
+use Rattle.cls_term.specs.Decodes.{BeginsWithTerms}
+use Rattle.cls_term.proofs.decode.+reading.Given as goal
 
 abbrev pub decreases-read_term : goal.decreases-read_term
 decreases-read_term l = 2 * length l.code.now

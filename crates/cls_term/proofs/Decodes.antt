@@ -1,12 +1,11 @@
 -- Steps of reading a term from its code.
-use Rattle.std.proofs.Common.{◌≡◌, ℕ, zero, suc, ◌+◌, ◌-◌, ◌<◌, ◌≤◌, List, [], ◌∷◌, ◌++◌, length, length-append, map, take, drop, get_or, refl, sym, ap, ◌∙◌, subst, arith, append-nil, append_assoc}
+use Rattle.std.proofs.Common.{◌≡◌, ℕ, zero, suc, ◌+◌, ◌-◌, ◌<◌, ◌≤◌, List, [], ◌∷◌, ◌++◌, length, length-append, take, drop, refl, sym, ap, ◌∙◌, subst, arith, append-nil, append_assoc}
 use Rattle.std.specs.Prelude.{slice_index_or}
 use Rattle.cls_base.specs.Terms.{Applicative, component, code_of}
 use Rattle.cls_base.specs.Spines.{spine, codes_of}
-use Rattle.cls_term.proofs.Codes.{IsCodes-code_of, codes_cancel, code_of-no_prefix, code_of-one_to_one}
+use Rattle.cls_term.proofs.Codes.{IsCodes-code_of, codes_cancel, code_of-no_prefix}
 use Rattle.cls_term.proofs.Spines.{code_of-spine, each_term_is_a_spine, codes_of-append}
-use Rattle.cls_enum.proofs.Members.{take-whole}
-use Rattle.cls_walk.specs.Decodes.{BeginsWithTerm, BeginsWithTerms}
+use Rattle.cls_term.specs.Decodes.{BeginsWithTerm, BeginsWithTerms}
 
 -- a term's code is a component, a number, and the codes of as many arguments
 pub parts : (code : List ℕ) → BeginsWithTerm code → (x k : ℕ) × (tail : List ℕ) × (code ≡ x ∷ k ∷ tail) × BeginsWithTerms k tail
@@ -42,16 +41,22 @@ alone code rest e t p q =
     let n = code_of-no_prefix t e rest (sym q ∙ sym p) in
     sym (append-nil (code_of t)) ∙ ap (λ (w : List ℕ). code_of t ++ w) (sym n) ∙ sym q
 
+take-whole : (n : ℕ) (xs : List ℕ) → length xs ≤ n → take n xs ≡ xs
+take-whole zero [] l = refl
+take-whole zero (x ∷ xs) l = absurd (omega arith)
+take-whole (suc n) [] l = refl
+take-whole (suc n) (x ∷ xs) l = ap (λ (ys : List ℕ). x ∷ ys) (take-whole n xs (omega arith))
+
 -- a slice of a code, behind its first two numbers
-tail-of : (code tail : List ℕ) (x k : ℕ) → code ≡ x ∷ k ∷ tail → take (length code - 2) (drop 2 code) ≡ tail
+pub tail-of : (code tail : List ℕ) (x k : ℕ) → code ≡ x ∷ k ∷ tail → take (length code - 2) (drop 2 code) ≡ tail
 tail-of code tail x k p =
     let P : List ℕ → Type 0 = λ w. take (length w - 2) (drop 2 w) ≡ tail in
     subst P (sym p) (take-whole (length (x ∷ k ∷ tail) - 2) tail (omega arith))
 
-second-of : (code tail : List ℕ) (x k : ℕ) → code ≡ x ∷ k ∷ tail → slice_index_or code 1 0 ≡ k
+pub second-of : (code tail : List ℕ) (x k : ℕ) → code ≡ x ∷ k ∷ tail → slice_index_or code 1 0 ≡ k
 second-of code tail x k p = ap (λ (w : List ℕ). slice_index_or w 1 0) p
 
-first-of : (code tail : List ℕ) (x k : ℕ) → code ≡ x ∷ k ∷ tail → slice_index_or code 0 0 ≡ x
+pub first-of : (code tail : List ℕ) (x k : ℕ) → code ≡ x ∷ k ∷ tail → slice_index_or code 0 0 ≡ x
 first-of code tail x k p = ap (λ (w : List ℕ). slice_index_or w 0 0) p
 
 pub tail-begins : (code : List ℕ) → BeginsWithTerm code → BeginsWithTerms (slice_index_or code 1 0) (take (length code - 2) (drop 2 code))
@@ -87,34 +92,3 @@ fewer-terms m k code after t p h c =
 
 pub after-shorter : (code after : List ℕ) (t : Applicative) → code ≡ code_of t ++ after → length after ≤ length code
 after-shorter code after t p = let a = ap (λ (w : List ℕ). length w) p in omega (arith, a, length-append (code_of t) after)
-
--- the codes of a list of terms, one by one
-in-order : (es : List Applicative) (i : ℕ) (w : List ℕ) → i < length es → w ≡ get_or (map code_of es) i w → (e : Applicative) × (code_of e ≡ w) × (take (i + 1) es ≡ take i es ++ e ∷ [])
-in-order [] i w l p = absurd (omega arith)
-in-order (e ∷ es) zero w l p = (e, sym p, refl)
-in-order (e ∷ es) (suc i) w l p =
-    let r = in-order es i w (omega arith) p in
-    let k : suc i + 1 ≡ suc (i + 1) = omega arith in
-    (r.0, r.1, ap (λ (j : ℕ). take j (e ∷ es)) k ∙ ap (λ (xs : List Applicative). e ∷ xs) r.2)
-
-pub code-at : (es : List Applicative) (codes : List (List ℕ)) (i : ℕ) (w : List ℕ) → codes ≡ map code_of es → i < length codes → w ≡ get_or codes i w → (e : Applicative) × (code_of e ≡ w) × (take (i + 1) es ≡ take i es ++ e ∷ [])
-code-at es codes i w p l q =
-    let a : length codes ≡ length es = ap (λ (ws : List (List ℕ)). length ws) p ∙ same-long es in
-    in-order es i w (omega (arith, a, l)) (q ∙ ap (λ (ws : List (List ℕ)). get_or ws i w) p)
-  where
-    same-long : (es : List Applicative) → length (map code_of es) ≡ length es
-    same-long [] = refl
-    same-long (e ∷ es) = ap suc (same-long es)
-
-pub page-next : (es : List Applicative) (codes : List (List ℕ)) (i : ℕ) (w : List ℕ) (t : Applicative) (old new : List Applicative) → codes ≡ map code_of es → i < length codes → w ≡ get_or codes i w → code_of t ≡ w → old ≡ take i es → new ≡ old ++ t ∷ [] → new ≡ take (i + 1) es
-page-next es codes i w t old new p l q c o n =
-    let r = code-at es codes i w p l q in
-    let e : t ≡ r.0 = code_of-one_to_one t r.0 (c ∙ sym r.1) in
-    n ∙ (λ j. o j ++ e j ∷ []) ∙ sym r.2
-
--- an item of a front of a list
-pub front-item : (m i : ℕ) (xs : List (List ℕ)) (w : List ℕ) → i < length (take m xs) → w ≡ get_or (take m xs) i w → (i < length xs) × (w ≡ get_or xs i w)
-front-item zero i xs w l p = absurd (omega arith)
-front-item (suc m) i [] w l p = absurd (omega arith)
-front-item (suc m) zero (x ∷ xs) w l p = (omega arith, p)
-front-item (suc m) (suc i) (x ∷ xs) w l p = let r = front-item m i xs w (omega arith) p in (omega (arith, r.0), r.1)

@@ -1,8 +1,8 @@
 use Rattle.std.proofs.Common.{◌≡◌, ◌++◌, ◌∷◌, [], List, ap, arith, length, length-append, subst, sym, ◌+◌, ◌-◌}
 use Rattle.cls_base.specs.Spines.{codes_of}
 use Rattle.cls_base.specs.Terms.{Applicative}
-use Rattle.cls_walk.proofs.Decodes.{after-shorter, fewer-terms, some-term, tail-begins, tail-long, term-of, terms_push}
-use Rattle.cls_walk.proofs.decode.+reading.Goals as goal
+use Rattle.cls_term.proofs.Decodes.{after-shorter, fewer-terms, some-term, tail-begins, tail-long, term-of, terms_push}
+use Rattle.cls_term.proofs.decode.+reading.Goals as goal
 
 pub read_term-read_terms-requires : goal.read_term-read_terms-requires
 read_term-read_terms-requires t c = (omega (arith, c.decreases, tail-long c.args.code.now c.requires), tail-begins c.args.code.now c.requires)
