@@ -1,3 +1,4 @@
+pub mod Alone
 pub mod Attempts
 pub mod Building
 pub mod Capped

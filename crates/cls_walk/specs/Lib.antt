@@ -1,4 +1,5 @@
 pub mod Attempts
+pub mod Bounds
 pub mod Counts
 pub mod Ends
 pub mod Filled

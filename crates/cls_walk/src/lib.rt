@@ -10,6 +10,7 @@
 mod attempt;
 mod bounds;
 mod build;
+mod counted;
 mod cursor;
 mod ends;
 mod form;
@@ -24,6 +25,7 @@ mod refusal;
 mod run;
 mod stage;
 mod table;
+mod totals;
 mod upper;
 mod walk;
 mod ways;
