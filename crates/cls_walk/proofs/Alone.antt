@@ -1,5 +1,5 @@
 -- The ways in which a term of one node alone comes to a rest.
-use Rattle.std.proofs.Common.{◌≡◌, ℕ, ◌+◌, ◌-◌, ◌^◌, ◌<◌, ◌≤◌, min, List, [], ◌∷◌, ◌++◌, length, sym, ap, ◌∙◌, subst, arith}
+use Rattle.std.proofs.Common.{◌≡◌, ℕ, ◌-◌, ◌^◌, ◌<◌, ◌≤◌, min, List, [], ◌∷◌, ◌++◌, length, sym, ap, ◌∙◌, subst, arith}
 use Rattle.cls_walk.specs.Counts.{ways}
 use Rattle.cls_walk.specs.Tables.{capped, AreWays}
 use Rattle.cls_walk.proofs.Capped.{AreWays-push, ways-one}

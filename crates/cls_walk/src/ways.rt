@@ -49,12 +49,7 @@ fn by_rest(
 }
 
 /// Where there are no others, the term itself has to come to the rest.
-fn alone(
-    alloc: Global,
-    table: &Table,
-    node: u32,
-    greatest: u32,
-) -> Result<Vec<u64>, OutOfMemory>
+fn alone(alloc: Global, table: &Table, node: u32, greatest: u32) -> Result<Vec<u64>, OutOfMemory>
     requires small { greatest < 2 ^ 31 }
     ensures ways { IfOk result (λ list. AreWays (number_at table.now) (node ∷ []) list.items) }
     ensures long { IfOk result (λ list. length list.items ≡ greatest + 1) }
