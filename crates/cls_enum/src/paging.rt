@@ -140,7 +140,7 @@ fn first_due(alloc: Global, bank: &Bank, due: &[u32], wanted: u32) -> Result<Pag
     ensures more { IfOk result (λ p. p.more ≡ nat_lt wanted (length due.now)) }
 {
     let listed = due.len().min(wanted as usize);
-    let terms = bank.terms(alloc, &due[..listed])?;
+    let terms = bank.coded_terms(alloc, &due[..listed])?;
     Ok(Page {
         terms,
         more: due.len() > wanted as usize,

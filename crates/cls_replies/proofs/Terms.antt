@@ -1,6 +1,7 @@
 -- The terms of a page, as their lines are made.
-use Rattle.std.proofs.Common.{◌≡◌, ℕ, ◌<◌, List, length, sym, subst, arith, get_or}
+use Rattle.std.proofs.Common.{◌≡◌, ℕ, zero, suc, ◌+◌, ◌<◌, List, [], ◌∷◌, ◌++◌, length, take, sym, subst, ap, ◌∙◌, append_assoc, append-nil, arith, get_or}
 use Rattle.std.specs.Prelude.{All, Bool}
+use Rattle.std.specs.List.{flat_map}
 use Rattle.std.proofs.lemmas.List.Elements.{Contains-get_or}
 use Rattle.cls_base.specs.Terms.{Applicative, component, apply, IsTermOver}
 use Rattle.cls_base.specs.Types.{ClosedType}
@@ -8,6 +9,7 @@ use Rattle.cls_base.specs.Typing.{by_instance, by_application, by_intersection, 
 use Rattle.cls_base.specs.Pages.{Request, IsPage}
 use Rattle.cls_library.specs.Libraries.{Library}
 use Rattle.cls_library.specs.Typing.{HasTypeIn}
+use Rattle.cls_term.specs.Banks.{at}
 use Rattle.cls_term.specs.Components.{greatest_of}
 
 -- the greatest component of a term is among the components
@@ -18,6 +20,22 @@ greatest_within n (apply f a) o = omega (arith, greatest_within n f o.0, greates
 -- the element at a place
 pub at_place : (P : Applicative → Type 0) (es : List Applicative) (i : ℕ) (e : Applicative) → All P es → i < length es → e ≡ get_or es i e → P e
 at_place P es i e all l is = subst P (sym is) (all i e l)
+
+-- the term at a place of a list whose terms all have the property
+pub at_index : (P : Applicative → Type 0) (es : List Applicative) (i : ℕ) → All P es → i < length es → P (at es i)
+at_index P es i all l = all i (component 0) l
+
+-- the lines of one term more
+pub lines-next : (f : Applicative → List ℕ) (es : List Applicative) (i : ℕ) → i < length es → flat_map f (take (i + 1) es) ≡ flat_map f (take i es) ++ f (at es i)
+lines-next f [] i l = absurd (omega arith)
+lines-next f (e ∷ es) zero l = append-nil (f e)
+lines-next f (e ∷ es) (suc i) l =
+    let k : suc i + 1 ≡ suc (i + 1) = omega arith in
+    ap (λ (j : ℕ). flat_map f (take j (e ∷ es))) k
+    ∙ ap (λ (w : List ℕ). f e ++ w) (lines-next f es i (omega arith))
+    ∙ sym (append_assoc (f e) (flat_map f (take i es)) (f (at es i)))
+
+pub ruleset lines = (at_index, lines-next)
 
 -- a term that has a type is one over the components
 pub over : (l : Library) (e : Applicative) (t : ClosedType) → HasTypeIn l e t → IsTermOver (length l.components) e

@@ -1,6 +1,7 @@
 //! Pages of terms.
-ghost use Rattle.std.specs.Prelude.{◌≡◌, ◌++◌, All, codes, decimal, length, IfOk, OnOk, string_bytes};
+ghost use Rattle.std.specs.Prelude.{◌≡◌, ◌++◌, ◌<◌, All, codes, decimal, length, IfOk, OnOk, string_bytes};
 ghost use Rattle.cls_base.specs.Terms.{IsTermOver};
+ghost use Rattle.cls_term.specs.Banks.{at};
 ghost use Rattle.cls_term.specs.Texts.{name_at};
 ghost use Rattle.cls_assemble.specs.Texts.{text_by};
 ghost use Rattle.cls_replies.specs.Texts.{reply_line, assembled_lines, term_line, term_lines, page_text};
@@ -9,11 +10,12 @@ use cls_assemble::{Templates, TextFault, text_of};
 use cls_base::OutOfMemory;
 use cls_enum::Page;
 use cls_lexer::Names;
-use cls_term::Term;
+use cls_term::{CodedTerms, Term};
 use itoa::Buffer;
 use std::alloc::Global;
 
 /// A line for each term, and a last one that says whether more terms follow.
+#[tactic(auto, using(crate::proofs::Terms::lines))]
 pub(crate) fn print_terms(
     alloc: Global,
     page: &Page,
@@ -24,14 +26,15 @@ pub(crate) fn print_terms(
         ≡ page_text (term_line (name_at components.now)) page.now.terms page.now.more) }
 {
     let mut text = String::new(alloc);
-    for term in page.terms.as_slice() {
-        write_term(alloc, term, components, &mut text)?;
+    for place in 0..page.terms.len() {
+        write_term(&page.terms, place, components, &mut text)?;
     }
     text.push_str(if page.more { "more\n" } else { "done\n" })?;
     Ok(text)
 }
 
 /// The same, with the text of each term by the templates behind its line.
+#[tactic(auto, using(crate::proofs::Terms::lines))]
 pub(crate) fn print_texts(
     alloc: Global,
     page: &Page,
@@ -44,27 +47,28 @@ pub(crate) fn print_texts(
         ≡ page_text (term_lines (name_at components.now) templates.now) page.now.terms page.now.more) }
 {
     let mut text = String::new(alloc);
-    for term in page.terms.as_slice() {
-        write_term(alloc, term, components, &mut text)?;
-        write_assembled(alloc, term, templates, &mut text)?;
+    for place in 0..page.terms.len() {
+        write_term(&page.terms, place, components, &mut text)?;
+        let term = page.terms.term(alloc, place)?;
+        write_assembled(alloc, &term, templates, &mut text)?;
     }
     text.push_str(if page.more { "more\n" } else { "done\n" })?;
     Ok(text)
 }
 
-/// Writes the line of the term at the end.
+/// Writes the line of the term at a place at the end.
 fn write_term(
-    alloc: Global,
-    term: &Term,
+    terms: &CodedTerms,
+    place: usize,
     components: &Names,
     text: &mut String,
 ) -> Result<(), OutOfMemory>
-    requires { IsTermOver (length components.now) term.now }
+    requires { place < length terms.now }
     ensures { OnOk result (string_bytes text.new
-        ≡ string_bytes text.old ++ term_line (name_at components.now) term.now) }
+        ≡ string_bytes text.old ++ term_line (name_at components.now) (at terms.now place)) }
 {
     text.push_str("term ")?;
-    text.push_str(term.print(alloc, components)?.as_str())?;
+    terms.write_to(place, components, text)?;
     text.push('\n')?;
     Ok(())
 }

@@ -115,7 +115,7 @@ module _ (Due : Applicative → Type 0) (cost : ℕ → ℕ) (positive : (x : �
   }
 
   -- one size more
-  pub front-next : (size : ℕ) (es : List Applicative) (old new : Walk) (going : Bool) → old.code.items ≡ [] → old.codes.items ≡ map code_of es → IsDueFront Due cost size ⊥ es → Lists (IsDueCode Due cost size) old new going → (fs : List Applicative) × (new.codes.items ≡ map code_of fs) × IsDueFront Due cost (size + 1) (going ≡ false) fs
+  pub front-next : (size : ℕ) (es : List Applicative) (old new : Walk) (going : Bool) → old.code.items ≡ [] → old.codes ≡ map code_of es → IsDueFront Due cost size ⊥ es → Lists (IsDueCode Due cost size) old new going → (fs : List Applicative) × (new.codes ≡ map code_of fs) × IsDueFront Due cost (size + 1) (going ≡ false) fs
   front-next size es old new going code codes front h =
       let ws = h.0 in
       let f = h.1 in
@@ -148,11 +148,11 @@ same-long [] = refl
 same-long (e ∷ es) = ap suc (same-long es)
 
 -- one size more, where the list is full or this size is the last
-pub due-codes : (book : List (List (Rule ℕ))) (r : Request) → ((x : ℕ) → 1 ≤ r.cost x) → (size : ℕ) (es : List Applicative) (old new : Walk) (going : Bool) → old.code.items ≡ [] → old.codes.items ≡ map code_of es → IsDueFront (IsDue (IsGenerated book 0) r) r.cost size ⊥ es → Lists (IsDueCode (IsDue (IsGenerated book 0) r) r.cost size) old new going → (going ≡ false → r.take < length new.codes.items) → AreDueCodes book r (size + 1) new.codes.items
+pub due-codes : (book : List (List (Rule ℕ))) (r : Request) → ((x : ℕ) → 1 ≤ r.cost x) → (size : ℕ) (es : List Applicative) (old new : Walk) (going : Bool) → old.code.items ≡ [] → old.codes ≡ map code_of es → IsDueFront (IsDue (IsGenerated book 0) r) r.cost size ⊥ es → Lists (IsDueCode (IsDue (IsGenerated book 0) r) r.cost size) old new going → (going ≡ false → r.take < length new.codes) → AreDueCodes book r (size + 1) new.codes
 due-codes book r positive size es old new going code codes front l full =
     let Due : Applicative → Type 0 = IsDue (IsGenerated book 0) r in
     let n = front-next Due r.cost positive size es old new going code codes front l in
-    let a : length new.codes.items ≡ length n.0 = ap (λ (ws : List (List ℕ)). length ws) n.1 ∙ same-long n.0 in
+    let a : length new.codes ≡ length n.0 = ap (λ (ws : List (List ℕ)). length ws) n.1 ∙ same-long n.0 in
     (n.0, n.1, front-full Due r.cost positive (size + 1) r.take n.0 going (λ f. let z = full f in omega (arith, a, z)) n.2)
 
 -- sums of numbers that are capped

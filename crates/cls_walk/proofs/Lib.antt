@@ -1,9 +1,9 @@
+pub mod Alone
 pub mod Attempts
 pub mod Building
 pub mod Capped
 pub mod Columns
 pub mod Counts
-pub mod Decodes
 pub mod Endings
 pub mod Filled
 pub mod Forms

@@ -1,6 +1,7 @@
 -- Steps of deciding by the bounds alone that there are too many terms.
-use Rattle.std.proofs.Common.{◌≡◌, ℕ, ◌+◌, ◌-◌, ◌^◌, ◌<◌, ◌≤◌, min, List, length, refl, sym, ap, ◌∙◌, arith, add-one, true}
+use Rattle.std.proofs.Common.{◌≡◌, ℕ, zero, suc, ◌+◌, ◌-◌, ◌^◌, ◌<◌, ◌≤◌, min, List, length, refl, sym, ap, ◌∙◌, inl, inr, arith, add-one, true}
 use Rattle.std.specs.Prelude.{nat_eq, nat_le, if◌then◌else◌}
+use Rattle.std.proofs.lemmas.Bool.{cases_lt}
 use Rattle.std.proofs.lemmas.Bool.Decides.{nat_tests}
 use Rattle.cls_base.specs.declared.rule.Rule.{Rule}
 use Rattle.cls_base.specs.Languages.{rules_at}
@@ -43,11 +44,19 @@ module _ (book : List (List (Rule ℕ))) (cost : ℕ → ℕ) (s : ℕ) where
       let e : x ≡ capped (f s) = q ∙ capped-total width (λ n. number_at table s n) (λ n. lo_below book cost (s + 1) s n) (λ n l. ap capped (h.1 s n) ∙ capped-twice (lo_below book cost (s + 1) s n)) in
       total-step s made new f (p ∙ ap capped (sym (made-before width))) (r ∙ ap (λ (k : ℕ). capped (made + k)) e)
 
-  pub due-step : (from due x new : ℕ) (table : List (List ℕ)) → Holds (up_below book cost (s + 1)) (s + 1) table → due ≡ capped (total_due (up_below book cost s) from s) → x ≡ (if nat_le from s then number_at table s 0 else 0) → new ≡ capped (due + x) → new ≡ capped (total_due (up_below book cost (s + 1)) from (s + 1))
+  pub due-step : (from due x new : ℕ) (table : List (List ℕ)) → number_at table s 0 ≡ capped (up_below book cost (s + 1) s 0) → due ≡ capped (total_due (up_below book cost s) from s) → x ≡ (if nat_le from s then number_at table s 0 else 0) → new ≡ capped (due + x) → new ≡ capped (total_due (up_below book cost (s + 1)) from (s + 1))
   due-step from due x new table h p q r =
       let f : ℕ → ℕ = λ t. if nat_le from t then up_below book cost (s + 1) t 0 else 0 in
-      let e : x ≡ capped (f s) = q ∙ chosen_both (λ (a b : ℕ). a ≡ capped b) (nat_le from s) (number_at table s 0) 0 (up_below book cost (s + 1) s 0) 0 (λ z. h.1 s 0) (λ z. omega arith) in
+      let e : x ≡ capped (f s) = q ∙ chosen_both (λ (a b : ℕ). a ≡ capped b) (nat_le from s) (number_at table s 0) 0 (up_below book cost (s + 1) s 0) 0 (λ z. h) (λ z. omega arith) in
       total-step s due new f (p ∙ ap capped (sym (due-before from))) (r ∙ ap (λ (k : ℕ). capped (due + k)) e)
+
+-- more sizes change nothing below them
+pub up-known : (book : List (List (Rule ℕ))) (cost : ℕ → ℕ) (k s n : ℕ) → s < k → up_below book cost k s n ≡ up_below book cost (s + 1) s n
+up-known book cost zero s n l = absurd (omega arith)
+up-known book cost (suc j) s n l = elim (cases_lt s j) [
+  | inl m ↦ before j s n (λ i. all_ways (up_below book cost j) cost j (rules_at book i)) (up_below book cost j) m ∙ up-known book cost j s n m
+  | inr m ↦ let e : suc j ≡ s + 1 = omega arith in ap (λ (k : ℕ). up_below book cost k s n) e
+]
 
 few-of : (m due total take : ℕ) → due ≡ min total m → due ≤ take → take < m → total ≤ take
 few-of m due total take p l k = omega arith

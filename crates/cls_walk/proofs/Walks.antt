@@ -31,13 +31,13 @@ front-going P ws h = record {
 }
 
 pub lists-none : (P : List ℕ → Type 0) (w : Walk) → ((v : List ℕ) → P v → ⊥) → Lists P w w true
-lists-none P w n = ([], front-none P (true ≡ false) n, sym (append-nil w.codes.items))
+lists-none P w n = ([], front-none P (true ≡ false) n, sym (append-nil w.codes))
 
 pub lists-same : (P Q : List ℕ → Type 0) (old new : Walk) (going : Bool) → ((v : List ℕ) → P v ↔ Q v) → Lists P old new going → Lists Q old new going
 lists-same P Q old new going s h = (h.0, front-same P Q (going ≡ false) h.0 s h.1, h.2)
 
 -- the same between walks that have the same code so far and the same codes
-pub lists-moved : (P : List ℕ → Type 0) (a b c d : Walk) (going : Bool) → c.code.items ≡ a.code.items → c.codes.items ≡ a.codes.items → d.codes.items ≡ b.codes.items → Lists P a b going → Lists P c d going
+pub lists-moved : (P : List ℕ → Type 0) (a b c d : Walk) (going : Bool) → c.code.items ≡ a.code.items → c.codes ≡ a.codes → d.codes ≡ b.codes → Lists P a b going → Lists P c d going
 lists-moved P a b c d going p q r h = (h.0, h.1, r ∙ h.2 ∙ (λ i. sym q i ++ map (λ w. sym p i ++ w) h.0))
 
 -- some, and then those that come after them
@@ -47,8 +47,8 @@ lists-more P Q a b c going e p h k = (
   front-append P Q (going ≡ false) h.0 k.0 e (front-going P h.0 h.1) k.1,
   k.2
       ∙ (λ i. h.2 i ++ map (λ w. p i ++ w) k.0)
-      ∙ append_assoc a.codes.items (map (λ w. a.code.items ++ w) h.0) (map (λ w. a.code.items ++ w) k.0)
-      ∙ ap (λ (ws : List (List ℕ)). a.codes.items ++ ws) (sym (map-append (λ w. a.code.items ++ w) h.0 k.0)),
+      ∙ append_assoc a.codes (map (λ w. a.code.items ++ w) h.0) (map (λ w. a.code.items ++ w) k.0)
+      ∙ ap (λ (ws : List (List ℕ)). a.codes ++ ws) (sym (map-append (λ w. a.code.items ++ w) h.0 k.0)),
 )
 
 -- some, and the list is full
@@ -56,11 +56,11 @@ lists-full : (P Q : List ℕ → Type 0) (a b : Walk) → ((v w : List ℕ) → 
 lists-full P Q a b e h = (h.0, front-full P Q (false ≡ false) h.0 e refl h.1, h.2)
 
 -- behind a component and a number
-lists-behind : (x k : ℕ) (P : List ℕ → Type 0) (old new in_old in_new : Walk) (going : Bool) → in_old.code.items ≡ old.code.items ++ x ∷ k ∷ [] → in_old.codes.items ≡ old.codes.items → new.codes.items ≡ in_new.codes.items → Lists P in_old in_new going → Lists (λ w. (v : List ℕ) × (w ≡ x ∷ k ∷ v) × P v) old new going
+lists-behind : (x k : ℕ) (P : List ℕ → Type 0) (old new in_old in_new : Walk) (going : Bool) → in_old.code.items ≡ old.code.items ++ x ∷ k ∷ [] → in_old.codes ≡ old.codes → new.codes ≡ in_new.codes → Lists P in_old in_new going → Lists (λ w. (v : List ℕ) × (w ≡ x ∷ k ∷ v) × P v) old new going
 lists-behind x k P old new in_old in_new going c o n h = (
   map (λ v. x ∷ k ∷ v) h.0,
   front-behind x k P (going ≡ false) h.0 h.1,
-  n ∙ h.2 ∙ (λ i. o i ++ map (λ w. c i ++ w) h.0) ∙ ap (λ (ws : List (List ℕ)). old.codes.items ++ ws) (moved h.0),
+  n ∙ h.2 ∙ (λ i. o i ++ map (λ w. c i ++ w) h.0) ∙ ap (λ (ws : List (List ℕ)). old.codes ++ ws) (moved h.0),
 )
   where
     moved : (ws : List (List ℕ)) → map (λ w. (old.code.items ++ x ∷ k ∷ []) ++ w) ws ≡ map (λ w. old.code.items ++ w) (map (λ v. x ∷ k ∷ v) ws)
@@ -151,7 +151,7 @@ module _ (plan : Plan) (ms : List ℕ) (size : ℕ) (cursor : Cursor) where
   -- behind the component and the number of a form
   pub lists-by : (h : HeadRule) (left : ℕ) (next : Cursor) (old new in_old in_new : Walk) (going : Bool)
       → size ≡ cost h.0 + left → ((v : List ℕ) → IsBehind cursor (h.0 ∷ length h.1 ∷ v) ↔ IsBehind next v)
-      → in_old.code.items ≡ old.code.items ++ h.0 ∷ length h.1 ∷ [] → in_old.codes.items ≡ old.codes.items → new.codes.items ≡ in_new.codes.items
+      → in_old.code.items ≡ old.code.items ++ h.0 ∷ length h.1 ∷ [] → in_old.codes ≡ old.codes → new.codes ≡ in_new.codes
       → Lists (IsWanted plan (h.1 ++ ms) left next) in_old in_new going → Lists (By h) old new going
   lists-by h left next old new in_old in_new going s b c o n l =
       let P : List ℕ → Type 0 = IsWanted plan (h.1 ++ ms) left next in
@@ -243,7 +243,7 @@ module _ (plan : Plan) (cursor : Cursor) (old new : Walk) (slack : ℕ) (going :
   Now = IsWanted plan [] slack cursor
 
   -- the code so far is listed
-  pub emit-one : slack ≡ 0 → cursor.passed ≡ true → new.codes.items ≡ old.codes.items ++ old.code.items ∷ [] → Lists Now old new going
+  pub emit-one : slack ≡ 0 → cursor.passed ≡ true → new.codes ≡ old.codes ++ old.code.items ∷ [] → Lists Now old new going
   emit-one s p c = (
     [] ∷ [],
     record {
@@ -254,11 +254,11 @@ module _ (plan : Plan) (cursor : Cursor) (old new : Walk) (slack : ℕ) (going :
       ];
       all = λ w q. inl (inl (sym (none-filled plan.forms.now w q.filled)));
     },
-    c ∙ ap (λ (w : List ℕ). old.codes.items ++ w ∷ []) (sym (append-nil old.code.items)),
+    c ∙ ap (λ (w : List ℕ). old.codes ++ w ∷ []) (sym (append-nil old.code.items)),
   )
 
   -- it isn't, where it doesn't come to the size or doesn't come after the cursor
-  pub emit-none : (slack ≢ 0) ⊎ (cursor.passed ≡ false) → new.codes.items ≡ old.codes.items → Lists Now old new going
+  pub emit-none : (slack ≢ 0) ⊎ (cursor.passed ≡ false) → new.codes ≡ old.codes → Lists Now old new going
   emit-none h c = (
     [],
     front-none Now (going ≡ false) (λ w q.
@@ -267,7 +267,7 @@ module _ (plan : Plan) (cursor : Cursor) (old new : Walk) (slack : ℕ) (going :
           | inl n ↦ n (sym q.sized ∙ ap (code_size (cost_of plan.costs.now)) e)
           | inr p ↦ (let P : List ℕ → Type 0 = λ u. Precedes cursor.code.now u in none-before cursor.code.now (subst P e (q.behind p)))
         ]),
-    c ∙ sym (append-nil old.codes.items),
+    c ∙ sym (append-nil old.codes),
   )
     where
       none-before : (xs : List ℕ) → Precedes xs [] → ⊥

@@ -22,7 +22,8 @@ module _ (book : List (List (Rule ℕ))) where
   -- the component, applied to terms of these nodes, is a term of the node
   pub data HasForm : ℕ → ℕ → List ℕ → Type 0 where
     headed : {n x : ℕ} {ns : List ℕ} → NodeRule book n (Head x ns) → HasForm n x ns
-    applied : {n l m x : ℕ} {ns ks : List ℕ} → NodeRule book n (Any l m) → HasForm l x ns → ks ≡ ns ++ m ∷ [] → HasForm n x ks
+    applied : {n l m x : ℕ} {ns ks : List ℕ}
+        → NodeRule book n (Any l m) → HasForm l x ns → ks ≡ ns ++ m ∷ [] → HasForm n x ks
 
   -- a term of each node in turn
   abbrev pub AreOf : List ℕ → List Applicative → Type 0

@@ -1,6 +1,6 @@
 pub mod Attempts
+pub mod Bounds
 pub mod Counts
-pub mod Decodes
 pub mod Ends
 pub mod Filled
 pub mod Forms

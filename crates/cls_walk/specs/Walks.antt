@@ -37,12 +37,12 @@ module _ (plan : Plan) where
   pub record IsBack (old new : Walk) (going : Bool) : Type 0 where
     pub awaited : new.awaited.items ≡ old.awaited.items
     pub code : new.code.items ≡ old.code.items
-    pub few : going ≡ true → length new.codes.items ≤ plan.take
-    pub full : going ≡ false → plan.take < length new.codes.items
+    pub few : going ≡ true → length new.codes ≤ plan.take
+    pub full : going ≡ false → plan.take < length new.codes
 
 -- It listed the codes with P in their order, each behind the code so far. If it isn't to go on, some of the last ones
 -- may be missing.
 abbrev pub Lists : (List ℕ → Type 0) → Walk → Walk → Bool → Type 0
 Lists P old new going =
     (ws : List (List ℕ)) × IsFront P (going ≡ false) ws
-    × (new.codes.items ≡ old.codes.items ++ map (λ w. old.code.items ++ w) ws)
+    × (new.codes ≡ old.codes ++ map (λ w. old.code.items ++ w) ws)

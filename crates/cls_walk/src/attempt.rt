@@ -11,102 +11,24 @@ ghost use Rattle.cls_term.specs.Costs.{cost_of};
 ghost use Rattle.cls_enum.specs.Requests.{request};
 ghost use Rattle.cls_enum.specs.States.{FitsPool};
 ghost use Rattle.cls_walk.specs.Attempts.{AreDueCodes, AreFormsUpTo, IsStart};
-ghost use Rattle.cls_walk.specs.Counts.{up_below};
+ghost use Rattle.cls_walk.specs.Bounds.{HasUpper};
 ghost use Rattle.cls_walk.specs.Filled.{EachRise};
 ghost use Rattle.cls_walk.specs.PageFronts.{IsDueCode};
-ghost use Rattle.cls_walk.specs.Tables.{capped, number_at, Holds};
-ghost use Rattle.cls_walk.specs.Totals.{total_held};
 ghost use Rattle.cls_walk.specs.Walks.{IsBack, IsBehind, Lists};
 
 use crate::build::forms_of;
+use crate::counted::{Counted, is_within};
 use crate::cursor::{Cursor, passed};
-use crate::decode::decode;
 use crate::form::Forms;
 use crate::least::{least_sizes, number_of};
-use crate::numbers::plus;
 use crate::plan::Plan;
-use crate::refusal::{column_total, due_of, size_of_cursor};
-use crate::stage::Stage;
-use crate::table::Table;
-use crate::upper::upper_column;
+use crate::totals::size_of_cursor;
 use crate::walk::{Walk, each_form};
-use cls_base::limits::MAX_TERM_LENGTH;
 use cls_base::{Numbers, OutOfMemory};
 use cls_enum::Page;
 use cls_rulebook::RuleBook;
-use cls_term::{Term, Terms};
+use cls_term::{CodedTerms, NumberLists, Term};
 use std::alloc::Global;
-
-/// The upper bounds by size and node, for all sizes up to `last`.
-#[derive(Drop)]
-struct Counted {
-    table: Table,
-    last: u32,
-}
-
-/// Adds the upper bounds for one more size.
-fn add_size<B: RuleBook>(
-    alloc: Global,
-    book: &B,
-    costs: &Numbers,
-    table: &mut Table,
-    size: u32,
-) -> Result<(), OutOfMemory>
-    requires small { size < 2 ^ 31 }
-    requires table { Holds (up_below (B.book book.now) (cost_of costs.now) size) size table.old }
-    ensures { OnOk result (Holds (up_below (B.book book.now) (cost_of costs.now) (size + 1)) (size + 1) table.new) }
-{
-    let column = upper_column(alloc, &Stage { table, costs, size }, book)?;
-    table.push(column)?;
-    Ok(())
-}
-
-/// The upper bounds up to the size at which more than `wanted` terms may be due, which are those from size `from` on,
-/// and no further than `last`.
-fn count<B: RuleBook>(
-    alloc: Global,
-    book: &B,
-    costs: &Numbers,
-    from: u64,
-    wanted: u64,
-    last: u32,
-) -> Result<Counted, OutOfMemory>
-    requires last { last ≤ max_term_length }
-    ensures within { IfOk result (λ counted. counted.last ≤ last) }
-    ensures table { IfOk result (λ counted.
-        Holds (up_below (B.book book.now) (cost_of costs.now) (counted.last + 1)) (counted.last + 1) counted.table) }
-{
-    let mut table = Table::new(alloc);
-    let mut due = 0;
-    for size in 0..last {
-        add_size(alloc, book, costs, &mut table, size)?;
-        due = plus(due, due_of(&table, size, from));
-        if due > wanted {
-            return Ok(Counted { table, last: size });
-        }
-    }
-    add_size(alloc, book, costs, &mut table, last)?;
-    Ok(Counted { table, last })
-}
-
-/// The upper bound of the number of pairs that are pooled at this size.
-fn held_at(table: &Table, size: u32, width: u32) -> u64
-    ensures { result ≡ capped (total_held (number_at table.now) width size) }
-{
-    let mut made = 0;
-    for smaller in 0..size {
-        made = plus(made, column_total(table, smaller, width));
-    }
-    plus(made, table.get(size, 0))
-}
-
-/// Whether the upper bound tells that no more pairs than `pool` are pooled at this size.
-fn is_within(table: &Table, size: u32, width: u32, pool: u64) -> bool
-    ensures { result ≡ true → (n : ℕ) → capped n ≡ capped (total_held (number_at table.now) width size) → n ≤ pool }
-{
-    let held = held_at(table, size, width);
-    held <= pool && held < u64::MAX
-}
 
 /// What is left of the cursor where codes of this size are written, None where terms of this size come before it.
 fn cursor_at<'a>(after: Option<&Term>, from: u64, code: &'a [u32], size: u32) -> Option<Cursor<'a>>
@@ -135,7 +57,6 @@ fn cursor_at<'a>(after: Option<&Term>, from: u64, code: &'a [u32], size: u32) ->
 
 /// Lists the codes of the due terms of this size, and says whether to go on.
 fn walk_size(
-    alloc: Global,
     plan: &Plan,
     after: Option<&Term>,
     from: u64,
@@ -147,7 +68,7 @@ fn walk_size(
     requires short { size ≤ max_term_length }
     requires start { IsStart (cost_of plan.now.costs.now) (option_copied after) from code.now }
     requires resting { (walk.old.awaited.items ≡ []) × (walk.old.code.items ≡ []) }
-    requires few { length walk.old.codes.items ≤ plan.now.take }
+    requires few { length walk.old.codes ≤ plan.now.take }
     requires rising { EachRise plan.now.forms.now }
     ensures back { IfOk result (IsBack plan.now walk.old walk.new) }
     ensures listed { (book : List (List (Rule ℕ))) (last max : ℕ)
@@ -162,13 +83,12 @@ fn walk_size(
     if size < least {
         return Ok(true);
     }
-    Ok(each_form(alloc, plan, walk, 0, size - least, cursor)?)
+    Ok(each_form(plan, walk, 0, size - least, cursor)?)
 }
 
 /// Lists the codes of the due terms size after size, until the list is full or the last size is reached. Gives the
 /// size.
 fn walk_sizes(
-    alloc: Global,
     plan: &Plan,
     after: Option<&Term>,
     from: u64,
@@ -179,39 +99,37 @@ fn walk_sizes(
     requires some { 1 ≤ last }
     requires short { last ≤ max_term_length }
     requires start { IsStart (cost_of plan.now.costs.now) (option_copied after) from code.now }
-    requires resting { (walk.old.awaited.items ≡ []) × (walk.old.code.items ≡ []) × (walk.old.codes.items ≡ []) }
+    requires resting { (walk.old.awaited.items ≡ []) × (walk.old.code.items ≡ []) × (walk.old.codes ≡ []) }
     requires rising { EachRise plan.now.forms.now }
     ensures within { IfOk result (λ size. size ≤ last) }
-    ensures ends { IfOk result (λ size. (plan.now.take < length walk.new.codes.items) ⊎ (size ≡ last)) }
+    ensures ends { IfOk result (λ size. (plan.now.take < length walk.new.codes) ⊎ (size ≡ last)) }
     ensures listed { (book : List (List (Rule ℕ))) (max : ℕ)
         → let r = request plan.now.costs.now (option_copied after.entry) max plan.now.take in
         AreFormsUpTo book last plan.now.forms.now → last ≤ max
-        → IfOk result (λ size. AreDueCodes book r (size + 1) walk.new.codes.items) }
+        → IfOk result (λ size. AreDueCodes book r (size + 1) walk.new.codes) }
 {
     for size in 1..last {
-        if !walk_size(alloc, plan, after, from, code, size, walk)? {
+        if !walk_size(plan, after, from, code, size, walk)? {
             return Ok(size);
         }
     }
-    let _going = walk_size(alloc, plan, after, from, code, last, walk)?;
+    let _going = walk_size(plan, after, from, code, last, walk)?;
     Ok(last)
 }
 
 /// The page of the first `wanted` of the terms with these codes.
-fn page_of(alloc: Global, codes: &[Numbers], wanted: u32) -> Result<Page, OutOfMemory>
-    requires { (es : List Applicative) × (codes.now ≡ map code_of es) }
-    ensures terms { IfOk result (λ p. (es : List Applicative) → codes.now ≡ map code_of es → p.terms ≡ take wanted es) }
-    ensures more { IfOk result (λ p. p.more ≡ nat_lt wanted (length codes.now)) }
+fn page_of(codes: NumberLists, wanted: u32) -> Page
+    requires { (es : List Applicative) × (codes ≡ map code_of es) }
+    ensures terms { (es : List Applicative) → codes ≡ map code_of es → result.terms ≡ take wanted es }
+    ensures more { result.more ≡ nat_lt wanted (length codes) }
 {
-    let count = codes.len().min(wanted as usize);
-    let mut terms = Vec::with_capacity(alloc, count)?;
-    for code in &codes[..count] {
-        terms.push(decode(alloc, code.as_slice())?)?;
+    let more = codes.len() > wanted as usize;
+    let mut listed = codes;
+    listed.truncate(wanted as usize);
+    Page {
+        terms: CodedTerms::from_lists(listed),
+        more,
     }
-    Ok(Page {
-        terms: Terms::from_vec(terms),
-        more: codes.len() > wanted as usize,
-    })
 }
 
 /// The code of the cursor, and no number where there is none.
@@ -224,7 +142,7 @@ fn code_of_cursor(alloc: Global, after: Option<&Term>) -> Result<Numbers, OutOfM
     }
 }
 
-/// The page, if it is found by the walk and the upper bounds tell that there are not too many terms.
+/// The page, if it is found by the walk and the upper bounds that are counted tell that there are not too many terms.
 pub(crate) fn walk_page<B: RuleBook>(
     alloc: Global,
     book: &B,
@@ -233,22 +151,22 @@ pub(crate) fn walk_page<B: RuleBook>(
     max_size: u32,
     take: u32,
     pool: u64,
+    counted: &Counted,
 ) -> Result<Option<Page>, OutOfMemory>
     requires max { max_size ≤ max_term_size }
     requires some { 1 ≤ take }
     requires costs { (x : ℕ) → 1 ≤ cost_of costs.now x }
     requires token { IfSome (option_copied after) (λ a. length_of a < 2 ^ 32) }
+    requires last { counted.now.last ≤ max_size }
+    requires short { counted.now.last ≤ max_term_length }
+    requires upper { HasUpper (B.book book.now) (cost_of costs.now) (counted.now.last + 1) counted.now.table }
     ensures page { let r = request costs.now (option_copied after.entry) max_size take in
         IfOk result (λ answer. IfSome answer (λ p. IsPage (IsGenerated (B.book book.now) 0) r p.terms p.more)) }
     ensures within { let r = request costs.now (option_copied after.entry) max_size take in
         IfOk result (λ answer. IfSome answer (λ _. FitsPool (B.book book.now) r pool)) }
 {
-    let from = size_of_cursor(costs, after);
-    let end = max_size.min(MAX_TERM_LENGTH as u32);
-    let counted = count(alloc, book, costs, from, u64::from(take) + 1, end)?;
     let last = counted.last;
-    let width = book.count();
-    if last == 0 || !is_within(&counted.table, last, width, pool) {
+    if last == 0 {
         return Ok(None);
     }
     let Some(forms) = forms_of(alloc, book, last)? else {
@@ -263,10 +181,11 @@ pub(crate) fn walk_page<B: RuleBook>(
     };
     let code = code_of_cursor(alloc, after)?;
     let mut walk = Walk::new(alloc);
-    let size = walk_sizes(alloc, &plan, after, from, code.as_slice(), last, &mut walk)?;
+    let from = size_of_cursor(costs, after);
+    let size = walk_sizes(&plan, after, from, code.as_slice(), last, &mut walk)?;
     let is_known = walk.codes.len() > take as usize || size == max_size;
-    if !is_known || !is_within(&counted.table, size, width, pool) {
+    if !is_known || !is_within(&counted.table, size, book.count(), pool) {
         return Ok(None);
     }
-    Ok(Some(page_of(alloc, walk.codes.as_slice(), take)?))
+    Ok(Some(page_of(walk.codes, take)))
 }

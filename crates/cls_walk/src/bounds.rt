@@ -1,8 +1,7 @@
 //! Bounds of the numbers of terms by size and node, by arithmetic over those of smaller terms.
 ghost use Rattle.std.specs.Prelude.{◌+◌, ◌<◌, ◌^◌, OnOk};
 ghost use Rattle.cls_term.specs.Costs.{cost_of};
-ghost use Rattle.cls_walk.specs.Counts.{up_below, lo_below};
-ghost use Rattle.cls_walk.specs.Tables.{Holds};
+ghost use Rattle.cls_walk.specs.Bounds.{HasLower, HasUpper};
 
 use crate::lower::lower_column;
 use crate::stage::Stage;
@@ -12,48 +11,36 @@ use cls_base::{Numbers, OutOfMemory};
 use cls_rulebook::RuleBook;
 use std::alloc::Global;
 
-/// The bounds of the numbers of terms by size and node, for the smaller sizes.
-#[derive(Drop)]
-pub(crate) struct Bounds {
-    pub(crate) up: Table,
-    pub(crate) lo: Table,
-}
-
-/// Adds the bounds for one more size.
-pub(crate) fn grow<B: RuleBook>(
+/// Adds the upper bounds for one more size.
+pub(crate) fn add_upper<B: RuleBook>(
     alloc: Global,
-    bounds: &mut Bounds,
     book: &B,
     costs: &Numbers,
+    table: &mut Table,
     size: u32,
 ) -> Result<(), OutOfMemory>
     requires small { size < 2 ^ 31 }
-    requires up { Holds (up_below (B.book book.now) (cost_of costs.now) size) size bounds.old.up }
-    requires lo { Holds (lo_below (B.book book.now) (cost_of costs.now) size) size bounds.old.lo }
-    ensures up { OnOk result
-        (Holds (up_below (B.book book.now) (cost_of costs.now) (size + 1)) (size + 1) bounds.new.up) }
-    ensures lo { OnOk result
-        (Holds (lo_below (B.book book.now) (cost_of costs.now) (size + 1)) (size + 1) bounds.new.lo) }
+    requires upper { HasUpper (B.book book.now) (cost_of costs.now) size table.old }
+    ensures { OnOk result (HasUpper (B.book book.now) (cost_of costs.now) (size + 1) table.new) }
 {
-    let up = upper_column(
-        alloc,
-        &Stage {
-            table: &bounds.up,
-            costs,
-            size,
-        },
-        book,
-    )?;
-    let lo = lower_column(
-        alloc,
-        &Stage {
-            table: &bounds.lo,
-            costs,
-            size,
-        },
-        book,
-    )?;
-    bounds.up.push(up)?;
-    bounds.lo.push(lo)?;
+    let column = upper_column(alloc, &Stage { table, costs, size }, book)?;
+    table.push(column)?;
+    Ok(())
+}
+
+/// Adds the lower bounds for one more size.
+pub(crate) fn add_lower<B: RuleBook>(
+    alloc: Global,
+    book: &B,
+    costs: &Numbers,
+    table: &mut Table,
+    size: u32,
+) -> Result<(), OutOfMemory>
+    requires small { size < 2 ^ 31 }
+    requires lower { HasLower (B.book book.now) (cost_of costs.now) size table.old }
+    ensures { OnOk result (HasLower (B.book book.now) (cost_of costs.now) (size + 1) table.new) }
+{
+    let column = lower_column(alloc, &Stage { table, costs, size }, book)?;
+    table.push(column)?;
     Ok(())
 }

@@ -10,8 +10,8 @@
 mod attempt;
 mod bounds;
 mod build;
+mod counted;
 mod cursor;
-mod decode;
 mod ends;
 mod form;
 pub mod laws;
@@ -25,6 +25,7 @@ mod refusal;
 mod run;
 mod stage;
 mod table;
+mod totals;
 mod upper;
 mod walk;
 mod ways;

@@ -9,10 +9,12 @@ ghost use Rattle.cls_enum.specs.Requests.{request};
 ghost use Rattle.cls_enum.specs.States.{ExceedsPool, FitsPool};
 
 use crate::attempt::walk_page;
+use crate::counted::{count, is_within};
 use crate::ends::last_size;
 use crate::order::is_ordered;
 use crate::refusal::is_refused;
 use cls_base::Numbers;
+use cls_base::limits::MAX_TERM_LENGTH;
 use cls_enum::{Page, PageFault};
 use cls_rulebook::RuleBook;
 use cls_term::Term;
@@ -46,11 +48,16 @@ pub fn page<B: RuleBook>(
         IfErr result (λ fault. IfTooMany fault (ExceedsPool (B.book book.now) r pool)) }
 {
     let last = last_size(book, costs, max_size);
-    if is_ordered(book) && is_refused(alloc, book, costs, after, last, take, pool)? {
+    let end = last.min(MAX_TERM_LENGTH as u32);
+    let mut counted = count(alloc, book, costs, after, take, pool, end)?;
+    if is_within(&counted.table, counted.last, book.count(), pool) {
+        if let Some(page) = walk_page(alloc, book, costs, after, last, take, pool, &counted)? {
+            return Ok(page);
+        }
+    } else if is_ordered(book)
+        && is_refused(alloc, book, costs, after, last, take, pool, &mut counted)?
+    {
         return Err(PageFault::TooManyTerms);
-    }
-    if let Some(page) = walk_page(alloc, book, costs, after, last, take, pool)? {
-        return Ok(page);
     }
     cls_enum::page(alloc, book, costs, after, last, take, pool)
 }

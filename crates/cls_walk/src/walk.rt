@@ -9,7 +9,8 @@ use crate::cursor::Cursor;
 use crate::form::Form;
 use crate::least::{left_behind, number_of};
 use crate::plan::Plan;
-use cls_base::{Numbers, OutOfMemory};
+use cls_base::OutOfMemory;
+use cls_term::NumberLists;
 use std::alloc::Global;
 
 /// The nodes of which terms are awaited, from the last to the next, the code so far, and the codes that are listed.
@@ -17,7 +18,7 @@ use std::alloc::Global;
 pub(crate) struct Walk {
     pub(crate) awaited: Vec<u32>,
     pub(crate) code: Vec<u32>,
-    pub(crate) codes: Vec<Numbers>,
+    pub(crate) codes: NumberLists,
 }
 
 impl Walk {
@@ -25,32 +26,25 @@ impl Walk {
     pub(crate) fn new(alloc: Global) -> Walk
         ensures awaited { result.awaited.items ≡ [] }
         ensures code { result.code.items ≡ [] }
-        ensures codes { result.codes.items ≡ [] }
+        ensures codes { result.codes ≡ [] }
     {
         Walk {
             awaited: Vec::new(alloc),
             code: Vec::new(alloc),
-            codes: Vec::new(alloc),
+            codes: NumberLists::new(alloc),
         }
     }
 }
 
 /// Lists the code so far, if nothing is left and it comes after the cursor. No node is awaited.
-fn emit(
-    alloc: Global,
-    plan: &Plan,
-    walk: &mut Walk,
-    slack: u32,
-    cursor: Cursor,
-) -> Result<bool, OutOfMemory>
+fn emit(plan: &Plan, walk: &mut Walk, slack: u32, cursor: Cursor) -> Result<bool, OutOfMemory>
     requires none { walk.old.awaited.items ≡ [] }
-    requires few { length walk.old.codes.items ≤ plan.now.take }
+    requires few { length walk.old.codes ≤ plan.now.take }
     ensures back { IfOk result (IsBack plan.now walk.old walk.new) }
     ensures listed { IfOk result (Lists (IsWanted plan.now [] slack cursor.entry) walk.old walk.new) }
 {
     if slack == 0 && cursor.passed {
-        let code = Vec::from_slice(alloc, walk.code.as_slice())?;
-        walk.codes.push(Numbers::new(code))?;
+        walk.codes.push(walk.code.as_slice())?;
     }
     Ok(walk.codes.len() <= plan.take as usize)
 }
@@ -58,24 +52,18 @@ fn emit(
 /// Lists the codes of terms of the awaited nodes that come to `slack` more than the least sizes of the nodes, and says
 /// whether to go on.
 #[cycle(descend)]
-fn go(
-    alloc: Global,
-    plan: &Plan,
-    walk: &mut Walk,
-    slack: u32,
-    cursor: Cursor,
-) -> Result<bool, OutOfMemory>
+fn go(plan: &Plan, walk: &mut Walk, slack: u32, cursor: Cursor) -> Result<bool, OutOfMemory>
     requires rising { EachRise plan.now.forms.now }
-    requires few { length walk.old.codes.items ≤ plan.now.take }
+    requires few { length walk.old.codes ≤ plan.now.take }
     ensures back { IfOk result (IsBack plan.now walk.old walk.new) }
     ensures listed { let ns = reverse walk.old.awaited.items in
         let size = needs plan.now.least.now ns + slack in
         IfOk result (Lists (IsWanted plan.now ns size cursor.entry) walk.old walk.new) }
 {
     let Some(node) = walk.awaited.pop() else {
-        return emit(alloc, plan, walk, slack, cursor);
+        return emit(plan, walk, slack, cursor);
     };
-    let going = each_form(alloc, plan, walk, node, slack, cursor)?;
+    let going = each_form(plan, walk, node, slack, cursor)?;
     walk.awaited.push(node)?;
     Ok(going)
 }
@@ -83,7 +71,6 @@ fn go(
 /// The same, where this node is awaited before the others.
 #[cycle(descend)]
 pub(crate) fn each_form(
-    alloc: Global,
     plan: &Plan,
     walk: &mut Walk,
     node: u32,
@@ -91,7 +78,7 @@ pub(crate) fn each_form(
     cursor: Cursor,
 ) -> Result<bool, OutOfMemory>
     requires rising { EachRise plan.now.forms.now }
-    requires few { length walk.old.codes.items ≤ plan.now.take }
+    requires few { length walk.old.codes ≤ plan.now.take }
     ensures back { IfOk result (IsBack plan.now walk.old walk.new) }
     ensures listed { let ns = node ∷ reverse walk.old.awaited.items in
         let size = needs plan.now.least.now ns + slack in
@@ -99,7 +86,7 @@ pub(crate) fn each_form(
 {
     let least = number_of(plan.least, node);
     for form in plan.forms.of(node) {
-        if !follow(alloc, plan, walk, form, least, slack, cursor)? {
+        if !follow(plan, walk, form, least, slack, cursor)? {
             return Ok(false);
         }
     }
@@ -109,7 +96,6 @@ pub(crate) fn each_form(
 /// The same, for those codes alone that begin with this form of the node, which has this least size.
 #[cycle(descend)]
 fn follow(
-    alloc: Global,
     plan: &Plan,
     walk: &mut Walk,
     form: &Form,
@@ -118,7 +104,7 @@ fn follow(
     cursor: Cursor,
 ) -> Result<bool, OutOfMemory>
     requires rising { EachRise plan.now.forms.now }
-    requires few { length walk.old.codes.items ≤ plan.now.take }
+    requires few { length walk.old.codes ≤ plan.now.take }
     requires least { least ≤ cost_of plan.now.costs.now form.now.0 + needs plan.now.least.now form.now.1 }
     ensures back { IfOk result (IsBack plan.now walk.old walk.new) }
     ensures listed { let ns = reverse walk.old.awaited.items in
@@ -136,7 +122,7 @@ fn follow(
     walk.awaited.extend_from_slice(form.nodes.as_slice())?;
     walk.code.push(form.component)?;
     walk.code.push(form.count)?;
-    let going = go(alloc, plan, walk, left, next)?;
+    let going = go(plan, walk, left, next)?;
     walk.code.truncate(length);
     walk.awaited.truncate(height);
     Ok(going)

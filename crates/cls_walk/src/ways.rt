@@ -1,5 +1,5 @@
 //! In how many ways the sizes of some terms come to a sum.
-ghost use Rattle.std.specs.Prelude.{◌≡◌, ℕ, [], ◌+◌, ◌-◌, ◌*◌, ◌<◌, ◌^◌, IfOk, length, slice_index};
+ghost use Rattle.std.specs.Prelude.{◌≡◌, [], ◌∷◌, ◌+◌, ◌-◌, ◌*◌, ◌<◌, ◌^◌, IfOk, length, slice_index};
 ghost use Rattle.cls_walk.specs.Counts.{total_below, ways};
 ghost use Rattle.cls_walk.specs.Stages.{pair_count};
 ghost use Rattle.cls_walk.specs.Tables.{capped, number_at, AreWays};
@@ -25,38 +25,38 @@ fn with_node(table: &Table, node: u32, others: &[u64], rest: u32) -> u64
     total
 }
 
-/// In how many ways terms of the nodes come to each rest up to the greatest.
+/// In how many ways a term of the node and terms of the others come to each rest up to the greatest.
 fn by_rest(
     alloc: Global,
     table: &Table,
-    nodes: &[u32],
+    node: u32,
+    others: &[u32],
     greatest: u32,
 ) -> Result<Vec<u64>, OutOfMemory>
     requires small { greatest < 2 ^ 31 }
-    ensures ways { IfOk result (λ list. AreWays (number_at table.now) nodes.now list.items) }
+    ensures ways { IfOk result (λ list. AreWays (number_at table.now) (node ∷ others.now) list.items) }
     ensures long { IfOk result (λ list. length list.items ≡ greatest + 1) }
 {
-    let Some((node, others)) = nodes.split_first() else {
-        return only_none(alloc, greatest);
+    let Some((next, further)) = others.split_first() else {
+        return alone(alloc, table, node, greatest);
     };
-    let further = by_rest(alloc, table, others, greatest)?;
-    let mut list = Vec::new(alloc);
+    let known = by_rest(alloc, table, *next, further, greatest)?;
+    let mut list = Vec::with_capacity(alloc, greatest as usize + 1)?;
     for rest in 0..greatest + 1 {
-        list.push(with_node(table, *node, further.as_slice(), rest))?;
+        list.push(with_node(table, node, known.as_slice(), rest))?;
     }
     Ok(list)
 }
 
-/// Without nodes there is one way to come to 0, and none to come to more.
-fn only_none(alloc: Global, greatest: u32) -> Result<Vec<u64>, OutOfMemory>
+/// Where there are no others, the term itself has to come to the rest.
+fn alone(alloc: Global, table: &Table, node: u32, greatest: u32) -> Result<Vec<u64>, OutOfMemory>
     requires small { greatest < 2 ^ 31 }
-    ensures ways { (count : ℕ → ℕ → ℕ) → IfOk result (λ list. AreWays count [] list.items) }
+    ensures ways { IfOk result (λ list. AreWays (number_at table.now) (node ∷ []) list.items) }
     ensures long { IfOk result (λ list. length list.items ≡ greatest + 1) }
 {
-    let mut list = Vec::new(alloc);
-    list.push(1)?;
-    for _rest in 0..greatest {
-        list.push(0)?;
+    let mut list = Vec::with_capacity(alloc, greatest as usize + 1)?;
+    for rest in 0..greatest + 1 {
+        list.push(table.get(rest, node))?;
     }
     Ok(list)
 }
@@ -74,8 +74,11 @@ pub(crate) fn ways_of(
     let Some((node, others)) = nodes.split_first() else {
         return Ok(if rest == 0 { 1 } else { 0 });
     };
-    let further = by_rest(alloc, table, others, rest)?;
-    Ok(with_node(table, *node, further.as_slice(), rest))
+    let Some((next, further)) = others.split_first() else {
+        return Ok(table.get(rest, *node));
+    };
+    let known = by_rest(alloc, table, *next, further, rest)?;
+    Ok(with_node(table, *node, known.as_slice(), rest))
 }
 
 /// In how many ways a term of one node, applied to a term of the other, makes a term.

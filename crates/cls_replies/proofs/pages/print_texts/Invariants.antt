@@ -5,5 +5,5 @@ use Rattle.cls_term.specs.Texts.{name_at}
 use Rattle.cls_replies.specs.Texts.{term_lines}
 use Rattle.cls_replies.proofs.pages.print_texts.Given as goal
 
-abbrev pub invariant-loop-term : goal.invariant-loop-term
-invariant-loop-term l = string_bytes l.text ≡ flat_map (term_lines (name_at l.components) l.templates) (take l.term-index l.term-items)
+abbrev pub invariant-loop-place : goal.invariant-loop-place
+invariant-loop-place l = string_bytes l.text ≡ flat_map (term_lines (name_at l.components) l.templates) (take l.place l.page.terms)

@@ -1,4 +1,4 @@
-use Rattle.std.proofs.Common.{◌≡◌, ◌<◌, ◌≤◌, List, ℕ, Bool, ap, arith, inl, inr, length, subst, sym, ◌∙◌}
+use Rattle.std.proofs.Common.{◌≡◌, ◌<◌, ◌≤◌, List, Bool, arith, inl, inr, length, subst, sym, ◌∙◌}
 use Rattle.std.specs.Prelude.{◌⊎◌, nat_lt, option_copied, IfSome}
 use Rattle.std.proofs.lemmas.Bool.{eqb-true}
 use Rattle.cls_base.specs.Languages.{IsGenerated}
@@ -13,41 +13,41 @@ use Rattle.cls_walk.proofs.attempt.walk_page.Goals.{then-len-take, else-len-take
 pub page_of-requires : goal.page_of-requires
 page_of-requires g c =
     let book = g.B.RuleBook.book c.args.book.now in
-    let l : c.in_ok-counted.counted.last ≤ c.args.max_size = omega (arith, c.in_ok-counted.ensures.within, c.min-end.ensures) in
-    let h = c.in_ok-size.ensures.listed book c.args.max_size (subst (λ o. IfSome o (AreFormsUpTo book c.in_ok-counted.counted.last)) c.in-Some.is c.in_ok-forms.ensures.forms) l in
-    (h.0, c.as_slice-2.ensures.value ∙ h.1)
+    let l = c.requires.last in
+    let h = c.in_ok-size.ensures.listed book c.args.max_size (subst (λ o. IfSome o (AreFormsUpTo book c.args.counted.now.last)) c.in-Some.is c.in_ok-forms.ensures.forms) l in
+    (h.0, h.1)
 
 pub returns-clause-page : goal.returns-clause-page
 returns-clause-page g c =
     let book = g.B.RuleBook.book c.args.book.now in
     let r = request c.args.costs.now (option_copied c.args.after) c.args.max_size c.args.take in
-    let codes = c.walk_sizes.new.walk.codes.items in
+    let codes = c.walk_sizes.new.walk.codes in
     let s = c.in_ok-size.size in
-    let l : c.in_ok-counted.counted.last ≤ c.args.max_size = omega (arith, c.in_ok-counted.ensures.within, c.min-end.ensures) in
+    let l = c.requires.last in
     let m : s ≤ c.args.max_size = omega (arith, l, c.in_ok-size.ensures.within) in
-    let h = c.in_ok-size.ensures.listed book c.args.max_size (subst (λ o. IfSome o (AreFormsUpTo book c.in_ok-counted.counted.last)) c.in-Some.is c.in_ok-forms.ensures.forms) l in
+    let h = c.in_ok-size.ensures.listed book c.args.max_size (subst (λ o. IfSome o (AreFormsUpTo book c.args.counted.now.last)) c.in-Some.is c.in_ok-forms.ensures.forms) l in
     let d : (c.args.take < length codes) ⊎ (s ≡ c.args.max_size) = elim c.if-len-take.branch [
       | then-len-take w ↦ inl (omega (arith, w.if-len-take.true, c.len.ensures))
       | else-len-take w ↦ inr (eqb-true s c.args.max_size (sym w.is_known-is ∙ c.if-not-is_known.false))
     ] in
     let q = page-known book r c.requires.some s codes m h d in
     let P : List Applicative → Type 0 = λ es. IsPage (IsGenerated book 0) r es (nat_lt r.take (length codes)) in
-    let Q : Bool → Type 0 = λ b. IsPage (IsGenerated book 0) r c.in_ok-page_of.field-0.terms b in
-    subst Q (sym (c.in_ok-page_of.ensures.more ∙ ap (λ (ws : List (List ℕ)). nat_lt r.take (length ws)) c.as_slice-2.ensures.value))
-    (subst P (sym (c.in_ok-page_of.ensures.terms h.0 (c.as_slice-2.ensures.value ∙ h.1))) q.0)
+    let Q : Bool → Type 0 = λ b. IsPage (IsGenerated book 0) r c.page_of.result.terms b in
+    subst Q (sym c.page_of.ensures.more)
+    (subst P (sym (c.page_of.ensures.terms h.0 h.1)) q.0)
 
 pub returns-clause-within : goal.returns-clause-within
 returns-clause-within g c =
     let book = g.B.RuleBook.book c.args.book.now in
     let r = request c.args.costs.now (option_copied c.args.after) c.args.max_size c.args.take in
-    let codes = c.walk_sizes.new.walk.codes.items in
+    let codes = c.walk_sizes.new.walk.codes in
     let s = c.in_ok-size.size in
-    let l : c.in_ok-counted.counted.last ≤ c.args.max_size = omega (arith, c.in_ok-counted.ensures.within, c.min-end.ensures) in
+    let l = c.requires.last in
     let m : s ≤ c.args.max_size = omega (arith, l, c.in_ok-size.ensures.within) in
-    let h = c.in_ok-size.ensures.listed book c.args.max_size (subst (λ o. IfSome o (AreFormsUpTo book c.in_ok-counted.counted.last)) c.in-Some.is c.in_ok-forms.ensures.forms) l in
+    let h = c.in_ok-size.ensures.listed book c.args.max_size (subst (λ o. IfSome o (AreFormsUpTo book c.args.counted.now.last)) c.in-Some.is c.in_ok-forms.ensures.forms) l in
     let d : (c.args.take < length codes) ⊎ (s ≡ c.args.max_size) = elim c.if-len-take.branch [
       | then-len-take w ↦ inl (omega (arith, w.if-len-take.true, c.len.ensures))
       | else-len-take w ↦ inr (eqb-true s c.args.max_size (sym w.is_known-is ∙ c.if-not-is_known.false))
     ] in
     let q = page-known book r c.requires.some s codes m h d in
-    page-within book r c.requires.costs (omega (arith, c.count-width.ensures.count, c.count-width.ensures.some)) c.in_ok-counted.counted.last s c.args.pool c.count-width.result c.in_ok-counted.counted.table c.count-width.ensures.count c.in_ok-counted.ensures.table c.in_ok-size.ensures.within q.1 (c.is_within-else-not-is_known.ensures c.if-not-is_within-2.false)
+    page-within book r c.requires.costs (omega (arith, c.count.ensures.count, c.count.ensures.some)) c.args.counted.now.last s c.args.pool c.count.result c.args.counted.now.table c.count.ensures.count c.requires.upper c.in_ok-size.ensures.within q.1 (c.is_within.ensures c.if-not-is_within.false)

@@ -14,8 +14,8 @@ invariant-loop-size l = record {
   some : 1 ≤ l.size;
   awaited : l.walk.awaited.items ≡ [];
   code : l.walk.code.items ≡ [];
-  few : length l.walk.codes.items ≤ l.plan.take;
+  few : length l.walk.codes ≤ l.plan.take;
   listed : (book : List (List (Rule ℕ))) (max : ℕ) → AreFormsUpTo book l.last l.plan.forms.now → l.last ≤ max
       → let r = request l.plan.costs.now (option_copied l.after) max l.plan.take in
-      (es : List Applicative) × (l.walk.codes.items ≡ map code_of es) × IsDueFront (IsDue (IsGenerated book 0) r) r.cost l.size ⊥ es;
+      (es : List Applicative) × (l.walk.codes ≡ map code_of es) × IsDueFront (IsDue (IsGenerated book 0) r) r.cost l.size ⊥ es;
 }

@@ -4,13 +4,20 @@ use Rattle.std.proofs.lemmas.Result.{IfOk-weaker}
 use Rattle.cls_term.specs.Costs.{cost_of}
 use Rattle.cls_enum.specs.Requests.{request}
 use Rattle.cls_enum.specs.States.{ExceedsPool, FitsPool}
-use Rattle.cls_walk.proofs.Endings.{fits-up, exceeds-up, too_many_weaker}
+use Rattle.cls_walk.proofs.Endings.{page-up, fits-up, exceeds-up, too_many_weaker}
 use Rattle.cls_walk.proofs.paging.page.Goals as goal
 
 pub returns-then-branch-clause-over : goal.returns-then-branch-clause-over
 returns-then-branch-clause-over g c =
     exceeds-up (g.B.RuleBook.book c.args.book.now) (cost_of c.args.costs.now) c.args.take (option_copied c.args.after) c.last_size-last.result c.args.max_size
     c.last_size-last.ensures.within c.last_size-last.ensures.ends c.args.pool (c.in_ok-is_refused.ensures c.if-branch.true)
+
+pub returns-clause-page : goal.returns-clause-page
+returns-clause-page g c =
+    let book = g.B.RuleBook.book c.args.book.now in
+    IfOk-weaker c.page.result _ _
+    (λ p h. page-up book (cost_of c.args.costs.now) c.args.take (option_copied c.args.after) c.last_size-last.result c.args.max_size c.last_size-last.ensures.within c.last_size-last.ensures.ends p.terms p.more h)
+    c.page.ensures.page
 
 pub returns-clause-within : goal.returns-clause-within
 returns-clause-within g c =

@@ -16,7 +16,7 @@ abbrev pub invariant-each_form-loop-form : goal.invariant-each_form-loop-form
 invariant-each_form-loop-form l = record {
   awaited : l.walk.awaited.items ≡ l.fn.walk.awaited.items;
   code : l.walk.code.items ≡ l.fn.walk.code.items;
-  few : length l.walk.codes.items ≤ l.plan.take;
+  few : length l.walk.codes ≤ l.plan.take;
   listed : let ns = reverse l.fn.walk.awaited.items in
       Lists (IsWantedByOne l.plan (take l.form-index l.form-items) ns (needs l.plan.least.now (l.node ∷ ns) + l.slack) l.cursor) l.fn.walk l.walk true;
 }

@@ -2,18 +2,18 @@ use Rattle.std.proofs.Common.{◌++◌, ◌∷◌, [], List, ℕ, ap, inl, inr, 
 use Rattle.cls_walk.specs.declared.walk.Walk.{Walk}
 use Rattle.cls_walk.proofs.Walks.{emit-one, emit-none}
 use Rattle.cls_walk.proofs.walk.emit.Goals as goal
-use Rattle.cls_walk.proofs.walk.emit.Goals.{then-slack-eq0+then-cursor+in_ok-code+in_ok-push, else-slack-eq0, else-slack-eq0-via-then-slack-eq0+else-cursor, else-slack-eq0-via-else-slack-eq0}
+use Rattle.cls_walk.proofs.walk.emit.Goals.{then-slack-eq0+then-cursor+in_ok-push, else-slack-eq0, else-slack-eq0-via-then-slack-eq0+else-cursor, else-slack-eq0-via-else-slack-eq0}
 
 pub returns-clause-listed : goal.returns-clause-listed
 returns-clause-listed c =
     let old = c.args.walk.now in
     let new = c.if-slack-eq0.walk in
     elim c.if-slack-eq0.branch [
-      | then-slack-eq0+then-cursor+in_ok-code+in_ok-push w ↦ emit-one c.args.plan.now c.args.cursor old new c.args.slack _ w.if-slack-eq0.true w.if-cursor.true
-          (ap (λ (v : Walk). v.codes.items) w.walk-is ∙ w.in_ok-push.ensures.items
-          ∙ ap (λ (x : List ℕ). old.codes.items ++ x ∷ []) (w.new.ensures ∙ w.in_ok-code.ensures.items ∙ w.as_slice.ensures.value))
+      | then-slack-eq0+then-cursor+in_ok-push w ↦ emit-one c.args.plan.now c.args.cursor old new c.args.slack _ w.if-slack-eq0.true w.if-cursor.true
+          (ap (λ (v : Walk). v.codes) w.walk-is ∙ w.in_ok-push.ensures.ok
+          ∙ ap (λ (x : List ℕ). old.codes ++ x ∷ []) w.as_slice.ensures.value)
       | else-slack-eq0 w ↦ elim w.else-slack-eq0.branch [
-        | else-slack-eq0-via-then-slack-eq0+else-cursor u ↦ emit-none c.args.plan.now c.args.cursor old new c.args.slack _ (inr u.if-cursor.false) (ap (λ (v : Walk). v.codes.items) w.walk-is)
-        | else-slack-eq0-via-else-slack-eq0 u ↦ emit-none c.args.plan.now c.args.cursor old new c.args.slack _ (inl u.if-slack-eq0.false) (ap (λ (v : Walk). v.codes.items) w.walk-is)
+        | else-slack-eq0-via-then-slack-eq0+else-cursor u ↦ emit-none c.args.plan.now c.args.cursor old new c.args.slack _ (inr u.if-cursor.false) (ap (λ (v : Walk). v.codes) w.walk-is)
+        | else-slack-eq0-via-else-slack-eq0 u ↦ emit-none c.args.plan.now c.args.cursor old new c.args.slack _ (inl u.if-slack-eq0.false) (ap (λ (v : Walk). v.codes) w.walk-is)
       ]
     ]

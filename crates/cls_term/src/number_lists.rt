@@ -1,0 +1,86 @@
+ghost use Rattle.std.specs.Prelude.{◌≡◌, ◌<◌, ◌≤◌, [], ◌∷◌, ◌++◌, length, take, slice_index, slice_index_or, OnOk, OnErr};
+
+use cls_base::OutOfMemory;
+use std::alloc::Global;
+use std::marker::Model;
+
+/// Lists of numbers, kept one after another in one column, with the place where each ends. They are seen as the list of
+/// these lists.
+#[derive(Drop)]
+pub struct NumberLists {
+    numbers: Vec<u32>,
+    ends: Vec<usize>,
+}
+
+impl Model for NumberLists {
+    ghost use Rattle.std.specs.Prelude.{ℕ, List, length};
+    ghost use Rattle.cls_term.specs.Cuts.{cut, AreEnds};
+
+    ghost Value = { List (List ℕ) };
+
+    ghost view = { λ l. cut l.numbers.items 0 l.ends.items };
+
+    ghost invariant = { λ l. AreEnds 0 (length l.numbers.items) l.ends.items };
+}
+
+impl NumberLists {
+    /// No lists. They take no memory.
+    pub fn new(alloc: Global) -> NumberLists
+        ensures { result ≡ [] }
+    {
+        NumberLists {
+            numbers: Vec::new(alloc),
+            ends: Vec::new(alloc),
+        }
+    }
+
+    /// The number of lists.
+    #[tactic(auto, using(crate::proofs::Cutting::cuts))]
+    pub fn len(&self) -> usize
+        ensures { result ≡ length self.now }
+    {
+        self.ends.len()
+    }
+
+    /// Adds a list at the end. The only error is out of memory, and then the lists are as before.
+    #[tactic(auto, using(crate::proofs::Cutting::cuts))]
+    pub fn push(&mut self, list: &[u32]) -> Result<(), OutOfMemory>
+        ensures ok { OnOk result (self.new ≡ self.old ++ list.now ∷ []) }
+        ensures err { OnErr result (self.new ≡ self.old) }
+    {
+        self.ends.reserve(1)?;
+        self.numbers.extend_from_slice(list)?;
+        self.ends.push(self.numbers.len())?;
+        Ok(())
+    }
+
+    /// The list at a place.
+    #[tactic(auto, using(crate::proofs::Cutting::cuts))]
+    pub fn get(&self, place: usize) -> &[u32]
+        requires { place < length self.now }
+        ensures { result.now ≡ slice_index_or self.now place [] }
+    {
+        let start = start_of(self.ends.as_slice(), place);
+        &self.numbers[start..self.ends[place]]
+    }
+
+    /// Keeps the first lists, no more than so many.
+    #[tactic(auto, using(crate::proofs::Cutting::cuts))]
+    pub fn truncate(&mut self, count: usize)
+        ensures { self.new ≡ take count self.old }
+    {
+        if count < self.ends.len() {
+            let end = start_of(self.ends.as_slice(), count);
+            self.numbers.truncate(end);
+            self.ends.truncate(count);
+        }
+    }
+}
+
+/// Where the list at the place begins, which is where the one before it ends.
+fn start_of(ends: &[usize], place: usize) -> usize
+    requires { place ≤ length ends.now }
+    ensures { result ≡ slice_index (0 ∷ ends.now) place }
+{
+    if place == 0 { 0 } else { ends[place - 1] }
+}

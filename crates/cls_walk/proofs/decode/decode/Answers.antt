@@ -1,5 +1,0 @@
-use Rattle.cls_walk.proofs.Decodes.{alone}
-use Rattle.cls_walk.proofs.decode.decode.Goals as goal
-
-pub returns : goal.returns
-returns c = alone c.args.code.now c.in_ok-term._rest.now c.requires.0 c.in_ok-term.term c.requires.1 c.in_ok-term.ensures
