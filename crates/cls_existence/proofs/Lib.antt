@@ -1,0 +1,14 @@
+pub mod Alike
+pub mod Answers
+pub mod BookSizes
+pub mod Classical
+pub mod Closures
+pub mod Firsts
+pub mod Grammars
+pub mod Histories
+pub mod Making
+pub mod Positions
+pub mod Readings
+pub mod Sorting
+pub mod Spelling
+pub mod Verdicts
