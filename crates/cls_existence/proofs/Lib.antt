@@ -1,4 +1,5 @@
 pub mod Alike
+pub mod Answering
 pub mod Answers
 pub mod BookSizes
 pub mod Classical
@@ -6,9 +7,16 @@ pub mod Closures
 pub mod Firsts
 pub mod Grammars
 pub mod Histories
+pub mod Known
+pub mod Libraries
 pub mod Making
+pub mod Openings
 pub mod Positions
 pub mod Readings
+pub mod Replies
 pub mod Sorting
 pub mod Spelling
+pub mod Takings
+pub mod Templates
+pub mod Transcripts
 pub mod Verdicts

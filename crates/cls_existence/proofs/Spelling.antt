@@ -4,10 +4,11 @@ use Rattle.cls_base.specs.Types as types
 use Rattle.cls_base.specs.Types.{ClosedType}
 use Rattle.cls_base.specs.Schemas as schema
 use Rattle.cls_base.specs.Schemas.{OpenType}
-use Rattle.cls_syntax.specs.ClosedTypes.{opened, HasNoVariable, Spells}
+use Rattle.cls_syntax.specs.ClosedTypes.{opened, HasNoVariable, HasNoDollar, Spells}
 use Rattle.cls_syntax.specs.TypeSchemas.{type_schema, meet_schema, product_schema, atom_schema}
-use Rattle.cls_syntax.specs.TypeTexts.{TypeText, MeetText, ProductText, AtomText, only_meet, arrow, only_product, meet, only_atom, product, named, applied, variable, inside}
+use Rattle.cls_syntax.specs.TypeTexts.{TypeText, MeetText, ProductText, AtomText, only_meet, arrow, only_product, meet, only_atom, product, named, applied, variable, inside, type_words}
 use Rattle.cls_syntax.specs.TypeTexts as grammar
+use Rattle.cls_syntax.proofs.Variables.{no_variable}
 
 opened_closed : (t : ClosedType) → HasNoVariable (opened t)
 opened_closed types.omega = tt
@@ -64,3 +65,7 @@ spelled_again other number text t h =
     let v : List ℕ → ℕ = λ x. 0 in
     let none : HasNoVariable (type_schema other v text) = subst (λ (o : OpenType). HasNoVariable o) (h v) (opened_closed t) in
     (type_in number text, λ w. type_spelled number other v w text none)
+
+-- A text without a variable spells a type.
+pub spelled_closed : (number : List ℕ → ℕ) (text : TypeText) → HasNoDollar (type_words text) → (t : ClosedType) × Spells number text t
+spelled_closed number text h = (type_in number text, λ w. type_spelled number number w w text (no_variable number w text h))

@@ -1,5 +1,5 @@
 //! What exists, as calls that do nothing and promise the law.
-ghost use Rattle.cls_existence.specs.Laws.{AnswersExist, HistoriesExist, ClosuresExist, GrammarTextsExist, VerdictsExist, ReadingsExist};
+ghost use Rattle.cls_existence.specs.Laws.{AnswersExist, HistoriesExist, ClosuresExist, GrammarTextsExist, VerdictsExist, ReadingsExist, TypesHaveClosures, AuditsExist, CertificatesExist, SizesExist, PagesExist, LinesHaveReplies, TranscriptsGoOn, OutputsExist};
 
 /// Law: each goal has an answer by each library.
 pub fn answers_exist()
@@ -29,4 +29,44 @@ pub fn verdicts_exist()
 /// Law: lines say a certificate, or one of them is the first bad one, or none is `qed`.
 pub fn readings_exist()
     ensures { ReadingsExist }
+{}
+
+/// Law: a type that the engine can work on has a closure.
+pub fn types_have_closures()
+    ensures { TypesHaveClosures }
+{}
+
+/// Law: and a history that an audit may tell.
+pub fn audits_exist()
+    ensures { AuditsExist }
+{}
+
+/// Law: and a certificate.
+pub fn certificates_exist()
+    ensures { CertificatesExist }
+{}
+
+/// Law: and sizes of its terms that can be told.
+pub fn sizes_exist()
+    ensures { SizesExist }
+{}
+
+/// Law: and each page that asks for a term or more.
+pub fn pages_exist()
+    ensures { PagesExist }
+{}
+
+/// Law: after the lines of a repository each line has a reply, and so has the end of the lines.
+pub fn lines_have_replies()
+    ensures { LinesHaveReplies }
+{}
+
+/// Law: what stands written for lines goes on with each line more, up to the end of the output, unless the lines are refused.
+pub fn transcripts_go_on()
+    ensures { TranscriptsGoOn }
+{}
+
+/// Law: whatever the words and the bytes are, a run has an output.
+pub fn outputs_exist()
+    ensures { OutputsExist }
 {}
