@@ -7,7 +7,7 @@ use Rattle.cls_proof.specs.Certificates as certificate
 use Rattle.cls_proof.specs.Certificates.{ProofRow, Block, Member, Certificate}
 use Rattle.cls_proof.specs.Forms.{Written}
 use Rattle.cls_proof.specs.Forms as written
-use Rattle.cls_proof.specs.Reading.{IsGoal, Means, SaysStatement, Says, no_statement, one_statement, LinesSay}
+use Rattle.cls_proof.specs.Reading.{IsGoal, Means, Says, no_statement, one_statement, LinesSay}
 use Rattle.cls_proof.specs.Statements.{Statement, inhabited, row, empty, member, block, layer, set, qed, layer_statements, block_statements, member_statements, statements_of}
 use Rattle.cls_proof.proofs.GoalTexts.{one_spread}
 use Rattle.cls_syntax.specs.TypeTexts.{TypeText}

@@ -1,22 +1,17 @@
 -- Each goal has an answer: it is wide, or it has rules. That a list of all choices isn't impossible is enough for it.
-use Rattle.std.proofs.Common.{ℕ, zero, suc, ◌≡◌, ◌+◌, ◌≤◌, ◌<◌, Bool, true, false, refl, sym, subst, ap, ◌⊎◌, inl, inr, List, [], ◌∷◌, ◌++◌, length, arith, Contains}
-use Rattle.std.specs.Prelude.{◌↔◌, map, nat_lt, slice_get, IsSomeAnd}
+use Rattle.std.proofs.Common.{ℕ, zero, suc, ◌≡◌, ◌≤◌, ◌<◌, refl, sym, subst, ap, ◌⊎◌, inl, inr, List, [], ◌∷◌, length, arith, Contains}
+use Rattle.std.specs.Prelude.{map}
 use Rattle.std.specs.List.{AllZip, flat_map}
-use Rattle.std.proofs.lemmas.Bool.Decides.{nat_tests}
 use Rattle.cls_base.specs.declared.rule.Rule.{Rule}
 use Rattle.cls_base.specs.declared.rule.Rule.TheVariants.{Head, Any}
-use Rattle.cls_base.specs.Terms.{Precedes}
-use Rattle.cls_base.proofs.Lists.{Contains-nil, Contains-head, Contains-later, Contains-cases, Contains-map, Contains-flat_map}
+use Rattle.cls_base.proofs.Lists.{Contains-map, Contains-flat_map}
 use Rattle.cls_taxon.specs.Decisions.{is_below}
 use Rattle.cls_taxon.specs.DecisionLaws.{is_below-reflexive, is_below-transitive, is_below-antisymmetric, is_below-one_variance}
 use Rattle.cls_path.specs.Paths.{TypePath, Paths, none, more, append, listed, type_of_paths, SuitsAll}
 use Rattle.cls_path.proofs.Existence.{forms_exist}
-use Rattle.cls_cover.specs.Covers.{IsMinimal}
-use Rattle.cls_cover.specs.Lists.{Sublist, ends, keeps, drops, Rises}
-use Rattle.cls_cover.specs.Members.{Member, first, later, Ascending}
-use Rattle.cls_cover.proofs.Lists.{contains_member, member_contains, member_append_left, member_append_right, precedes_trans}
+use Rattle.cls_cover.specs.Members.{Member, first, later}
+use Rattle.cls_cover.proofs.Lists.{member_contains}
 use Rattle.cls_cover.proofs.Public.{ascending_members}
-use Rattle.cls_cover.proofs.Sorting.{precedes_total}
 use Rattle.cls_core.specs.declared.answer.Answer.{Answer}
 use Rattle.cls_core.specs.declared.answer.Answer.TheVariants.{Rules, Wide}
 use Rattle.cls_existence.specs.Possible.{IsPossible}
@@ -25,11 +20,11 @@ use Rattle.cls_existence.proofs.Positions.{subs, numbers_have, subs_have, AreWit
 use Rattle.cls_existence.proofs.Sorting.{sorted}
 use Rattle.cls_library.specs.Arrows.{MultiArrow, arity_of}
 use Rattle.cls_library.specs.Libraries.{Library, IsLibrary, variances_in, paths_at, arrows_at}
-use Rattle.cls_library.specs.Reaching.{CoversGoal, IsReduced, no_sources, zip_append, columns}
-use Rattle.cls_library.specs.Rules.{Choice, code_of_choice, ComesBefore, numbers_from, omega_rules, FirstOnes, no_more, fresh, again, IsChoice, IsRuleFor, IsRules, IsWide}
+use Rattle.cls_library.specs.Reaching.{IsReduced, no_sources, zip_append, columns}
+use Rattle.cls_library.specs.Rules.{Choice, code_of_choice, numbers_from, omega_rules, FirstOnes, no_more, fresh, again, IsChoice, IsRuleFor, IsRules, IsWide}
 use Rattle.cls_expand.specs.Answers.{rule_of, IsAnswer}
 use Rattle.cls_existence.specs.Laws.{AnswersExist}
-use Rattle.cls_expand.specs.Listing.{mapped_in, unlisted}
+use Rattle.cls_expand.specs.Listing.{unlisted}
 use Rattle.cls_expand.specs.Making.{choice_at, picked_of}
 use Rattle.cls_expand.proofs.Sources.{AreArrows, picked_arrows, library_arrows, reduced_from, rule_made}
 

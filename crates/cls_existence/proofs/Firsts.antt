@@ -1,5 +1,5 @@
 -- The first element of a list that has a property.
-use Rattle.std.proofs.Common.{ℕ, zero, suc, ◌≡◌, ◌<◌, sym, subst, ◌⊎◌, inl, inr, List, [], ◌∷◌, Option, None, Some, slice_get, arith, refl, Contains}
+use Rattle.std.proofs.Common.{ℕ, zero, suc, ◌≡◌, ◌<◌, sym, subst, inl, inr, List, [], ◌∷◌, Option, None, Some, slice_get, arith, refl, Contains}
 use Rattle.cls_base.proofs.Lists.{Contains-place, Contains-cases}
 use Rattle.cls_cover.specs.Lists.{Rises}
 use Rattle.cls_cert.specs.Making.{IsFirst}

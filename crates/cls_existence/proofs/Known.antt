@@ -1,6 +1,6 @@
 -- What is known of a closure exists, and so do its certificate, its sizes, its pages and a history of it, if no fault of
 -- closing applies.
-use Rattle.std.proofs.Common.{ℕ, ◌≡◌, ◌≤◌, ◌<◌, ◌⊎◌, inl, inr, refl, sym, subst, arith, List, [], ◌∷◌, Option, None, Some, Bool, length, Contains}
+use Rattle.std.proofs.Common.{ℕ, ◌≡◌, ◌≤◌, ◌<◌, ◌⊎◌, inl, inr, refl, sym, subst, arith, List, [], ◌∷◌, Option, None, Some, Bool, length}
 use Rattle.std.proofs.lemmas.List.{length-map}
 use Rattle.cls_base.specs.Languages.{rules_at}
 use Rattle.cls_base.specs.Pages.{Request, IsPage}
@@ -28,7 +28,6 @@ use Rattle.cls_library.specs.Typing.{HasTypeIn}
 use Rattle.cls_engine.specs.declared.options.Options.{Options}
 use Rattle.cls_engine.specs.declared.fault.EngineFault.{EngineFault}
 use Rattle.cls_engine.specs.declared.fault.EngineFault.TheVariants.{Size, TooLarge, Wide}
-use Rattle.cls_engine.specs.Certified.{IsCertified}
 use Rattle.cls_engine.specs.Closing.{IsKnownOf}
 use Rattle.cls_engine.specs.Faults.{closure_faults, AreSilent}
 use Rattle.cls_engine.specs.Goals.{Goal, same, IsGoalOf, IsSpread, IsUnfit, HasLargeClosure, IsFirstWide, IsClosed}
@@ -42,7 +41,7 @@ use Rattle.cls_existence.specs.Laws.{TypesHaveClosures, CertificatesExist, Sizes
 use Rattle.cls_existence.specs.Possible.{IsPossible}
 use Rattle.cls_existence.proofs.Answers.{listed_back}
 use Rattle.cls_existence.proofs.BookSizes.{flags_exist, rules_below, SizesAreFound, sizes_found}
-use Rattle.cls_existence.proofs.Classical.{surely, then, after}
+use Rattle.cls_existence.proofs.Classical.{then, after}
 use Rattle.cls_existence.proofs.Closures.{closures_exist, histories_exist}
 use Rattle.cls_existence.proofs.Making.{certificate_exists}
 use Rattle.cls_existence.proofs.Verdicts.{form_exists}

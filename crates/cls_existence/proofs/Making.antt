@@ -1,15 +1,14 @@
 -- A certificate is made for each grammar: row after row by rank, or member after member.
-use Rattle.std.proofs.Common.{ℕ, zero, suc, ◌≡◌, ◌+◌, ◌≤◌, ◌<◌, refl, sym, ◌∙◌, subst, ap, ◌⊎◌, inl, inr, List, [], ◌∷◌, ◌++◌, length, arith, Contains}
-use Rattle.std.specs.Prelude.{◌↔◌, map, Some, slice_get}
+use Rattle.std.proofs.Common.{ℕ, zero, suc, ◌≡◌, ◌+◌, ◌<◌, refl, sym, subst, ◌⊎◌, inl, inr, List, [], ◌∷◌, ◌++◌, length, arith, Contains}
+use Rattle.std.specs.Prelude.{map}
 use Rattle.std.proofs.lemmas.List.{length-map}
 use Rattle.std.proofs.lemmas.List.Elements.{Contains-push, Contains-push_cases, Contains-append_left}
 use Rattle.cls_base.specs.declared.rule.Rule.{Rule}
 use Rattle.cls_base.specs.declared.rule.Rule.TheVariants.{Head, Any}
 use Rattle.cls_base.specs.Languages.{NodeRule, rules_at}
-use Rattle.cls_base.specs.Terms.{Precedes}
-use Rattle.cls_base.proofs.Lists.{Contains-nil, Contains-here, Contains-later, Contains-cases, Contains-at, Contains-map}
+use Rattle.cls_base.proofs.Lists.{Contains-nil, Contains-cases, Contains-at, Contains-map}
 use Rattle.cls_term.proofs.Orders.{Precedes-irrefl}
-use Rattle.cls_path.specs.Paths.{TypePath, Paths, none, more, listed, type_of_paths}
+use Rattle.cls_path.specs.Paths.{TypePath, Paths, none, more, type_of_paths}
 use Rattle.cls_cover.specs.Covers.{IsMinimal, AreMinimal}
 use Rattle.cls_cover.proofs.Lists.{member_contains, precedes_trans}
 use Rattle.cls_cover.proofs.Public.{ascending_members}
@@ -20,12 +19,12 @@ use Rattle.cls_grammar.specs.Ranks.{HasTree, HaveTrees, head_tree, any_tree, no_
 use Rattle.cls_library.specs.Arrows.{MultiArrow, arity_of}
 use Rattle.cls_library.specs.Libraries.{Library, paths_at, arrows_at}
 use Rattle.cls_library.specs.Reaching.{CoversGoal}
-use Rattle.cls_library.specs.Rules.{Choice, ComesBefore, code_of_choice, numbers_from, IsChoice, IsRuleFor, IsRules}
+use Rattle.cls_library.specs.Rules.{Choice, ComesBefore, code_of_choice, numbers_from, IsRuleFor, IsRules}
 use Rattle.cls_proof.specs.Certificates as proof
 use Rattle.cls_proof.specs.Certificates.{ProofRow, Block, Certificate, inhabited, empty}
-use Rattle.cls_cert.specs.Building.{AreRowsTo, AreMembersTo, AreBlocks, AddsBlock, with_block, without_block}
+use Rattle.cls_cert.specs.Building.{AreRowsTo, AreMembersTo, AreBlocks, with_block, without_block}
 use Rattle.cls_cert.specs.Conditions.{forms_of, IsGrammarOf}
-use Rattle.cls_cert.specs.Making.{IsFirst, front_of, path_count, goal_in, named, Ranked, IsFirstChoice, HasFirst, AreLayers, IsMemberFor, IsLower, IsRowFor, AreRows, AreMembers, IsMadeFor}
+use Rattle.cls_cert.specs.Making.{front_of, path_count, goal_in, named, Ranked, IsFirstChoice, HasFirst, AreLayers, IsMemberFor, IsLower, IsRowFor, AreRows, AreMembers, IsMadeFor}
 use Rattle.cls_cert.proofs.BlockLaws.{no_blocks, blocks_step, blocks_next, member_whole}
 use Rattle.cls_cert.proofs.ChoiceLaws.{rule_given, omega_row, rule_row}
 use Rattle.cls_cert.proofs.MemberLaws.{no_members, members_skip, members_step, members_whole}

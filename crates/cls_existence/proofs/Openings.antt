@@ -1,15 +1,13 @@
 -- What answers the lines after a repository is by a library, whose components cost at least 1.
-use Rattle.std.proofs.Common.{ℕ, zero, suc, ◌≡◌, ◌+◌, ◌≤◌, ◌<◌, inl, inr, refl, sym, subst, ap, arith, List, [], ◌∷◌, length}
+use Rattle.std.proofs.Common.{ℕ, zero, suc, ◌+◌, ◌≤◌, ◌<◌, inl, inr, sym, subst, arith, List, [], ◌∷◌, length}
 use Rattle.std.specs.Prelude.{All, map, slice_index_or}
 use Rattle.std.specs.List.{AllByRecursion}
 use Rattle.std.proofs.lemmas.List.Elements.{All-cons}
-use Rattle.cls_base.specs.Limits.{max_arity, max_components, max_library_weight}
+use Rattle.cls_base.specs.Limits.{max_components, max_library_weight}
 use Rattle.cls_base.specs.Schemas.{OpenType}
-use Rattle.cls_base.specs.Taxonomies.{Variance}
 use Rattle.cls_base.specs.Types.{ClosedType, spread}
 use Rattle.cls_kind.specs.Kinds.{instances_of}
 use Rattle.cls_taxon.specs.Orders.{Declared}
-use Rattle.cls_library.specs.Arrows.{arity_of}
 use Rattle.cls_library.specs.Libraries.{Library, Component, IsLibrary, IsWithinLimits, AreComponentsOf, no_components, one_component, below_in, variances_in, all_of, weight_of, total_of}
 use Rattle.cls_library.specs.Refusals.{AreAcceptable, AreAccepted, IsLibraryOf}
 use Rattle.cls_library.proofs.Gathering.{acceptable-arity}

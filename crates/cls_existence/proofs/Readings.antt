@@ -2,9 +2,9 @@
 use Rattle.std.proofs.Common.{◌≡◌, ◌⊎◌, inl, inr, ℕ, ◌+◌, Bool, true, false, List, [], ◌∷◌, ◌++◌, Option, Some, None, length, refl, ap, sym, ◌∙◌, subst, append_assoc, append-nil}
 use Rattle.std.specs.List.{list_any}
 use Rattle.cls_lexer.specs.Names.{number_of, with_texts}
-use Rattle.cls_proof.specs.Certificates.{Certificate, inhabited}
+use Rattle.cls_proof.specs.Certificates.{inhabited}
 use Rattle.cls_proof.specs.Drafts.{Place, at_start, at_end, after}
-use Rattle.cls_proof.specs.Reading.{LinesSay, SaysCertificate, BeginCertificate, IsFirstBad, LacksQed}
+use Rattle.cls_proof.specs.Reading.{LinesSay, BeginCertificate, IsFirstBad}
 use Rattle.cls_proof.specs.Statements.{Statement, is_qed, statements_of}
 use Rattle.cls_proof.specs.Statements as statement
 use Rattle.cls_proof.proofs.Allowed.{run_from, certificate_run}

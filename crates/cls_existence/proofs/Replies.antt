@@ -1,5 +1,5 @@
 -- Each line has a reply, by whatever answers the lines after a repository.
-use Rattle.std.proofs.Common.{ℕ, ◌≡◌, ◌≤◌, ◌<◌, ◌⊎◌, inl, inr, refl, sym, ap, subst, arith, List, [], ◌∷◌, ◌++◌, Bool, length}
+use Rattle.std.proofs.Common.{ℕ, ◌≡◌, ◌≤◌, ◌<◌, ◌⊎◌, inl, inr, refl, sym, subst, arith, List, [], ◌∷◌, ◌++◌, length}
 use Rattle.std.specs.Prelude.{codes}
 use Rattle.std.specs.Fmt.{decimal}
 use Rattle.cls_base.specs.Firsts.{Cause, First, IsSilent}
@@ -9,13 +9,10 @@ use Rattle.cls_base.specs.Terms.{Applicative}
 use Rattle.cls_base.specs.Types.{ClosedType}
 use Rattle.cls_core.specs.declared.entry.Entry.{Entry}
 use Rattle.cls_core.specs.Rows.{Row}
-use Rattle.cls_check.specs.Checking.{Accepts, Refuses}
-use Rattle.cls_check.specs.declared.fault.Reason.{Reason}
 use Rattle.cls_enum.specs.Requests.{request}
 use Rattle.cls_finite.specs.declared.answer.FiniteAnswer.{FiniteAnswer}
 use Rattle.cls_grammar.specs.GrammarTexts.{IsGrammarText}
 use Rattle.cls_lexer.specs.Skipped.{IsSkipped}
-use Rattle.cls_lexer.specs.Words.{words_of}
 use Rattle.cls_library.specs.Libraries.{IsLibrary, below_in, variances_in, paths_at}
 use Rattle.cls_library.specs.Typing.{HasTypeIn}
 use Rattle.cls_proof.specs.declared.proof_fault.ProofFault.TheVariants.{BadLine, NoQed}
@@ -24,7 +21,7 @@ use Rattle.cls_proof.specs.Reading.{SaysCertificate}
 use Rattle.cls_proof.specs.Texts.{certificate_text}
 use Rattle.cls_query.specs.Queries.{Listing, Query, sub, paths, typed, inhabit, grammar, audit, certify, verify, finite, list, texts}
 use Rattle.cls_query.specs.QueryErrors.{line_errors}
-use Rattle.cls_query.specs.Readable.{IsReadable, IsVerify, begins_with}
+use Rattle.cls_query.specs.Readable.{IsReadable, IsVerify}
 use Rattle.cls_query.specs.ReadQueries.{ReadsQuery}
 use Rattle.cls_query.proofs.QueryErrors.{lines_decided}
 use Rattle.cls_query.proofs.Readable.{query_readable, query_verify}
@@ -35,7 +32,6 @@ use Rattle.cls_engine.specs.declared.fault.EngineFault.{EngineFault}
 use Rattle.cls_engine.specs.declared.fault.EngineFault.TheVariants.{TooManyTerms}
 use Rattle.cls_engine.specs.declared.verdict.Verdict.TheVariants.{Accepted, Refused}
 use Rattle.cls_engine.specs.Certified.{IsCertified}
-use Rattle.cls_engine.specs.Engines.{EngineSeen}
 use Rattle.cls_engine.specs.Faults.{closure_faults, AreSilent}
 use Rattle.cls_engine.specs.Goals.{Goal, IsClosed, HasLargePool}
 use Rattle.cls_engine.specs.Histories.{IsHistoryOf}

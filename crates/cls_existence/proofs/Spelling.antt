@@ -1,5 +1,5 @@
 -- A text that spells a type by some numbers of constructors spells one by any others.
-use Rattle.std.proofs.Common.{◌≡◌, ℕ, List, refl, subst, sym, ap}
+use Rattle.std.proofs.Common.{◌≡◌, ℕ, List, refl, subst}
 use Rattle.cls_base.specs.Types as types
 use Rattle.cls_base.specs.Types.{ClosedType}
 use Rattle.cls_base.specs.Schemas as schema

@@ -1,10 +1,9 @@
 -- Each line of a repository is taken, or it has a fault.
-use Rattle.std.proofs.Common.{ℕ, ◌≡◌, ◌+◌, ◌-◌, ◌≤◌, ◌<◌, ◌⊎◌, inl, inr, refl, sym, ap, subst, ◌∙◌, arith, rules, List, [], ◌∷◌, ◌++◌, length, Option, Some, None}
+use Rattle.std.proofs.Common.{ℕ, ◌≡◌, ◌+◌, ◌-◌, ◌≤◌, ◌<◌, ◌⊎◌, inl, inr, refl, sym, ap, subst, ◌∙◌, arith, rules, List, [], ◌∷◌, length, Option, Some, None}
 use Rattle.std.specs.Prelude.{Result, Ok, Err, ◌&&◌, codes, position, IsUtf8}
 use Rattle.cls_base.specs.Firsts.{First, IsSilent}
 use Rattle.cls_base.specs.Limits.{max_line_bytes}
 use Rattle.cls_base.specs.Types.{ClosedType}
-use Rattle.cls_assemble.specs.declared.piece.Piece.{Piece}
 use Rattle.cls_lexer.specs.declared.token.TokenKind.TheVariants.{Bar, Equals}
 use Rattle.cls_lexer.specs.Names.{number_of}
 use Rattle.cls_lexer.specs.Numerals.{number_value}
@@ -26,7 +25,7 @@ use Rattle.cls_query.proofs.FirstErrors.{each_silent}
 use Rattle.cls_repo.specs.Declarations.{template_text, AreSpelled, AreChoices, with_names, with_pair, with_kind, with_component, with_template, with_cost, with_variance, Declares}
 use Rattle.cls_repo.specs.Directives.{Directive, sub, kind, comp, text, end, cost, variance, repository_rows, row_of, WordsSay, LineSays, is_end}
 use Rattle.cls_repo.specs.Drafts.{Draft}
-use Rattle.cls_repo.specs.LineFaults.{too_long, not_utf8, misspelled, spelling_words, kind_variable, bad_template, directive_faults, wrong_directive, line_faults}
+use Rattle.cls_repo.specs.LineFaults.{misspelled, spelling_words, kind_variable, bad_template, directive_faults, line_faults}
 use Rattle.cls_repo.specs.Readings.{Reading, Takes, skipped, declares, Refuses}
 use Rattle.cls_repo.proofs.KindTypes.{front_left, front_right}
 use Rattle.cls_repo.proofs.Lines.{stopped}

@@ -10,7 +10,7 @@ use Rattle.cls_assemble.specs.Faults.{BeginsTemplate, BeginsPiece, IsFaultOf}
 use Rattle.cls_assemble.specs.Spelling.{Spells, plain, opening, closing, line_feed, backslash, hole, AreSpelled, IsNumbered, IsTemplate}
 use Rattle.cls_repo.specs.LineFaults.{template_words}
 use Rattle.cls_existence.specs.Possible.{IsPossible}
-use Rattle.cls_existence.proofs.Classical.{surely, then, after, either_way}
+use Rattle.cls_existence.proofs.Classical.{surely, then, either_way}
 
 spelled_more : (ps : List Piece) (p : Piece) (front more : List ℕ) → AreSpelled ps front → Spells p more → AreSpelled (ps ++ p ∷ []) (front ++ more)
 spelled_more [] p front more e s = (more, [], ap (λ (text : List ℕ). text ++ more) e ∙ sym (append-nil more), s, refl)

@@ -10,8 +10,8 @@ use Rattle.cls_engine.specs.Engines.{seen_as}
 use Rattle.cls_library.specs.Libraries.{Library}
 use Rattle.cls_library.specs.Refusals.{IsLibraryOf}
 use Rattle.cls_repo.specs.Drafts.{Draft}
-use Rattle.cls_repo.specs.EndFaults.{declared_in, schemas_in, refused_component}
-use Rattle.cls_repo.specs.Readings.{Reading, no_reading, Takes, TakesAll, Refuses, closing_faults}
+use Rattle.cls_repo.specs.EndFaults.{declared_in, schemas_in}
+use Rattle.cls_repo.specs.Readings.{Reading, no_reading, Takes, TakesAll, closing_faults}
 use Rattle.cls_query.proofs.FirstErrors.{each_silent}
 use Rattle.cls_replies.specs.Lines.{Goes, Ends, Replies}
 use Rattle.cls_replies.specs.Serving.{Serving, Serves, serving_of}

@@ -1,4 +1,4 @@
-//! What exists, as calls that do nothing and promise the law.
+//! What can't fail to exist, as calls that do nothing and promise the law. No law names a way of finding it.
 ghost use Rattle.cls_existence.specs.Laws.{AnswersExist, HistoriesExist, ClosuresExist, GrammarTextsExist, VerdictsExist, ReadingsExist, TypesHaveClosures, AuditsExist, CertificatesExist, SizesExist, PagesExist, LinesHaveReplies, TranscriptsGoOn, OutputsExist};
 
 /// Law: each goal has an answer by each library.
@@ -36,22 +36,22 @@ pub fn types_have_closures()
     ensures { TypesHaveClosures }
 {}
 
-/// Law: and a history that an audit may tell.
+/// Law: a type that the engine can work on has a history that an audit may tell.
 pub fn audits_exist()
     ensures { AuditsExist }
 {}
 
-/// Law: and a certificate.
+/// Law: a type that the engine can work on has a certificate.
 pub fn certificates_exist()
     ensures { CertificatesExist }
 {}
 
-/// Law: and sizes of its terms that can be told.
+/// Law: how large the terms of a type are that the engine can work on can be told, if each component costs at least 1.
 pub fn sizes_exist()
     ensures { SizesExist }
 {}
 
-/// Law: and each page that asks for a term or more.
+/// Law: a type that the engine can work on has each page that asks for at least one term, if each component costs at least 1.
 pub fn pages_exist()
     ensures { PagesExist }
 {}
@@ -61,7 +61,8 @@ pub fn lines_have_replies()
     ensures { LinesHaveReplies }
 {}
 
-/// Law: what stands written for lines goes on with each line more, up to the end of the output, unless the lines are refused.
+/// Law: what stands written for lines goes on with each line more, unless they are refused then, and it goes on to an ending
+/// if no line follows.
 pub fn transcripts_go_on()
     ensures { TranscriptsGoOn }
 {}

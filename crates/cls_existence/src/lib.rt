@@ -1,6 +1,6 @@
-//! That replies exist, as laws: whatever no fault stands against has a reply.
+//! That replies and outputs exist, as laws: the definitions leave no case out.
 //!
-//! - [`laws`] holds the laws. They say of what exists that it isn't impossible, and no way of finding it.
+//! - [`laws`] holds the laws. They say of what exists that it isn't impossible, and name no way of finding it.
 //!
 //! `specs/Possible` says what that means, and `specs/Laws` the statements.
 #![tactic(auto)]
