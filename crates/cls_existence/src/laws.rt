@@ -1,0 +1,73 @@
+//! What can't fail to exist, as calls that do nothing and promise the law. No law names a way of finding it.
+ghost use Rattle.cls_existence.specs.Laws.{AnswersExist, HistoriesExist, ClosuresExist, GrammarTextsExist, VerdictsExist, ReadingsExist, TypesHaveClosures, AuditsExist, CertificatesExist, SizesExist, PagesExist, LinesHaveReplies, TranscriptsGoOn, OutputsExist};
+
+/// Law: each goal has an answer by each library.
+pub fn answers_exist()
+    ensures { AnswersExist }
+{}
+
+/// Law: a closure that isn't larger than a number has a legal complete history, by any one worker.
+pub fn histories_exist()
+    ensures { HistoriesExist }
+{}
+
+/// Law: a closure that isn't larger than a number has rows in its canonical numbering.
+pub fn closures_exist()
+    ensures { ClosuresExist }
+{}
+
+/// Law: each grammar has a text.
+pub fn grammar_texts_exist()
+    ensures { GrammarTextsExist }
+{}
+
+/// Law: each certificate is accepted or refused.
+pub fn verdicts_exist()
+    ensures { VerdictsExist }
+{}
+
+/// Law: lines say a certificate, or one of them is the first bad one, or none is `qed`.
+pub fn readings_exist()
+    ensures { ReadingsExist }
+{}
+
+/// Law: a type that the engine can work on has a closure.
+pub fn types_have_closures()
+    ensures { TypesHaveClosures }
+{}
+
+/// Law: a type that the engine can work on has a history that an audit may tell.
+pub fn audits_exist()
+    ensures { AuditsExist }
+{}
+
+/// Law: a type that the engine can work on has a certificate.
+pub fn certificates_exist()
+    ensures { CertificatesExist }
+{}
+
+/// Law: how large the terms of a type are that the engine can work on can be told, if each component costs at least 1.
+pub fn sizes_exist()
+    ensures { SizesExist }
+{}
+
+/// Law: a type that the engine can work on has each page that asks for at least one term, if each component costs at least 1.
+pub fn pages_exist()
+    ensures { PagesExist }
+{}
+
+/// Law: after the lines of a repository each line has a reply, and so has the end of the lines.
+pub fn lines_have_replies()
+    ensures { LinesHaveReplies }
+{}
+
+/// Law: what stands written for lines goes on with each line more, unless they are refused then, and it goes on to an ending
+/// if no line follows.
+pub fn transcripts_go_on()
+    ensures { TranscriptsGoOn }
+{}
+
+/// Law: whatever the words and the bytes are, a run has an output.
+pub fn outputs_exist()
+    ensures { OutputsExist }
+{}
