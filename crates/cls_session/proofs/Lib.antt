@@ -2,6 +2,7 @@ pub mod Lengths
 pub mod CommandWords
 pub mod LastLines
 pub mod Readings
+pub mod RepositoryFaults
 pub mod Standings
 pub mod Opening
 pub mod Breaks

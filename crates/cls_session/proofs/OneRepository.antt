@@ -31,7 +31,7 @@ module _ (rest : List (List ℕ)) (reading : Reading) (going : reading.ended ≡
   taken_behind old (line ∷ before) new (next, t, inl (ended, e)) h = absurd (differ next reading (sym e) ended going)
   taken_behind old (line ∷ before) new (next, t, inr (on, hs)) h = (next, t, inr (on, taken_behind next before new hs h))
 
-  fault_behind : (old : Reading) (before : List (List ℕ)) (said : ℕ × List ℕ) → TakesAll old before reading → FirstFault reading rest said → FirstFault old (before ++ rest) said
+  pub fault_behind : (old : Reading) (before : List (List ℕ)) (said : ℕ × List ℕ) → TakesAll old before reading → FirstFault reading rest said → FirstFault old (before ++ rest) said
   fault_behind old [] said e h = subst (λ (r : Reading). FirstFault r rest said) e h
   fault_behind old (line ∷ before) said (next, t, inl (ended, e)) h = absurd (differ next reading (sym e) ended going)
   fault_behind old (line ∷ before) said (next, t, inr (on, hs)) h = inr (next, t, inr (on, fault_behind next before said hs h))

@@ -1,6 +1,6 @@
 -- What is true of all lines and bytes, as statements: text and status are functions of the options and the bytes, if no
 -- line asks for an audit. What an audit writes may be any legal history.
-use Rattle.std.specs.Prelude.{ℕ, ◌≡◌, false, List, ◌∷◌, ◌++◌, codes, Contains}
+use Rattle.std.specs.Prelude.{ℕ, ◌≡◌, ◌↔◌, ◌⊎◌, false, List, ◌∷◌, ◌++◌, codes, Contains}
 use Rattle.std.specs.List.{IsDistinct}
 use Rattle.std.specs.Str.{bytes_eq}
 use Rattle.cls_base.specs.Firsts.{IsDetermined}
@@ -11,6 +11,7 @@ use Rattle.cls_query.specs.Queries.{Tables, audit}
 use Rattle.cls_query.specs.ReadQueries.{ReadsQuery}
 use Rattle.cls_query.specs.Readable.{begins_with}
 use Rattle.cls_repo.specs.Drafts.{Draft}
+use Rattle.cls_repo.specs.Readings.{no_reading, FirstFault}
 use Rattle.cls_replies.specs.Answering as answering
 use Rattle.cls_replies.specs.Lines.{Goes, Ends}
 use Rattle.cls_replies.specs.Serving.{Serving}
@@ -19,7 +20,7 @@ use Rattle.cls_session.specs.declared.words.Command.TheVariants.{Session, Genera
 use Rattle.cls_session.specs.Commands.{Asks}
 use Rattle.cls_session.specs.Generators.{generated_text}
 use Rattle.cls_session.specs.Outputs.{lines_read, SessionOutput, Output}
-use Rattle.cls_session.specs.Repositories.{IsRepository}
+use Rattle.cls_session.specs.Repositories.{IsRepository, IsFirstFault, IsWithoutEnd}
 use Rattle.cls_session.specs.Transcripts.{IsAnswered, Transcript, IsRefused, Ending}
 
 -- The line asks for an audit, where queries are answered by this.
@@ -80,3 +81,9 @@ pub record OutputsAreDetermined : Type 0 where
       (words : List (List ℕ)) (bytes text other : List ℕ) (status status' : Status)
       → ((read : List ℕ) → IsRead words bytes read → HaveNoAudit (lines_read read))
       → Output words bytes text status → Output words bytes other status' → (text ≡ other) × (status ≡ status')
+
+-- The first fault that `cls_repo` finds in lines is the one that a session says: of a line, of the repository at its line
+-- `end`, or that this line is missing.
+abbrev pub FaultsAgree : Type 0
+FaultsAgree = (lines : List (List ℕ)) (said : ℕ × List ℕ)
+    → FirstFault no_reading lines said ↔ (IsFirstFault lines said ⊎ IsWithoutEnd lines said)

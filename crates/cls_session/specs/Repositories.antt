@@ -1,5 +1,5 @@
 -- Repositories, and the first fault of lines that are none.
-use Rattle.std.specs.Prelude.{ℕ, ◌≡◌, List, ◌∷◌, ◌++◌, true, false}
+use Rattle.std.specs.Prelude.{ℕ, ◌≡◌, List, ◌∷◌, ◌++◌, true, false, codes}
 use Rattle.cls_base.specs.Firsts.{First, IsSilent}
 use Rattle.cls_repo.specs.Drafts.{Draft}
 use Rattle.cls_repo.specs.Readings.{Reading, no_reading, Takes, TakesAll, Refuses, closing_faults}
@@ -29,3 +29,9 @@ pub data IsFirstFault (lines : List (List ℕ)) (said : ℕ × List ℕ) : Type 
       (before after : List (List ℕ)) (end : List ℕ) (reading ended : Reading) → lines ≡ before ++ end ∷ after
       → AreTaken before reading → Takes reading end ended → ended.ended ≡ true → First (closing_faults ended) said
       → IsFirstFault lines said
+
+-- All lines are taken, and none of them is `end`. This is said of the last one.
+pub record IsWithoutEnd (lines : List (List ℕ)) (said : ℕ × List ℕ) : Type 0 where
+  pub reading : Reading
+  pub taken : AreTaken lines reading
+  pub words : said ≡ (reading.lines, codes "no-end")

@@ -1,6 +1,6 @@
 //! What holds of the language, as calls that do nothing and promise the law.
 ghost use Rattle.cls_session.specs.Commands.{CommandsAreOne};
-ghost use Rattle.cls_session.specs.Laws.{AuditsAreNamed, RepliesAreDetermined, TranscriptsAreDetermined, OutputsAreDetermined};
+ghost use Rattle.cls_session.specs.Laws.{AuditsAreNamed, FaultsAgree, RepliesAreDetermined, TranscriptsAreDetermined, OutputsAreDetermined};
 
 /// Words ask for at most one command, and its numbers are within their ranges.
 pub fn commands_are_one()
@@ -28,4 +28,9 @@ pub fn transcripts_are_determined()
 /// the repository asks for an audit.
 pub fn outputs_are_determined()
     ensures { OutputsAreDetermined }
+{}
+
+/// Law: the fault that a session says of lines is the first one that the reader of repositories finds in them.
+pub fn faults_agree()
+    ensures { FaultsAgree }
 {}
