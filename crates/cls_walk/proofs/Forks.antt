@@ -248,8 +248,7 @@ module _ (plan : Plan) (stacks : List (List ℕ)) (first size : ℕ) (cursor : C
             let y = ap (code_size (cost_of plan.costs.now)) q.begins in
             let x = e.sized in
             let k : code_size (cost_of plan.costs.now) v ≡ left = omega (arith, x, y, z) in
-            let a = filled-least plan.forms.now (cost_of plan.costs.now) plan.least.now plan.least_sizes f.0 v f.2 in
-            (
+            let a = filled-least plan.forms.now (cost_of plan.costs.now) plan.least.now plan.least_sizes f.0 v f.2 in (
               v,
               q.begins,
               (

@@ -10,10 +10,10 @@ returns-then-own-opening c =
     let h = c.args.form.now in
     let own = c.opening_of-own.ensures in
     added-closed c.args.plan.now.least.now c.args.left h c.args.opening c.args.rest.now c.args.first c.args.stacks.now (λ p q.
-        elim c.then-own-opening.branch [
-          | then-own-opening-via-then-own-opening w ↦ omega (arith, w.if-own-opening.true, own.component, p)
-          | then-own-opening-via-else-own-opening+then-own-opening-2 w ↦ omega (arith, w.if-own-opening-2.true, own.count, q)
-        ])
+    elim c.then-own-opening.branch [
+      | then-own-opening-via-then-own-opening w ↦ omega (arith, w.if-own-opening.true, own.component, p)
+      | then-own-opening-via-else-own-opening+then-own-opening-2 w ↦ omega (arith, w.if-own-opening-2.true, own.count, q)
+    ])
 
 pub returns : goal.returns
 returns c =
