@@ -1,6 +1,6 @@
 -- A walk from size to size.
 use Rattle.std.proofs.Common.{◌≡◌, ℕ, suc, ◌+◌, ◌-◌, ◌<◌, ◌≤◌, List, [], ◌∷◌, ◌++◌, length, map, take, refl, sym, ap, ◌∙◌, subst, inl, inr, arith, Bool, true, false}
-use Rattle.std.specs.Prelude.{◌⊎◌, ◌↔◌, slice_index, nat_lt, Option, IfSome}
+use Rattle.std.specs.Prelude.{◌⊎◌, ◌↔◌, nat_lt, Option, IfSome, Result, Ok, Err, IfOk}
 use Rattle.std.proofs.lemmas.List.{map-append}
 use Rattle.cls_base.specs.Terms.{Applicative, size_of, code_of, Before}
 use Rattle.cls_base.specs.declared.rule.Rule.{Rule}
@@ -14,7 +14,7 @@ use Rattle.cls_enum.specs.States.{FitsPool}
 use Rattle.cls_enum.proofs.CellLaws.{costs_something}
 use Rattle.cls_walk.specs.Attempts.{AreDueCodes, AreFormsUpTo}
 use Rattle.cls_walk.specs.Counts.{total_below, up_below}
-use Rattle.cls_walk.specs.Filled.{forms_at, needs}
+use Rattle.cls_walk.specs.Filled.{forms_at}
 use Rattle.cls_walk.specs.Forms.{AreForms}
 use Rattle.cls_walk.specs.Fronts.{IsFront}
 use Rattle.cls_walk.specs.PageFronts.{IsDueFront, IsDueCode}
@@ -22,10 +22,11 @@ use Rattle.cls_walk.specs.Tables.{capped, number_at, Holds}
 use Rattle.cls_walk.specs.Totals.{total_held}
 use Rattle.cls_walk.specs.Walks.{IsBehind, IsWanted, Lists}
 use Rattle.cls_walk.specs.declared.cursor.Cursor.{Cursor}
+use Rattle.cls_walk.specs.declared.fault.WalkFault.{WalkFault}
 use Rattle.cls_walk.specs.declared.plan.Plan.{Plan}
 use Rattle.cls_walk.specs.declared.walk.Walk.{Walk}
 use Rattle.cls_walk.proofs.Capped.{capped-plus, capped-total}
-use Rattle.cls_walk.proofs.Filled.{filled-least, filled-one, one-filled}
+use Rattle.cls_walk.proofs.Filled.{filled-one, one-filled}
 use Rattle.cls_walk.proofs.PageFronts.{front-size, front_decides, front_is_page}
 use Rattle.cls_walk.proofs.Pools.{accepted}
 use Rattle.cls_walk.proofs.Sure.{length-size}
@@ -70,25 +71,21 @@ module _ (book : List (List (Rule ℕ))) (plan : Plan) (after : Option Applicati
         subst P (sym h.3) (record { filled = q.0; sized = q.1; behind = (c h.0 h.2).0 h.1.later })),
   )
 
-  -- what the walk lists of a size
-  pub lists-due : (cursor : Cursor) (old new : Walk) (going : Bool) (ns : List ℕ) (slack : ℕ) → ((e : Applicative) → size_of cost e ≡ size → IfSome after (λ a. Before cost a e) ↔ IsBehind cursor (code_of e)) → ns ≡ [] → slice_index plan.least.now 0 + slack ≡ size → Lists (IsWanted plan (0 ∷ ns) (needs plan.least.now (0 ∷ ns) + slack) cursor) old new going → Lists Code old new going
-  lists-due cursor old new going ns slack c p s l =
-      let P : List ℕ → Type 0 = λ ms. Lists (IsWanted plan (0 ∷ ms) (needs plan.least.now (0 ∷ ms) + slack) cursor) old new going in
-      let Q : ℕ → Type 0 = λ k. Lists (IsWanted plan (0 ∷ []) k cursor) old new going in
-      let e : needs plan.least.now (0 ∷ []) + slack ≡ size = omega (arith, s) in
-      lists-same (IsWanted plan (0 ∷ []) size cursor) Code old new going (wanted-due cursor c) (subst Q e (subst P p l))
+  -- what is listed of a size
+  lists-due : (cursor : Cursor) (old new : Walk) (going : Bool) → ((e : Applicative) → size_of cost e ≡ size → IfSome after (λ a. Before cost a e) ↔ IsBehind cursor (code_of e)) → Lists (IsWanted plan (0 ∷ []) size cursor) old new going → Lists Code old new going
+  lists-due cursor old new going c l = lists-same (IsWanted plan (0 ∷ []) size cursor) Code old new going (wanted-due cursor c) l
+
+  pub ok-due : (cursor : Cursor) (old new : Walk) (r : Result Bool WalkFault) → ((e : Applicative) → size_of cost e ≡ size → IfSome after (λ a. Before cost a e) ↔ IsBehind cursor (code_of e)) → IfOk r (Lists (IsWanted plan (0 ∷ []) size cursor) old new) → IfOk r (Lists Code old new)
+  ok-due cursor old new (Ok going) c l = lists-due cursor old new going c l
+  ok-due cursor old new (Err e) c l = tt
 
   -- terms of the size come before the cursor
   pub none-due : (old : Walk) → ((e : Applicative) → size_of cost e ≡ size → IfSome after (λ a. Before cost a e) → ⊥) → Lists Code old old true
   none-due old n = lists-none Code old (λ w h. n h.0 h.2 h.1.later)
 
-  -- terms of node 0 are greater
-  pub none-small : (old : Walk) → size < slice_index plan.least.now 0 → Lists Code old old true
-  none-small old l = lists-none Code old (λ w h.
-      let q = one-filled book cost plan.positive plan.forms.now most all-forms 0 size h.0 h.1.typed h.2 (omega (arith, within, some)) in
-      let a = filled-least plan.forms.now cost plan.least.now plan.least_sizes (0 ∷ []) (code_of h.0) q.0 in
-      let b = q.1 in
-      omega (arith, a, b, l))
+-- what holds of an answer that is there
+pub ok-at : (P : ℕ → Type 0) (r : Result ℕ WalkFault) (s : ℕ) → r ≡ Ok s → IfOk r P → P s
+ok-at P r s p h = let Q : Result ℕ WalkFault → Type 0 = λ z. IfOk z P in subst Q p h
 
 -- the terms of codes
 terms-of : (ws : List (List ℕ)) → ((w : List ℕ) → IsIn ws w → (e : Applicative) × (w ≡ code_of e)) → (es : List Applicative) × (map code_of es ≡ ws)

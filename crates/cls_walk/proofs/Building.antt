@@ -12,6 +12,7 @@ use Rattle.cls_enum.specs.Candidates.{over}
 use Rattle.cls_enum.specs.Members.{IsIn}
 use Rattle.cls_enum.proofs.Members.{in_cases}
 use Rattle.cls_walk.specs.Counts.{HeadRule, heads_of, pairs_of}
+use Rattle.cls_walk.specs.Filled.{forms_at}
 use Rattle.cls_walk.specs.Forms.{HasForm, headed, applied, IsEarlier, AreRising, AreForms}
 use Rattle.cls_walk.specs.Repeats.{IsRepeat, copies, repeated, forms_by}
 use Rattle.cls_walk.proofs.Columns.{rules-next}
@@ -83,7 +84,7 @@ none-past book n x ns l (headed c) = let P : List (Rule ℕ) → Type 0 = λ rs.
 none-past book n x ns l (applied {l = k} {m = m} c f p) = let P : List (Rule ℕ) → Type 0 = λ rs. Contains rs (Any k m) in Contains-nil (Any k m) (subst P (get_or_past book n [] l) c)
 
 pub forms-past : (book : List (List (Rule ℕ))) (most n : ℕ) → length book ≤ n → AreForms book most n []
-forms-past book most n l = record { rising = tt; each = λ h i. absurd i; all = λ x ns f m. absurd (none-past book n x ns l f) }
+forms-past book most n l = record { each = λ h i. absurd i; all = λ x ns f m. absurd (none-past book n x ns l f) }
 
 -- one form more
 pub copies-push : (ns xs new : List ℕ) (m k : ℕ) → xs ≡ ns ++ copies m k → new ≡ xs ++ m ∷ [] → new ≡ ns ++ copies m (k + 1)
@@ -119,6 +120,23 @@ rising-next fs i f g o l p q e h =
     let c = rising-push (take (i - 1) fs) f g (subst P a h) e in
     subst P (sym (b ∙ ap (λ (zs : List HeadRule). zs ++ g ∷ []) a)) c
 
+at-map : {A : Type 0} (f : A → List HeadRule) (vs : List A) (i : ℕ) (v : A) → i < length vs → v ≡ get_or vs i v → slice_index_or (map f vs) i [] ≡ f v
+at-map f [] i v l p = absurd (omega arith)
+at-map f (w ∷ vs) zero v l p = ap f (sym p)
+at-map f (w ∷ vs) (suc i) v l p = at-map f vs i v (omega arith) p
+
+-- the forms of one node more rise
+pub rises-next : {A : Type 0} (f : A → List HeadRule) (vs : List A) (forms : List (List HeadRule)) (i : ℕ) (v : A) (fs : List HeadRule) → map f vs ≡ forms → i < length vs → v ≡ get_or vs i v → fs ≡ f v → AreRising fs → ((n : ℕ) → n < i → AreRising (forms_at forms n)) → (n : ℕ) → n < i + 1 → AreRising (forms_at forms n)
+rises-next f vs forms i v fs p l q e r h n m = elim (cases_lt n i) [
+  | inl k ↦ h n k
+  | inr k ↦
+      let z : i ≡ n = omega arith in
+      let P : ℕ → Type 0 = λ j. AreRising (forms_at forms j) in
+      let Q : List (List HeadRule) → Type 0 = λ zs. AreRising (forms_at zs i) in
+      let R : List HeadRule → Type 0 = λ z. AreRising z in
+      subst P z (subst Q p (subst R (e ∙ sym (at-map f vs i v l q)) r))
+]
+
 -- one more list, each of which has the property of its place
 pub each-push : (P : ℕ → List HeadRule → Type 0) (old new : List (List HeadRule)) (x : List HeadRule) (i : ℕ) → new ≡ old ++ x ∷ [] → length old ≡ i → ((n : ℕ) → n < i → P n (slice_index_or old n [])) → P i x → (n : ℕ) → n < i + 1 → P n (slice_index_or new n [])
 each-push P old new x i p e h q n l =
@@ -152,7 +170,7 @@ pub same-length : {A B : Type 0} (f : A → B) (xs : List A) → length (map f x
 same-length f [] = refl
 same-length f (x ∷ xs) = ap suc (same-length f xs)
 
-pub forms-here : (book : List (List (Rule ℕ))) (n : ℕ) (rules : List (Rule ℕ)) (repeat : Option ℕ) (size most : ℕ) (forms : List HeadRule) → rules ≡ rules_at book n → forms ≡ forms_by repeat size rules → most + 1 ≡ size → IsRepeat n rules repeat → AreRising forms → AreForms book most n forms
-forms-here book n rules repeat size most forms p q e h r =
+pub forms-here : (book : List (List (Rule ℕ))) (n : ℕ) (rules : List (Rule ℕ)) (repeat : Option ℕ) (size most : ℕ) (forms : List HeadRule) → rules ≡ rules_at book n → forms ≡ forms_by repeat size rules → most + 1 ≡ size → IsRepeat n rules repeat → AreForms book most n forms
+forms-here book n rules repeat size most forms p q e h =
     let P : List (Rule ℕ) → Type 0 = λ rs. IsRepeat n rs repeat in
-    are_forms book n repeat size most forms (q ∙ ap (forms_by repeat size) p) e (subst P p h) r
+    are_forms book n repeat size most forms (q ∙ ap (forms_by repeat size) p) e (subst P p h)

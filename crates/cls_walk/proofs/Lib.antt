@@ -6,9 +6,11 @@ pub mod Columns
 pub mod Counts
 pub mod Endings
 pub mod Filled
+pub mod Forks
 pub mod Forms
 pub mod Fronts
 pub mod Lists
+pub mod Openings
 pub mod OrderSteps
 pub mod PageFronts
 pub mod Pools
@@ -17,6 +19,7 @@ pub mod Repeats
 pub mod Rounds
 pub mod RunSteps
 pub mod Runs
+pub mod Stacks
 pub mod Sure
 pub mod Tables
 pub mod Walks

@@ -7,7 +7,7 @@ use Rattle.cls_base.specs.Languages.{NodeRule, rules_at}
 use Rattle.cls_enum.specs.Members.{IsIn}
 use Rattle.cls_enum.proofs.Members.{in_from, in_to, in_over, over_in, in_flat_map, flat_map_in}
 use Rattle.cls_walk.specs.Counts.{HeadRule, heads_of, pairs_of}
-use Rattle.cls_walk.specs.Forms.{HasForm, headed, applied, AreRising, AreForms}
+use Rattle.cls_walk.specs.Forms.{HasForm, headed, applied, AreForms}
 use Rattle.cls_walk.specs.Repeats.{copies, IsRepeat, repeated, forms_by}
 use Rattle.cls_walk.proofs.Sure.{heads-rule, pairs-rule}
 
@@ -101,12 +101,11 @@ module _ (book : List (List (Rule ℕ))) (n : ℕ) where
       let e : (h.0, h.1 ++ copies m j) ≡ (x, ks) = λ i. (sym r.3 i, sym r.4 i) in
       flat_map_in (repeated (Some m) size) (heads_of rs) (x, ks) h r.1 (over_in size (λ u. (h.0, h.1 ++ copies m u) ∷ []) (x, ks) j (omega (arith, k, l)) (inl e))
 
-  pub are_forms : (repeat : Option ℕ) (size most : ℕ) (forms : List HeadRule) → forms ≡ forms_by repeat size rs → most + 1 ≡ size → IsRepeat n rs repeat → AreRising forms → AreForms book most n forms
-  are_forms repeat size most forms e q p o =
+  pub are_forms : (repeat : Option ℕ) (size most : ℕ) (forms : List HeadRule) → forms ≡ forms_by repeat size rs → most + 1 ≡ size → IsRepeat n rs repeat → AreForms book most n forms
+  are_forms repeat size most forms e q p =
       let P : List HeadRule → Type 0 = λ hs. (h : HeadRule) → IsIn hs h → HasForm book n h.0 h.1 in
       let Q : List HeadRule → Type 0 = λ hs. (x : ℕ) (ks : List ℕ) → HasForm book n x ks → length ks ≤ most → IsIn hs (x, ks) in
       record {
-        rising = o;
         each = subst P (sym e) (forms-each repeat size p);
         all = subst Q (sym e) (λ x ks f l. forms-all repeat size p x ks f (omega (arith, l, q)));
       }

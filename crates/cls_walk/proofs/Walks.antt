@@ -19,7 +19,7 @@ use Rattle.cls_walk.specs.declared.walk.Walk.{Walk}
 use Rattle.cls_walk.proofs.Filled.{filled-least, filled-first, first-filled, none-filled, needs-append}
 use Rattle.cls_walk.proofs.Fronts.{front-none, front-same, front-append, front-full, front-behind}
 
-true_no_false : true ≡ false → ⊥
+pub true_no_false : true ≡ false → ⊥
 true_no_false p = cc
 
 -- while the walk goes on, nothing is missing
@@ -41,7 +41,7 @@ pub lists-moved : (P : List ℕ → Type 0) (a b c d : Walk) (going : Bool) → 
 lists-moved P a b c d going p q r h = (h.0, h.1, r ∙ h.2 ∙ (λ i. sym q i ++ map (λ w. sym p i ++ w) h.0))
 
 -- some, and then those that come after them
-lists-more : (P Q : List ℕ → Type 0) (a b c : Walk) (going : Bool) → ((v w : List ℕ) → P v → Q w → Precedes v w) → b.code.items ≡ a.code.items → Lists P a b true → Lists Q b c going → Lists (λ w. P w ⊎ Q w) a c going
+pub lists-more : (P Q : List ℕ → Type 0) (a b c : Walk) (going : Bool) → ((v w : List ℕ) → P v → Q w → Precedes v w) → b.code.items ≡ a.code.items → Lists P a b true → Lists Q b c going → Lists (λ w. P w ⊎ Q w) a c going
 lists-more P Q a b c going e p h k = (
   h.0 ++ k.0,
   front-append P Q (going ≡ false) h.0 k.0 e (front-going P h.0 h.1) k.1,
@@ -52,11 +52,11 @@ lists-more P Q a b c going e p h k = (
 )
 
 -- some, and the list is full
-lists-full : (P Q : List ℕ → Type 0) (a b : Walk) → ((v w : List ℕ) → P v → Q w → Precedes v w) → Lists P a b false → Lists (λ w. P w ⊎ Q w) a b false
+pub lists-full : (P Q : List ℕ → Type 0) (a b : Walk) → ((v w : List ℕ) → P v → Q w → Precedes v w) → Lists P a b false → Lists (λ w. P w ⊎ Q w) a b false
 lists-full P Q a b e h = (h.0, front-full P Q (false ≡ false) h.0 e refl h.1, h.2)
 
 -- behind a component and a number
-lists-behind : (x k : ℕ) (P : List ℕ → Type 0) (old new in_old in_new : Walk) (going : Bool) → in_old.code.items ≡ old.code.items ++ x ∷ k ∷ [] → in_old.codes ≡ old.codes → new.codes ≡ in_new.codes → Lists P in_old in_new going → Lists (λ w. (v : List ℕ) × (w ≡ x ∷ k ∷ v) × P v) old new going
+pub lists-behind : (x k : ℕ) (P : List ℕ → Type 0) (old new in_old in_new : Walk) (going : Bool) → in_old.code.items ≡ old.code.items ++ x ∷ k ∷ [] → in_old.codes ≡ old.codes → new.codes ≡ in_new.codes → Lists P in_old in_new going → Lists (λ w. (v : List ℕ) × (w ≡ x ∷ k ∷ v) × P v) old new going
 lists-behind x k P old new in_old in_new going c o n h = (
   map (λ v. x ∷ k ∷ v) h.0,
   front-behind x k P (going ≡ false) h.0 h.1,

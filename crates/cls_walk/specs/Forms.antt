@@ -36,8 +36,7 @@ module _ (book : List (List (Rule ℕ))) where
   abbrev pub Fills : List ℕ → List ℕ → Type 0
   Fills ns w = (es : List Applicative) × AreOf ns es × (w ≡ codes_of es)
 
-  -- the forms of the node with at most so many arguments, in their order
+  -- the forms of the node with at most so many arguments
   pub record AreForms (most n : ℕ) (forms : List HeadRule) : Type 0 where
-    pub rising : AreRising forms
     pub each : (h : HeadRule) → IsIn forms h → HasForm n h.0 h.1
     pub all : (x : ℕ) (ns : List ℕ) → HasForm n x ns → length ns ≤ most → IsIn forms (x, ns)

@@ -8,10 +8,12 @@ pub mod Fronts
 pub mod Lasts
 pub mod Laws
 pub mod Least
+pub mod Openings
 pub mod Orders
 pub mod PageFronts
 pub mod Repeats
 pub mod Runs
+pub mod Stacks
 pub mod Stages
 pub mod Tables
 pub mod Totals

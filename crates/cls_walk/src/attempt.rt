@@ -1,6 +1,6 @@
 //! Makes a page by the walk, if the forms of the rule book and the upper bounds allow it.
 ghost use Rattle.std.specs.Prelude.{◌≡◌, ℕ, true, ◌+◌, ◌≤◌, ◌<◌, ◌^◌, ◌⊎◌, ◌↔◌, [], IfOk, IfSome, OnOk};
-ghost use Rattle.std.specs.Prelude.{List, length, map, nat_lt, option_copied, take};
+ghost use Rattle.std.specs.Prelude.{List, length, map, nat_lt, option_copied, take, Ok};
 ghost use Rattle.std.specs.Option.{IsNone};
 ghost use Rattle.cls_base.specs.declared.rule.Rule.{Rule};
 ghost use Rattle.cls_base.specs.Languages.{IsGenerated};
@@ -16,14 +16,15 @@ ghost use Rattle.cls_walk.specs.Filled.{EachRise};
 ghost use Rattle.cls_walk.specs.PageFronts.{IsDueCode};
 ghost use Rattle.cls_walk.specs.Walks.{IsBack, IsBehind, Lists};
 
-use crate::build::forms_of;
+use crate::build::{each_rises, forms_of};
 use crate::counted::{Counted, is_within};
 use crate::cursor::{Cursor, passed};
-use crate::form::Forms;
-use crate::least::{least_sizes, number_of};
+use crate::fault::WalkFault;
+use crate::least::least_sizes;
+use crate::listing::list_size;
 use crate::plan::Plan;
 use crate::totals::size_of_cursor;
-use crate::walk::{Walk, each_form};
+use crate::walk::Walk;
 use cls_base::{Numbers, OutOfMemory};
 use cls_enum::Page;
 use cls_rulebook::RuleBook;
@@ -57,19 +58,20 @@ fn cursor_at<'a>(after: Option<&Term>, from: u64, code: &'a [u32], size: u32) ->
 
 /// Lists the codes of the due terms of this size, and says whether to go on.
 fn walk_size(
+    alloc: Global,
     plan: &Plan,
     after: Option<&Term>,
     from: u64,
     code: &[u32],
     size: u32,
     walk: &mut Walk,
-) -> Result<bool, OutOfMemory>
+) -> Result<bool, WalkFault>
     requires some { 1 ≤ size }
     requires short { size ≤ max_term_length }
     requires start { IsStart (cost_of plan.now.costs.now) (option_copied after) from code.now }
     requires resting { (walk.old.awaited.items ≡ []) × (walk.old.code.items ≡ []) }
     requires few { length walk.old.codes ≤ plan.now.take }
-    requires rising { EachRise plan.now.forms.now }
+    requires rising { plan.now.is_rising ≡ true → EachRise plan.now.forms.now }
     ensures back { IfOk result (IsBack plan.now walk.old walk.new) }
     ensures listed { (book : List (List (Rule ℕ))) (last max : ℕ)
         → let r = request plan.now.costs.now (option_copied after.entry) max plan.now.take in
@@ -79,28 +81,25 @@ fn walk_size(
     let Some(cursor) = cursor_at(after, from, code, size) else {
         return Ok(true);
     };
-    let least = number_of(plan.least, 0);
-    if size < least {
-        return Ok(true);
-    }
-    Ok(each_form(plan, walk, 0, size - least, cursor)?)
+    list_size(alloc, plan, walk, size, cursor)
 }
 
 /// Lists the codes of the due terms size after size, until the list is full or the last size is reached. Gives the
 /// size.
 fn walk_sizes(
+    alloc: Global,
     plan: &Plan,
     after: Option<&Term>,
     from: u64,
     code: &[u32],
     last: u32,
     walk: &mut Walk,
-) -> Result<u32, OutOfMemory>
+) -> Result<u32, WalkFault>
     requires some { 1 ≤ last }
     requires short { last ≤ max_term_length }
     requires start { IsStart (cost_of plan.now.costs.now) (option_copied after) from code.now }
     requires resting { (walk.old.awaited.items ≡ []) × (walk.old.code.items ≡ []) × (walk.old.codes ≡ []) }
-    requires rising { EachRise plan.now.forms.now }
+    requires rising { plan.now.is_rising ≡ true → EachRise plan.now.forms.now }
     ensures within { IfOk result (λ size. size ≤ last) }
     ensures ends { IfOk result (λ size. (plan.now.take < length walk.new.codes) ⊎ (size ≡ last)) }
     ensures listed { (book : List (List (Rule ℕ))) (max : ℕ)
@@ -109,11 +108,11 @@ fn walk_sizes(
         → IfOk result (λ size. AreDueCodes book r (size + 1) walk.new.codes) }
 {
     for size in 1..last {
-        if !walk_size(plan, after, from, code, size, walk)? {
+        if !walk_size(alloc, plan, after, from, code, size, walk)? {
             return Ok(size);
         }
     }
-    let _going = walk_size(plan, after, from, code, last, walk)?;
+    let _going = walk_size(alloc, plan, after, from, code, last, walk)?;
     Ok(last)
 }
 
@@ -139,6 +138,17 @@ fn code_of_cursor(alloc: Global, after: Option<&Term>) -> Result<Numbers, OutOfM
     match after {
         None => Ok(Numbers::new(Vec::new(alloc))),
         Some(token) => Ok(token.code(alloc)?),
+    }
+}
+
+/// None where there were too many stacks.
+fn unless_many(sizes: Result<u32, WalkFault>) -> Result<Option<u32>, OutOfMemory>
+    ensures { IfOk result (λ answer. IfSome answer (λ size. sizes ≡ Ok size)) }
+{
+    match sizes {
+        Ok(size) => Ok(Some(size)),
+        Err(WalkFault::TooManyStacks) => Ok(None),
+        Err(WalkFault::OutOfMemory) => Err(OutOfMemory),
     }
 }
 
@@ -173,16 +183,21 @@ pub(crate) fn walk_page<B: RuleBook>(
         return Ok(None);
     };
     let least = least_sizes(alloc, costs, &forms, last + 1)?;
+    let is_rising = each_rises(&forms);
     let plan = Plan {
         costs,
         forms: &forms,
         least: &least,
         take,
+        is_rising,
     };
     let code = code_of_cursor(alloc, after)?;
     let mut walk = Walk::new(alloc);
     let from = size_of_cursor(costs, after);
-    let size = walk_sizes(&plan, after, from, code.as_slice(), last, &mut walk)?;
+    let sizes = walk_sizes(alloc, &plan, after, from, code.as_slice(), last, &mut walk);
+    let Some(size) = unless_many(sizes)? else {
+        return Ok(None);
+    };
     let is_known = walk.codes.len() > take as usize || size == max_size;
     if !is_known || !is_within(&counted.table, size, book.count(), pool) {
         return Ok(None);

@@ -1,5 +1,5 @@
 //! The forms of the nodes of a rule book. They are made only for books in which a node has at most one pair of nodes,
-//! of itself and another node, and in which no two forms of a node begin alike. So each code has one derivation.
+//! of itself and another node.
 ghost use Rattle.std.specs.Prelude.{◌≡◌, ℕ, ◌++◌, ◌∷◌, [], true, IfOk, IfSome, OnOk, List};
 ghost use Rattle.cls_base.specs.declared.rule.Rule.{Rule};
 ghost use Rattle.cls_walk.specs.Counts.{HeadRule};
@@ -150,8 +150,7 @@ pub(crate) fn forms_of<B: RuleBook>(
     book: &B,
     size: u32,
 ) -> Result<Option<Forms>, OutOfMemory>
-    ensures forms { IfOk result (λ answer. IfSome answer (λ forms. AreFormsUpTo (B.book book.now) size forms)) }
-    ensures rising { IfOk result (λ answer. IfSome answer EachRise) }
+    ensures { IfOk result (λ answer. IfSome answer (λ forms. AreFormsUpTo (B.book book.now) size forms)) }
 {
     let mut nodes = Vec::new(alloc);
     for node in 0..book.count() {
@@ -160,10 +159,19 @@ pub(crate) fn forms_of<B: RuleBook>(
             return Ok(None);
         };
         let forms = node_forms(alloc, rules, repeat, size)?;
-        if !are_rising(forms.as_slice()) {
-            return Ok(None);
-        }
         nodes.push(forms)?;
     }
     Ok(Some(Forms { nodes }))
+}
+
+/// Whether each form of each node is earlier than the next. Then each code has one derivation.
+pub(crate) fn each_rises(forms: &Forms) -> bool
+    ensures { result ≡ true → EachRise forms.now }
+{
+    for node in &forms.nodes {
+        if !are_rising(node.as_slice()) {
+            return false;
+        }
+    }
+    true
 }

@@ -6,14 +6,15 @@ ghost use Rattle.cls_walk.specs.Filled.{AreLeast};
 use crate::form::Forms;
 use cls_base::Numbers;
 
-/// The costs of the components, the forms of each node, a size than which no term of a node is smaller, and how many
-/// codes are wanted.
+/// The costs of the components, the forms of each node, a size than which no term of a node is smaller, how many codes
+/// are wanted, and whether the forms of each node are known to rise.
 #[derive(Clone, Copy)]
 pub(crate) struct Plan<'a> {
     pub(crate) costs: &'a Numbers,
     pub(crate) forms: &'a Forms,
     pub(crate) least: &'a Numbers,
     pub(crate) take: u32,
+    pub(crate) is_rising: bool,
     pub ghost positive: { (x : ℕ) → 1 ≤ cost_of costs.now x },
     pub ghost least_sizes: { AreLeast forms.now (cost_of costs.now) least.now },
 }

@@ -1,0 +1,6 @@
+use Rattle.std.proofs.Common.{arith}
+use Rattle.cls_walk.proofs.Forks.{none-small}
+use Rattle.cls_walk.proofs.listing.list_size.Goals as goal
+
+pub returns-then-size-least-clause-listed : goal.returns-then-size-least-clause-listed
+returns-then-size-least-clause-listed c = none-small c.args.plan.now c.args.size c.args.cursor c.args.walk.now (omega (arith, c.if-size-least.true, c.number_of-least.ensures))

@@ -1,0 +1,37 @@
+-- How codes begin: with a component and its number of arguments.
+use Rattle.std.specs.Prelude.{ℕ, ◌≡◌, ◌<◌, ◌≤◌, ◌⊎◌, List, length, Option, None, Some, IfSome}
+use Rattle.cls_enum.specs.Members.{IsIn}
+use Rattle.cls_walk.specs.Counts.{HeadRule}
+use Rattle.cls_walk.specs.declared.opening.Opening.{Opening}
+
+-- codes that begin with the opening come before those that begin with this component and number
+abbrev pub IsBelow : Opening → ℕ → ℕ → Type 0
+IsBelow o x k = (o.component < x) ⊎ ((o.component ≡ x) × (o.count < k))
+
+-- or the opening is this component and number
+abbrev pub IsAtMost : Opening → ℕ → ℕ → Type 0
+IsAtMost o x k = (o.component < x) ⊎ ((o.component ≡ x) × (o.count ≤ k))
+
+-- they come after the last opening, where there is one
+abbrev pub ComesAfter : Option Opening → ℕ → ℕ → Type 0
+ComesAfter last x k = IfSome last (λ l. IsBelow l x k)
+
+-- the opening is there, and is not later than these
+abbrev pub IsReached : Option Opening → ℕ → ℕ → Type 0
+IsReached None x k = ⊥
+IsReached (Some o) x k = IsAtMost o x k
+
+-- the last opening is there, and is not earlier than these
+abbrev pub IsDone : Option Opening → ℕ → ℕ → Type 0
+IsDone None x k = ⊥
+IsDone (Some o) x k = (x < o.component) ⊎ ((x ≡ o.component) × (k ≤ o.count))
+
+-- one of the forms begins so
+abbrev pub OpensOne : List HeadRule → ℕ → ℕ → Type 0
+OpensOne hs x k = (h : HeadRule) × IsIn hs h × (h.0 ≡ x) × (length h.1 ≡ k)
+
+-- The opening comes after the last one, and none with P that comes after the last one is earlier. If it is missing, none
+-- with P comes after the last one.
+pub record IsEarliest (P : ℕ → ℕ → Type 0) (last best : Option Opening) : Type 0 where
+  pub after : IfSome best (λ b. ComesAfter last b.component b.count)
+  pub reached : (x k : ℕ) → P x k → ComesAfter last x k → IsReached best x k

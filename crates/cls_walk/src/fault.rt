@@ -1,0 +1,28 @@
+//! Why a walk ends without an answer.
+use cls_base::OutOfMemory;
+use std::alloc::{AllocError, AllocFailed};
+
+/// Out of memory, or more stacks in a set than are kept.
+#[derive(Clone, Copy, Debug)]
+pub(crate) enum WalkFault {
+    OutOfMemory,
+    TooManyStacks,
+}
+
+impl From<OutOfMemory> for WalkFault {
+    fn from(_: OutOfMemory) -> WalkFault {
+        WalkFault::OutOfMemory
+    }
+}
+
+impl From<AllocError> for WalkFault {
+    fn from(_: AllocError) -> WalkFault {
+        WalkFault::OutOfMemory
+    }
+}
+
+impl<T: Drop> From<AllocFailed<T>> for WalkFault {
+    fn from(_: AllocFailed<T>) -> WalkFault {
+        WalkFault::OutOfMemory
+    }
+}

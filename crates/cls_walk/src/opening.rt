@@ -1,0 +1,31 @@
+//! How codes begin.
+ghost use Rattle.std.specs.Prelude.{◌≡◌, ◌<◌, ◌^◌, length};
+
+use crate::form::Form;
+
+/// A component and its number of arguments. That they are small is said for the prover alone: so the openings that come
+/// after one another end.
+#[derive(Clone, Copy)]
+pub(crate) struct Opening {
+    pub(crate) component: u32,
+    pub(crate) count: u32,
+    pub ghost small: { (component < 2 ^ 32) × (count < 2 ^ 32) },
+}
+
+impl Opening {
+    /// The opening of this component and number.
+    fn new(component: u32, count: u32) -> Opening
+        ensures component { result.component ≡ component }
+        ensures count { result.count ≡ count }
+    {
+        Opening { component, count }
+    }
+}
+
+/// How the codes by the form begin.
+pub(crate) fn opening_of(form: &Form) -> Opening
+    ensures component { result.component ≡ form.now.0 }
+    ensures count { result.count ≡ length form.now.1 }
+{
+    Opening::new(form.component, form.count)
+}
