@@ -20,8 +20,8 @@ goal-requires g c =
 pub returns-clause-filed : goal.returns-clause-filed
 returns-clause-filed g c = elim c.match-file.branch [
   | in-Ok-Kept w ↦ subst (λ r. OnOk r (IsFiledAt c.file.new.self.rows c.args.row)) (sym w.result-is)
-        (let o = rw w.in-Ok-Kept.field-0-is at w.in-Ok-Kept.ensures.outcome in
-        file-filed g.E.Goal.PartialEq.eq c.args.self.now c.file.new.self c.args.worker c.args.row _ c.requires.held o.1)
+      (let o = rw w.in-Ok-Kept.field-0-is at w.in-Ok-Kept.ensures.outcome in
+      file-filed g.E.Goal.PartialEq.eq c.args.self.now c.file.new.self c.args.worker c.args.row _ c.requires.held o.1)
   | in-Ok-OverLimits w ↦ subst (λ r. OnOk r (IsFiledAt c.file.new.self.rows c.args.row)) (sym w.result-is) tt
   | in-Err w ↦ subst (λ r. OnOk r (IsFiledAt c.file.new.self.rows c.args.row)) (sym w.result-is) tt
 ]
