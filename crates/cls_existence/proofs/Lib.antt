@@ -19,4 +19,5 @@ pub mod Spelling
 pub mod Takings
 pub mod Templates
 pub mod Transcripts
+pub mod Variables
 pub mod Verdicts

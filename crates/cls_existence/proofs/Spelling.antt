@@ -4,11 +4,11 @@ use Rattle.cls_base.specs.Types as types
 use Rattle.cls_base.specs.Types.{ClosedType}
 use Rattle.cls_base.specs.Schemas as schema
 use Rattle.cls_base.specs.Schemas.{OpenType}
-use Rattle.cls_syntax.specs.ClosedTypes.{opened, HasNoVariable, HasNoDollar, Spells}
+use Rattle.cls_syntax.specs.ClosedTypes.{opened, HasNoDollar, Spells}
 use Rattle.cls_syntax.specs.TypeSchemas.{type_schema, meet_schema, product_schema, atom_schema}
 use Rattle.cls_syntax.specs.TypeTexts.{TypeText, MeetText, ProductText, AtomText, only_meet, arrow, only_product, meet, only_atom, product, named, applied, variable, inside, type_words}
 use Rattle.cls_syntax.specs.TypeTexts as grammar
-use Rattle.cls_syntax.proofs.Variables.{no_variable}
+use Rattle.cls_existence.proofs.Variables.{HasNoVariable, no_variable}
 
 opened_closed : (t : ClosedType) → HasNoVariable (opened t)
 opened_closed types.omega = tt
