@@ -1,12 +1,11 @@
 -- Steps of the walk over sets of stacks.
-use Rattle.std.proofs.Common.{◌≡◌, ℕ, zero, suc, ◌+◌, ◌*◌, ◌-◌, ◌^◌, ◌<◌, ◌≤◌, List, [], ◌∷◌, ◌++◌, length, map, take, refl, sym, ap, ◌∙◌, subst, inl, inr, arith, append-nil, Bool, true, false}
+use Rattle.std.proofs.Common.{◌≡◌, ℕ, zero, suc, ◌+◌, ◌*◌, ◌-◌, ◌^◌, ◌<◌, List, [], ◌∷◌, ◌++◌, length, refl, sym, ap, ◌∙◌, subst, inl, inr, arith, append-nil, Bool, true, false}
 use Rattle.std.specs.Prelude.{◌⊎◌, ◌↔◌, Option, None, Some, Result, Ok, Err, IfOk, slice_index, slice_index_or}
 use Rattle.cls_base.specs.Terms.{Precedes}
 use Rattle.cls_term.specs.Costs.{cost_of}
 use Rattle.cls_enum.specs.Members.{IsIn}
-use Rattle.cls_walk.specs.Counts.{HeadRule}
-use Rattle.cls_walk.specs.Filled.{code_size, forms_at, needs, IsFilled}
-use Rattle.cls_walk.specs.Openings.{ComesAfter, IsAtMost, IsDone, IsEarliest, IsReached}
+use Rattle.cls_walk.specs.Filled.{code_size, forms_at, IsFilled}
+use Rattle.cls_walk.specs.Openings.{ComesAfter, IsEarliest}
 use Rattle.cls_walk.specs.Stacks.{AreAdded, IsNext, IsNextOf, IsWantedOf, IsWantedTo, IsWantedWith, Opens, OpensOf, Stands}
 use Rattle.cls_walk.specs.Walks.{IsBehind, IsWanted, Lists}
 use Rattle.cls_walk.specs.declared.cursor.Cursor.{Cursor}

@@ -1,6 +1,5 @@
-use Rattle.std.proofs.Common.{◌≡◌, ◌+◌, ◌-◌, ◌++◌, ◌∷◌, [], ℕ, List, Bool, true, false, ap, append_assoc, arith, length, refl, sym, subst, ◌∙◌}
+use Rattle.std.proofs.Common.{◌-◌, ◌++◌, ◌∷◌, [], ℕ, List, true, false, ap, append_assoc, arith, refl, subst, ◌∙◌}
 use Rattle.std.specs.Prelude.{Some}
-use Rattle.cls_term.specs.Costs.{cost_of}
 use Rattle.cls_walk.specs.Stacks.{IsWantedOf, IsWantedWith}
 use Rattle.cls_walk.specs.Walks.{Lists}
 use Rattle.cls_walk.specs.declared.walk.Walk.{Walk}

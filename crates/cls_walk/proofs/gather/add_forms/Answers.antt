@@ -1,5 +1,5 @@
 use Rattle.std.proofs.Common.{arith, drop, length, take, ◌-◌}
-use Rattle.cls_walk.proofs.Stacks.{added-first, added-form, added-start, first-rest}
+use Rattle.cls_walk.proofs.Stacks.{added-first, added-form, first-rest}
 use Rattle.cls_walk.proofs.gather.add_forms.Goals as goal
 
 pub loop-form-preserved : goal.loop-form-preserved

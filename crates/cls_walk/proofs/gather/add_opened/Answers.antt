@@ -1,6 +1,5 @@
-use Rattle.std.proofs.Common.{◌≡◌, ◌++◌, ◌∷◌, [], List, ℕ, arith, length, sym, ◌∙◌}
-use Rattle.std.specs.Prelude.{OnOk}
-use Rattle.cls_walk.specs.Stacks.{AreAdded, IsNextBy}
+use Rattle.std.proofs.Common.{◌≡◌, ◌++◌, ◌∷◌, [], arith, length}
+use Rattle.cls_walk.specs.Stacks.{IsNextBy}
 use Rattle.cls_walk.proofs.Stacks.{added-closed, added-opened, ok-added}
 use Rattle.cls_walk.proofs.gather.add_opened.Goals as goal
 use Rattle.cls_walk.proofs.gather.add_opened.Goals.{then-own-opening-via-then-own-opening, then-own-opening-via-else-own-opening+then-own-opening-2}

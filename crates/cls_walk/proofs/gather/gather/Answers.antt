@@ -1,7 +1,7 @@
-use Rattle.std.proofs.Common.{◌≡◌, ◌<◌, List, ℕ, arith, ap, length, subst, sym, ◌∙◌, []}
+use Rattle.std.proofs.Common.{◌≡◌, ◌<◌, List, ℕ, arith, ap, length, subst, ◌∙◌, []}
 use Rattle.std.specs.Prelude.{slice_index_or}
 use Rattle.cls_walk.specs.Stacks.{AreAdded, IsNext, IsNextOf}
-use Rattle.cls_walk.proofs.Stacks.{added-none, added-stack, front-at}
+use Rattle.cls_walk.proofs.Stacks.{added-stack, front-at}
 use Rattle.cls_walk.proofs.gather.gather.Goals as goal
 
 pub loop-place-preserved : goal.loop-place-preserved

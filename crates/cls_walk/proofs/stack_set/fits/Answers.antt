@@ -1,4 +1,4 @@
-use Rattle.std.proofs.Common.{arith, ap, ◌∙◌}
+use Rattle.std.proofs.Common.{arith, ◌∙◌}
 use Rattle.cls_walk.proofs.Rounds.{size-next}
 use Rattle.cls_walk.proofs.stack_set.fits.Goals as goal
 
