@@ -1,6 +1,11 @@
-//! Tests of the crates of text: lines and tokens, types, terms and templates. There is nothing here but tests.
+//! Tests of the crates of text: lines and tokens, forms of lines, types, terms and templates. There is nothing here but
+//! tests.
 #![tactic(auto)]
 
+#[cfg(test)]
+mod form_faults;
+#[cfg(test)]
+mod forms;
 #[cfg(test)]
 mod template_tests;
 #[cfg(test)]
