@@ -25,11 +25,7 @@ mod sink;
 mod source;
 mod sure;
 mod taxa;
-#[cfg(test)]
-mod tests;
 mod ty;
-#[cfg(test)]
-mod type_tests;
 
 pub use gate::{Gate, OpenGate};
 pub use key::Key;

@@ -11,8 +11,6 @@ pub mod laws;
 mod right;
 mod sizes;
 mod steps;
-#[cfg(test)]
-mod tests;
 mod walk;
 
 pub use answer::{FiniteAnswer, MAX_FINITE_SIZE};

@@ -12,3 +12,5 @@ mod goals;
 mod grammars;
 #[cfg(test)]
 mod tests;
+#[cfg(test)]
+mod walk_tests;

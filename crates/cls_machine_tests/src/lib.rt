@@ -16,6 +16,8 @@ mod renumbering;
 mod table_tests;
 #[cfg(test)]
 mod tests;
+#[cfg(test)]
+mod turn_tests;
 
 pub use heap::{Heap, Node};
 pub use meeting::Meeting;

@@ -8,8 +8,6 @@
 pub mod laws;
 mod omega_book;
 mod rule_book;
-#[cfg(test)]
-mod tests;
 
 pub use omega_book::OmegaBook;
 pub use rule_book::RuleBook;

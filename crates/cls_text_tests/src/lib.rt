@@ -1,11 +1,15 @@
-//! Tests of the crates of text: lines and tokens, forms of lines, types, terms and templates. There is nothing here but
-//! tests.
+//! Tests of the crates of text: sources and sinks, lines and tokens, forms of lines, types, terms and templates. There is
+//! nothing here but tests.
 #![tactic(auto)]
 
 #[cfg(test)]
 mod form_faults;
 #[cfg(test)]
 mod forms;
+#[cfg(test)]
+mod memory_tests;
+#[cfg(test)]
+mod spread_tests;
 #[cfg(test)]
 mod template_tests;
 #[cfg(test)]

@@ -14,8 +14,6 @@
 mod rule;
 mod seat;
 mod tagged;
-#[cfg(test)]
-mod tests;
 mod turn;
 
 pub use seat::TurnSeat;

@@ -1,0 +1,62 @@
+use cls_base::{Name, Schema, Ty};
+use std::alloc::Global;
+use std::test::Fail;
+
+fn name(alloc: Global, number: u32) -> Result<Ty, Fail> {
+    Ok(Ty::Con(Name(number), Box::new(alloc, Ty::Omega)?))
+}
+
+fn meet(alloc: Global, left: Ty, right: Ty) -> Result<Ty, Fail> {
+    let left = Box::new(alloc, left)?;
+    Ok(Ty::Meet(left, Box::new(alloc, right)?))
+}
+
+fn arrow(alloc: Global, source: Ty, target: Ty) -> Result<Ty, Fail> {
+    let source = Box::new(alloc, source)?;
+    Ok(Ty::Arrow(source, Box::new(alloc, target)?))
+}
+
+/// The intersection of three names.
+fn three(alloc: Global) -> Result<Ty, Fail> {
+    let pair = meet(alloc, name(alloc, 0)?, name(alloc, 1)?)?;
+    Ok(meet(alloc, pair, name(alloc, 2)?)?)
+}
+
+/// So many arrows over one another, each into the intersection of three names.
+fn tower(alloc: Global, height: u32) -> Result<Ty, Fail> {
+    let mut ty = three(alloc)?;
+    for _ in 0..height {
+        ty = arrow(alloc, ty, three(alloc)?)?;
+    }
+    Ok(ty)
+}
+
+#[test]
+fn spread_of_towers(rt: HostRuntime) -> Result<(), Fail> {
+    for (height, spread) in [
+        (0, 3),
+        (1, 15),
+        (7, 13_119),
+        (8, 39_363),
+        (10, 354_291),
+        (11, 1_000_001),
+        (60, 1_000_001),
+    ] {
+        let ty = tower(rt.alloc(), height)?;
+        assert!(rt; ty.spread() == spread);
+        let copy = ty.copy(rt.alloc())?;
+        assert!(rt; copy.order(&ty).is_eq());
+        assert!(rt; tower(rt.alloc(), 3)?.order(&ty).is_eq() == (height == 3));
+    }
+    Ok(())
+}
+
+#[test]
+fn a_schema_is_copied(rt: HostRuntime) -> Result<(), Fail> {
+    let alloc = rt.alloc();
+    let variable = Box::new(alloc, Schema::Var(Name(3)))?;
+    let schema = Schema::Con(Name(1), variable);
+    let copy = schema.copy(alloc)?;
+    assert!(rt; matches!(copy, Schema::Con(Name(1), _)));
+    Ok(())
+}
