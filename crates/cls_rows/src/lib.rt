@@ -13,6 +13,8 @@ mod examples;
 #[cfg(test)]
 mod faults;
 #[cfg(test)]
+mod form_faults;
+#[cfg(test)]
 mod generated;
 #[cfg(test)]
 mod grammars;

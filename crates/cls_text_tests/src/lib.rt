@@ -1,11 +1,7 @@
-//! Tests of the crates of text: sources and sinks, lines and tokens, forms of lines, types, terms and templates. There is
+//! Tests of the crates of text: sources and sinks, lines and tokens, types, terms and templates. There is
 //! nothing here but tests.
 #![tactic(auto)]
 
-#[cfg(test)]
-mod form_faults;
-#[cfg(test)]
-mod forms;
 #[cfg(test)]
 mod memory_tests;
 #[cfg(test)]
