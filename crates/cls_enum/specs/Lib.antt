@@ -9,4 +9,5 @@ pub mod Members
 pub mod Plans
 pub mod Requests
 pub mod States
+pub mod Shelves
 pub mod Stocks

@@ -99,3 +99,8 @@ AreWhole book cost cell s = (t : ℕ) → t ≤ s → (n : ℕ) (e : Applicative
 -- what the place says stays, or it says one more
 abbrev pub IsExtended : (ℕ → ℕ → List Applicative) → ℕ → List Place → ℕ → List ℕ → List ℕ → Type 0
 IsExtended cell node others s old new = (new ≡ old) ⊎ ((length old ≡ s) × (b : ℕ) × (new ≡ old ++ b ∷ []) × ((t : ℕ) → t ≤ s → (a : Applicative) → IsIn (cell t node) a → b ≤ length_of a + after others (s - t)) × (b ≤ max_term_length + 1))
+
+-- what holds of the old for sizes below s holds of the new for one size more, where the cells have every short term
+abbrev pub GoesOn : {A : Type 0} → (List (List (Rule ℕ)) → (ℕ → ℕ) → ℕ → A → Type 0) → (ℕ → ℕ → List Applicative) → ℕ → A → A → Type 0
+GoesOn Holds cell s old new =
+    (book : List (List (Rule ℕ))) (cost : ℕ → ℕ) → AreWhole book cost cell s → Holds book cost s old → Holds book cost (s + 1) new

@@ -1,4 +1,4 @@
-ghost use Rattle.std.specs.Prelude.{◌≡◌, ℕ, ◌<◌, ◌^◌, IfOk, List, length};
+ghost use Rattle.std.specs.Prelude.{◌≡◌, ◌<◌, ◌^◌, IfOk, List, length};
 ghost use Rattle.cls_base.specs.Terms.{component, Applicative};
 ghost use Rattle.cls_term.specs.Banks.{at};
 ghost use Rattle.cls_enum.specs.Begins.{begun_term, IsBegun};

@@ -1,12 +1,12 @@
-ghost use Rattle.std.specs.Prelude.{◌≡◌, ℕ, ◌+◌, ◌-◌, ◌<◌, ◌≤◌, ◌^◌, IfOk, List, length, map};
-ghost use Rattle.cls_base.specs.declared.rule.Rule.{Rule};
+ghost use Rattle.std.specs.Prelude.{◌≡◌, ℕ, ◌+◌, ◌-◌, ◌<◌, ◌≤◌, ◌^◌, IfOk, length, map};
 ghost use Rattle.cls_base.specs.Limits.{max_term_length};
 ghost use Rattle.cls_base.specs.Terms.{length_of, Applicative};
 ghost use Rattle.cls_term.specs.Banks.{at};
 ghost use Rattle.cls_base.specs.Lists.{AreBelow};
 ghost use Rattle.cls_enum.specs.CellTables.{cell_at, cell_of};
 ghost use Rattle.cls_enum.specs.Members.{IsIn};
-ghost use Rattle.cls_enum.specs.Plans.{after, nodes_of, rule_of, rules_of, places_of, book_of, AreBounds, AreReady, IsReady, AllReady, AreWhole, IsExtended};
+ghost use Rattle.cls_enum.specs.Plans.{after, nodes_of, rule_of, rules_of, book_of, AreBounds, AreReady, IsReady};
+ghost use Rattle.cls_enum.specs.Plans.{AllReady, GoesOn, IsExtended};
 
 use crate::cells::Cells;
 use crate::plan::{NodePlans, Place, Plan};
@@ -42,10 +42,12 @@ fn least_after(places: &[Place], rest: u32) -> u32
     }
 }
 
-/// How many occurrences each of the terms has together with terms at the places whose sizes come to `rest` at least, or `TOO_LONG`.
+/// How many occurrences each of the terms has together with terms at the places whose sizes come to `rest` at least,
+/// or `TOO_LONG`.
 fn least_with(bank: &Bank, numbers: &[u32], places: &[Place], rest: u32) -> u32
     requires { AreBelow (length bank.now) numbers.now }
-    ensures least { (a : Applicative) → IsIn (map (at bank.now) numbers.now) a → result ≤ length_of a + after places.now rest }
+    ensures least { (a : Applicative) → IsIn (map (at bank.now) numbers.now) a
+        → result ≤ length_of a + after places.now rest }
     ensures small { result < 256 }
 {
     let others = least_after(places, rest);
@@ -55,11 +57,13 @@ fn least_with(bank: &Bank, numbers: &[u32], places: &[Place], rest: u32) -> u32
     shortest(bank, numbers) + others
 }
 
-/// How many occurrences a term of the node and terms at the places have together at least, where their sizes come to `size`.
+/// How many occurrences a term of the node and terms at the places have together at least, where their sizes come to
+/// `size`.
 fn least_of(bank: &Bank, cells: &Cells, node: u32, places: &[Place], size: u32) -> u8
     requires below { (t n : ℕ) → AreBelow (length bank.now) (cell_at cells.now t n) }
     requires small { size < 2 ^ 31 }
-    ensures least { (t : ℕ) → t ≤ size → (a : Applicative) → IsIn (cell_of bank.now cells.now t node) a → result ≤ length_of a + after places.now (size - t) }
+    ensures least { (t : ℕ) → t ≤ size → (a : Applicative) → IsIn (cell_of bank.now cells.now t node) a
+        → result ≤ length_of a + after places.now (size - t) }
     ensures small { result ≤ max_term_length + 1 }
 {
     let mut least = TOO_LONG;
@@ -81,7 +85,8 @@ fn extended_least(
 ) -> Result<Vec<u8>, OutOfMemory>
     requires below { (t n : ℕ) → AreBelow (length bank.now) (cell_at cells.now t n) }
     requires small { size < 2 ^ 31 }
-    ensures { IfOk result (λ new. IsExtended (cell_of bank.now cells.now) place.now.node others.now size place.now.least.items new.items) }
+    ensures { IfOk result (λ new. IsExtended (cell_of bank.now cells.now)
+        place.now.node others.now size place.now.least.items new.items) }
 {
     let mut least = place.least.as_slice().to_vec(alloc)?;
     if least.len() as u64 == u64::from(size) {
@@ -101,7 +106,7 @@ fn extended_places(
     requires below { (t n : ℕ) → AreBelow (length bank.now) (cell_at cells.now t n) }
     requires small { size < 2 ^ 31 }
     ensures nodes { IfOk result (λ new. nodes_of new.items ≡ nodes_of places.now) }
-    ensures bounds { IfOk result (λ new. (b : List (List (Rule ℕ))) (cost : ℕ → ℕ) → AreWhole b cost (cell_of bank.now cells.now) size → AreBounds b cost size places.now → AreBounds b cost (size + 1) new.items) }
+    ensures bounds { IfOk result (λ new. GoesOn AreBounds (cell_of bank.now cells.now) size places.now new.items) }
 {
     let Some((place, others)) = places.split_first() else {
         return Ok(Vec::new(alloc));
@@ -124,7 +129,7 @@ fn extended_plan(
     requires below { (t n : ℕ) → AreBelow (length bank.now) (cell_at cells.now t n) }
     requires small { size < 2 ^ 31 }
     ensures rule { IfOk result (λ new. rule_of new ≡ rule_of plan.now) }
-    ensures ready { IfOk result (λ new. (b : List (List (Rule ℕ))) (cost : ℕ → ℕ) → AreWhole b cost (cell_of bank.now cells.now) size → IsReady b cost size plan.now → IsReady b cost (size + 1) new) }
+    ensures ready { IfOk result (λ new. GoesOn IsReady (cell_of bank.now cells.now) size plan.now new) }
 {
     match plan {
         Plan::Head(head, cost, places) => {
@@ -148,7 +153,7 @@ fn extended_node(
     requires below { (t n : ℕ) → AreBelow (length bank.now) (cell_at cells.now t n) }
     requires small { size < 2 ^ 31 }
     ensures rules { IfOk result (λ new. rules_of new.items ≡ rules_of plans.now) }
-    ensures ready { IfOk result (λ new. (b : List (List (Rule ℕ))) (cost : ℕ → ℕ) → AreWhole b cost (cell_of bank.now cells.now) size → AreReady b cost size plans.now → AreReady b cost (size + 1) new.items) }
+    ensures ready { IfOk result (λ new. GoesOn AreReady (cell_of bank.now cells.now) size plans.now new.items) }
 {
     let mut new = Vec::new(alloc);
     for plan in plans {
@@ -168,7 +173,7 @@ fn extended(
     requires below { (t n : ℕ) → AreBelow (length bank.now) (cell_at cells.now t n) }
     requires small { size < 2 ^ 31 }
     ensures book { IfOk result (λ new. book_of new.items ≡ book_of plans.now) }
-    ensures ready { IfOk result (λ new. (b : List (List (Rule ℕ))) (cost : ℕ → ℕ) → AreWhole b cost (cell_of bank.now cells.now) size → AllReady b cost size plans.now → AllReady b cost (size + 1) new.items) }
+    ensures ready { IfOk result (λ new. GoesOn AllReady (cell_of bank.now cells.now) size plans.now new.items) }
 {
     let mut new = Vec::new(alloc);
     for node in plans {
@@ -190,7 +195,7 @@ pub(crate) fn next_plans(
     requires below { (t n : ℕ) → AreBelow (length bank.now) (cell_at cells.now t n) }
     requires small { size < 2 ^ 31 }
     ensures book { IfOk result (λ new. book_of new.items ≡ book_of plans.items) }
-    ensures ready { IfOk result (λ new. (b : List (List (Rule ℕ))) (cost : ℕ → ℕ) → AreWhole b cost (cell_of bank.now cells.now) size → AllReady b cost size plans.items → AllReady b cost (size + 1) new.items) }
+    ensures ready { IfOk result (λ new. GoesOn AllReady (cell_of bank.now cells.now) size plans.items new.items) }
 {
     if wide {
         extended(alloc, bank, cells, size, plans.as_slice())

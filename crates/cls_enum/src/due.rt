@@ -1,5 +1,4 @@
-ghost use Rattle.std.specs.Prelude.{◌≡◌, ◌++◌, OnOk, map, option_copied};
-ghost use Rattle.std.specs.List.{filter};
+ghost use Rattle.std.specs.Prelude.{◌≡◌, OnOk, map, option_copied};
 ghost use Rattle.cls_base.specs.Terms.{size_of, Applicative};
 ghost use Rattle.cls_term.specs.Banks.{at};
 ghost use Rattle.cls_term.specs.Costs.{cost_of};
@@ -21,8 +20,11 @@ pub(crate) fn add_due(
     asked: &Asked,
     due: &mut Vec<u32>,
 ) -> Result<(), OutOfMemory>
-    requires sized { (e : Applicative) → IsIn (map (at bank.now) numbers.now) e → size_of (cost_of asked.now.costs.now) e ≡ size }
-    ensures { OnOk result (due.new.items ≡ due_after node (λ n. later (cost_of asked.now.costs.now) (option_copied asked.now.after) (at bank.now n)) due.old.items numbers.now) }
+    requires sized { (e : Applicative) → IsIn (map (at bank.now) numbers.now) e
+        → size_of (cost_of asked.now.costs.now) e ≡ size }
+    ensures { OnOk result (due.new.items ≡ due_after node
+        (λ n. later (cost_of asked.now.costs.now) (option_copied asked.now.after) (at bank.now n))
+        due.old.items numbers.now) }
 {
     if node > 0 {
         return Ok(());

@@ -1,15 +1,12 @@
-ghost use Rattle.std.specs.Prelude.{◌≡◌, ℕ, ◌+◌, ◌<◌, ◌≤◌, ◌^◌, IfOk, IfErr, List, [], ◌∷◌, length, map};
-ghost use Rattle.std.specs.List.{flat_map};
+ghost use Rattle.std.specs.Prelude.{◌+◌, ◌<◌, ◌≤◌, ◌^◌, IfOk, IfErr, [], ◌∷◌, length};
 ghost use Rattle.cls_base.specs.Limits.{max_term_length};
-ghost use Rattle.cls_base.specs.Terms.{apply, length_of};
+ghost use Rattle.cls_base.specs.Terms.{length_of};
 ghost use Rattle.cls_term.specs.Banks.{at, term_by};
 ghost use Rattle.cls_base.specs.Lists.{AreBelow};
 ghost use Rattle.cls_enum.specs.Begins.{begun_term, IsAsBefore, IsBegun};
-ghost use Rattle.cls_enum.specs.Candidates.{fills};
-ghost use Rattle.cls_enum.specs.Faults.{IfTooMany};
-ghost use Rattle.cls_enum.specs.Members.{AreFound, IsAdded, IsOverfull};
-ghost use Rattle.cls_enum.specs.Plans.{nodes_of, ArePruned};
-ghost use Rattle.cls_enum.specs.Stocks.{stocked};
+ghost use Rattle.cls_enum.specs.Members.{AreFound};
+ghost use Rattle.cls_enum.specs.Plans.{ArePruned};
+ghost use Rattle.cls_enum.specs.Stocks.{stocked, filled, applied_filled, Finds, FindsTooMany};
 
 use crate::PageFault;
 use crate::begun::Begun;
@@ -18,7 +15,8 @@ use crate::stock::Stock;
 use cls_term::SpineSet;
 use std::alloc::Global;
 
-/// Finds what a head, applied to the arguments that it has, makes of terms at the places in turn whose sizes come to `rest`.
+/// Finds what a head, applied to the arguments that it has, makes of terms at the places in turn whose sizes come to
+/// `rest`.
 #[cycle(fill)]
 pub(crate) fn fill(
     alloc: Global,
@@ -33,9 +31,11 @@ pub(crate) fn fill(
     requires small { rest < 2 ^ 31 }
     requires pruned { ArePruned (stocked stock.now) places.now }
     requires found { AreFound stock.now.bank.now found.old }
-    ensures added { IfOk result (λ _. IsAdded stock.now.bank.now found.old (fills (stocked stock.now) (begun_term stock.now.bank.now begun.old) (nodes_of places.now) rest) found.new) }
+    ensures added { IfOk result (λ _. Finds stock.now found.old found.new
+        (filled stock.now places.now rest (begun_term stock.now.bank.now begun.old))) }
     ensures same { IfOk result (λ _. IsAsBefore begun.old begun.new) }
-    ensures over { IfErr result (λ fault. IfTooMany fault (IsOverfull stock.now.limit (map (term_by stock.now.bank.now) found.old) (fills (stocked stock.now) (begun_term stock.now.bank.now begun.old) (nodes_of places.now) rest))) }
+    ensures over { IfErr result (FindsTooMany stock.now found.old
+        (filled stock.now places.now rest (begun_term stock.now.bank.now begun.old))) }
 {
     if is_barren(places, rest, begun.occurrences) {
         return Ok(());
@@ -68,9 +68,11 @@ fn fill_each(
     requires small { rest < 2 ^ 31 }
     requires pruned { ArePruned (stocked stock.now) places.now }
     requires found { AreFound stock.now.bank.now found.old }
-    ensures added { IfOk result (λ _. IsAdded stock.now.bank.now found.old (flat_map (λ a. fills (stocked stock.now) (apply (begun_term stock.now.bank.now begun.old) a) (nodes_of places.now) rest) (map (at stock.now.bank.now) numbers.now)) found.new) }
+    ensures added { IfOk result (λ _. Finds stock.now found.old found.new
+        (applied_filled stock.now places.now rest (begun_term stock.now.bank.now begun.old) numbers.now)) }
     ensures same { IfOk result (λ _. IsAsBefore begun.old begun.new) }
-    ensures over { IfErr result (λ fault. IfTooMany fault (IsOverfull stock.now.limit (map (term_by stock.now.bank.now) found.old) (flat_map (λ a. fills (stocked stock.now) (apply (begun_term stock.now.bank.now begun.old) a) (nodes_of places.now) rest) (map (at stock.now.bank.now) numbers.now)))) }
+    ensures over { IfErr result (FindsTooMany stock.now found.old
+        (applied_filled stock.now places.now rest (begun_term stock.now.bank.now begun.old) numbers.now)) }
 {
     if is_barren(places, rest, begun.occurrences + 1) {
         return Ok(());
@@ -97,8 +99,9 @@ fn add(
     requires args { AreBelow (length stock.now.bank.now) args.now }
     requires short { length_of (term_by stock.now.bank.now (head, args.now)) ≤ max_term_length }
     requires found { AreFound stock.now.bank.now found.old }
-    ensures added { IfOk result (λ _. IsAdded stock.now.bank.now found.old (term_by stock.now.bank.now (head, args.now) ∷ []) found.new) }
-    ensures over { IfErr result (λ fault. IfTooMany fault (IsOverfull stock.now.limit (map (term_by stock.now.bank.now) found.old) (term_by stock.now.bank.now (head, args.now) ∷ []))) }
+    ensures added { IfOk result (λ _.
+        Finds stock.now found.old found.new (term_by stock.now.bank.now (head, args.now) ∷ [])) }
+    ensures over { IfErr result (FindsTooMany stock.now found.old (term_by stock.now.bank.now (head, args.now) ∷ [])) }
 {
     let _count = stock.bank.count();
     found.insert(alloc, head, args)?;

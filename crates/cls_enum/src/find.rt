@@ -1,13 +1,11 @@
-ghost use Rattle.std.specs.Prelude.{◌≡◌, ℕ, ◌-◌, ◌<◌, ◌≤◌, ◌^◌, IfOk, IfErr, List, [], ◌∷◌, length, map};
-ghost use Rattle.std.specs.List.{flat_map};
+ghost use Rattle.std.specs.Prelude.{◌-◌, ◌<◌, ◌^◌, IfOk, IfErr, [], length};
 ghost use Rattle.cls_base.specs.Terms.{component};
-ghost use Rattle.cls_term.specs.Banks.{at, term_by};
+ghost use Rattle.cls_term.specs.Banks.{at};
 ghost use Rattle.cls_base.specs.Lists.{AreBelow};
-ghost use Rattle.cls_enum.specs.Candidates.{over, fills};
-ghost use Rattle.cls_enum.specs.Faults.{IfTooMany};
-ghost use Rattle.cls_enum.specs.Members.{AreFound, IsAdded, IsOverfull};
-ghost use Rattle.cls_enum.specs.Plans.{nodes_of, places_of, ArePruned, PlansPruned, plan_terms, plan_candidates};
-ghost use Rattle.cls_enum.specs.Stocks.{stocked};
+ghost use Rattle.cls_enum.specs.Candidates.{over};
+ghost use Rattle.cls_enum.specs.Members.{AreFound};
+ghost use Rattle.cls_enum.specs.Plans.{places_of, ArePruned, PlansPruned, plan_terms, plan_candidates};
+ghost use Rattle.cls_enum.specs.Stocks.{stocked, filled, each_filled, node_filled, Finds, FindsTooMany};
 
 use crate::PageFault;
 use crate::begun::Begun;
@@ -26,8 +24,9 @@ pub(crate) fn find(
 ) -> Result<SpineSet, PageFault>
     requires small { size < 2 ^ 31 }
     requires pruned { PlansPruned (stocked stock.now) plans.now }
-    ensures added { IfOk result (λ found. IsAdded stock.now.bank.now [] (plan_candidates (stocked stock.now) size plans.now) found) }
-    ensures over { IfErr result (λ fault. IfTooMany fault (IsOverfull stock.now.limit [] (plan_candidates (stocked stock.now) size plans.now))) }
+    ensures added { IfOk result (λ found.
+        Finds stock.now [] found (plan_candidates (stocked stock.now) size plans.now)) }
+    ensures over { IfErr result (FindsTooMany stock.now [] (plan_candidates (stocked stock.now) size plans.now)) }
 {
     let mut found = SpineSet::new(alloc);
     for plan in plans {
@@ -47,8 +46,9 @@ fn find_of(
     requires small { size < 2 ^ 31 }
     requires pruned { ArePruned (stocked stock.now) (places_of plan.now) }
     requires found { AreFound stock.now.bank.now found.old }
-    ensures added { IfOk result (λ _. IsAdded stock.now.bank.now found.old (plan_terms (stocked stock.now) size plan.now) found.new) }
-    ensures over { IfErr result (λ fault. IfTooMany fault (IsOverfull stock.now.limit (map (term_by stock.now.bank.now) found.old) (plan_terms (stocked stock.now) size plan.now))) }
+    ensures added { IfOk result (λ _.
+        Finds stock.now found.old found.new (plan_terms (stocked stock.now) size plan.now)) }
+    ensures over { IfErr result (FindsTooMany stock.now found.old (plan_terms (stocked stock.now) size plan.now)) }
 {
     match plan {
         Plan::Head(head, cost, places) => {
@@ -74,8 +74,9 @@ fn find_applied_head(
     requires small { rest < 2 ^ 31 }
     requires pruned { ArePruned (stocked stock.now) places.now }
     requires found { AreFound stock.now.bank.now found.old }
-    ensures added { IfOk result (λ _. IsAdded stock.now.bank.now found.old (fills (stocked stock.now) (component head) (nodes_of places.now) rest) found.new) }
-    ensures over { IfErr result (λ fault. IfTooMany fault (IsOverfull stock.now.limit (map (term_by stock.now.bank.now) found.old) (fills (stocked stock.now) (component head) (nodes_of places.now) rest))) }
+    ensures added { IfOk result (λ _.
+        Finds stock.now found.old found.new (filled stock.now places.now rest (component head))) }
+    ensures over { IfErr result (FindsTooMany stock.now found.old (filled stock.now places.now rest (component head))) }
 {
     let mut begun = Begun::from_head(alloc, head);
     fill(alloc, stock, &mut begun, places, rest, found)
@@ -93,8 +94,9 @@ fn find_applied_node(
     requires small { size < 2 ^ 31 }
     requires pruned { ArePruned (stocked stock.now) places.now }
     requires found { AreFound stock.now.bank.now found.old }
-    ensures added { IfOk result (λ _. IsAdded stock.now.bank.now found.old (over size (λ t. flat_map (λ f. fills (stocked stock.now) f (nodes_of places.now) (size - t)) (stocked stock.now t left))) found.new) }
-    ensures over { IfErr result (λ fault. IfTooMany fault (IsOverfull stock.now.limit (map (term_by stock.now.bank.now) found.old) (over size (λ t. flat_map (λ f. fills (stocked stock.now) f (nodes_of places.now) (size - t)) (stocked stock.now t left))))) }
+    ensures added { IfOk result (λ _.
+        Finds stock.now found.old found.new (node_filled stock.now places.now size left)) }
+    ensures over { IfErr result (FindsTooMany stock.now found.old (node_filled stock.now places.now size left)) }
 {
     for smaller in 0..size {
         let numbers = stock.cells.get(smaller, left);
@@ -116,8 +118,9 @@ fn find_applied(
     requires small { rest < 2 ^ 31 }
     requires pruned { ArePruned (stocked stock.now) places.now }
     requires found { AreFound stock.now.bank.now found.old }
-    ensures added { IfOk result (λ _. IsAdded stock.now.bank.now found.old (flat_map (λ f. fills (stocked stock.now) f (nodes_of places.now) rest) (map (at stock.now.bank.now) numbers.now)) found.new) }
-    ensures over { IfErr result (λ fault. IfTooMany fault (IsOverfull stock.now.limit (map (term_by stock.now.bank.now) found.old) (flat_map (λ f. fills (stocked stock.now) f (nodes_of places.now) rest) (map (at stock.now.bank.now) numbers.now)))) }
+    ensures added { IfOk result (λ _.
+        Finds stock.now found.old found.new (each_filled stock.now places.now rest numbers.now)) }
+    ensures over { IfErr result (FindsTooMany stock.now found.old (each_filled stock.now places.now rest numbers.now)) }
 {
     if is_barren(places, rest, 1) {
         return Ok(());

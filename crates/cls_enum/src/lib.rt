@@ -1,13 +1,13 @@
 //! Pages: the next terms of the start of a rule book, each once, in order.
 //!
-//! - [`page`] gives a [`Page`] of the terms of any rule book after any term, or says that more terms would have to be held
-//!   than are allowed.
+//! - [`page`] gives a [`Page`] of the terms of any rule book after any term, or says that more terms would have to be
+//!   held than are allowed.
 //! - [`laws`] says that each request has its page, and a size that decides it.
 //!
-//! The algorithm is a bottom-up enumeration by size with hash-consing. Terms are made size after size, those of the start
-//! first. The terms of one size of a node are found as spines over the numbers of a bank of terms, then put into the bank,
-//! which has each term once, and sorted by their codes. A lower bound on the length prunes what leads to no term that is
-//! short enough.
+//! The algorithm is a bottom-up enumeration by size with hash-consing. Terms are made size after size, those of the
+//! start first. The terms of one size of a node are found as spines over the numbers of a bank of terms, then put
+//! into the bank, which has each term once, and sorted by their codes. A lower bound on the length prunes what leads
+//! to no term that is short enough.
 #![tactic(auto)]
 
 mod asked;

@@ -28,9 +28,11 @@ pub(crate) fn make(
     requires small { size < 2 ^ 31 }
     requires pruned { PlansPruned (cell_of bank.old cells.now) plans.now }
     ensures grown { IfOk result (λ _. IsGrown bank.old bank.new) }
-    ensures cell { IfOk result (λ numbers. IsCell bank.new (plan_candidates (cell_of bank.old cells.now) size plans.now) numbers.items) }
+    ensures cell { IfOk result (λ numbers.
+        IsCell bank.new (plan_candidates (cell_of bank.old cells.now) size plans.now) numbers.items) }
     ensures within { IfOk result (λ numbers. length numbers.items ≤ limit) }
-    ensures over { IfErr result (λ fault. IfTooMany fault (IsOverfull limit [] (plan_candidates (cell_of bank.old cells.now) size plans.now))) }
+    ensures over { IfErr result (λ fault. IfTooMany fault
+        (IsOverfull limit [] (plan_candidates (cell_of bank.old cells.now) size plans.now))) }
 {
     let stock = Stock { bank, cells, limit };
     let found = find(alloc, &stock, plans, size)?;

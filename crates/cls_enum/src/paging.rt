@@ -1,4 +1,5 @@
-ghost use Rattle.std.specs.Prelude.{◌≡◌, ℕ, ◌+◌, ◌<◌, ◌≤◌, ◌^◌, IfOk, IfErr, IfSome, All, length, map, nat_lt, option_copied, take};
+ghost use Rattle.std.specs.Prelude.{◌≡◌, ℕ, ◌+◌, ◌<◌, ◌≤◌, ◌^◌, IfOk, IfErr, IfSome, length, map, nat_lt};
+ghost use Rattle.std.specs.Prelude.{option_copied, take};
 ghost use Rattle.cls_base.specs.Limits.{max_term_size};
 ghost use Rattle.cls_base.specs.Languages.{IsGenerated};
 ghost use Rattle.cls_base.specs.Pages.{IsPage};
@@ -9,7 +10,8 @@ ghost use Rattle.cls_enum.specs.Asking.{asked_request};
 ghost use Rattle.cls_enum.specs.Faults.{IfTooMany};
 ghost use Rattle.cls_enum.specs.Plans.{book_of, AllReady};
 ghost use Rattle.cls_enum.specs.Requests.{request};
-ghost use Rattle.cls_enum.specs.States.{IsDone, IsKept, ExceedsPool, IsOverfullAt, FitsPool};
+ghost use Rattle.cls_enum.specs.States.{ExceedsPool, FitsPool};
+ghost use Rattle.cls_enum.specs.Shelves.{IsMadeTo, HasPage, AreTooManyAt, NeedsTooMany};
 
 use crate::PageFault;
 use crate::asked::Asked;
@@ -33,10 +35,10 @@ fn collect(
     requires some { 0 < length plans.items }
     requires few { length plans.items < 2 ^ 32 }
     requires ready { AllReady (book_of plans.items) (cost_of asked.now.costs.now) 0 plans.items }
-    requires kept { IsKept (book_of plans.items) (asked_request asked.now) 0 0 shelf.old.bank shelf.old.cells shelf.old.due.items shelf.old.total }
+    requires kept { IsMadeTo plans.items asked.now 0 0 shelf.old }
     requires within { shelf.old.total ≤ asked.now.pool }
-    ensures done { IfOk result (λ _. IsDone (book_of plans.items) (asked_request asked.now) shelf.new.bank shelf.new.due.items asked.now.pool) }
-    ensures over { IfErr result (λ fault. IfTooMany fault (ExceedsPool (book_of plans.items) (asked_request asked.now) asked.now.pool)) }
+    ensures done { IfOk result (λ _. HasPage plans.items asked.now shelf.new) }
+    ensures over { IfErr result (NeedsTooMany plans.items asked.now) }
 {
     let wide = is_wide(plans.as_slice());
     let mut current = plans;
@@ -65,12 +67,12 @@ fn make_others(
     requires some { 0 < length plans.now }
     requires few { length plans.now < 2 ^ 32 }
     requires ready { AllReady (book_of plans.now) (cost_of asked.now.costs.now) size plans.now }
-    requires kept { IsKept (book_of plans.now) (asked_request asked.now) size 1 shelf.old.bank shelf.old.cells shelf.old.due.items shelf.old.total }
+    requires kept { IsMadeTo plans.now asked.now size 1 shelf.old }
     requires within { shelf.old.total ≤ asked.now.pool }
-    ensures kept { IfOk result (λ _. IsKept (book_of plans.now) (asked_request asked.now) (size + 1) 0 shelf.new.bank shelf.new.cells shelf.new.due.items shelf.new.total) }
+    ensures kept { IfOk result (λ _. IsMadeTo plans.now asked.now (size + 1) 0 shelf.new) }
     ensures within { IfOk result (λ _. shelf.new.total ≤ asked.now.pool) }
     ensures same { IfOk result (λ _. length shelf.new.due.items ≡ length shelf.old.due.items) }
-    ensures over { IfErr result (λ fault. IfTooMany fault (IsOverfullAt (book_of plans.now) (asked_request asked.now) (size + 1) 0 asked.now.pool)) }
+    ensures over { IfErr result (AreTooManyAt plans.now asked.now (size + 1) 0) }
 {
     for node in 1..plans.len() as u32 {
         make_node(alloc, asked, plans, node, size, shelf)?;
@@ -78,13 +80,13 @@ fn make_others(
     Ok(())
 }
 
-/// The first `take` terms of the start of a rule book that come after the token, where there is one, and have size at most
-/// `max_size` and length at most `MAX_TERM_LENGTH`, in the order by size and code, each once; and whether there is a further one. A component
-/// that has no cost in the list costs 1. The token needn't be a term of the book.
+/// The first `take` terms of the start of a rule book that come after the token, where there is one, and have size at
+/// most `max_size` and length at most `MAX_TERM_LENGTH`, in the order by size and code, each once; and whether there
+/// is a further one. A component that has no cost in the list costs 1. The token needn't be a term of the book.
 ///
-/// `TooManyTerms` comes if and only if more than `pool` terms have to be held: all of all nodes that are smaller than the
-/// deciding size, with those of the start that have it. The deciding size is the least one at which the page is known to
-/// be full with a further term behind it, or `max_size`.
+/// `TooManyTerms` comes if and only if more than `pool` terms have to be held: all of all nodes that are smaller than
+/// the deciding size, with those of the start that have it. The deciding size is the least one at which the page is
+/// known to be full with a further term behind it, or `max_size`.
 pub fn page<B: RuleBook>(
     alloc: Global,
     book: &B,
@@ -98,9 +100,12 @@ pub fn page<B: RuleBook>(
     requires some { 1 ≤ take }
     requires costs { (x : ℕ) → 1 ≤ cost_of costs.now x }
     requires token { IfSome (option_copied after) (λ a. length_of a < 2 ^ 32) }
-    ensures page { IfOk result (λ p. IsPage (IsGenerated (B.book book.now) 0) (request costs.now (option_copied after.entry) max_size take) p.terms p.more) }
-    ensures within { IfOk result (λ _. FitsPool (B.book book.now) (request costs.now (option_copied after.entry) max_size take) pool) }
-    ensures over { IfErr result (λ fault. IfTooMany fault (ExceedsPool (B.book book.now) (request costs.now (option_copied after.entry) max_size take) pool)) }
+    ensures page { IfOk result (λ p. IsPage (IsGenerated (B.book book.now) 0)
+        (request costs.now (option_copied after.entry) max_size take) p.terms p.more) }
+    ensures within { IfOk result (λ _. FitsPool (B.book book.now)
+        (request costs.now (option_copied after.entry) max_size take) pool) }
+    ensures over { IfErr result (λ fault. IfTooMany fault (ExceedsPool (B.book book.now)
+        (request costs.now (option_copied after.entry) max_size take) pool)) }
 {
     let plans = plans(alloc, book, costs)?;
     let asked = Asked {
@@ -120,9 +125,10 @@ fn list(alloc: Global, asked: &Asked, plans: Vec<NodePlans>) -> Result<Page, Pag
     requires some { 0 < length plans.items }
     requires few { length plans.items < 2 ^ 32 }
     requires ready { AllReady (book_of plans.items) (cost_of asked.now.costs.now) 0 plans.items }
-    ensures page { IfOk result (λ p. IsPage (IsGenerated (book_of plans.items) 0) (asked_request asked.now) p.terms p.more) }
+    ensures page { IfOk result (λ p.
+        IsPage (IsGenerated (book_of plans.items) 0) (asked_request asked.now) p.terms p.more) }
     ensures within { IfOk result (λ _. FitsPool (book_of plans.items) (asked_request asked.now) asked.now.pool) }
-    ensures over { IfErr result (λ fault. IfTooMany fault (ExceedsPool (book_of plans.items) (asked_request asked.now) asked.now.pool)) }
+    ensures over { IfErr result (NeedsTooMany plans.items asked.now) }
 {
     let mut shelf = Shelf {
         bank: Bank::new(alloc),

@@ -1,7 +1,8 @@
-ghost use Rattle.std.specs.Prelude.{◌≡◌, ℕ, List, ◌<◌, ◌^◌, ◌↔◌, IfOk, IsTrue, length, map, slice_index};
+ghost use Rattle.std.specs.Prelude.{◌≡◌, ℕ, List, ◌<◌, ◌^◌, ◌↔◌, IfOk, IsTrue, length, slice_index};
 ghost use Rattle.cls_base.specs.declared.rule.Rule.{Rule};
 ghost use Rattle.cls_term.specs.Costs.{cost_of};
-ghost use Rattle.cls_enum.specs.Plans.{IsBarren, AllReady, AreReady, AreFree, IsReady, book_of, nodes_of, rule_of, rules_of};
+ghost use Rattle.cls_enum.specs.Plans.{IsBarren, AllReady, AreReady, AreFree, IsReady, book_of, nodes_of, rule_of};
+ghost use Rattle.cls_enum.specs.Plans.{rules_of};
 
 use cls_base::limits::MAX_TERM_LENGTH;
 use cls_base::{Numbers, OutOfMemory, Rule};
@@ -9,8 +10,8 @@ use cls_rulebook::RuleBook;
 use std::alloc::Global;
 use std::marker::Model;
 
-/// A place for an argument: the node of its terms, and for each rest of the size how many occurrences the terms from here on
-/// have together at least, or one more than a term may have if there are none.
+/// A place for an argument: the node of its terms, and for each rest of the size how many occurrences the terms from
+/// here on have together at least, or one more than a term may have if there are none.
 #[derive(Drop)]
 pub(crate) struct Place {
     pub(crate) node: u32,
@@ -106,7 +107,8 @@ pub(crate) fn plans<B: RuleBook>(
 /// The plans of rules.
 fn node_plans(alloc: Global, rules: &[Rule<u32>], costs: &Numbers) -> Result<Vec<Plan>, OutOfMemory>
     ensures rules { IfOk result (λ plans. rules_of plans.items ≡ rules.now) }
-    ensures ready { IfOk result (λ plans. (b : List (List (Rule ℕ))) (s : ℕ) → AreReady b (cost_of costs.now) s plans.items) }
+    ensures ready { IfOk result (λ plans. (b : List (List (Rule ℕ))) (s : ℕ)
+        → AreReady b (cost_of costs.now) s plans.items) }
 {
     let mut plans = Vec::new(alloc);
     for rule in rules {

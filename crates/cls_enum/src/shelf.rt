@@ -1,10 +1,7 @@
-ghost use Rattle.std.specs.Prelude.{◌≡◌, ◌+◌, ◌<◌, ◌≤◌, IfOk, IfErr, length, map};
-ghost use Rattle.cls_term.specs.Banks.{at};
+ghost use Rattle.std.specs.Prelude.{◌≡◌, ◌+◌, ◌<◌, ◌≤◌, IfOk, IfErr, length};
 ghost use Rattle.cls_term.specs.Costs.{cost_of};
-ghost use Rattle.cls_enum.specs.Asking.{asked_request};
-ghost use Rattle.cls_enum.specs.Faults.{IfTooMany};
 ghost use Rattle.cls_enum.specs.Plans.{book_of, AllReady};
-ghost use Rattle.cls_enum.specs.States.{IsKept, IsOverfullAt};
+ghost use Rattle.cls_enum.specs.Shelves.{IsMadeTo, AreTooManyAt};
 
 use crate::PageFault;
 use crate::asked::Asked;
@@ -36,12 +33,12 @@ pub(crate) fn make_node(
     requires size { size ≤ asked.now.max }
     requires node { node < length plans.now }
     requires ready { AllReady (book_of plans.now) (cost_of asked.now.costs.now) size plans.now }
-    requires kept { IsKept (book_of plans.now) (asked_request asked.now) size node shelf.old.bank shelf.old.cells shelf.old.due.items shelf.old.total }
+    requires kept { IsMadeTo plans.now asked.now size node shelf.old }
     requires within { shelf.old.total ≤ asked.now.pool }
-    ensures kept { IfOk result (λ _. IsKept (book_of plans.now) (asked_request asked.now) size (node + 1) shelf.new.bank shelf.new.cells shelf.new.due.items shelf.new.total) }
+    ensures kept { IfOk result (λ _. IsMadeTo plans.now asked.now size (node + 1) shelf.new) }
     ensures within { IfOk result (λ _. shelf.new.total ≤ asked.now.pool) }
     ensures same { 0 < node → IfOk result (λ _. length shelf.new.due.items ≡ length shelf.old.due.items) }
-    ensures over { IfErr result (λ fault. IfTooMany fault (IsOverfullAt (book_of plans.now) (asked_request asked.now) size (node + 1) asked.now.pool)) }
+    ensures over { IfErr result (AreTooManyAt plans.now asked.now size (node + 1)) }
 {
     let node_plans = &plans[node as usize];
     let numbers = make(
