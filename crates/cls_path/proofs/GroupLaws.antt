@@ -1,5 +1,5 @@
 -- Paths in groups, each made less by itself.
-use Rattle.std.proofs.Common.{◌≡◌, refl, sym, ◌∙◌, ap, subst, ℕ, zero, suc, ◌+◌, ◌<◌, ◌≤◌, Bool, true, false, cond, ◌||◌, List, [], ◌∷◌, ◌++◌, length, map, Some, None, ◌⊎◌, ◌↔◌, inl, inr, arith, rules}
+use Rattle.std.proofs.Common.{◌≡◌, refl, sym, ◌∙◌, ap, subst, ℕ, zero, suc, ◌+◌, ◌<◌, ◌≤◌, Bool, true, false, cond, ◌||◌, List, [], ◌∷◌, ◌++◌, length, map, Some, None, ◌⊎◌, ◌↔◌, inl, inr, arith}
 use Rattle.std.specs.Prelude.{Contains, slice_set, slice_index_or, nat_lt}
 use Rattle.std.specs.List.{IsDistinct, AllByRecursion, position, position_or_len, list_any}
 use Rattle.std.specs.List.Sorted.{IsPermutation, IsSortedBy}
@@ -17,8 +17,8 @@ use Rattle.cls_base.specs.Taxonomies.{Variance}
 use Rattle.cls_base.specs.Taxa.{Below}
 use Rattle.cls_path.specs.declared.label.GroupKey.{GroupKey}
 use Rattle.cls_path.specs.declared.label.Mask.{Mask}
-use Rattle.cls_path.specs.Paths.{TypePath, Paths, none, more, PathLe, PathsLe, InPaths, Suits, SuitsAll, listed, append, type_of_paths}
-use Rattle.cls_path.specs.NormalForms.{PathBefore, LeadsAntichain, IsCanonicalPath, IsCanonical, EachCanonical, IsNormal, IsNormalForm}
+use Rattle.cls_path.specs.Paths.{TypePath, none, PathLe, PathsLe, InPaths, Suits, SuitsAll, listed, type_of_paths}
+use Rattle.cls_path.specs.NormalForms.{PathBefore, LeadsAntichain, IsCanonical, EachCanonical, IsNormalForm}
 use Rattle.cls_path.specs.PathOrder.{path_order}
 use Rattle.cls_path.specs.OrderLaws.{path_order_total, order_same}
 use Rattle.cls_path.specs.Tests.{path_below}

@@ -39,9 +39,9 @@ impl Model for Group {
     ghost view = { λ g. g.paths.items };
 }
 
-/// The paths that no other one is below, each once, in no order. With 2 `rounds` they are grouped by the classes of their
-/// heads, and each group then has one round: by the spans that are one number in the labels of all its paths. With none,
-/// as in groups of few paths, they are compared pairwise. The only error is out of memory.
+/// The paths that no other one is below, each once, in no order. If no two have one key, they are left as they are. Else, with
+/// 2 `rounds`, they are grouped by the classes of their heads, and each group then has one round: by the spans that are one
+/// number in all its labels. With none, as in groups of few paths, they are compared pairwise. The only error is out of memory.
 pub(crate) fn reduced<T: Taxa>(
     alloc: Global,
     taxa: &T,

@@ -105,8 +105,7 @@ impl Taxonomy {
         ensures chain { IsTrue result ↔ Chain self.now.pairs lower.0 upper.0 }
         ensures order { IsOrder self.now }
     {
-        lower.0 == upper.0
-            || is_under(&self.below, &self.places, lower.0, upper.0)
+        lower.0 == upper.0 || is_under(&self.below, &self.places, lower.0, upper.0)
     }
 }
 

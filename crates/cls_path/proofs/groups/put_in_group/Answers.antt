@@ -1,6 +1,6 @@
 use Rattle.std.proofs.Common.{rules, arith, ℕ, ◌≡◌, sym, ap, ◌∙◌, subst, ◌<◌, ◌++◌, ◌∷◌, [], length, List, Some, false, ◌⊎◌, ◌↔◌}
 use Rattle.std.specs.Prelude.{slice_set, slice_index_or, if◌then◌else◌, is_some}
-use Rattle.std.specs.List.{position, position_or_len, list_any}
+use Rattle.std.specs.List.{position, list_any}
 use Rattle.std.proofs.lemmas.List.{get_or_default}
 use Rattle.cls_path.specs.Paths.{TypePath}
 use Rattle.cls_path.specs.declared.label.GroupKey.{GroupKey}
