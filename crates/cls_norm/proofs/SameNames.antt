@@ -1,5 +1,5 @@
 -- Where a type has a covariant name, it has one that is below it.
-use Rattle.std.proofs.Common.{◌≡◌, refl, subst, ℕ, List, [], ◌∷◌, inl, inr, Bor, Bool}
+use Rattle.std.proofs.Common.{◌≡◌, refl, subst, ℕ, List, [], ◌∷◌, inl, inr, Bor}
 use Rattle.std.specs.Prelude.{◌==◌}
 use Rattle.cls_base.specs.Types as types
 use Rattle.cls_base.specs.Types.{ClosedType, constructor, product, arrow, meet}

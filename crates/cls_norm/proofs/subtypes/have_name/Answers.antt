@@ -1,5 +1,3 @@
-use Rattle.std.proofs.Common.{refl, sym, ◌∙◌}
-use Rattle.std.proofs.lemmas.Bool.{false≢true}
 use Rattle.cls_base.specs.Taxa.{Below}
 use Rattle.cls_norm.proofs.SameNames.{same_in_all}
 use Rattle.cls_norm.proofs.subtypes.have_name.Goals as goal
