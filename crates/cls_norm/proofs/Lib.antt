@@ -5,3 +5,5 @@ pub mod Sizes
 pub mod SmallTypes
 pub mod Steps
 pub mod Uppers
+mod SameNames
+mod Sums

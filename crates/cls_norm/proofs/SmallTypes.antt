@@ -1,10 +1,11 @@
 -- A type of few nodes is fit: its spread is below 2 to the power of its nodes.
-use Rattle.std.proofs.Common.{◌≡◌, ℕ, zero, suc, ◌+◌, ◌*◌, ◌^◌, ◌≤◌, ◌<◌, max, min, ◌∙◌, ap, sym, arith}
+use Rattle.std.proofs.Common.{◌≡◌, ℕ, zero, suc, ◌+◌, ◌*◌, ◌^◌, ◌≤◌, ◌<◌, ◌∙◌, ap, arith}
 use Rattle.std.proofs.Math.Nat.{mul-le-mul_left, mul-le-mul_right, two-pow-succ}
 use Rattle.std.proofs.Math.Pow.{pow-lt}
 use Rattle.std.proofs.lemmas.Nat.{pow-add}
 use Rattle.cls_base.specs.Types.{ClosedType, constructor, product, arrow, meet, nodes, path_count, spread}
 use Rattle.cls_base.specs.Types as types
+use Rattle.cls_base.specs.Measures.{capped}
 use Rattle.cls_base.proofs.Depths.{open_at_within_nodes}
 use Rattle.cls_norm.specs.Fit.{IsFit, up_to_fit}
 
@@ -88,3 +89,14 @@ few_are_fit t h =
       shallow = let d = open_at_within_nodes 0 t in omega (arith, d);
       narrow = let s = spread-below t in let p = pow-lt {i = nodes t} {j = 14} (omega arith) in omega (arith, s, p);
     }
+
+-- a type of not so few nodes and a small spread is fit, as it is no deeper than it has nodes
+pub narrow_are_fit : (t : ClosedType) → up_to_fit (nodes t) ≤ 64 → capped (spread t) ≤ 16384 → IsFit t
+narrow_are_fit t h s = record {
+  few = omega arith;
+  shallow = let d = open_at_within_nodes 0 t in omega (arith, d);
+  narrow = omega arith;
+}
+
+pub wide_is_unfit : (t : ClosedType) → 16384 < capped (spread t) → IsFit t → ⊥
+wide_is_unfit t h f = let n = f.narrow in absurd (omega arith)

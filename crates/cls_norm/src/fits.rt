@@ -4,6 +4,7 @@ ghost use Rattle.cls_path.specs.Paths.{type_of_path, type_of_paths, listed};
 ghost use Rattle.cls_norm.specs.Fit.{IsFit, up_to_fit};
 
 use crate::types::type_of;
+use crate::weights::list_weight;
 use cls_base::OutOfMemory;
 use cls_base::limits::{MAX_TYPE_DEPTH, MAX_TYPE_NODES, MAX_TYPE_SPREAD};
 use cls_path::{Form, Nf, Path};
@@ -17,7 +18,8 @@ const FEW: u64 = 13;
 
 /// Whether the type of the normal form keeps the limits of nodes, depth and spread. The only error is out of memory.
 ///
-/// The nodes are counted first, so no type of many nodes is made, however long the list, nor one of few.
+/// The nodes are counted first, so no type of many nodes is made, however long the list. None is made for the spread, nor
+/// for the depth of a type of few nodes, as it is no deeper than it has nodes.
 pub fn fit(alloc: Global, nf: &Nf) -> Result<bool, OutOfMemory>
     ensures { IfOk result (λ answer. IsTrue answer ↔ IsFit (type_of_paths (listed nf.now))) }
 {
@@ -28,8 +30,15 @@ pub fn fit(alloc: Global, nf: &Nf) -> Result<bool, OutOfMemory>
     if nodes == TOO_MANY {
         return Ok(false);
     }
+    let (_, spread) = list_weight(nf);
+    if spread > MAX_TYPE_SPREAD {
+        return Ok(false);
+    }
+    if nodes <= MAX_TYPE_DEPTH {
+        return Ok(true);
+    }
     let ty = type_of(alloc, nf)?;
-    Ok(ty.depth() <= MAX_TYPE_DEPTH && ty.spread() <= MAX_TYPE_SPREAD)
+    Ok(ty.depth() <= MAX_TYPE_DEPTH)
 }
 
 /// The number of nodes of the type of the list, or [`TOO_MANY`] if there are more.

@@ -10,6 +10,7 @@ mod normals;
 mod paths;
 mod subtypes;
 mod types;
+mod weights;
 
 pub use fits::fit;
 pub use normals::normal;

@@ -36,7 +36,7 @@ pub(crate) fn paths_of<T: Taxa>(alloc: Global, taxa: &T, ty: &Ty) -> Result<Vec<
             let source = paths_of(alloc, taxa, source)?;
             let source = Nf::from_paths(alloc, taxa, source)?;
             let target = paths_of(alloc, taxa, target)?;
-            Ok(from_source(alloc, &source, target)?)
+            Ok(from_source(alloc, source, target)?)
         }
         Ty::Meet(first, second) => {
             let first = paths_of(alloc, taxa, first)?;
@@ -107,15 +107,19 @@ fn put_right(alloc: Global, paths: Vec<Path>, sides: &mut Vec<Path>) -> Result<(
     Ok(())
 }
 
-/// Each path behind a copy of the source.
-fn from_source(alloc: Global, source: &Nf, paths: Vec<Path>) -> Result<Vec<Path>, OutOfMemory>
-    ensures { IfOk result (λ arrows. arrows.items ≡ map (function (listed source.now)) paths.items) }
+/// Each path behind the source, which the last one takes and the others copy.
+fn from_source(alloc: Global, source: Nf, mut paths: Vec<Path>) -> Result<Vec<Path>, OutOfMemory>
+    ensures { IfOk result (λ arrows. arrows.items ≡ map (function (listed source)) paths.items) }
 {
     let mut arrows = Vec::with_capacity(alloc, paths.len())?;
+    let Some(last) = paths.pop() else {
+        return Ok(arrows);
+    };
     for path in paths {
-        let source = source.copy(alloc)?;
-        arrows.push(Path::arrow(source, Box::new(alloc, path)?))?;
+        let copy = source.copy(alloc)?;
+        arrows.push(Path::arrow(copy, Box::new(alloc, path)?))?;
     }
+    arrows.push(Path::arrow(source, Box::new(alloc, last)?))?;
     Ok(arrows)
 }
 

@@ -16,7 +16,7 @@ ghost use Rattle.cls_path.specs.Laws.{AreEquivalent};
 ghost use Rattle.cls_norm.specs.Subtypes.{Adds, Stands, IsEntered, IsLacking, IsSealing, Joins, paths_behind, paths_of_all, nodes_of_all};
 
 use crate::normals::normal;
-use cls_base::{Name, OutOfMemory, Taxa, Ty, Variance};
+use cls_base::{Flat, Name, OutOfMemory, Taxa, Ty, Variance};
 use std::alloc::Global;
 
 /// A step from a type into its parts.
@@ -223,8 +223,19 @@ fn is_omega(ty: &Ty) -> bool
     matches!(ty, Ty::Omega)
 }
 
-/// Whether one of the types has a name that is below the covariant name. It ends with the first one.
+/// Whether one of the types has a name that is below the covariant name. The name itself is looked for first, since names
+/// are compared sooner than looked up.
 fn have_name<T: Taxa>(taxa: &T, lowers: &[&Ty], name: Name) -> bool
+    requires { T.variance_of_name taxa.now name.0 ≡ covariant }
+    ensures { IsTrue result
+        ↔ SomeLe (Below (T.is_below taxa.now)) (T.variance_of_name taxa.now)
+        (paths_of_all (T.variance_of_name taxa.now) lowers.now) (atom name.0) }
+{
+    some_has_name(&Flat, lowers, name) || some_has_name(taxa, lowers, name)
+}
+
+/// Whether one of the types has a name that is below the covariant name. It ends with the first one.
+fn some_has_name<T: Taxa>(taxa: &T, lowers: &[&Ty], name: Name) -> bool
     requires { T.variance_of_name taxa.now name.0 ≡ covariant }
     ensures { IsTrue result
         ↔ SomeLe (Below (T.is_below taxa.now)) (T.variance_of_name taxa.now)

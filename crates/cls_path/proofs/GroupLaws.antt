@@ -1,5 +1,5 @@
 -- Paths in groups, each made less by itself.
-use Rattle.std.proofs.Common.{◌≡◌, refl, sym, ◌∙◌, ap, subst, ℕ, zero, suc, ◌+◌, ◌<◌, ◌≤◌, Bool, true, false, cond, ◌||◌, List, [], ◌∷◌, ◌++◌, length, Some, None, ◌⊎◌, ◌↔◌, inl, inr, arith, rules}
+use Rattle.std.proofs.Common.{◌≡◌, refl, sym, ◌∙◌, ap, subst, ℕ, zero, suc, ◌+◌, ◌<◌, ◌≤◌, Bool, true, false, cond, ◌||◌, List, [], ◌∷◌, ◌++◌, length, map, Some, None, ◌⊎◌, ◌↔◌, inl, inr, arith}
 use Rattle.std.specs.Prelude.{Contains, slice_set, slice_index_or, nat_lt}
 use Rattle.std.specs.List.{IsDistinct, AllByRecursion, position, position_or_len, list_any}
 use Rattle.std.specs.List.Sorted.{IsPermutation, IsSortedBy}
@@ -15,10 +15,10 @@ use Rattle.std.proofs.lemmas.Map.Keys.{IsDistinct-head, IsDistinct-tail, IsDisti
 use Rattle.cls_base.proofs.Lists.{Contains-nil, Contains-here, Contains-later, Contains-cases}
 use Rattle.cls_base.specs.Taxonomies.{Variance}
 use Rattle.cls_base.specs.Taxa.{Below}
-use Rattle.cls_path.specs.declared.label.Label.{Label}
+use Rattle.cls_path.specs.declared.label.GroupKey.{GroupKey}
 use Rattle.cls_path.specs.declared.label.Mask.{Mask}
-use Rattle.cls_path.specs.Paths.{TypePath, Paths, none, more, PathLe, PathsLe, InPaths, Suits, SuitsAll, listed, append, type_of_paths}
-use Rattle.cls_path.specs.NormalForms.{PathBefore, LeadsAntichain, IsCanonicalPath, IsCanonical, EachCanonical, IsNormal, IsNormalForm}
+use Rattle.cls_path.specs.Paths.{TypePath, none, PathLe, PathsLe, InPaths, Suits, SuitsAll, listed, type_of_paths}
+use Rattle.cls_path.specs.NormalForms.{PathBefore, LeadsAntichain, IsCanonical, EachCanonical, IsNormalForm}
 use Rattle.cls_path.specs.PathOrder.{path_order}
 use Rattle.cls_path.specs.OrderLaws.{path_order_total, order_same}
 use Rattle.cls_path.specs.Tests.{path_below}
@@ -93,28 +93,28 @@ held_put gs k p q l = (
   λ h. elim h [ inl a ↦ held_put_old gs k p q a | inr e ↦ subst (λ x. Holds (put_at gs k p) x) (sym e) (held_put_new gs k p l) ],
 )
 
-module _ (key : TypePath → Label) where
-  pub keyed_length : (ks : List Label) (gs : List (List TypePath)) → AreKeyed key ks gs → length ks ≡ length gs
+module _ (key : TypePath → GroupKey) where
+  pub keyed_length : (ks : List GroupKey) (gs : List (List TypePath)) → AreKeyed key ks gs → length ks ≡ length gs
   keyed_length [] [] h = refl
   keyed_length [] (g ∷ gs) h = absurd h
   keyed_length (k ∷ ks) [] h = absurd h
   keyed_length (k ∷ ks) (g ∷ gs) h = ap suc (keyed_length ks gs h.2)
 
-  module _ (same : Label → Label → Bool) (same_is : (x y : Label) → same x y ≡ true → x ≡ y) (same_self : (x : Label) → same x x ≡ true) where
-    place_here : (x k : Label) (ks : List Label) → same k x ≡ true → position_or_len (same k) (x ∷ ks) ≡ 0
+  module _ (same : GroupKey → GroupKey → Bool) (same_is : (x y : GroupKey) → same x y ≡ true → x ≡ y) (same_self : (x : GroupKey) → same x x ≡ true) where
+    place_here : (x k : GroupKey) (ks : List GroupKey) → same k x ≡ true → position_or_len (same k) (x ∷ ks) ≡ 0
     place_here x k ks e = rw e refl
 
-    place_later : (x k : Label) (ks : List Label) → same k x ≡ false → position_or_len (same k) (x ∷ ks) ≡ suc (position_or_len (same k) ks)
+    place_later : (x k : GroupKey) (ks : List GroupKey) → same k x ≡ false → position_or_len (same k) (x ∷ ks) ≡ suc (position_or_len (same k) ks)
     place_later x k ks e = rw e (omega arith)
 
-    not_same : (x : Label) (p q : TypePath) → same (key p) x ≡ false → q ≡ p → key q ≡ x → ⊥
+    not_same : (x : GroupKey) (p q : TypePath) → same (key p) x ≡ false → q ≡ p → key q ≡ x → ⊥
     not_same x p q e f g =
         let h : key p ≡ x = ap key (sym f) ∙ g in
         false≢true (sym e ∙ subst (λ y. same (key p) y ≡ true) h (same_self (key p)))
 
     -- a path into the group of its key
     pub keyed_put :
-        (ks : List Label) (gs : List (List TypePath)) (p : TypePath) → AreKeyed key ks gs
+        (ks : List GroupKey) (gs : List (List TypePath)) (p : TypePath) → AreKeyed key ks gs
         → position_or_len (same (key p)) ks < length ks
         → AreKeyed key ks (put_at gs (position_or_len (same (key p)) ks) p)
     keyed_put [] gs p h l = absurd (omega arith)
@@ -148,7 +148,7 @@ module _ (key : TypePath → Label) where
 
     -- a new group for a new key
     pub keyed_opened :
-        (ks : List Label) (gs : List (List TypePath)) (p : TypePath) → AreKeyed key ks gs
+        (ks : List GroupKey) (gs : List (List TypePath)) (p : TypePath) → AreKeyed key ks gs
         → list_any (same (key p)) ks ≡ false → AreKeyed key (ks ++ key p ∷ []) (gs ++ (p ∷ []) ∷ [])
     keyed_opened [] [] p h e = (λ q c. ap key (only_one p q c), λ q h k. h, tt)
     keyed_opened [] (g ∷ gs) p h e = absurd h
@@ -309,13 +309,17 @@ module _ (test : ℕ → ℕ → Bool) (variance : ℕ → Variance) where
     canonical_distinct [] s h = distinct_none (comparable test variance)
     canonical_distinct (p ∷ n) s h = IsDistinct-cons (comparable test variance) p n (leads_apart p n s.0 s.1 h.1) (canonical_distinct n s.1 h.2)
 
-    -- one path is least
-    pub reduced_one : (paths : List TypePath) → length paths ≤ 1 → SuitsAll variance (listed paths) → IsReduced test variance paths paths
-    reduced_one paths l s = record {
+    -- paths of which none is below another are least
+    pub reduced_apart : (paths : List TypePath) → IsDistinct (comparable test variance) paths → SuitsAll variance (listed paths) → IsReduced test variance paths paths
+    reduced_apart paths d s = record {
       within = λ p c. c;
-      apart = one_distinct paths l;
+      apart = d;
       lower = covers_subset (Below test) variance reflexive transitive (listed paths) (listed paths) s (λ q i. i);
     }
+
+    -- one path is least
+    pub reduced_one : (paths : List TypePath) → length paths ≤ 1 → SuitsAll variance (listed paths) → IsReduced test variance paths paths
+    reduced_one paths l s = reduced_apart paths (one_distinct paths l) s
       where
         one_distinct : (n : List TypePath) → length n ≤ 1 → IsDistinct (comparable test variance) n
         one_distinct [] l = distinct_none (comparable test variance)
@@ -415,7 +419,7 @@ module _ (test : ℕ → ℕ → Bool) (variance : ℕ → Variance) where
           (λ l. f (sym (key_same class (Below test) variance one_class mask l (fits q j) (fits p i))))
 
       keyed_apart :
-          (ks : List Label) (gs : List (List TypePath)) → AreKeyed (key_of class mask) ks gs
+          (ks : List GroupKey) (gs : List (List TypePath)) → AreKeyed (key_of class mask) ks gs
           → ((p : TypePath) → Holds gs p → Contains paths p) → AreApart test variance gs
       keyed_apart [] [] h f = tt
       keyed_apart [] (g ∷ gs) h f = absurd h
@@ -426,6 +430,25 @@ module _ (test : ℕ → ℕ → Bool) (variance : ℕ → Variance) where
       )
 
       pub groups_of :
-          (ks : List Label) (gs : List (List TypePath)) → AreKeyed (key_of class mask) ks gs
+          (ks : List GroupKey) (gs : List (List TypePath)) → AreKeyed (key_of class mask) ks gs
           → ((p : TypePath) → Holds gs p ↔ Contains paths p) → AreGroups test variance paths gs
       groups_of ks gs h same = record { same = same; apart = keyed_apart ks gs h (λ p i. (same p).0 i) }
+
+      heads_apart : (P : GroupKey → Type 0) (n : List TypePath) → AllByRecursion P (map (key_of class mask) n) → AllByRecursion (λ q. P (key_of class mask q)) n
+      heads_apart P [] h = tt
+      heads_apart P (q ∷ n) h = (h.0, heads_apart P n h.1)
+
+      -- paths with different keys are apart
+      pub distinct_keys :
+          (same : GroupKey → GroupKey → Bool) (same_self : (x : GroupKey) → same x x ≡ true) (n : List TypePath)
+          → ((p : TypePath) → Contains n p → Contains paths p) → IsDistinct same (map (key_of class mask) n)
+          → IsDistinct (comparable test variance) n
+      distinct_keys same same_self [] f d = distinct_none (comparable test variance)
+      distinct_keys same same_self (p ∷ n) f d =
+          let k = key_of class mask p in
+          let ks = map (key_of class mask) n in
+          let differ = heads_apart (λ x. same k x ≡ false) n (IsDistinct-head same k ks d) in
+          IsDistinct-cons (comparable test variance) p n
+          (all_by (λ q. comparable test variance p q ≡ false) n (λ q c. keys_apart p q (f p (Contains-here p n)) (f q (Contains-later q p n c))
+          (λ e. false≢true (sym (by_all (λ q. same k (key_of class mask q) ≡ false) n differ q c) ∙ subst (λ x. same k x ≡ true) e (same_self k)))))
+          (distinct_keys same same_self n (λ q c. f q (Contains-later q p n c)) (IsDistinct-tail same k ks d))

@@ -6,14 +6,14 @@ use Rattle.std.proofs.lemmas.Bool.Decides.{nat_tests}
 use Rattle.cls_base.specs.Taxonomies.{Variance}
 use Rattle.cls_base.specs.Taxa.{Below}
 use Rattle.cls_base.proofs.Lists.{Contains-nil, Contains-cases}
+use Rattle.cls_path.specs.declared.label.GroupKey.{GroupKey}
 use Rattle.cls_path.specs.declared.label.Label.{Label}
 use Rattle.cls_path.specs.declared.label.Mask.{Mask}
 use Rattle.cls_path.specs.declared.label.Span.{Span}
-use Rattle.cls_path.specs.contracts.label.SpanPartialEq.TheImpl as spans
-use Rattle.cls_path.specs.contracts.label.LabelPartialEq.TheImpl.{eq-value}
+use Rattle.cls_path.specs.contracts.label.GroupKeyPartialEq.TheImpl.{eq-value}
 use Rattle.std.specs.Cmp.Rules.{comparing}
 use Rattle.cls_path.specs.Paths.{TypePath, atom, inside, unit, left, right, function, sealed, Paths, none, more, PathLe, atoms, inside_atom, insides, units, left_unit, right_unit, lefts, rights, functions, contravariants, invariants, SomeLe, here, there, PathsLe, empty, each, Suits}
-use Rattle.cls_path.specs.Labels.{no_span, one_span, join, plus, within, names_of, head_of, inner_of, join_all, all_names_of, sources_of, first_of, later_of, label_of, admits, when, narrowed, masked, key_of, mask_from, Fits}
+use Rattle.cls_path.specs.Labels.{no_span, one_span, join, plus, within, names_of, head_of, inner_of, join_all, all_names_of, sources_of, first_of, later_of, label_of, admits, narrowed, low_when, key_of, mask_from, Fits}
 use Rattle.cls_path.specs.Tests.{path_below}
 use Rattle.std.proofs.lemmas.List.{drop-map, take-map, map-append}
 use Rattle.cls_path.specs.Insertion.{some_above, without_above}
@@ -57,9 +57,9 @@ single_same {s} {t} h e f =
     let high : s.high ≡ t.high = omega (arith, h.0, h.1) in
     λ i. record { low = low i; high = high i }
 
-when_same : (kept : Bool) {s t : Span} → (kept ≡ true → s ≡ t) → when s kept ≡ when t kept
-when_same true h = h refl
-when_same false h = refl
+low_same : (kept : Bool) {s t : Span} → (kept ≡ true → s ≡ t) → low_when s kept ≡ low_when t kept
+low_same true h = ap (λ s. s.low) (h refl)
+low_same false h = refl
 
 -- each span of the first mask is one of the second
 abbrev IsLess : Mask → Mask → Type 0
@@ -206,10 +206,10 @@ module _ (class : ℕ → ℕ) where
         → key_of class m p ≡ key_of class m q
     key_same m {p} {q} h f g =
         let heads = head_same h in
-        let inners = when_same m.inner (λ e. sym (single_same (inner_above h) (g.0 e) (f.0 e))) in
-        let firsts = when_same m.first (λ e. single_same (first_below h) (f.1 e) (g.1 e)) in
-        let laters = when_same m.later (λ e. single_same (later_below h) (f.2 e) (g.2 e)) in
-        λ i. record { head = heads i; inner = inners i; first = firsts i; later = laters i }
+        let inners = low_same m.inner (λ e. sym (single_same (inner_above h) (g.0 e) (f.0 e))) in
+        let firsts = low_same m.first (λ e. single_same (first_below h) (f.1 e) (g.1 e)) in
+        let laters = low_same m.later (λ e. single_same (later_below h) (f.2 e) (g.2 e)) in
+        λ i. record { head = (heads i).low; inner = inners i; first = firsts i; later = laters i }
 
   -- what is one number in all labels is so in each
   pub mask_fits : (m : Mask) (n : List TypePath) (p : TypePath) → Contains n p → Fits (mask_from class m n) (label_of class p)
@@ -244,26 +244,16 @@ module _ (test : ℕ → ℕ → Bool) (variance : ℕ → Variance) where
 pub map-insert : {X Y : Type 0} (f : X → Y) (i : ℕ) (x : X) (xs : List X) → insert (map f xs) i (f x) ≡ map f (insert xs i x)
 map-insert f i x xs = Prim.search (drop-map, take-map, map-append, rules)
 
-same_span : (s t : Span) → spans.eq-value.it s t ≡ true → s ≡ t
-same_span s t h =
-    let low = eqb-true s.low t.low (left_true (s.low == t.low) _ h) in
-    let high = eqb-true s.high t.high (right_true (s.low == t.low) _ h) in
-    λ i. record { low = low i; high = high i }
-
-span_self : (s : Span) → spans.eq-value.it s s ≡ true
-span_self s = search (comparing, rules)
-
--- equality of labels as the code tests it
-pub same_label : (l m : Label) → eq-value.it l m ≡ true → l ≡ m
-same_label l m h =
-    let heads = same_span l.head m.head (left_true _ _ h) in
-    let rest = right_true (spans.eq-value.it l.head m.head) _ h in
-    let inners = same_span l.inner m.inner (left_true _ _ rest) in
-    let rest' = right_true (spans.eq-value.it l.inner m.inner) _ rest in
-    let firsts = same_span l.first m.first (left_true _ _ rest') in
-    let laters = same_span l.later m.later (right_true (spans.eq-value.it l.first m.first) _ rest') in
+-- equality of keys as the code tests it
+pub same_key : (k l : GroupKey) → eq-value.it k l ≡ true → k ≡ l
+same_key k l h =
+    let heads = eqb-true k.head l.head (left_true _ _ h) in
+    let rest = right_true (k.head == l.head) _ h in
+    let inners = eqb-true k.inner l.inner (left_true _ _ rest) in
+    let rest' = right_true (k.inner == l.inner) _ rest in
+    let firsts = eqb-true k.first l.first (left_true _ _ rest') in
+    let laters = eqb-true k.later l.later (right_true (k.first == l.first) _ rest') in
     λ i. record { head = heads i; inner = inners i; first = firsts i; later = laters i }
 
-pub label_self : (l : Label) → eq-value.it l l ≡ true
-label_self l =
-    and_from _ _ (span_self l.head) (and_from _ _ (span_self l.inner) (and_from _ _ (span_self l.first) (span_self l.later)))
+pub key_self : (k : GroupKey) → eq-value.it k k ≡ true
+key_self k = search (comparing, rules)

@@ -5,7 +5,7 @@ use Rattle.cls_base.specs.Taxonomies.{Variance}
 use Rattle.cls_base.specs.Taxa.{Below}
 use Rattle.cls_path.specs.Paths.{TypePath, PathsLe, listed}
 use Rattle.cls_path.specs.Tests.{path_below}
-use Rattle.cls_path.specs.declared.label.Label.{Label}
+use Rattle.cls_path.specs.declared.label.GroupKey.{GroupKey}
 
 -- the path stands in one of the groups
 abbrev pub Holds : List (List TypePath) → TypePath → Type 0
@@ -13,7 +13,7 @@ Holds [] p = ⊥
 Holds (g ∷ gs) p = Contains g p ⊎ Holds gs p
 
 -- each group has the paths of one key
-abbrev pub AreKeyed : (TypePath → Label) → List Label → List (List TypePath) → Type 0
+abbrev pub AreKeyed : (TypePath → GroupKey) → List GroupKey → List (List TypePath) → Type 0
 AreKeyed key [] [] = Unit {0}
 AreKeyed key (k ∷ ks) (g ∷ gs) =
     ((p : TypePath) → Contains g p → key p ≡ k) × ((p : TypePath) → Holds gs p → key p ≡ k → ⊥) × AreKeyed key ks gs

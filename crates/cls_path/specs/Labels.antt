@@ -5,6 +5,7 @@ use Rattle.cls_path.specs.Paths.{TypePath, atom, inside, unit, left, right, func
 use Rattle.cls_path.specs.declared.label.Span.{Span}
 use Rattle.cls_path.specs.declared.label.Label.{Label}
 use Rattle.cls_path.specs.declared.label.Mask.{Mask}
+use Rattle.cls_path.specs.declared.label.GroupKey.{GroupKey}
 
 -- the greatest number of 64 bits
 abbrev pub greatest : ℕ
@@ -113,10 +114,6 @@ admits l m = within m.head l.head && (within m.inner l.inner && (within l.first 
 abbrev pub is_single : Span → Bool
 is_single s = s.low == s.high
 
--- the span, or no number
-abbrev pub when : Span → Bool → Span
-when s kept = cond kept s no_span
-
 -- the spans of the mask that are one number in the label
 abbrev pub narrowed : Mask → Label → Mask
 narrowed m l = record {
@@ -132,19 +129,19 @@ Fits m l =
     × (m.first ≡ true → l.first.low ≡ l.first.high)
     × (m.later ≡ true → l.later.low ≡ l.later.high)
 
--- the head and the spans of the mask
-abbrev pub masked : Mask → Label → Label
-masked m l = record {
-  head = l.head;
-  inner = when l.inner m.inner;
-  first = when l.first m.first;
-  later = when l.later m.later;
-}
+-- the least number of the span, or 0
+abbrev pub low_when : Span → Bool → ℕ
+low_when s kept = cond kept s.low 0
 
 module _ (class : ℕ → ℕ) where
   -- what paths share if one is below the other and the spans of the mask are one number in both
-  abbrev pub key_of : Mask → TypePath → Label
-  key_of m p = masked m (label_of class p)
+  abbrev pub key_of : Mask → TypePath → GroupKey
+  key_of m p = record {
+    head = (head_of class p).low;
+    inner = low_when (inner_of class p) m.inner;
+    first = low_when (first_of class p) m.first;
+    later = low_when (later_of class p) m.later;
+  }
 
   -- the spans of the mask that are one number in the labels of all paths
   abbrev pub mask_from : Mask → List TypePath → Mask

@@ -1,14 +1,15 @@
 //! Least paths, found group by group: if one path is below another, their heads have one class. So have the names inside
 //! them and those of their sources, where each path of a group has names of one class there. Only paths of one group are
 //! compared.
-ghost use Rattle.std.specs.Prelude.{◌≡◌, ◌⊎◌, ◌↔◌, ◌++◌, Contains, IfOk, OnOk};
+ghost use Rattle.std.specs.List.{IsDistinct};
+ghost use Rattle.std.specs.Prelude.{◌≡◌, ◌⊎◌, ◌↔◌, ◌++◌, Contains, IsTrue, IfOk, OnOk};
 ghost use Rattle.cls_base.specs.Taxa.{Below};
 ghost use Rattle.cls_path.specs.Paths.{TypePath, SuitsAll, listed};
 ghost use Rattle.cls_path.specs.NormalForms.{EachCanonical};
-ghost use Rattle.cls_path.specs.Groups.{Holds, AreKeyed, AreGroups, IsReduced};
+ghost use Rattle.cls_path.specs.Groups.{Holds, AreKeyed, AreGroups, IsReduced, comparable};
 ghost use Rattle.cls_path.specs.Labels.{Fits, key_of, label_of};
 
-use crate::label::{HEADS, Label, Mask};
+use crate::label::{GroupKey, HEADS, Mask};
 use crate::meet::pairwise;
 use crate::path::Path;
 use cls_base::{OutOfMemory, Taxa};
@@ -38,9 +39,9 @@ impl Model for Group {
     ghost view = { λ g. g.paths.items };
 }
 
-/// The paths that no other one is below, each once, in no order. With 2 `rounds` they are grouped by the classes of their
-/// heads, and each group then has one round: by the spans that are one number in the labels of all its paths. With none,
-/// as in groups of few paths, they are compared pairwise. The only error is out of memory.
+/// The paths that no other one is below, each once, in no order. If no two have one key, they are left as they are. Else, with
+/// 2 `rounds`, they are grouped by the classes of their heads, and each group then has one round: by the spans that are one
+/// number in all its labels. With none, as in groups of few paths, they are compared pairwise. The only error is out of memory.
 pub(crate) fn reduced<T: Taxa>(
     alloc: Global,
     taxa: &T,
@@ -59,11 +60,11 @@ pub(crate) fn reduced<T: Taxa>(
     if rounds == 0 || paths.len() <= FEW {
         return pairwise(alloc, taxa, paths);
     }
-    let mask = if rounds == 1 {
-        Mask::of(taxa, &paths)
-    } else {
-        HEADS
-    };
+    let all = Mask::of(taxa, &paths);
+    if are_apart(alloc, taxa, &paths, all)? {
+        return Ok(paths);
+    }
+    let mask = if rounds == 1 { all } else { HEADS };
     let mut groups = grouped(alloc, taxa, paths, mask)?;
     let mut least = Vec::new(alloc);
     while let Some(group) = groups.pop() {
@@ -71,6 +72,27 @@ pub(crate) fn reduced<T: Taxa>(
         put_all(&mut least, few)?;
     }
     Ok(least)
+}
+
+/// Whether no two of the paths have one key by the mask. Then no path is below another.
+fn are_apart<T: Taxa>(
+    alloc: Global,
+    taxa: &T,
+    paths: &[Path],
+    mask: Mask,
+) -> Result<bool, OutOfMemory>
+    requires suits { SuitsAll (T.variance_of_name taxa.now) (listed paths.now) }
+    requires fits { (p : TypePath) → Contains paths.now p → Fits mask (label_of (T.class taxa.now) p) }
+    ensures { IfOk result (λ apart. IsTrue apart
+        → IsDistinct (comparable (T.is_below taxa.now) (T.variance_of_name taxa.now)) paths.now) }
+{
+    let mut keys = IndexSet::with_capacity(alloc, paths.len())?;
+    for path in paths {
+        if !keys.insert(GroupKey::of(taxa, path, mask))? {
+            return Ok(false);
+        }
+    }
+    Ok(true)
 }
 
 /// The paths in groups by their heads and by the spans of the mask.
@@ -98,7 +120,7 @@ fn put_in_group<T: Taxa>(
     alloc: Global,
     taxa: &T,
     mask: Mask,
-    keys: &mut IndexSet<Label>,
+    keys: &mut IndexSet<GroupKey>,
     groups: &mut Vec<Group>,
     path: Path,
 ) -> Result<(), OutOfMemory>
@@ -106,7 +128,7 @@ fn put_in_group<T: Taxa>(
     ensures keyed { OnOk result (AreKeyed (key_of (T.class taxa.now) mask) keys.new.keys groups.new.items) }
     ensures held { OnOk result ((p : TypePath) → Holds groups.new.items p ↔ (Holds groups.old.items p ⊎ (p ≡ path))) }
 {
-    let key = Label::of(taxa, &path).masked(mask);
+    let key = GroupKey::of(taxa, &path, mask);
     match keys.get_index_of(&key) {
         Some(place) => groups[place].paths.push(path)?,
         None => {

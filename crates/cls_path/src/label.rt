@@ -1,13 +1,13 @@
 //! Labels of paths, by which most pairs are told apart.
 ghost use Rattle.std.specs.Prelude.{◌≡◌, Contains};
 ghost use Rattle.cls_path.specs.Paths.{TypePath, listed};
-ghost use Rattle.cls_path.specs.Labels.{one_span, join, plus, within, names_of, head_of, inner_of, join_all, all_names_of, sources_of, first_of, later_of, label_of, admits, is_single, when, narrowed, masked, key_of, mask_from, Fits};
+ghost use Rattle.cls_path.specs.Labels.{one_span, join, plus, within, names_of, head_of, inner_of, join_all, all_names_of, sources_of, first_of, later_of, label_of, admits, is_single, narrowed, key_of, mask_from, Fits};
 
 use crate::path::{Form, Nf, Path};
 use cls_base::Taxa;
 
 /// The numbers from the low to the high one, none if the low one is the greater.
-#[derive(Clone, Copy, Debug, PartialEq, Eq, Hash)]
+#[derive(Clone, Copy, Debug, PartialEq, Eq)]
 pub(crate) struct Span {
     low: u64,
     high: u64,
@@ -24,7 +24,7 @@ const ZERO: Span = Span { low: 0, high: 0 };
 
 /// Spans of the classes of names: of the head of a path, inside it, and of its first source. The last span has the sums
 /// over the later sources, so that it tells apart paths that differ in one of them. A path without a source has 0 there.
-#[derive(Clone, Copy, Debug, PartialEq, Eq, Hash)]
+#[derive(Clone, Copy, Debug, PartialEq, Eq)]
 pub(crate) struct Label {
     head: Span,
     inner: Span,
@@ -53,6 +53,16 @@ const ALL: Mask = Mask {
     first: true,
     later: true,
 };
+
+/// The least numbers of the head of a label and of the spans of a mask, with 0 for each other one. Of two paths that are
+/// compared, one below the other, they are equal.
+#[derive(Clone, Copy, Debug, PartialEq, Eq, Hash)]
+pub(crate) struct GroupKey {
+    head: u64,
+    inner: u64,
+    first: u64,
+    later: u64,
+}
 
 impl Span {
     /// The number alone.
@@ -98,24 +108,17 @@ impl Span {
     {
         self.low == self.high
     }
-
-    /// The span, or no number if it isn't kept.
-    fn when(self, kept: bool) -> Span
-        ensures { result ≡ when self kept }
-    {
-        if kept { self } else { NONE }
-    }
 }
 
 impl Mask {
-    /// The spans of the mask that are one number in the label.
-    fn narrowed(self, label: Label) -> Mask
-        ensures { result ≡ narrowed self label }
+    /// The spans of the mask that are one number in the label of the path.
+    fn narrowed<T: Taxa>(self, taxa: &T, path: &Path) -> Mask
+        ensures { result ≡ narrowed self (label_of (T.class taxa.now) path.now) }
     {
         Mask {
-            inner: self.inner && label.inner.is_single(),
-            first: self.first && label.first.is_single(),
-            later: self.later && label.later.is_single(),
+            inner: self.inner && inner(taxa, path).is_single(),
+            first: self.first && first(taxa, path).is_single(),
+            later: self.later && later(taxa, path).is_single(),
         }
     }
 
@@ -125,7 +128,7 @@ impl Mask {
     {
         let mut mask = ALL;
         for path in paths {
-            mask = mask.narrowed(Label::of(taxa, path));
+            mask = mask.narrowed(taxa, path);
         }
         mask
     }
@@ -144,18 +147,6 @@ impl Label {
         }
     }
 
-    /// The head and the spans of the mask.
-    pub fn masked(self, mask: Mask) -> Label
-        ensures { result ≡ masked mask self }
-    {
-        Label {
-            head: self.head,
-            inner: self.inner.when(mask.inner),
-            first: self.first.when(mask.first),
-            later: self.later.when(mask.later),
-        }
-    }
-
     /// Whether a path with this label may be below one with the other.
     pub fn admits(self, upper: Label) -> bool
         ensures { result ≡ admits self upper }
@@ -163,6 +154,20 @@ impl Label {
         upper.head.is_within(self.head)
             && (upper.inner.is_within(self.inner)
                 && (self.first.is_within(upper.first) && self.later.is_within(upper.later)))
+    }
+}
+
+impl GroupKey {
+    /// The key of the path. The spans that the mask leaves out aren't looked for.
+    pub fn of<T: Taxa>(taxa: &T, path: &Path, mask: Mask) -> GroupKey
+        ensures { result ≡ key_of (T.class taxa.now) mask path.now }
+    {
+        GroupKey {
+            head: head(taxa, path).low,
+            inner: if mask.inner { inner(taxa, path).low } else { 0 },
+            first: if mask.first { first(taxa, path).low } else { 0 },
+            later: if mask.later { later(taxa, path).low } else { 0 },
+        }
     }
 }
 

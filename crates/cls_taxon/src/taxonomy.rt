@@ -6,6 +6,7 @@ ghost use Rattle.cls_taxon.specs.Closures.{spans_at};
 ghost use Rattle.cls_taxon.specs.Faults.{IsFaultOf};
 ghost use Rattle.cls_taxon.specs.Orders.{IsOrder, stands_in};
 ghost use Rattle.cls_taxon.specs.PairGraphs.{pair_of, AreHeld};
+ghost use Rattle.cls_taxon.specs.Places.{place_of};
 ghost use Rattle.cls_taxon.specs.Spans.{InSpans};
 ghost use Rattle.cls_taxon.specs.Variances.{declaration};
 
@@ -104,12 +105,7 @@ impl Taxonomy {
         ensures chain { IsTrue result ↔ Chain self.now.pairs lower.0 upper.0 }
         ensures order { IsOrder self.now }
     {
-        lower.0 == upper.0
-            || is_under(
-                &self.below,
-                self.places.place(lower.0),
-                self.places.place(upper.0),
-            )
+        lower.0 == upper.0 || is_under(&self.below, &self.places, lower.0, upper.0)
     }
 }
 
@@ -151,12 +147,13 @@ impl Taxa for Taxonomy {
     ghost one_class = { is_below-one_class };
 }
 
-/// Whether the spans at the second place have the first.
-fn is_under(below: &[Spans], lower: usize, upper: usize) -> bool
-    ensures { IsTrue result ↔ ((upper < length below.now) × InSpans (spans_at below.now upper) lower) }
+/// Whether the spans at the place of the second name have that of the first, which is looked up only if there are spans.
+fn is_under(below: &[Spans], places: &Places, lower: u32, upper: u32) -> bool
+    ensures { IsTrue result ↔ ((place_of places.now upper < length below.now)
+        × InSpans (spans_at below.now (place_of places.now upper)) (place_of places.now lower)) }
 {
-    match below.get(upper) {
-        Some(spans) => spans.contains(lower),
+    match below.get(places.place(upper)) {
+        Some(spans) => spans.contains(places.place(lower)),
         None => false,
     }
 }

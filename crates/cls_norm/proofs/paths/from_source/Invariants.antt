@@ -4,4 +4,4 @@ use Rattle.cls_path.specs.Paths.{function, listed}
 use Rattle.cls_norm.proofs.paths.from_source.Given as goal
 
 abbrev pub invariant-loop-path : goal.invariant-loop-path
-invariant-loop-path l = l.arrows.items ≡ map (function (listed l.source)) l.yielded
+invariant-loop-path l = l.arrows.items ≡ map (function (listed l.fn.source)) l.yielded

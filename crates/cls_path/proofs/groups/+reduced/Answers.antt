@@ -1,12 +1,12 @@
-use Rattle.std.proofs.Common.{rules, arith, ◌≡◌, sym, ap, ◌∙◌, subst, List, [], ◌∷◌, ◌++◌}
-use Rattle.std.specs.Prelude.{Contains}
+use Rattle.std.proofs.Common.{rules, arith, ◌≡◌, sym, subst, []}
+use Rattle.std.specs.List.{IsDistinct}
 use Rattle.cls_base.specs.Taxa.{Below}
 use Rattle.cls_path.specs.Paths.{TypePath, listed, SuitsAll, InPaths}
 use Rattle.cls_path.specs.NormalForms.{EachCanonical}
-use Rattle.cls_path.specs.Groups.{IsReduced}
+use Rattle.cls_path.specs.Groups.{IsReduced, comparable}
 use Rattle.cls_path.proofs.Ascending.{in_contained, contained_in}
 use Rattle.cls_path.proofs.Remains.{suits_within, canonical_within}
-use Rattle.cls_path.proofs.GroupLaws.{AreJoined, joined_first, joined_held, joined_more, joined_all, reduced_one}
+use Rattle.cls_path.proofs.GroupLaws.{AreJoined, joined_first, joined_held, joined_more, joined_all, reduced_one, reduced_apart}
 use Rattle.cls_path.proofs.groups.+reduced.Goals as goal
 
 pub loop-group-init : goal.loop-group-init
@@ -58,3 +58,13 @@ returns-then-len-le1 g t c =
     let met = g.met.T.Taxa in
     let x = c.args.taxa.now in
     reduced_one b v (met.reflexive x) (met.transitive x) (met.one_variance x) c.args.paths.items (omega (arith, c.len.ensures, c.if-len-le1.true)) c.requires.suits
+
+pub returns-then-branch : goal.returns-then-branch
+returns-then-branch g t c =
+    let b = g.T.Taxa.is_below c.args.taxa.now in
+    let v = g.T.Taxa.variance_of_name c.args.taxa.now in
+    let met = g.met.T.Taxa in
+    let x = c.args.taxa.now in
+    let n = c.args.paths.items in
+    let apart = subst (λ m. IsDistinct (comparable b v) m) c.deref-2.ensures.value (c.in_ok-are_apart.ensures c.if-branch.true) in
+    reduced_apart b v (met.reflexive x) (met.transitive x) (met.one_variance x) n apart c.requires.suits

@@ -1,4 +1,4 @@
-use Rattle.std.proofs.Common.{◌≡◌, ◌⊎◌, ◌↔◌, vec_len}
+use Rattle.std.proofs.Common.{◌⊎◌, ◌↔◌, vec_len}
 use Rattle.std.specs.Prelude.{Contains}
 use Rattle.cls_path.specs.Paths.{TypePath}
 use Rattle.cls_path.specs.Groups.{Holds, AreKeyed}

@@ -1,6 +1,6 @@
-use Rattle.std.proofs.Common.{◌≡◌, ℕ, List, ◌⊎◌, true, map, sym, ap, subst, ◌∙◌, inl, inr, Some}
-use Rattle.std.specs.Prelude.{Contains, slice_get}
-use Rattle.cls_base.proofs.Lists.{Contains-nil, Contains-at}
+use Rattle.std.proofs.Common.{◌≡◌, ℕ, List, true, map, sym, subst, ◌∙◌, inl, inr}
+use Rattle.std.specs.Prelude.{Contains}
+use Rattle.cls_base.proofs.Lists.{Contains-nil}
 use Rattle.cls_taxon.specs.Orders.{stands_in}
 use Rattle.cls_taxon.specs.Places.{with_name}
 use Rattle.cls_taxon.specs.PairGraphs.{pair_of}

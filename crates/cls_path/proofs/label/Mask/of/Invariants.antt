@@ -1,5 +1,4 @@
 use Rattle.std.proofs.Common.{◌≡◌, true, drop}
-use Rattle.cls_path.specs.declared.label.Mask.{Mask}
 use Rattle.cls_path.specs.Labels.{mask_from}
 use Rattle.cls_path.proofs.label.Mask.of.Given as goal
 

@@ -1,7 +1,7 @@
-use Rattle.std.proofs.Common.{◌≡◌, ◌<◌, ◌+◌, ℕ, Some, length, List, Option, subst, sym, ap, ◌∙◌, arith, rules, false}
+use Rattle.std.proofs.Common.{◌≡◌, ℕ, Some, length, subst, sym, ◌∙◌, arith, rules, false}
 use Rattle.std.specs.Prelude.{slice_set, ◌==◌}
 use Rattle.std.specs.List.{list_any}
-use Rattle.cls_taxon.specs.Places.{IsTabled, with_name}
+use Rattle.cls_taxon.specs.Places.{IsTabled}
 use Rattle.cls_taxon.proofs.Tabling.{tabled-same, tabled-new, not-true}
 use Rattle.cls_taxon.proofs.places.Places.insert_tabled.Goals as goal
 

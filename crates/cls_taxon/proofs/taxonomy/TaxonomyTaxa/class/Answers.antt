@@ -1,4 +1,4 @@
-use Rattle.std.proofs.Common.{◌≡◌, ℕ, ◌+◌, ◌<◌, ◌≤◌, length, List, sym, ap, subst, ◌∙◌, arith}
+use Rattle.std.proofs.Common.{◌+◌, ◌<◌, ◌≤◌, length, ap, ◌∙◌, arith}
 use Rattle.cls_taxon.specs.Orders.{Declared, class_by}
 use Rattle.cls_taxon.specs.Places.{place_of}
 use Rattle.cls_taxon.proofs.PairLaws.{class-placed, class-unplaced}

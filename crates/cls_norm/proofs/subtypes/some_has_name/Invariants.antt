@@ -2,7 +2,7 @@ use Rattle.std.proofs.Common.{drop}
 use Rattle.cls_base.specs.Taxa.{Below}
 use Rattle.cls_path.specs.Paths.{atom, SomeLe}
 use Rattle.cls_norm.specs.Subtypes.{paths_of_all}
-use Rattle.cls_norm.proofs.subtypes.have_name.Given as goal
+use Rattle.cls_norm.proofs.subtypes.some_has_name.Given as goal
 
 -- if one of the types has the name, then one of those that are left
 abbrev pub invariant-loop-lower : goal.invariant-loop-lower
