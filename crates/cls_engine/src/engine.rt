@@ -28,7 +28,6 @@ use std::marker::Model;
 ///
 /// It keeps the answers of the goals of earlier queries, and the grammars of the goals that it was asked for last: if a
 /// query has such a goal again, nothing is worked out anew.
-#[derive(Drop)]
 pub struct Engine {
     pub(crate) expander: LibraryExpander,
     pub(crate) costs: Numbers,
@@ -37,6 +36,19 @@ pub struct Engine {
     pub(crate) store: Store<LibraryExpander>,
     // The grammars of the goals of the last queries.
     pub(crate) recents: Recents,
+}
+
+// Not derived, for the prover: so a caller's proof has one step where a value is dropped, and not one for each part of it.
+impl Drop for Engine {
+    fn drop(self) {
+        let Engine {
+            expander: _,
+            costs: _,
+            options: _,
+            store: _,
+            recents: _,
+        } = self;
+    }
 }
 
 impl Model for Engine {

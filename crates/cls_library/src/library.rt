@@ -22,10 +22,19 @@ use std::marker::Model;
 
 /// Components over an order of names. It is seen as that order and the components by their numbers, each as the normal form of
 /// the intersection of its instances with its weight.
-#[derive(Drop)]
 pub struct Library {
     taxonomy: Taxonomy,
     components: Vec<Component>,
+}
+
+// Not derived, for the prover: so a caller's proof has one step where a value is dropped, and not one for each part of it.
+impl Drop for Library {
+    fn drop(self) {
+        let Library {
+            taxonomy: _,
+            components: _,
+        } = self;
+    }
 }
 
 impl Model for Library {
