@@ -1,12 +1,11 @@
 -- A position that a cover can take has joined it.
-use Rattle.std.proofs.Common.{ℕ, ◌≡◌, ◌+◌, ◌<◌, refl, sym, ◌∙◌, subst, ap, List, [], ◌∷◌, ◌++◌, length, get_or, take}
+use Rattle.std.proofs.Common.{ℕ, ◌≡◌, ◌+◌, ◌<◌, refl, ◌∙◌, subst, ap, List, [], ◌∷◌, ◌++◌, length, get_or}
 use Rattle.cls_cover.specs.declared.cover.Cover.{Cover}
 use Rattle.cls_cover.specs.declared.front.Front.{Front}
 use Rattle.cls_cover.specs.Members.{Member, first, later, Differ}
-use Rattle.cls_cover.specs.MemberCovers.{IsMinimalSet, SharesEach}
 use Rattle.cls_cover.specs.Flags.{AreJoined}
 use Rattle.cls_cover.specs.Rows.{width}
-use Rattle.cls_cover.specs.Growing.{IsPut, IsFront, next_family, IsKnown, IsKnownBefore, MissesNext, AreTakeable, IsReadyFor, AddsJoined}
+use Rattle.cls_cover.specs.Growing.{IsPut, IsFront, IsKnown, IsKnownBefore, MissesNext, AreTakeable, IsReadyFor, AddsJoined}
 use Rattle.cls_cover.proofs.Lists.{get_any, member_append_left, member_append_right}
 use Rattle.cls_cover.proofs.Grouping.{differ_front}
 use Rattle.cls_cover.proofs.Joining.{row_below, joined_known}

@@ -2,11 +2,10 @@
 use Rattle.std.proofs.Common.{ℕ, zero, suc, ◌≡◌, ◌<◌, ◌↔◌, ◌⊎◌, inl, inr, refl, sym, subst, ◌∙◌, List, [], ◌∷◌, ◌++◌, length, take, get_or, insert, arith}
 use Rattle.cls_cover.specs.Members.{Member, first, later, Ascending, Differ}
 use Rattle.cls_cover.specs.MemberCovers.{IsMinimalSet, SharesEach, AreCoverSets, HaveMoreSets}
-use Rattle.cls_cover.specs.Lists.{Sublist}
 use Rattle.cls_cover.specs.Rows.{family_at}
 use Rattle.cls_cover.specs.Growing.{single}
 use Rattle.cls_cover.specs.Forced.{AreSingle, IsForced}
-use Rattle.cls_cover.proofs.Lists.{sublist_member, ascending_sublist, sublist_from, rises_unique, get_member, insert_from, insert_has, rises_insert, get_any, member_append, member_append_left, member_append_right}
+use Rattle.cls_cover.proofs.Lists.{sublist_member, ascending_sublist, rises_unique, get_member, insert_from, insert_has, rises_insert, get_any, member_append, member_append_left, member_append_right}
 use Rattle.cls_cover.proofs.Growth.{own}
 
 in_single : (x i : ℕ) → Member (single x) i → i ≡ x

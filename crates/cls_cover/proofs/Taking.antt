@@ -1,13 +1,12 @@
 -- The positions of a family that a cover can take, group by group.
-use Rattle.std.proofs.Common.{ℕ, zero, suc, refl, ◌≡◌, ◌+◌, ◌<◌, ◌≤◌, ◌↔◌, sym, ◌∙◌, subst, ap, ◌⊎◌, inl, inr, List, [], ◌∷◌, ◌++◌, length, take, drop, arith, IsTrue, Bool, true, false, take-append-drop}
+use Rattle.std.proofs.Common.{ℕ, zero, suc, refl, ◌≡◌, ◌+◌, ◌<◌, ◌≤◌, sym, ◌∙◌, subst, ap, inl, inr, List, [], ◌∷◌, ◌++◌, length, take, drop, arith, take-append-drop}
 use Rattle.std.proofs.lemmas.List.{length-append}
 use native.Mathlib.Decide.{dec_lt}
 use Rattle.cls_base.proofs.Lists.{take_whole}
 use Rattle.cls_cover.specs.declared.cover.Cover.{Cover}
 use Rattle.cls_cover.specs.declared.front.Front.{Front}
 use Rattle.cls_cover.specs.Members.{Member, first, later, Differ}
-use Rattle.cls_cover.specs.MemberCovers.{IsMinimalSet, SharesEach}
-use Rattle.cls_cover.specs.Growing.{IsPut, IsFront, next_family, IsKnownBefore, MissesNext, StayOwners, AreJoinable, AreAllTakeable}
+use Rattle.cls_cover.specs.Growing.{IsFront, next_family, IsKnownBefore, MissesNext, StayOwners, AreAllTakeable}
 use Rattle.cls_cover.proofs.Lists.{member_append, member_append_left, member_append_right}
 use Rattle.cls_cover.proofs.Grouping.{differ_front, taken_member}
 use Rattle.cls_cover.proofs.Joining.{stays_minimal, minimal_stays}
@@ -26,7 +25,7 @@ differ_both : (xs ys : List ℕ) → Differ xs → Differ ys → ((x : ℕ) → 
 differ_both [] ys d e f = e
 differ_both (x ∷ xs) ys d e f = ((λ m. elim (member_append xs ys x m) [ inl k ↦ d.0 k | inr k ↦ f x first k ]), differ_both xs ys d.1 e (λ z m k. f z (later m) k))
 
-differ_apart : (xs ys : List ℕ) (x : ℕ) → Differ (xs ++ ys) → Member xs x → Member ys x → ⊥
+pub differ_apart : {A : Type 0} (xs ys : List A) (x : A) → Differ (xs ++ ys) → Member xs x → Member ys x → ⊥
 differ_apart (x ∷ xs) ys _ d first m = d.0 (member_append_right xs ys x m)
 differ_apart (y ∷ xs) ys x d (later k) m = differ_apart xs ys x d.1 k m
 differ_apart [] ys x d k m = elim k [ ]

@@ -2,13 +2,14 @@ ghost use Rattle.std.specs.Prelude.{◌≡◌, ℕ, ◌+◌, ◌/◌, ◌<◌, �
 ghost use Rattle.cls_cover.specs.Flags.{bit, AreShared, AreSharedApart, AreJoined};
 
 use cls_base::OutOfMemory;
+use smallvec::SmallVec;
 use std::alloc::Global;
 use std::marker::Model;
 
-/// Flags, one for each family, 64 in a word.
+/// Flags, one for each family, 64 in a word. Up to 64 of them take no memory of their own.
 #[derive(Drop)]
 pub(crate) struct Flags {
-    words: Vec<u64>,
+    words: SmallVec<u64, 1>,
 }
 
 impl Model for Flags {
@@ -25,7 +26,7 @@ impl Flags {
         ensures { IfOk result (λ flags. flags ≡ replicate (count / 64 + 1) 0) }
     {
         Ok(Flags {
-            words: vec![in alloc; 0; count / 64 + 1]?,
+            words: SmallVec::from_elem(alloc, 0, count / 64 + 1)?,
         })
     }
 
@@ -34,7 +35,7 @@ impl Flags {
         ensures { IfOk result (λ flags. flags ≡ self.now) }
     {
         Ok(Flags {
-            words: Vec::from_slice(alloc, self.words.as_slice())?,
+            words: SmallVec::from_slice(alloc, self.words.as_slice())?,
         })
     }
 
@@ -44,7 +45,8 @@ impl Flags {
         ensures len { length self.new ≡ length self.old }
         ensures flags { (g : ℕ) → IsTrue (bit self.new g) ↔ (IsTrue (bit self.old g) ⊎ (g ≡ f)) }
     {
-        self.words[f / 64] |= 1 << (f % 64);
+        let words = self.words.as_mut_slice();
+        words[f / 64] |= 1 << (f % 64);
     }
 
     /// Whether the flag is set.
@@ -52,7 +54,7 @@ impl Flags {
         requires { f / 64 < length self.now }
         ensures { result ≡ bit self.now f }
     {
-        (self.words[f / 64] >> (f % 64)) & 1 == 1
+        (self.as_slice()[f / 64] >> (f % 64)) & 1 == 1
     }
 
     fn as_slice(&self) -> &[u64]
@@ -113,9 +115,23 @@ pub(crate) fn join_flags(once: &mut Flags, met: &mut Flags, row: &Flags)
     ensures met_len { length met.new ≡ length met.old }
     ensures joined { AreJoined once.old met.old row.now once.new met.new }
 {
-    let row = row.as_slice();
+    join_words(
+        once.words.as_mut_slice(),
+        met.words.as_mut_slice(),
+        row.as_slice(),
+    );
+}
+
+/// The same over the words.
+fn join_words(once: &mut [u64], met: &mut [u64], row: &[u64])
+    requires once { length once.old ≡ length row.now }
+    requires met { length met.old ≡ length row.now }
+    ensures once_len { length once.new ≡ length once.old }
+    ensures met_len { length met.new ≡ length met.old }
+    ensures joined { AreJoined once.old met.old row.now once.new met.new }
+{
     for i in 0..row.len() {
-        once.words[i] = (once.words[i] | row[i]) & !(met.words[i] & row[i]);
-        met.words[i] |= row[i];
+        once[i] = (once[i] | row[i]) & !(met[i] & row[i]);
+        met[i] |= row[i];
     }
 }

@@ -18,7 +18,8 @@ use Rattle.cls_library.specs.Reaching.{IsReduced, no_sources, zip_append, column
 use Rattle.cls_library.specs.Rules.{IsRuleFor}
 use Rattle.cls_library.proofs.ByCases.{At, at_first, at_later, member_at, at_got, Zip, zip_none, zip_more, zip_map, zip_all}
 use Rattle.cls_library.proofs.PathLemma.{from_sources, arrow_from}
-use Rattle.cls_library.proofs.LibraryTyping.{arrow_sources, declared}
+use Rattle.cls_library.proofs.LibraryTyping.{arrow_sources, declared, reflexive, transitive}
+use Rattle.cls_path.proofs.Completeness.{covers_refl}
 use Rattle.cls_expand.specs.Making.{no_arrow, picked_of, gathered, AreFamilies, choice_at}
 use Rattle.cls_expand.specs.Listing.{all_last}
 
@@ -26,7 +27,7 @@ use Rattle.cls_expand.specs.Listing.{all_last}
 pub record AreArrows (l : Library) (n : ℕ) (arrows : List MultiArrow) : Type 0 where
   pub long : (a : MultiArrow) → Member arrows a → length a.sources ≡ n
   pub suits : (a : MultiArrow) → Member arrows a → (m : Paths) → Member a.sources m → SuitsAll (variances_in l.taxonomy) m
-  pub canonical : (a : MultiArrow) → Member arrows a → (m : Paths) → Member a.sources m → EachCanonical (below_in l.taxonomy) (variances_in l.taxonomy) m
+  pub canonical : (a : MultiArrow) → Member arrows a → (m : Paths) → Member a.sources m → IsCanonical (below_in l.taxonomy) (variances_in l.taxonomy) m
 
 pub listed_append : (xs ys : List TypePath) → listed (xs ++ ys) ≡ append (listed xs) (listed ys)
 listed_append [] ys = refl
@@ -108,6 +109,10 @@ source_in (n ∷ ns) zero P h f = f n first
 source_in (n ∷ ns) (suc place) P h f = source_in ns place P h (λ m k. f m (later k))
 
 module _ (l : Library) where
+  each_of : (n : Paths) → IsCanonical (below_in l.taxonomy) (variances_in l.taxonomy) n → EachCanonical (below_in l.taxonomy) (variances_in l.taxonomy) n
+  each_of none c = tt
+  each_of (more p n) c = (c.0, each_of n c.2)
+
   each_append : (n m : Paths) → EachCanonical (below_in l.taxonomy) (variances_in l.taxonomy) n → EachCanonical (below_in l.taxonomy) (variances_in l.taxonomy) m → EachCanonical (below_in l.taxonomy) (variances_in l.taxonomy) (append n m)
   each_append none m h k = k
   each_append (more p n) m h k = (h.0, each_append n m h.1 k)
@@ -122,7 +127,7 @@ module _ (l : Library) where
 
   pub gathered_canonical : (n place : ℕ) (arrows : List MultiArrow) → AreArrows l n arrows → EachCanonical (below_in l.taxonomy) (variances_in l.taxonomy) (gathered place arrows)
   gathered_canonical n place [] a = tt
-  gathered_canonical n place (b ∷ rest) a = each_append (get_or b.sources place none) (gathered place rest) (source_in b.sources place (λ m. EachCanonical (below_in l.taxonomy) (variances_in l.taxonomy) m) tt (λ m k. a.canonical b first m k)) (gathered_canonical n place rest (record { long = (λ c m. a.long c (later m)); suits = (λ c m. a.suits c (later m)); canonical = (λ c m. a.canonical c (later m)) }))
+  gathered_canonical n place (b ∷ rest) a = each_append (get_or b.sources place none) (gathered place rest) (source_in b.sources place (λ m. EachCanonical (below_in l.taxonomy) (variances_in l.taxonomy) m) tt (λ m k. each_of m (a.canonical b first m k))) (gathered_canonical n place rest (record { long = (λ c m. a.long c (later m)); suits = (λ c m. a.suits c (later m)); canonical = (λ c m. a.canonical c (later m)) }))
 
   pub picked_arrows : (n : ℕ) (arrows : List MultiArrow) (s : List ℕ) → ((i : ℕ) → Member s i → i < length arrows) → AreArrows l n arrows → AreArrows l n (picked_of arrows s)
   picked_arrows n arrows s f a = record { long = (λ b m. a.long b (picked_in arrows s f b m)); suits = (λ b m. a.suits b (picked_in arrows s f b m)); canonical = (λ b m. a.canonical b (picked_in arrows s f b m)) }
@@ -140,12 +145,8 @@ module _ (l : Library) where
     canonical = (λ a m s k. let r = member_at m in canonical_source a.sources a.target (path_canonical a (arrow_from n (paths_at l x) r.0 a r.1).0) s k);
   }
     where
-      canonical_source : (ns : List Paths) (p : TypePath) → IsCanonicalPath (below_in l.taxonomy) (variances_in l.taxonomy) (from_sources ns p) → (s : Paths) → Member ns s → EachCanonical (below_in l.taxonomy) (variances_in l.taxonomy) s
-      canonical_source (m ∷ ns) p c _ first = each_of m c.0
-        where
-          each_of : (n : Paths) → IsCanonical (below_in l.taxonomy) (variances_in l.taxonomy) n → EachCanonical (below_in l.taxonomy) (variances_in l.taxonomy) n
-          each_of none c = tt
-          each_of (more p n) c = (c.0, each_of n c.2)
+      canonical_source : (ns : List Paths) (p : TypePath) → IsCanonicalPath (below_in l.taxonomy) (variances_in l.taxonomy) (from_sources ns p) → (s : Paths) → Member ns s → IsCanonical (below_in l.taxonomy) (variances_in l.taxonomy) s
+      canonical_source (m ∷ ns) p c _ first = c.0
       canonical_source (m ∷ ns) p c s (later k) = canonical_source ns p c.1 s k
       canonical_source [] p c s k = elim k [ ]
 
@@ -211,6 +212,46 @@ module _ (l : Library) (law : IsLibrary l) (x n : ℕ) (s : List ℕ) (below : (
     reduced = z;
     rule = refl;
   }
+
+  pub picked_long : (a : MultiArrow) → picked_of (arrows_at l x n) s ≡ a ∷ [] → length a.sources ≡ n
+  picked_long a e = are_picked.long a (subst (λ (p : List MultiArrow). Member p a) (sym e) first)
+
+  -- a source is normal as it is
+  own_reduced : (a : MultiArrow) → Member (picked_of (arrows_at l x n) s) a → (m : Paths) → Member a.sources m → IsReduced l m m
+  own_reduced a i m k =
+      let suits = are_picked.suits a i m k in
+      let same = covers_refl (below_in l.taxonomy) (variances_in l.taxonomy) (reflexive l law) (transitive l law) m suits in
+      record { normal = record { suits = suits; canonical = are_picked.canonical a i m k }; lower = same; upper = same }
+
+  -- the sources of a single arrow are the arguments
+  pub own_sources : (a : MultiArrow) → picked_of (arrows_at l x n) s ≡ a ∷ [] → AllZip (IsReduced l) (columns n (picked_of (arrows_at l x n) s)) a.sources
+  own_sources a e =
+      let here : Member (picked_of (arrows_at l x n) s) a = subst (λ (p : List MultiArrow). Member p a) (sym e) first in
+      subst (λ (p : List MultiArrow). AllZip (IsReduced l) (columns n p) a.sources) (sym e) (go a.sources n (are_picked.long a here) (own_reduced a here))
+    where
+      go : (ns : List Paths) (k : ℕ) → length ns ≡ k → ((m : Paths) → Member ns m → IsReduced l m m) → AllZip (IsReduced l) (zip_append ns (no_sources k)) ns
+      go [] k d f = tt
+      go (m ∷ ns) zero d f = absurd (omega arith)
+      go (m ∷ ns) (suc k) d f = (subst (λ p. IsReduced l p m) (sym (append_none m)) (f m first), go ns k (omega arith) (λ p i. f p (later i)))
+
+-- the arrow at the only position
+pub picked_one : (arrows : List MultiArrow) (s : List ℕ) (a : MultiArrow) → 1 ≤ length s → length s < 2 → slice_get arrows (get_or s 0 0) ≡ Some a → picked_of arrows s ≡ a ∷ []
+picked_one arrows [] a l g e = absurd (omega arith)
+picked_one arrows (i ∷ []) a l g e = ap (λ (b : MultiArrow). b ∷ []) (get_or_from_slice_get arrows i a no_arrow e)
+picked_one arrows (i ∷ j ∷ s) a l g e = absurd (omega arith)
+
+pub first_in_cover : (s : List ℕ) → 1 ≤ length s → Contains s (get_or s 0 0)
+first_in_cover [] l = absurd (omega arith)
+first_in_cover (i ∷ s) l = member_contains first
+
+-- one source more
+pub source_step : (ns : List Paths) (place : ℕ) (args new : List (List TypePath)) (nf : List TypePath) → place < length ns → listed nf ≡ get_or ns place none → new ≡ args ++ nf ∷ [] → map listed args ≡ take place ns → map listed new ≡ take (place + 1) ns
+source_step ns place args new nf l e f h =
+    ap (λ (q : List (List TypePath)). map listed q) f
+    ∙ (map_last listed args nf
+    ∙ (ap (λ (q : List Paths). q ++ listed nf ∷ []) h
+    ∙ (ap (λ (p : Paths). take place ns ++ p ∷ []) e
+    ∙ sym (take_next ns place none l))))
 
 module _ (l : Library) where
   pub suits_at : (goal items : List TypePath) (i : ℕ) (q : TypePath) → items ≡ goal → i < length items → q ≡ get_or items i q → SuitsAll (variances_in l.taxonomy) (listed goal) → Suits (variances_in l.taxonomy) q

@@ -50,15 +50,38 @@ fn gather(
     requires { (i : ℕ) → Contains cover.now i → i < length arrows.now }
     ensures { IfOk result (λ paths. listed paths.items ≡ gathered place (picked_of arrows.now cover.now)) }
 {
-    let mut paths = Vec::new(alloc);
+    let mut paths = Vec::with_capacity(alloc, cover.len())?;
     for i in cover {
         put_source(alloc, &arrows.get(*i as usize), place, &mut paths)?;
     }
     Ok(paths)
 }
 
+/// A copy of what the arrow takes at this place, or omega if it takes nothing there.
+fn source_at(alloc: Global, arrow: &MultiArrow<'_>, place: usize) -> Result<Nf, OutOfMemory>
+    ensures { IfOk result (λ nf. listed nf ≡ slice_index_or arrow.now.sources place none) }
+{
+    match arrow.source(place) {
+        Some(source) => Ok(source.copy(alloc)?),
+        None => Ok(Nf::empty(alloc)),
+    }
+}
+
+/// Copies of what the arrow takes, place by place.
+fn sources(alloc: Global, arrow: &MultiArrow<'_>, count: u32) -> Result<Vec<Nf>, OutOfMemory>
+    requires { length arrow.now.sources ≡ count }
+    ensures { IfOk result (λ args. map listed args.items ≡ arrow.now.sources) }
+{
+    let mut args = Vec::with_capacity(alloc, count as usize)?;
+    for place in 0..count {
+        args.push(source_at(alloc, arrow, place as usize)?)?;
+    }
+    Ok(args)
+}
+
 /// The arguments of the rule that the component makes by the cover of its arrows with `count` sources: for each place
-/// the normal form of the intersection of the sources there. The only error is out of memory.
+/// the normal form of the intersection of the sources there. The sources of a single arrow are normal forms as they are.
+/// The only error is out of memory.
 pub fn arguments(
     alloc: Global,
     lib: &Library,
@@ -72,6 +95,9 @@ pub fn arguments(
     ensures { IfOk result (λ args. IsRuleFor lib.now (choice_at x count cover.now) (Head x (map listed args.items))) }
 {
     let arrows = lib.arrows(x, count);
+    if let [i] = cover {
+        return Ok(sources(alloc, &arrows.get(*i as usize), count)?);
+    }
     let mut args = Vec::with_capacity(alloc, count as usize)?;
     for place in 0..count {
         let paths = gather(alloc, &arrows, cover, place as usize)?;

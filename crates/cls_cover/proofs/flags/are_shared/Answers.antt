@@ -1,5 +1,4 @@
-use Rattle.std.proofs.Common.{ℕ, ◌≡◌, ◌+◌, ◌<◌, ◌≤◌, ◌^◌, List, length, get_or, sym, ap, subst, ◌∙◌, arith, true, false, IsTrue, refl, rules}
-use Rattle.std.specs.Int.Bits.{bit_and}
+use Rattle.std.proofs.Common.{ℕ, ◌≡◌, List, sym, subst, arith, true, false, refl, rules}
 use Rattle.cls_cover.specs.Flags.{AreShared}
 use Rattle.cls_cover.proofs.Words.{shared_yes, shared_no}
 use Rattle.cls_cover.proofs.flags.are_shared.Goals as goal

@@ -1,4 +1,4 @@
-use Rattle.std.proofs.Common.{ℕ, ◌≡◌, ◌+◌, ◌<◌, ◌≤◌, ◌^◌, List, length, get_or, sym, ap, subst, ◌∙◌, arith, true, false, IsTrue, refl, rules}
+use Rattle.std.proofs.Common.{ℕ, ◌≡◌, List, sym, subst, arith, true, false, refl, rules}
 use Rattle.cls_cover.specs.Flags.{AreSharedApart}
 use Rattle.cls_cover.proofs.Words.{apart_yes, apart_no}
 use Rattle.cls_cover.proofs.flags.are_shared_apart.Goals as goal

@@ -1,7 +1,6 @@
-use Rattle.std.proofs.Common.{List, take, ◌++◌, ◌∷◌, [], sym, subst, ◌∙◌}
+use Rattle.std.proofs.Common.{take, sym, ◌∙◌}
 use Rattle.std.proofs.lemmas.List.{take_more}
-use Rattle.cls_cover.specs.Growing.{single}
-use Rattle.cls_cover.proofs.SingleFamilies.{forced_none, forced_more}
+use Rattle.cls_cover.proofs.SingleFamilies.{forced_more}
 use Rattle.cls_cover.proofs.forced.forced.Goals as goal
 
 pub loop-family-preserved : goal.loop-family-preserved

@@ -1,4 +1,4 @@
-use Rattle.std.proofs.Common.{ℕ, List, ◌≡◌, ◌<◌, ◌≤◌, ◌↔◌, ◌⊎◌, length, get_or, insert, false, true, sym, subst, ◌∙◌, arith}
+use Rattle.std.proofs.Common.{ℕ, List, ◌≡◌, ◌<◌, ◌≤◌, ◌↔◌, ◌⊎◌, length, get_or, false, true, sym, subst, ◌∙◌, arith}
 use Rattle.cls_cover.specs.Members.{Member, Ascending}
 use Rattle.cls_cover.proofs.SingleFamilies.{put_ascending, put_members, there_members}
 use Rattle.cls_cover.proofs.forced.put.Goals as goal

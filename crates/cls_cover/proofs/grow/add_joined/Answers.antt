@@ -1,4 +1,4 @@
-use Rattle.std.proofs.Common.{ℕ, ◌≡◌, ◌+◌, ◌<◌, length, get_or, take, ap, sym, ◌∙◌, subst, arith, List, ◌++◌, ◌∷◌, []}
+use Rattle.std.proofs.Common.{ℕ, ◌+◌, length, get_or, take, ap, sym, ◌∙◌, subst, arith, List, ◌++◌, ◌∷◌, []}
 use Rattle.cls_base.proofs.Lists.{take_whole}
 use Rattle.cls_cover.specs.declared.cover.Cover.{Cover}
 use Rattle.cls_cover.specs.Members.{Member, Ascending}

@@ -1,4 +1,4 @@
-use Rattle.std.proofs.Common.{ℕ, ◌≡◌, ◌+◌, ◌<◌, ◌⊎◌, inl, inr, length, get_or, ap, sym, ◌∙◌, subst, arith, List, IsTrue}
+use Rattle.std.proofs.Common.{ℕ, ◌≡◌, ◌+◌, ◌<◌, ◌⊎◌, inl, inr, length, get_or, ap, sym, ◌∙◌, subst, arith, IsTrue}
 use Rattle.cls_cover.specs.declared.cover.Cover.{Cover}
 use Rattle.cls_cover.specs.Flags.{bit}
 use Rattle.cls_cover.proofs.Lists.{member_contains, get_any}

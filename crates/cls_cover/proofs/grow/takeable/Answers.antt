@@ -1,4 +1,4 @@
-use Rattle.std.proofs.Common.{ℕ, ◌≡◌, ◌+◌, ◌<◌, ◌≤◌, length, get_or, take, ap, sym, ◌∙◌, subst, arith, rules, List, ◌++◌, [], IsTrue, true, false}
+use Rattle.std.proofs.Common.{ℕ, ◌≡◌, ◌<◌, length, get_or, take, ap, sym, ◌∙◌, subst, arith, rules, List, ◌++◌, [], true, false}
 use Rattle.cls_cover.specs.Members.{Member}
 use Rattle.cls_cover.specs.Groups.{together, IsAlike}
 use Rattle.cls_cover.specs.Growing.{next_family}

@@ -1,5 +1,5 @@
-use Rattle.std.proofs.Common.{◌≡◌, ◌<◌, ◌≤◌, length, List, [], sym, ◌∙◌, subst, ap, arith}
-use Rattle.std.specs.Prelude.{map}
+use Rattle.std.proofs.Common.{◌≡◌, ◌<◌, ◌≤◌, length, get_or, Some, List, [], sym, ◌∙◌, subst, ap, arith}
+use Rattle.std.specs.Prelude.{map, slice_get}
 use Rattle.std.specs.List.{AllZip}
 use Rattle.cls_base.proofs.Lists.{take_whole}
 use Rattle.cls_taxon.specs.Orders.{Declared}
@@ -9,7 +9,7 @@ use Rattle.cls_library.specs.Arrows.{MultiArrow}
 use Rattle.cls_library.specs.Libraries.{arrows_at, below_in, variances_in}
 use Rattle.cls_library.specs.Reaching.{IsReduced, columns}
 use Rattle.cls_expand.specs.Making.{gathered, picked_of}
-use Rattle.cls_expand.proofs.Sources.{gather_suits, gather_canonical, argument_step, columns_size, rule_made}
+use Rattle.cls_expand.proofs.Sources.{gather_suits, gather_canonical, argument_step, columns_size, rule_made, own_sources, picked_one, first_in_cover, picked_long}
 use Rattle.cls_expand.proofs.arguments.arguments.Goals as goal
 
 pub gather-requires : goal.gather-requires
@@ -41,3 +41,20 @@ returns c =
     let t : c.args.count ≤ c.loop-place.place = c.loop-place-test.false in
     rule_made c.args.lib.now c.arrows-arrows.ensures.library c.args.x c.args.count c.args.cover.now c.requires.below (map listed c.loop-place.args.items)
     (subst (λ (cols : List Paths). AllZip (IsReduced c.args.lib.now) cols (map listed c.loop-place.args.items)) (take_whole (columns c.args.count (picked_of (arrows_at c.args.lib.now c.args.x c.args.count) c.args.cover.now)) c.loop-place.place (omega arith)) c.loop-place.invariant)
+
+pub get-requires : goal.get-requires
+get-requires c = subst (λ (arrows : List MultiArrow). get_or c.args.cover.now 0 0 < length arrows) (sym c.arrows-arrows.ensures.arrows) (c.requires.below (get_or c.args.cover.now 0 0) (first_in_cover c.args.cover.now c.in-len1.len_at_least))
+
+pub sources-requires : goal.sources-requires
+sources-requires c =
+    picked_long c.args.lib.now c.arrows-arrows.ensures.library c.args.x c.args.count c.args.cover.now c.requires.below c.get.result
+    (picked_one (arrows_at c.args.lib.now c.args.x c.args.count) c.args.cover.now c.get.result c.in-len1.len_at_least c.in-len1.len_below
+    (subst (λ (arrows : List MultiArrow). slice_get arrows (get_or c.args.cover.now 0 0) ≡ Some c.get.result) c.arrows-arrows.ensures.arrows c.get.ensures))
+
+pub returns-in-len1 : goal.returns-in-len1
+returns-in-len1 c =
+    let e = picked_one (arrows_at c.args.lib.now c.args.x c.args.count) c.args.cover.now c.get.result c.in-len1.len_at_least c.in-len1.len_below
+    (subst (λ (arrows : List MultiArrow). slice_get arrows (get_or c.args.cover.now 0 0) ≡ Some c.get.result) c.arrows-arrows.ensures.arrows c.get.ensures) in
+    rule_made c.args.lib.now c.arrows-arrows.ensures.library c.args.x c.args.count c.args.cover.now c.requires.below (map listed c.in_ok-sources.field-0.items)
+    (subst (λ (ns : List Paths). AllZip (IsReduced c.args.lib.now) (columns c.args.count (picked_of (arrows_at c.args.lib.now c.args.x c.args.count) c.args.cover.now)) ns) (sym c.in_ok-sources.ensures)
+    (own_sources c.args.lib.now c.arrows-arrows.ensures.library c.args.x c.args.count c.args.cover.now c.requires.below c.get.result e))
