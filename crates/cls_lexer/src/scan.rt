@@ -21,7 +21,7 @@ pub fn tokens<'a>(alloc: Global, line: &'a str) -> Result<Vec<Token<'a>>, OutOfM
     ensures words { IfOk result (λ v. words v.items ≡ words_of line.now) }
 {
     let bytes = line.as_bytes();
-    let mut out = Vec::new(alloc);
+    let mut out = Vec::with_capacity(alloc, bytes.len() / 2)?;
     let mut at = 0;
     while at < bytes.len() {
         let first = bytes[at];

@@ -9,11 +9,13 @@ pub mod ItemFronts
 pub mod LineFronts
 pub mod LineParts
 pub mod MachineRuns
+pub mod Numbering
 pub mod PartNames
 pub mod PrintedTexts
 pub mod ReadBack
 pub mod ReadTypes
 pub mod Regrouping
+pub mod ReservedNames
 pub mod SchemaImages
 pub mod Tails
 pub mod TermReads

@@ -1,6 +1,6 @@
 -- What spells the type omega is the one word for it.
-use Rattle.std.proofs.Common.{◌≡◌, ℕ, Bool, true, false, List, [], ◌∷◌, length, map, refl, sym, ap, ◌∙◌, subst, arith, suc, append-nil}
-use Rattle.std.specs.Prelude.{IsTrue, ◌↔◌, nat_eq, Result, Ok}
+use Rattle.std.proofs.Common.{◌≡◌, Bool, List, [], ◌∷◌, length, refl, sym, ap, ◌∙◌, arith}
+use Rattle.std.specs.Prelude.{IsTrue, ◌↔◌, nat_eq, Result}
 use Rattle.std.proofs.lemmas.List.{length-map}
 use Rattle.std.proofs.lemmas.Bool.{eqb-true}
 use Rattle.cls_lexer.specs.declared.token.Token.{Token}

@@ -25,6 +25,7 @@ use Rattle.cls_syntax.specs.ClosedTypes.{opened, HasNoDollar, Spells}
 use Rattle.cls_syntax.specs.TypePrinting.{name_in, HasNamesBelow}
 use Rattle.cls_syntax.specs.RoundTrips.{IsProperName, HasProperNames, ReadTypesAreReadAgain}
 use Rattle.cls_lexer.proofs.TokenPlaces.{tokens_longest}
+use Rattle.cls_syntax.proofs.GrowingTables.{comes_in, stays_all}
 use Rattle.cls_syntax.proofs.PrintedTexts.{Opens, one_word, join_opens, enclose_opens, con_enclosed}
 use Rattle.cls_syntax.proofs.ReadBack.{read_back}
 
@@ -303,26 +304,7 @@ module _ (known : List (List ℕ)) where
   all_good (number n ∷ ws) p h = (tt, all_good ws p.1 h.1)
   all_good (sign kind ∷ ws) p h = (tt, all_good ws p.1 h.1)
 
--- what came into a table stays there
-stays_one : (texts : List (List ℕ)) (x y : List ℕ) → list_any (bytes_eq x) texts ≡ true → list_any (bytes_eq x) (texts ++ y ∷ []) ≡ true
-stays_one [] x y h = cc
-stays_one (t ∷ texts) x y h =
-    (elim (bytes_eq x t) as (λ b. (b || list_any (bytes_eq x) texts) ≡ true → (b || list_any (bytes_eq x) (texts ++ y ∷ [])) ≡ true) [ true ↦ λ k. refl | false ↦ λ k. stays_one texts x y k ]) h
-
-stays : (texts : List (List ℕ)) (x y : List ℕ) → list_any (bytes_eq x) texts ≡ true → list_any (bytes_eq x) (with_text texts y) ≡ true
-stays texts x y h = elim (list_any (bytes_eq y) texts) as (λ b. list_any (bytes_eq x) (if b then texts else texts ++ y ∷ []) ≡ true) [ true ↦ h | false ↦ stays_one texts x y h ]
-
-comes : (texts : List (List ℕ)) (x : List ℕ) → list_any (bytes_eq x) (texts ++ x ∷ []) ≡ true
-comes [] x = let e = (bytes_eq-Decides x x).1 refl in rw e refl
-comes (t ∷ texts) x = elim (bytes_eq x t) as (λ b. (b || list_any (bytes_eq x) (texts ++ x ∷ [])) ≡ true) [ true ↦ refl | false ↦ comes texts x ]
-
-comes_in : (texts : List (List ℕ)) (x : List ℕ) → list_any (bytes_eq x) (with_text texts x) ≡ true
-comes_in texts x = (elim (list_any (bytes_eq x) texts) as (λ b. list_any (bytes_eq x) texts ≡ b → list_any (bytes_eq x) (if b then texts else texts ++ x ∷ []) ≡ true) [ true ↦ λ e. e | false ↦ λ e. comes texts x ]) refl
-
-stays_all : (texts xs : List (List ℕ)) (x : List ℕ) → list_any (bytes_eq x) texts ≡ true → list_any (bytes_eq x) (with_texts texts xs) ≡ true
-stays_all texts [] x h = h
-stays_all texts (y ∷ xs) x h = stays_all (with_text texts y) xs x (stays texts x y h)
-
+-- the texts of a table that came into it
 pub held_by : (texts xs ys : List (List ℕ)) → ys ≡ with_texts texts xs → AllHeld ys xs
 held_by texts [] ys e = tt
 held_by texts (x ∷ xs) ys e = (ap (list_any (bytes_eq x)) e ∙ stays_all (with_text texts x) xs x (comes_in texts x), held_by (with_text texts x) xs ys e)

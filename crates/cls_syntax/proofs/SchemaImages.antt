@@ -24,7 +24,7 @@ use Rattle.cls_syntax.proofs.MachineRuns.{run}
 use Rattle.cls_syntax.proofs.TypeReads as types
 
 -- the text beside a word is the word's, where it is a name
-abbrev Says : Word → List ℕ → Type 0
+abbrev pub Says : Word → List ℕ → Type 0
 Says word.omega text = Unit {0}
 Says (name x) text = text ≡ x
 Says (number n) text = Unit {0}
@@ -34,7 +34,7 @@ name_says : (b : Bool) (text : List ℕ) → Says (if b then word.omega else nam
 name_says true text = tt
 name_says false text = refl
 
-kind_says : (kind : TokenKind) (text : List ℕ) → Says (word_from kind text) text
+pub kind_says : (kind : TokenKind) (text : List ℕ) → Says (word_from kind text) text
 kind_says kinds.Name text = name_says (bytes_eq text reserved_name) text
 kind_says kinds.Number text = tt
 kind_says _ text = tt

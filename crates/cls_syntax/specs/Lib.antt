@@ -10,6 +10,7 @@ pub mod GoodForms
 pub mod LineGrammars
 pub mod LineReading
 pub mod Machines
+pub mod Numberings
 pub mod Readings
 pub mod Roles
 pub mod RoundTrips

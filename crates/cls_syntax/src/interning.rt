@@ -1,50 +1,48 @@
 //! Numbers the names of a type in the order of its tokens.
-ghost use Rattle.std.specs.Prelude.{◌≡◌, false, length, take, OnOk, OnErr};
-ghost use Rattle.cls_lexer.specs.Words.{words};
-ghost use Rattle.cls_lexer.specs.Names.{with_text};
-ghost use Rattle.cls_syntax.specs.TypeSchemas.{with_constructors, with_variables};
+ghost use Rattle.std.specs.Prelude.{◌≡◌, length, take, IfOk, OnOk, OnErr};
+ghost use Rattle.cls_lexer.specs.Words.{word_of};
+ghost use Rattle.cls_lexer.specs.Names.{number_of, with_text};
+ghost use Rattle.cls_syntax.specs.Numberings.{constructors_after, variables_after, number_in};
+ghost use Rattle.cls_syntax.specs.Sorts.{sort_of};
 
-use crate::sort::is_name;
-use cls_base::OutOfMemory;
-use cls_lexer::{Names, Token, TokenKind};
+use crate::sort::{Sort, sort_of};
+use cls_base::{Name, OutOfMemory};
+use cls_lexer::{Names, Token};
 use std::alloc::Global;
 
-/// Numbers the names of the tokens: behind a `$` they are variables, otherwise constructors. After an error the tables
-/// may have grown.
+/// Numbers the name that the token is: behind a `$` it is a variable, otherwise a constructor. A token that is no name
+/// has the number 0 and changes nothing. After an error the tables are as before.
 #[tactic(auto, using(crate::proofs::GrowingTables::kept))]
-pub(crate) fn intern_names(
+pub(crate) fn intern_token(
     alloc: Global,
     constructors: &mut Names,
     variables: &mut Names,
-    tokens: &[Token],
-) -> Result<(), OutOfMemory>
-    ensures constructors { OnOk result (constructors.new ≡ with_constructors constructors.old (words tokens.now)) }
-    ensures variables { OnOk result (variables.new ≡ with_variables variables.old (words tokens.now)) }
-    ensures kept { take (length constructors.old) constructors.new ≡ constructors.old }
-    ensures variables_kept { take (length variables.old) variables.new ≡ variables.old }
+    behind: bool,
+    token: &Token,
+) -> Result<Name, OutOfMemory>
+    ensures constructors { OnOk result (constructors.new ≡ constructors_after constructors.old behind (word_of token.now)) }
+    ensures variables { OnOk result (variables.new ≡ variables_after variables.old behind (word_of token.now)) }
+    ensures number { IfOk result (λ name. name.0
+        ≡ number_in constructors.new variables.new behind (sort_of (word_of token.now)) token.now.text.now) }
+    ensures constructors_stay { OnErr result (constructors.new ≡ constructors.old) }
+    ensures variables_stay { OnErr result (variables.new ≡ variables.old) }
 {
-    let mut behind = false;
-    for token in tokens {
-        if is_name(token) {
-            if behind {
-                put(alloc, variables, token.text)?;
-            } else {
-                put(alloc, constructors, token.text)?;
-            }
-        }
-        behind = token.kind == TokenKind::Dollar;
+    match sort_of(token) {
+        Sort::Name if behind => put(alloc, variables, token.text),
+        Sort::Name => put(alloc, constructors, token.text),
+        _ => Ok(Name(0)),
     }
-    Ok(())
 }
 
 /// Numbers the text. A table that is full is out of memory.
-fn put(alloc: Global, names: &mut Names, text: &str) -> Result<(), OutOfMemory>
+#[tactic(auto, using(crate::proofs::GrowingTables::number_comes))]
+fn put(alloc: Global, names: &mut Names, text: &str) -> Result<Name, OutOfMemory>
     ensures table { OnOk result (names.new ≡ with_text names.old text.now) }
+    ensures number { IfOk result (λ name. name.0 ≡ number_of names.new text.now) }
     ensures err { OnErr result (names.new ≡ names.old) }
 {
     if names.len() >= u32::MAX - 1 {
         return Err(OutOfMemory);
     }
-    names.intern(alloc, text)?;
-    Ok(())
+    names.intern(alloc, text)
 }

@@ -15,12 +15,13 @@ ghost use Rattle.cls_syntax.specs.TypeSchemas.{is_dollar, with_constructors, wit
 
 use crate::cursor::{end_at, type_at};
 use crate::depth::deepest;
+use crate::sort::is_dollar;
 use crate::spelled_type::SpelledType;
 use crate::stop::Stop;
 use crate::syntax_fault::SyntaxFault;
 use cls_base::limits::MAX_TYPE_DEPTH;
 use cls_base::{Schema, Ty};
-use cls_lexer::{Names, Token, TokenKind, byte_at, tokens};
+use cls_lexer::{Names, Token, byte_at, tokens};
 use std::alloc::Global;
 
 /// The schema that the whole text spells. Its names are numbered in the order of their tokens, constructors and
@@ -82,13 +83,6 @@ fn first_dollar(tokens: &[Token]) -> Option<usize>
     ensures { result ≡ position (λ l. is_dollar (word_of l)) tokens.now }
 {
     tokens.iter().position(|token| is_dollar(token))
-}
-
-#[tactic(auto, using(crate::proofs::Dollars::dollar_kind))]
-fn is_dollar(token: &Token) -> bool
-    ensures { result ≡ is_dollar (word_of token.now) }
-{
-    matches!(token.kind, TokenKind::Dollar)
 }
 
 /// The type that the tokens of the text spell.

@@ -1,27 +1,19 @@
 //! Builds the tree that tokens spell, a schema or a closed type, with a stack of its own in place of recursion.
-ghost use Rattle.std.specs.Prelude.{◌≡◌, ℕ, List, [], ◌∷◌, map, Option, Some, None, IfOk, OnOk};
+ghost use Rattle.std.specs.Prelude.{◌≡◌, ℕ, List, [], ◌∷◌, map, false, length, take, Option, Some, None, IfOk, OnOk, OnSome};
 ghost use Rattle.std.specs.Option.{option_map};
 ghost use Rattle.cls_base.specs.Schemas.{OpenType};
 ghost use Rattle.cls_base.specs.Schemas as schema;
-ghost use Rattle.cls_lexer.specs.Names.{number_of};
-ghost use Rattle.cls_syntax.specs.Sorts.{sort_of};
-ghost use Rattle.cls_lexer.specs.Words.{word_of};
-ghost use Rattle.cls_syntax.specs.SchemaReading.{Outer, whole, within, empty_level, operand, applied, with_left, with_sources, closed, atom_read, step_after, step, ended, schema_reading, level_of, outer_of, state_of, next_of};
+ghost use Rattle.cls_lexer.specs.Words.{words};
+ghost use Rattle.cls_syntax.specs.Numberings.{numbered_step, numbered_reading};
+ghost use Rattle.cls_syntax.specs.SchemaReading.{Outer, whole, within, empty_level, operand, applied, with_left, with_sources, closed, atom_read, step_after, ended, level_of, outer_of, state_of, next_of};
+ghost use Rattle.cls_syntax.specs.TypeSchemas.{with_constructors, with_variables};
 
-use crate::sort::{Sort, sort_of};
+use crate::interning::intern_token;
+use crate::sort::{Sort, is_dollar, sort_of};
 use crate::tree::Tree;
 use cls_base::{Name, OutOfMemory};
 use cls_lexer::{Names, Token};
 use std::alloc::Global;
-
-/// The tables that number the names of a schema.
-#[derive(Clone, Copy)]
-pub(crate) struct Tables<'n> {
-    /// The constructors.
-    pub(crate) constructors: &'n Names,
-    /// The variables.
-    pub(crate) variables: &'n Names,
-}
 
 /// What was read between two parentheses up to a place where an atom may stand.
 #[derive(Drop)]
@@ -47,46 +39,55 @@ enum Place<T: Tree> {
     After(T),
 }
 
-/// The tree that the tokens spell, if they spell one, with the numbers that the tables give its names.
+/// The tree that the tokens spell, if they spell one. Its names are numbered in the order of their tokens: behind a `$`
+/// they are variables, otherwise constructors. After an error the tables may have grown.
+#[tactic(auto, using(crate::proofs::GrowingTables::kept))]
 pub(crate) fn build<T: Tree>(
     alloc: Global,
-    tables: Tables,
+    constructors: &mut Names,
+    variables: &mut Names,
     tokens: &[Token],
 ) -> Result<Option<T>, OutOfMemory>
-    ensures { IfOk result (λ t. option_map T.tree t
-        ≡ schema_reading (number_of tables.entry.constructors.now) (λ x. T.leaf (number_of tables.entry.variables.now x))
-        (operand whole empty_level) tokens.now) }
+    ensures tree { IfOk result (λ t. option_map T.tree t
+        ≡ numbered_reading T.leaf constructors.old variables.old false (operand whole empty_level) tokens.now) }
+    ensures constructors { IfOk result (λ t. OnSome t
+        (constructors.new ≡ with_constructors constructors.old (words tokens.now))) }
+    ensures variables { IfOk result (λ t. OnSome t
+        (variables.new ≡ with_variables variables.old (words tokens.now))) }
+    ensures kept { take (length constructors.old) constructors.new ≡ constructors.old }
+    ensures variables_kept { take (length variables.old) variables.new ≡ variables.old }
 {
     let mut frames = Vec::new(alloc);
     let mut level = new_level(alloc);
     let mut place = Place::Operand;
+    let mut behind = false;
     for token in tokens {
-        match step(alloc, tables, &mut frames, &mut level, place, token)? {
+        let name = intern_token(alloc, constructors, variables, behind, token)?;
+        match step(alloc, &mut frames, &mut level, place, sort_of(token), name)? {
             Some(next) => place = next,
             None => return Ok(None),
         }
+        behind = is_dollar(token);
     }
     finish(alloc, frames, level, place)
 }
 
+/// After a token of this sort. The number is that of its name, where it is one.
 fn step<T: Tree>(
     alloc: Global,
-    tables: Tables,
     frames: &mut Vec<Frame<T>>,
     level: &mut Level<T>,
     place: Place<T>,
-    token: &Token,
+    sort: Sort,
+    name: Name,
 ) -> Result<Option<Place<T>>, OutOfMemory>
     ensures { IfOk result (λ p. next_of T.tree (outer_of T.tree frames.new.items) (level_of T.tree level.new) p
-        ≡ step (number_of tables.entry.constructors.now) (λ x. T.leaf (number_of tables.entry.variables.now x))
-        (state_of T.tree (outer_of T.tree frames.old.items) (level_of T.tree level.old) place)
-        (sort_of (word_of token.now)) token.now.text.now) }
+        ≡ numbered_step T.leaf name.0 (state_of T.tree (outer_of T.tree frames.old.items) (level_of T.tree level.old) place) sort) }
 {
-    let sort = sort_of(token);
     match place {
         Place::Operand => match sort {
             Sort::Omega => Ok(Some(atom(alloc, level, T::omega())?)),
-            Sort::Name => Ok(Some(Place::AfterName(tables.constructors.number(token.text)))),
+            Sort::Name => Ok(Some(Place::AfterName(name))),
             Sort::Dollar => Ok(Some(Place::AfterDollar)),
             Sort::Open => {
                 open(alloc, frames, level, None)?;
@@ -95,19 +96,19 @@ fn step<T: Tree>(
             _ => Ok(None),
         },
         Place::AfterDollar => match sort {
-            Sort::Name => match T::variable(tables.variables.number(token.text)) {
+            Sort::Name => match T::variable(name) {
                 Some(variable) => Ok(Some(atom(alloc, level, variable)?)),
                 None => Ok(None),
             },
             _ => Ok(None),
         },
-        Place::AfterName(name) => match sort {
+        Place::AfterName(head) => match sort {
             Sort::Open => {
-                open(alloc, frames, level, Some(name))?;
+                open(alloc, frames, level, Some(head))?;
                 Ok(Some(Place::Operand))
             }
             _ => {
-                let bare = T::constructor(alloc, name, T::omega())?;
+                let bare = T::constructor(alloc, head, T::omega())?;
                 let product = product_of(alloc, level.product.take(), bare)?;
                 after(alloc, frames, level, product, sort)
             }

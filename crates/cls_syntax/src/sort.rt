@@ -2,6 +2,7 @@ ghost use Rattle.std.specs.Prelude.{◌≡◌};
 ghost use Rattle.std.specs.Str.{bytes_eq};
 ghost use Rattle.cls_lexer.specs.Words.{word_of, reserved_name};
 ghost use Rattle.cls_syntax.specs.Sorts.{sort_of, is_name, is_number};
+ghost use Rattle.cls_syntax.specs.TypeSchemas.{is_dollar};
 
 use cls_lexer::{Token, TokenKind};
 
@@ -59,10 +60,11 @@ pub(crate) fn sort_of(token: &Token) -> Sort
 }
 
 /// Whether the text is `omega`, which stands for no constructor, variable or component.
+#[tactic(auto, using(crate::proofs::ReservedNames::other_length))]
 pub(crate) fn is_reserved(text: &str) -> bool
     ensures { result ≡ bytes_eq text.now reserved_name }
 {
-    text == "omega"
+    text.len() == 5 && text == "omega"
 }
 
 /// Whether the token is a name that isn't reserved.
@@ -78,4 +80,12 @@ pub(crate) fn is_number(token: &Token) -> bool
     ensures { result ≡ is_number (word_of token.now) }
 {
     matches!(token.kind, TokenKind::Number)
+}
+
+/// Whether the token is a `$`.
+#[tactic(auto, using(crate::proofs::Dollars::dollar_kind))]
+pub(crate) fn is_dollar(token: &Token) -> bool
+    ensures { result ≡ is_dollar (word_of token.now) }
+{
+    matches!(token.kind, TokenKind::Dollar)
 }

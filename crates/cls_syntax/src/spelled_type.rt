@@ -6,8 +6,7 @@ ghost use Rattle.cls_syntax.specs.TypeReading.{type_front};
 ghost use Rattle.cls_syntax.specs.TypeShapes.{held};
 ghost use Rattle.cls_syntax.specs.Spans.{is_whole, type_in};
 
-use crate::interning::intern_names;
-use crate::schema_builder::{Tables, build};
+use crate::schema_builder::build;
 use crate::stop::begins_reserved;
 use cls_base::limits::MAX_TYPE_NODES;
 use cls_base::{OutOfMemory, Schema, Ty};
@@ -91,12 +90,7 @@ impl SpelledType<'_, '_> {
         ensures kept { take (length constructors.old) constructors.new ≡ constructors.old }
         ensures variables_kept { take (length variables.old) variables.new ≡ variables.old }
     {
-        intern_names(alloc, constructors, variables, self.tokens)?;
-        let tables = Tables {
-            constructors,
-            variables,
-        };
-        match build(alloc, tables, self.tokens)? {
+        match build(alloc, constructors, variables, self.tokens)? {
             Some(schema) => Ok(schema),
             None => unreachable!(),
         }
@@ -129,12 +123,7 @@ impl SpelledType<'_, '_> {
         ensures kept { take (length constructors.old) constructors.new ≡ constructors.old }
     {
         let mut variables = Names::new(alloc);
-        intern_names(alloc, constructors, &mut variables, self.tokens)?;
-        let tables = Tables {
-            constructors,
-            variables: &variables,
-        };
-        match build(alloc, tables, self.tokens)? {
+        match build(alloc, constructors, &mut variables, self.tokens)? {
             Some(ty) => Ok(ty),
             None => unreachable!(),
         }

@@ -11,7 +11,7 @@ pub loop-at-init : goal.loop-at-init
 loop-at-init c = record {
   within = omega arith;
   boundary = IsCharBoundary-start c.args.line.now c.utf8.line;
-  same = rw c.new-out.ensures.items refl;
+  same = rw c.in_ok-out.ensures.items refl;
 }
 
 pub loop-at-preserved-then-is_blank : goal.loop-at-preserved-then-is_blank
