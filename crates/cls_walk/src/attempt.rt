@@ -20,7 +20,7 @@ use crate::build::{each_rises, forms_of};
 use crate::counted::{Counted, is_within};
 use crate::cursor::{Cursor, passed};
 use crate::fault::WalkFault;
-use crate::least::least_sizes;
+use crate::least::{form_sizes, least_sizes};
 use crate::listing::list_size;
 use crate::plan::Plan;
 use crate::totals::size_of_cursor;
@@ -183,19 +183,21 @@ pub(crate) fn walk_page<B: RuleBook>(
         return Ok(None);
     };
     let least = least_sizes(alloc, costs, &forms, last + 1)?;
+    let sizes = form_sizes(alloc, costs, &least, &forms)?;
     let is_rising = each_rises(&forms);
     let plan = Plan {
         costs,
         forms: &forms,
         least: &least,
+        sizes: &sizes,
         take,
         is_rising,
     };
     let code = code_of_cursor(alloc, after)?;
     let mut walk = Walk::new(alloc);
     let from = size_of_cursor(costs, after);
-    let sizes = walk_sizes(alloc, &plan, after, from, code.as_slice(), last, &mut walk);
-    let Some(size) = unless_many(sizes)? else {
+    let reached = walk_sizes(alloc, &plan, after, from, code.as_slice(), last, &mut walk);
+    let Some(size) = unless_many(reached)? else {
         return Ok(None);
     };
     let is_known = walk.codes.len() > take as usize || size == max_size;

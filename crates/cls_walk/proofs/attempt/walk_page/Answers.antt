@@ -14,7 +14,7 @@ pub page_of-requires : goal.page_of-requires
 page_of-requires g c =
     let book = g.B.RuleBook.book c.args.book.now in
     let r = request c.args.costs.now (option_copied c.args.after) c.args.max_size c.args.take in
-    let sizes = c.walk_sizes-sizes in
+    let sizes = c.walk_sizes-reached in
     let ok = subst (λ o. IfSome o (λ k. sizes.result ≡ Ok k)) c.in-Some-2.is c.in_ok-size.ensures in
     let forms = subst (λ o. IfSome o (AreFormsUpTo book c.args.counted.now.last)) c.in-Some.is c.in_ok-forms.ensures in
     let h = ok-at (λ k. AreDueCodes book r (k + 1) sizes.new.walk.codes) sizes.result c.in-Some-2.size ok (sizes.ensures.listed book c.args.max_size forms c.requires.last) in
@@ -24,7 +24,7 @@ pub returns-clause-page : goal.returns-clause-page
 returns-clause-page g c =
     let book = g.B.RuleBook.book c.args.book.now in
     let r = request c.args.costs.now (option_copied c.args.after) c.args.max_size c.args.take in
-    let sizes = c.walk_sizes-sizes in
+    let sizes = c.walk_sizes-reached in
     let codes = sizes.new.walk.codes in
     let s = c.in-Some-2.size in
     let l = c.requires.last in
@@ -47,7 +47,7 @@ pub returns-clause-within : goal.returns-clause-within
 returns-clause-within g c =
     let book = g.B.RuleBook.book c.args.book.now in
     let r = request c.args.costs.now (option_copied c.args.after) c.args.max_size c.args.take in
-    let sizes = c.walk_sizes-sizes in
+    let sizes = c.walk_sizes-reached in
     let codes = sizes.new.walk.codes in
     let s = c.in-Some-2.size in
     let l = c.requires.last in

@@ -1,7 +1,7 @@
 use Rattle.std.proofs.Common.{List, ℕ, arith, ap, ◌∙◌, reverse}
 use Rattle.cls_term.specs.Costs.{cost_of}
 use Rattle.cls_walk.proofs.Rounds.{size-next, size-whole}
-use Rattle.cls_walk.proofs.least.form_size.Goals as goal
+use Rattle.cls_walk.proofs.least.size_of_form.Goals as goal
 
 pub loop-node-preserved : goal.loop-node-preserved
 loop-node-preserved c = size-next (cost_of c.args.costs.now c.args.form.now.0) c.args.least.now c.deref-node-items.result.now c.loop-node.node-index c.loop-node.total c.from.result c.plus-total.result (omega (arith, c.loop-node-test.true)) c.loop-node.invariant (c.from.ensures ∙ c.number_of.ensures) c.plus-total.ensures
