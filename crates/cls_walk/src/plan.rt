@@ -9,13 +9,15 @@ use crate::table::Table;
 use cls_base::Numbers;
 
 /// The costs of the components, the forms of each node, a size than which no term of a node is smaller, what each form
-/// comes to, how many codes are wanted, and whether the forms of each node are known to rise.
+/// comes to, the upper bounds of the numbers of terms, how many codes are wanted, and whether the forms of each node are
+/// known to rise.
 #[derive(Clone, Copy)]
 pub(crate) struct Plan<'a> {
     pub(crate) costs: &'a Numbers,
     pub(crate) forms: &'a Forms,
     pub(crate) least: &'a Numbers,
     pub(crate) sizes: &'a Table,
+    pub(crate) upper: &'a Table,
     pub(crate) take: u32,
     pub(crate) is_rising: bool,
     pub ghost positive: { (x : ℕ) → 1 ≤ cost_of costs.now x },

@@ -17,7 +17,7 @@ page_of-requires g c =
     let sizes = c.walk_sizes-reached in
     let ok = subst (λ o. IfSome o (λ k. sizes.result ≡ Ok k)) c.in-Some-2.is c.in_ok-size.ensures in
     let forms = subst (λ o. IfSome o (AreFormsUpTo book c.args.counted.now.last)) c.in-Some.is c.in_ok-forms.ensures in
-    let h = ok-at (λ k. AreDueCodes book r (k + 1) sizes.new.walk.codes) sizes.result c.in-Some-2.size ok (sizes.ensures.listed book c.args.max_size forms c.requires.last) in
+    let h = ok-at (λ k. AreDueCodes book r (k + 1) sizes.new.walk.codes) sizes.result c.in-Some-2.size ok (sizes.ensures.listed book c.args.max_size (forms, c.requires.upper) c.requires.last) in
     (h.0, h.1)
 
 pub returns-clause-page : goal.returns-clause-page
@@ -32,7 +32,7 @@ returns-clause-page g c =
     let forms = subst (λ o. IfSome o (AreFormsUpTo book c.args.counted.now.last)) c.in-Some.is c.in_ok-forms.ensures in
     let within = ok-at (λ k. k ≤ c.args.counted.now.last) sizes.result s ok sizes.ensures.within in
     let m : s ≤ c.args.max_size = omega (arith, l, within) in
-    let h = ok-at (λ k. AreDueCodes book r (k + 1) codes) sizes.result s ok (sizes.ensures.listed book c.args.max_size forms l) in
+    let h = ok-at (λ k. AreDueCodes book r (k + 1) codes) sizes.result s ok (sizes.ensures.listed book c.args.max_size (forms, c.requires.upper) l) in
     let d : (c.args.take < length codes) ⊎ (s ≡ c.args.max_size) = elim c.if-len-take.branch [
       | then-len-take w ↦ inl (omega (arith, w.if-len-take.true, c.len.ensures))
       | else-len-take w ↦ inr (eqb-true s c.args.max_size (sym w.is_known-is ∙ c.if-not-is_known.false))
@@ -55,7 +55,7 @@ returns-clause-within g c =
     let forms = subst (λ o. IfSome o (AreFormsUpTo book c.args.counted.now.last)) c.in-Some.is c.in_ok-forms.ensures in
     let within = ok-at (λ k. k ≤ c.args.counted.now.last) sizes.result s ok sizes.ensures.within in
     let m : s ≤ c.args.max_size = omega (arith, l, within) in
-    let h = ok-at (λ k. AreDueCodes book r (k + 1) codes) sizes.result s ok (sizes.ensures.listed book c.args.max_size forms l) in
+    let h = ok-at (λ k. AreDueCodes book r (k + 1) codes) sizes.result s ok (sizes.ensures.listed book c.args.max_size (forms, c.requires.upper) l) in
     let d : (c.args.take < length codes) ⊎ (s ≡ c.args.max_size) = elim c.if-len-take.branch [
       | then-len-take w ↦ inl (omega (arith, w.if-len-take.true, c.len.ensures))
       | else-len-take w ↦ inr (eqb-true s c.args.max_size (sym w.is_known-is ∙ c.if-not-is_known.false))
