@@ -5,7 +5,6 @@ pub mod CellLaws
 pub mod Counting
 pub mod Existence
 pub mod FillSteps
-pub mod HandSteps
 pub mod Members
 pub mod PageLaws
 pub mod Planning

@@ -4,7 +4,6 @@ pub mod BelowFacts
 pub mod Candidates
 pub mod CellTables
 pub mod Faults
-pub mod HandBooks
 pub mod Laws
 pub mod Members
 pub mod Plans

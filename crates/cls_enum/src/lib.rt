@@ -25,8 +25,6 @@ mod paging;
 mod plan;
 mod shelf;
 mod stock;
-#[cfg(test)]
-mod tests;
 
 pub use fault::PageFault;
 pub use listed::Page;

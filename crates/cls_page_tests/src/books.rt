@@ -1,9 +1,10 @@
-use super::hand_book::{HandBook, node};
+use crate::hand_book::{HandBook, node};
 use cls_base::Rules;
 use std::alloc::Global;
 use std::test::Fail;
 
-fn made(nodes: Vec<Rules<u32>>) -> Result<HandBook, Fail> {
+/// The book of these rules.
+pub(crate) fn made(nodes: Vec<Rules<u32>>) -> Result<HandBook, Fail> {
     match HandBook::new(nodes) {
         Some(book) => Ok(book),
         None => Err(Fail::new("an argument is no node of the book")),

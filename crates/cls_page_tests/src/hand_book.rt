@@ -1,6 +1,6 @@
 ghost use Rattle.std.specs.Prelude.{◌≡◌, ℕ, ◌<◌, ◌≤◌, ◌^◌, true, map, length, List, IfOk};
 ghost use Rattle.cls_base.specs.declared.rule.Rule.{Rule};
-ghost use Rattle.cls_enum.specs.HandBooks.{are_nodes, is_within, are_within, all_within};
+ghost use Rattle.cls_page_tests.specs.HandBooks.{are_nodes, is_within, are_within, all_within};
 
 use cls_base::{Goals, OutOfMemory, Rule, Rules};
 use cls_rulebook::RuleBook;

@@ -1,6 +1,6 @@
-use super::books;
-use super::listing::{Query, alone, goes_on, listed, twice};
-use crate::PageFault;
+use crate::books;
+use crate::listing::{Query, alone, goes_on, listed, twice};
+use cls_enum::PageFault;
 use std::test::Fail;
 
 #[test]

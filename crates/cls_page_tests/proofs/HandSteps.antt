@@ -7,7 +7,7 @@ use Rattle.cls_base.specs.declared.rule.Rule.{Rule}
 use Rattle.cls_base.specs.declared.rule.Rule.TheVariants.{Head, Any}
 use Rattle.cls_rulebook.specs.Books.{HasNodesBelow, HaveNodesBelow}
 use Rattle.cls_base.specs.Lists.{AreBelow}
-use Rattle.cls_enum.specs.HandBooks.{are_nodes, is_within, are_within, all_within}
+use Rattle.cls_page_tests.specs.HandBooks.{are_nodes, is_within, are_within, all_within}
 
 both : (a b : Bool) → (a && b) ≡ true → (a ≡ true) × (b ≡ true)
 both true b p = (refl, p)

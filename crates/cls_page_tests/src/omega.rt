@@ -1,13 +1,8 @@
 ghost use Rattle.std.specs.Prelude.{◌≤◌, ◌<◌, ◌^◌, IfSome, option_copied};
 ghost use Rattle.cls_base.specs.Terms.{length_of};
 
-mod books;
-mod hand_book;
-mod listing;
-mod pages;
-
-use super::*;
 use cls_base::Numbers;
+use cls_enum::{PageFault, page};
 use cls_rulebook::OmegaBook;
 use cls_term::{Term, Terms};
 use std::alloc::Global;
