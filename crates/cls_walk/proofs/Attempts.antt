@@ -105,7 +105,7 @@ none-of-size book plan after max last size upper within none old =
     let cost = cost_of plan.costs.now in
     let a = upper.1 size 0 in
     lists-none (IsDueCode (IsDue (IsGenerated book 0) r) cost size) old (λ w h.
-        none-made book cost plan.positive (last + 1) size 0 (omega (arith, within)) (omega (arith, a, none)) h.0 (h.1.typed, h.2, h.1.short))
+    none-made book cost plan.positive (last + 1) size 0 (omega (arith, within)) (omega (arith, a, none)) h.0 (h.1.typed, h.2, h.1.short))
 
 -- what holds of an answer that is there
 pub ok-at : (P : ℕ → Type 0) (r : Result ℕ WalkFault) (s : ℕ) → r ≡ Ok s → IfOk r P → P s
