@@ -7,13 +7,16 @@ use Rattle.cls_base.specs.declared.rule.Rule.{Rule}
 use Rattle.cls_base.specs.Languages.{IsGenerated}
 use Rattle.cls_base.specs.Pages.{Request, IsDue, IsPage}
 use Rattle.cls_base.specs.Pools.{IsEnough}
+use Rattle.cls_base.proofs.Lists.{Contains-nil}
 use Rattle.cls_term.specs.Costs.{cost_of}
+use Rattle.cls_enum.specs.Candidates.{IsInCell}
 use Rattle.cls_enum.specs.Members.{IsIn}
 use Rattle.cls_enum.specs.Requests.{request}
 use Rattle.cls_enum.specs.States.{FitsPool}
 use Rattle.cls_enum.proofs.CellLaws.{costs_something}
 use Rattle.cls_walk.specs.Attempts.{AreDueCodes, AreFormsUpTo}
-use Rattle.cls_walk.specs.Counts.{total_below, up_below}
+use Rattle.cls_walk.specs.Bounds.{HasUpper}
+use Rattle.cls_walk.specs.Counts.{total_below, up_below, AreTerms}
 use Rattle.cls_walk.specs.Filled.{forms_at}
 use Rattle.cls_walk.specs.Forms.{AreForms}
 use Rattle.cls_walk.specs.Fronts.{IsFront}
@@ -25,6 +28,7 @@ use Rattle.cls_walk.specs.declared.cursor.Cursor.{Cursor}
 use Rattle.cls_walk.specs.declared.fault.WalkFault.{WalkFault}
 use Rattle.cls_walk.specs.declared.plan.Plan.{Plan}
 use Rattle.cls_walk.specs.declared.walk.Walk.{Walk}
+use Rattle.cls_walk.proofs.Counts.{at_most}
 use Rattle.cls_walk.proofs.Capped.{capped-plus, capped-total}
 use Rattle.cls_walk.proofs.Filled.{filled-one, one-filled}
 use Rattle.cls_walk.proofs.PageFronts.{front-size, front_decides, front_is_page}
@@ -82,6 +86,26 @@ module _ (book : List (List (Rule ℕ))) (plan : Plan) (after : Option Applicati
   -- terms of the size come before the cursor
   pub none-due : (old : Walk) → ((e : Applicative) → size_of cost e ≡ size → IfSome after (λ a. Before cost a e) → ⊥) → Lists Code old old true
   none-due old n = lists-none Code old (λ w h. n h.0 h.2 h.1.later)
+
+-- no term is made that the upper bound rules out
+none-made : (book : List (List (Rule ℕ))) (cost : ℕ → ℕ) → ((x : ℕ) → 1 ≤ cost x) → (known size n : ℕ) → size < known → up_below book cost known size n ≡ 0 → (e : Applicative) → IsInCell book cost n size e → ⊥
+none-made book cost positive known size n l z e g =
+    let P : Applicative → Type 0 = λ f. IsInCell book cost n size f in
+    let h : AreTerms book cost size n (e ∷ []) = record {
+      different = ((λ c. Contains-nil e c), tt);
+      terms = λ f i. elim i [ inl p ↦ subst P p g | inr y ↦ absurd y ];
+    } in
+    let a = at_most book cost positive known size n l (e ∷ []) h in
+    omega (arith, a, z)
+
+pub none-of-size : (book : List (List (Rule ℕ))) (plan : Plan) (after : Option Applicative) (max last size : ℕ) → HasUpper book (cost_of plan.costs.now) (last + 1) plan.upper.now → size ≤ last → number_at plan.upper.now size 0 ≡ 0 → (old : Walk)
+    → let r = request plan.costs.now after max plan.take in Lists (IsDueCode (IsDue (IsGenerated book 0) r) r.cost size) old old true
+none-of-size book plan after max last size upper within none old =
+    let r = request plan.costs.now after max plan.take in
+    let cost = cost_of plan.costs.now in
+    let a = upper.1 size 0 in
+    lists-none (IsDueCode (IsDue (IsGenerated book 0) r) cost size) old (λ w h.
+    none-made book cost plan.positive (last + 1) size 0 (omega (arith, within)) (omega (arith, a, none)) h.0 (h.1.typed, h.2, h.1.short))
 
 -- what holds of an answer that is there
 pub ok-at : (P : ℕ → Type 0) (r : Result ℕ WalkFault) (s : ℕ) → r ≡ Ok s → IfOk r P → P s

@@ -120,7 +120,7 @@ rising-next fs i f g o l p q e h =
     let c = rising-push (take (i - 1) fs) f g (subst P a h) e in
     subst P (sym (b ∙ ap (λ (zs : List HeadRule). zs ++ g ∷ []) a)) c
 
-at-map : {A : Type 0} (f : A → List HeadRule) (vs : List A) (i : ℕ) (v : A) → i < length vs → v ≡ get_or vs i v → slice_index_or (map f vs) i [] ≡ f v
+pub at-map : {A : Type 0} (f : A → List HeadRule) (vs : List A) (i : ℕ) (v : A) → i < length vs → v ≡ get_or vs i v → slice_index_or (map f vs) i [] ≡ f v
 at-map f [] i v l p = absurd (omega arith)
 at-map f (w ∷ vs) zero v l p = ap f (sym p)
 at-map f (w ∷ vs) (suc i) v l p = at-map f vs i v (omega arith) p

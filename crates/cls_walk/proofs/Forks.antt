@@ -13,7 +13,7 @@ use Rattle.cls_walk.specs.declared.fault.WalkFault.{WalkFault}
 use Rattle.cls_walk.specs.declared.opening.Opening.{Opening}
 use Rattle.cls_walk.specs.declared.plan.Plan.{Plan}
 use Rattle.cls_walk.specs.declared.walk.Walk.{Walk}
-use Rattle.cls_walk.proofs.Filled.{filled-least, none-filled}
+use Rattle.cls_walk.proofs.Filled.{filled-least, needs-append, none-filled}
 use Rattle.cls_walk.proofs.Fronts.{earlier, front-none}
 use Rattle.cls_walk.proofs.Openings.{done-before, done-here, done-later, done-or-after}
 use Rattle.cls_walk.proofs.Stacks.{stands-none}
@@ -94,25 +94,29 @@ module _ (plan : Plan) (stacks : List (List ℕ)) (first size : ℕ) (cursor : C
   To last = IsWantedTo plan last stacks first size cursor
 
   abbrev Offered : ℕ → ℕ → Type 0
-  Offered = OpensOf plan.forms.now stacks first (length stacks)
+  Offered = OpensOf plan size stacks first (length stacks)
 
   abbrev Later : Option Opening → List ℕ → Type 0
   Later last w = (x : ℕ) × (k : ℕ) × (v : List ℕ) × ((w ≡ x ∷ k ∷ v) × ComesAfter last x k) × Wanted w
 
   -- a code that is wanted begins as a form of a next node does
-  opens-by : (n : ℕ) (ns : List ℕ) (x k : ℕ) (v : List ℕ) → IsFilled plan.forms.now (n ∷ ns) (x ∷ k ∷ v) → Opens plan.forms.now (n ∷ ns) x k
-  opens-by n ns x k v h = ((x, h.0), h.1, refl, h.2)
+  opens-by : (n : ℕ) (ns : List ℕ) (x k : ℕ) (v : List ℕ) → IsFilled plan.forms.now (n ∷ ns) (x ∷ k ∷ v) → code_size (cost_of plan.costs.now) (x ∷ k ∷ v) ≡ size → Opens plan size (n ∷ ns) x k
+  opens-by n ns x k v h s =
+      let a = filled-least plan.forms.now (cost_of plan.costs.now) plan.least.now plan.least_sizes (h.0 ++ ns) v h.3 in
+      let b = needs-append plan.least.now h.0 ns in
+      ((x, h.0), h.1, refl, h.2, omega (arith, a, b, s))
 
-  opens-stack : (ns : List ℕ) (x k : ℕ) (v : List ℕ) → IsFilled plan.forms.now ns (x ∷ k ∷ v) → Opens plan.forms.now ns x k
-  opens-stack [] x k v h = absurd h
-  opens-stack (n ∷ ns) x k v h = opens-by n ns x k v h
+  opens-stack : (ns : List ℕ) (x k : ℕ) (v : List ℕ) → IsFilled plan.forms.now ns (x ∷ k ∷ v) → code_size (cost_of plan.costs.now) (x ∷ k ∷ v) ≡ size → Opens plan size ns x k
+  opens-stack [] x k v h s = absurd h
+  opens-stack (n ∷ ns) x k v h s = opens-by n ns x k v h s
 
   offered : (w : List ℕ) (x k : ℕ) (v : List ℕ) → w ≡ x ∷ k ∷ v → Wanted w → Offered x k
   offered w x k v p q =
       let P : List ℕ → Type 0 = λ u. IsFilled plan.forms.now q.0 u in
-      let Q : List ℕ → Type 0 = λ ns. Opens plan.forms.now ns x k in
+      let Q : List ℕ → Type 0 = λ ns. Opens plan size ns x k in
+      let z : code_size (cost_of plan.costs.now) (x ∷ k ∷ v) ≡ size = sym (ap (code_size (cost_of plan.costs.now)) p) ∙ q.2.sized in
       let s = q.1 in
-      (s.0, s.1, s.2, subst Q (sym s.3) (opens-stack q.0 x k v (subst P p q.2.filled)))
+      (s.0, s.1, s.2, subst Q (sym s.3) (opens-stack q.0 x k v (subst P p q.2.filled) z))
 
   -- it has an opening, where something is left
   has-opening : (w : List ℕ) → 0 < size → Wanted w → (x : ℕ) × (k : ℕ) × (v : List ℕ) × (w ≡ x ∷ k ∷ v)
@@ -264,16 +268,16 @@ module _ (plan : Plan) (stacks : List (List ℕ)) (first size : ℕ) (cursor : C
 
 -- the same steps, where the stacks are back
 module _ (plan : Plan) (stacks here : List (List ℕ)) (first size : ℕ) (cursor : Cursor) (same : here ≡ stacks) where
-  pub back-next : (last : Option Opening) (o : Opening) (a b c : Walk) (going goes : Bool) → going ≡ goes → b.code.items ≡ a.code.items → IsEarliest (OpensOf plan.forms.now here first (length here)) last (Some o) → Lists (IsWantedTo plan last stacks first size cursor) a b true → Lists (IsWantedWith plan o here first size cursor) b c going → Lists (IsWantedTo plan (Some o) stacks first size cursor) a c goes
+  pub back-next : (last : Option Opening) (o : Opening) (a b c : Walk) (going goes : Bool) → going ≡ goes → b.code.items ≡ a.code.items → IsEarliest (OpensOf plan size here first (length here)) last (Some o) → Lists (IsWantedTo plan last stacks first size cursor) a b true → Lists (IsWantedWith plan o here first size cursor) b c going → Lists (IsWantedTo plan (Some o) stacks first size cursor) a c goes
   back-next last o a b c going goes g p e l k =
-      let P : List (List ℕ) → Type 0 = λ zs. IsEarliest (OpensOf plan.forms.now zs first (length zs)) last (Some o) in
+      let P : List (List ℕ) → Type 0 = λ zs. IsEarliest (OpensOf plan size zs first (length zs)) last (Some o) in
       let Q : List (List ℕ) → Type 0 = λ zs. Lists (IsWantedWith plan o zs first size cursor) b c going in
       let R : Bool → Type 0 = λ t. Lists (IsWantedTo plan (Some o) stacks first size cursor) a c t in
       subst R g (to-next plan stacks first size cursor last o a b c going (subst P same e) p l (subst Q same k))
 
-  pub back-end : (last : Option Opening) (a c : Walk) (going : Bool) → 0 < size → IsEarliest (OpensOf plan.forms.now here first (length here)) last None → Lists (IsWantedTo plan last stacks first size cursor) a c going → Lists (IsWantedOf plan stacks first size cursor) a c going
+  pub back-end : (last : Option Opening) (a c : Walk) (going : Bool) → 0 < size → IsEarliest (OpensOf plan size here first (length here)) last None → Lists (IsWantedTo plan last stacks first size cursor) a c going → Lists (IsWantedOf plan stacks first size cursor) a c going
   back-end last a c going s e l =
-      let P : List (List ℕ) → Type 0 = λ zs. IsEarliest (OpensOf plan.forms.now zs first (length zs)) last None in
+      let P : List (List ℕ) → Type 0 = λ zs. IsEarliest (OpensOf plan size zs first (length zs)) last None in
       to-end plan stacks first size cursor last a c going s (subst P same e) l
 
 -- the set of one stack

@@ -19,6 +19,7 @@ pub mod Repeats
 pub mod Rounds
 pub mod RunSteps
 pub mod Runs
+pub mod Sizes
 pub mod Stacks
 pub mod Sure
 pub mod Tables

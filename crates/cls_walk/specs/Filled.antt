@@ -28,6 +28,10 @@ abbrev pub needs : List ℕ → List ℕ → ℕ
 needs least [] = 0
 needs least (n ∷ ns) = slice_index least n + needs least ns
 
+-- what a form comes to
+abbrev pub form_size : (ℕ → ℕ) → List ℕ → HeadRule → ℕ
+form_size cost least h = cost h.0 + needs least h.1
+
 -- no form of a node comes to less than the node's least size
 abbrev pub AreLeast : List (List HeadRule) → (ℕ → ℕ) → List ℕ → Type 0
 AreLeast forms cost least =

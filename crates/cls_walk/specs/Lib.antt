@@ -13,6 +13,7 @@ pub mod Orders
 pub mod PageFronts
 pub mod Repeats
 pub mod Runs
+pub mod Sizes
 pub mod Stacks
 pub mod Stages
 pub mod Tables

@@ -26,9 +26,9 @@ abbrev pub IsDone : Option Opening → ℕ → ℕ → Type 0
 IsDone None x k = ⊥
 IsDone (Some o) x k = (x < o.component) ⊎ ((x ≡ o.component) × (k ≤ o.count))
 
--- one of the forms begins so
-abbrev pub OpensOne : List HeadRule → ℕ → ℕ → Type 0
-OpensOne hs x k = (h : HeadRule) × IsIn hs h × (h.0 ≡ x) × (length h.1 ≡ k)
+-- one of the forms that come to no more than `most` by this measure begins so
+abbrev pub OpensOne : (HeadRule → ℕ) → ℕ → List HeadRule → ℕ → ℕ → Type 0
+OpensOne size most hs x k = (h : HeadRule) × IsIn hs h × (h.0 ≡ x) × (length h.1 ≡ k) × (size h ≤ most)
 
 -- The opening comes after the last one, and none with P that comes after the last one is earlier. If it is missing, none
 -- with P comes after the last one.

@@ -1,8 +1,9 @@
 -- Sets of stacks. A stack is the nodes of which terms are awaited, the next one first.
-use Rattle.std.specs.Prelude.{ℕ, ◌≡◌, ◌<◌, ◌≤◌, ◌⊎◌, List, [], ◌∷◌, ◌++◌, length, slice_index_or, Option}
+use Rattle.std.specs.Prelude.{ℕ, ◌≡◌, ◌+◌, ◌<◌, ◌≤◌, ◌⊎◌, List, [], ◌∷◌, ◌++◌, length, slice_index_or, Option}
+use Rattle.cls_term.specs.Costs.{cost_of}
 use Rattle.cls_enum.specs.Members.{IsIn}
 use Rattle.cls_walk.specs.Counts.{HeadRule}
-use Rattle.cls_walk.specs.Filled.{forms_at, needs}
+use Rattle.cls_walk.specs.Filled.{form_size, forms_at, needs}
 use Rattle.cls_walk.specs.Openings.{IsDone, OpensOne}
 use Rattle.cls_walk.specs.Walks.{IsWanted}
 use Rattle.cls_walk.specs.declared.cursor.Cursor.{Cursor}
@@ -13,15 +14,18 @@ use Rattle.cls_walk.specs.declared.plan.Plan.{Plan}
 abbrev pub Stands : List (List ℕ) → ℕ → List ℕ → Type 0
 Stands stacks first ns = (k : ℕ) × (first ≤ k) × (k < length stacks) × (slice_index_or stacks k [] ≡ ns)
 
--- a form of the next node of the stack begins so
-abbrev pub Opens : List (List HeadRule) → List ℕ → ℕ → ℕ → Type 0
-Opens forms [] x k = ⊥
-Opens forms (n ∷ ns) x k = OpensOne (forms_at forms n) x k
+module _ (plan : Plan) (size : ℕ) where
+  -- a form of the next node of the stack begins so, and with the other nodes it comes to no more than the size
+  abbrev pub Opens : List ℕ → ℕ → ℕ → Type 0
+  Opens [] x k = ⊥
+  Opens (n ∷ ns) x k =
+      let own = form_size (cost_of plan.costs.now) plan.least.now in
+      OpensOne (λ h. own h + needs plan.least.now ns) size (forms_at plan.forms.now n) x k
 
--- the same of one of the stacks at the places from `first` to below `end`
-abbrev pub OpensOf : List (List HeadRule) → List (List ℕ) → ℕ → ℕ → ℕ → ℕ → Type 0
-OpensOf forms stacks first end x k =
-    (j : ℕ) × (first ≤ j) × (j < end) × Opens forms (slice_index_or stacks j []) x k
+  -- the same of one of the stacks at the places from `first` to below `end`
+  abbrev pub OpensOf : List (List ℕ) → ℕ → ℕ → ℕ → ℕ → Type 0
+  OpensOf stacks first end x k =
+      (j : ℕ) × (first ≤ j) × (j < end) × Opens (slice_index_or stacks j []) x k
 
 -- ms is awaited behind one of the forms with the opening, where ns is awaited behind the term
 abbrev pub IsNextBy : List HeadRule → Opening → List ℕ → List ℕ → Type 0

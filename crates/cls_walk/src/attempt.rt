@@ -10,7 +10,7 @@ ghost use Rattle.cls_base.specs.Terms.{Applicative, Before, code_of, length_of, 
 ghost use Rattle.cls_term.specs.Costs.{cost_of};
 ghost use Rattle.cls_enum.specs.Requests.{request};
 ghost use Rattle.cls_enum.specs.States.{FitsPool};
-ghost use Rattle.cls_walk.specs.Attempts.{AreDueCodes, AreFormsUpTo, IsStart};
+ghost use Rattle.cls_walk.specs.Attempts.{AreDueCodes, AreKnown, IsStart};
 ghost use Rattle.cls_walk.specs.Bounds.{HasUpper};
 ghost use Rattle.cls_walk.specs.Filled.{EachRise};
 ghost use Rattle.cls_walk.specs.PageFronts.{IsDueCode};
@@ -20,7 +20,7 @@ use crate::build::{each_rises, forms_of};
 use crate::counted::{Counted, is_within};
 use crate::cursor::{Cursor, passed};
 use crate::fault::WalkFault;
-use crate::least::least_sizes;
+use crate::least::{form_sizes, least_sizes};
 use crate::listing::list_size;
 use crate::plan::Plan;
 use crate::totals::size_of_cursor;
@@ -56,7 +56,8 @@ fn cursor_at<'a>(after: Option<&Term>, from: u64, code: &'a [u32], size: u32) ->
     }
 }
 
-/// Lists the codes of the due terms of this size, and says whether to go on.
+/// Lists the codes of the due terms of this size, and says whether to go on. Where the upper bound tells that no term has
+/// the size, none is looked for.
 fn walk_size(
     alloc: Global,
     plan: &Plan,
@@ -75,9 +76,12 @@ fn walk_size(
     ensures back { IfOk result (IsBack plan.now walk.old walk.new) }
     ensures listed { (book : List (List (Rule ℕ))) (last max : ℕ)
         → let r = request plan.now.costs.now (option_copied after.entry) max plan.now.take in
-        AreFormsUpTo book last plan.now.forms.now → size ≤ last → size ≤ max
+        AreKnown book r.cost last plan.now.forms.now plan.now.upper.now → size ≤ last → size ≤ max
         → IfOk result (Lists (IsDueCode (IsDue (IsGenerated book 0) r) r.cost size) walk.old walk.new) }
 {
+    if plan.upper.get(size, 0) == 0 {
+        return Ok(true);
+    }
     let Some(cursor) = cursor_at(after, from, code, size) else {
         return Ok(true);
     };
@@ -104,7 +108,7 @@ fn walk_sizes(
     ensures ends { IfOk result (λ size. (plan.now.take < length walk.new.codes) ⊎ (size ≡ last)) }
     ensures listed { (book : List (List (Rule ℕ))) (max : ℕ)
         → let r = request plan.now.costs.now (option_copied after.entry) max plan.now.take in
-        AreFormsUpTo book last plan.now.forms.now → last ≤ max
+        AreKnown book r.cost last plan.now.forms.now plan.now.upper.now → last ≤ max
         → IfOk result (λ size. AreDueCodes book r (size + 1) walk.new.codes) }
 {
     for size in 1..last {
@@ -183,19 +187,22 @@ pub(crate) fn walk_page<B: RuleBook>(
         return Ok(None);
     };
     let least = least_sizes(alloc, costs, &forms, last + 1)?;
+    let sizes = form_sizes(alloc, costs, &least, &forms)?;
     let is_rising = each_rises(&forms);
     let plan = Plan {
         costs,
         forms: &forms,
         least: &least,
+        sizes: &sizes,
+        upper: &counted.table,
         take,
         is_rising,
     };
     let code = code_of_cursor(alloc, after)?;
     let mut walk = Walk::new(alloc);
     let from = size_of_cursor(costs, after);
-    let sizes = walk_sizes(alloc, &plan, after, from, code.as_slice(), last, &mut walk);
-    let Some(size) = unless_many(sizes)? else {
+    let reached = walk_sizes(alloc, &plan, after, from, code.as_slice(), last, &mut walk);
+    let Some(size) = unless_many(reached)? else {
         return Ok(None);
     };
     let is_known = walk.codes.len() > take as usize || size == max_size;

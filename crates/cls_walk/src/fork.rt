@@ -11,6 +11,7 @@ use crate::merge::next_opening;
 use crate::numbers::cost_at;
 use crate::opening::Opening;
 use crate::plan::Plan;
+use crate::scratch::Scratch;
 use crate::stack_set::has_empty;
 use crate::walk::Walk;
 use cls_base::OutOfMemory;
@@ -39,8 +40,8 @@ fn emit_of(
 /// go on.
 #[cycle(fork)]
 fn go_of(
-    alloc: Global,
     plan: &Plan,
+    scratch: &mut Scratch,
     stacks: &mut NumberLists,
     walk: &mut Walk,
     first: usize,
@@ -57,8 +58,8 @@ fn go_of(
         return Ok(emit_of(plan, stacks, walk, first, cursor)?);
     }
     let mut last = None;
-    while let Some(opening) = next_opening(plan, stacks, first, last) {
-        if !open_with(alloc, plan, stacks, walk, first, size, opening, cursor)? {
+    while let Some(opening) = next_opening(plan, stacks, first, size, last) {
+        if !open_with(plan, scratch, stacks, walk, first, size, opening, cursor)? {
             return Ok(false);
         }
         last = Some(opening);
@@ -69,8 +70,8 @@ fn go_of(
 /// The same, for those codes alone that have this opening.
 #[cycle(fork)]
 fn open_with(
-    alloc: Global,
     plan: &Plan,
+    scratch: &mut Scratch,
     stacks: &mut NumberLists,
     walk: &mut Walk,
     first: usize,
@@ -94,10 +95,10 @@ fn open_with(
     };
     let end = stacks.len();
     let length = walk.code.len();
-    gather(alloc, plan, stacks, first, opening, size - cost)?;
+    gather(plan, scratch, stacks, first, opening, size - cost)?;
     walk.code.push(opening.component)?;
     walk.code.push(opening.count)?;
-    let going = go_of(alloc, plan, stacks, walk, end, size - cost, next)?;
+    let going = go_of(plan, scratch, stacks, walk, end, size - cost, next)?;
     walk.code.truncate(length);
     stacks.truncate(end);
     Ok(going)
@@ -117,5 +118,6 @@ pub(crate) fn fork(
 {
     let mut stacks = NumberLists::new(alloc);
     stacks.push(&[0])?;
-    go_of(alloc, plan, &mut stacks, walk, 0, size, cursor)
+    let mut scratch = Scratch::new(alloc);
+    go_of(plan, &mut scratch, &mut stacks, walk, 0, size, cursor)
 }

@@ -6,14 +6,14 @@ use crate::fault::WalkFault;
 use crate::form::Form;
 use crate::opening::{Opening, opening_of};
 use crate::plan::Plan;
+use crate::scratch::Scratch;
 use crate::stack_set::keep;
 use cls_term::NumberLists;
-use std::alloc::Global;
 
 /// Adds to the set from `first` on what is awaited behind a form, where these nodes are awaited behind the term.
 fn add_form(
-    alloc: Global,
     plan: &Plan,
+    made: &mut Vec<u32>,
     stacks: &mut NumberLists,
     first: usize,
     form: &Form,
@@ -24,16 +24,17 @@ fn add_form(
     ensures { OnOk result
         (AreAdded plan.now.least.now left (λ ns. ns ≡ form.now.1 ++ rest.now) first stacks.old stacks.new) }
 {
-    let mut stack = Vec::from_slice(alloc, form.nodes.as_slice())?;
-    stack.reverse();
-    stack.extend_from_slice(rest)?;
-    keep(plan, stacks, first, stack.as_slice(), left)
+    made.clear();
+    made.extend_from_slice(form.nodes.as_slice())?;
+    made.reverse();
+    made.extend_from_slice(rest)?;
+    keep(plan, stacks, first, made.as_slice(), left)
 }
 
 /// The same for a form, if it has this opening.
 fn add_opened(
-    alloc: Global,
     plan: &Plan,
+    made: &mut Vec<u32>,
     stacks: &mut NumberLists,
     first: usize,
     form: &Form,
@@ -49,13 +50,13 @@ fn add_opened(
     if own.component != opening.component || own.count != opening.count {
         return Ok(());
     }
-    add_form(alloc, plan, stacks, first, form, rest, left)
+    add_form(plan, made, stacks, first, form, rest, left)
 }
 
 /// The same for each form with this opening of the first of these nodes, where the others are awaited behind it.
 fn add_forms(
-    alloc: Global,
     plan: &Plan,
+    made: &mut Vec<u32>,
     stacks: &mut NumberLists,
     first: usize,
     opening: Opening,
@@ -71,15 +72,15 @@ fn add_forms(
     };
     let rest = &stack[1..];
     for form in plan.forms.of(*node) {
-        add_opened(alloc, plan, stacks, first, form, opening, rest, left)?;
+        add_opened(plan, made, stacks, first, form, opening, rest, left)?;
     }
     Ok(())
 }
 
 /// Adds the set of what is awaited behind the opening, by the set from `first` on, behind all stacks that are kept.
 pub(crate) fn gather(
-    alloc: Global,
     plan: &Plan,
+    scratch: &mut Scratch,
     stacks: &mut NumberLists,
     first: usize,
     opening: Opening,
@@ -92,8 +93,10 @@ pub(crate) fn gather(
 {
     let end = stacks.len();
     for place in first..end {
-        let stack = Vec::from_slice(alloc, stacks.get(place))?;
-        add_forms(alloc, plan, stacks, end, opening, stack.as_slice(), left)?;
+        scratch.stack.clear();
+        scratch.stack.extend_from_slice(stacks.get(place))?;
+        let stack = scratch.stack.as_slice();
+        add_forms(plan, &mut scratch.made, stacks, end, opening, stack, left)?;
     }
     Ok(())
 }

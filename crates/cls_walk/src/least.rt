@@ -7,10 +7,12 @@ ghost use Rattle.cls_enum.specs.Members.{IsIn};
 ghost use Rattle.cls_walk.specs.Counts.{HeadRule};
 ghost use Rattle.cls_walk.specs.Least.{AreWithin, IsLeastOf};
 ghost use Rattle.cls_walk.specs.Tables.{capped};
-ghost use Rattle.cls_walk.specs.Filled.{needs, AreLeast, forms_at};
+ghost use Rattle.cls_walk.specs.Filled.{form_size, AreLeast, forms_at};
+ghost use Rattle.cls_walk.specs.Sizes.{sizes_of, HasSizes};
 
 use crate::form::{Form, Forms};
 use crate::numbers::{cost_at, plus};
+use crate::table::Table;
 use cls_base::{Numbers, OutOfMemory};
 use std::alloc::Global;
 
@@ -22,8 +24,8 @@ pub(crate) fn number_of(numbers: &Numbers, place: u32) -> u32
 }
 
 /// What the component and the nodes of a form come to.
-fn form_size(costs: &Numbers, least: &Numbers, form: &Form) -> u64
-    ensures { result ≡ capped (cost_of costs.now form.now.0 + needs least.now form.now.1) }
+fn size_of_form(costs: &Numbers, least: &Numbers, form: &Form) -> u64
+    ensures { result ≡ capped (form_size (cost_of costs.now) least.now form.now) }
 {
     let mut total = u64::from(cost_at(costs, form.component));
     for node in &form.nodes {
@@ -32,21 +34,14 @@ fn form_size(costs: &Numbers, least: &Numbers, form: &Form) -> u64
     total
 }
 
-/// What is left behind a form of a node with this least size, where the terms of the node may come to `slack` more than
-/// that. None: the form comes to more.
-pub(crate) fn left_behind(
-    costs: &Numbers,
-    least: &Numbers,
-    form: &Form,
-    own: u32,
-    slack: u32,
-) -> Option<u32>
-    requires { own ≤ cost_of costs.now form.now.0 + needs least.now form.now.1 }
-    ensures some { IfSome result
-        (λ left. own + slack ≡ cost_of costs.now form.now.0 + needs least.now form.now.1 + left) }
-    ensures none { IsNone result → own + slack < cost_of costs.now form.now.0 + needs least.now form.now.1 }
+/// What is left behind a form that comes to this size, where terms of its node may come to `slack` more than the least
+/// size of the node. None: the form comes to more.
+pub(crate) fn left_behind(size: u64, own: u32, slack: u32) -> Option<u32>
+    requires { own ≤ size }
+    ensures some { IfSome result (λ left. own + slack ≡ size + left) }
+    ensures none { IsNone result → own + slack < size }
 {
-    let extra = form_size(costs, least, form) - u64::from(own);
+    let extra = size - u64::from(own);
     if extra > u64::from(slack) {
         return None;
     }
@@ -66,7 +61,7 @@ fn node_size(costs: &Numbers, least: &Numbers, forms: &[Form], most: u32) -> u32
 {
     let mut best = most;
     for form in forms {
-        best = lesser(best, form_size(costs, least, form));
+        best = lesser(best, size_of_form(costs, least, form));
     }
     best
 }
@@ -109,4 +104,36 @@ pub(crate) fn least_sizes(
         least = next;
     }
     Ok(least)
+}
+
+/// What the forms of a node come to.
+fn node_sizes(
+    alloc: Global,
+    costs: &Numbers,
+    least: &Numbers,
+    forms: &[Form],
+) -> Result<Vec<u64>, OutOfMemory>
+    ensures { IfOk result (λ sizes. sizes.items ≡ sizes_of (cost_of costs.now) least.now forms.now) }
+{
+    let mut sizes = Vec::with_capacity(alloc, forms.len())?;
+    for form in forms {
+        sizes.push(size_of_form(costs, least, form))?;
+    }
+    Ok(sizes)
+}
+
+/// What each form of each node comes to, a column for each node.
+pub(crate) fn form_sizes(
+    alloc: Global,
+    costs: &Numbers,
+    least: &Numbers,
+    forms: &Forms,
+) -> Result<Table, OutOfMemory>
+    ensures { IfOk result (λ sizes. HasSizes (cost_of costs.now) least.now forms.now sizes) }
+{
+    let mut sizes = Table::new(alloc);
+    for forms_of_node in &forms.nodes {
+        sizes.push(node_sizes(alloc, costs, least, forms_of_node.as_slice())?)?;
+    }
+    Ok(sizes)
 }

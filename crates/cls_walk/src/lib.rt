@@ -30,6 +30,7 @@ mod paging;
 mod plan;
 mod refusal;
 mod run;
+mod scratch;
 mod stack_set;
 mod stage;
 mod table;

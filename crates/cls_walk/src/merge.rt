@@ -1,11 +1,15 @@
 //! Merges the forms of the nodes that are awaited next: their openings in rising order, each once.
-ghost use Rattle.std.specs.Prelude.{◌≡◌, ℕ, true, false, length, IfSome};
+ghost use Rattle.std.specs.Prelude.{◌≡◌, ℕ, ◌≤◌, true, false, length, IfSome};
+ghost use Rattle.cls_term.specs.Costs.{cost_of};
+ghost use Rattle.cls_walk.specs.Filled.{form_size, forms_at};
 ghost use Rattle.cls_walk.specs.Openings.{ComesAfter, IsAtMost, IsBelow, IsEarliest, IsReached, OpensOne};
 ghost use Rattle.cls_walk.specs.Stacks.{Opens, OpensOf};
 
 use crate::form::Form;
+use crate::numbers::number_in;
 use crate::opening::{Opening, opening_of};
 use crate::plan::Plan;
+use crate::stack_set::need_of;
 use cls_term::NumberLists;
 
 /// Whether codes that begin with the first opening come before those that begin with the second.
@@ -53,52 +57,91 @@ fn earlier(last: Option<Opening>, best: Option<Opening>, opening: Opening) -> Op
     best
 }
 
-/// The earliest opening after the last one, where these forms are met after others.
-fn earliest_of(forms: &[Form], last: Option<Opening>, best: Option<Opening>) -> Option<Opening>
-    ensures taken { (x k : ℕ) → IsReached best x k → IsReached result x k }
-    ensures after { IfSome best (λ b. ComesAfter last b.component b.count)
-        → IfSome result (λ b. ComesAfter last b.component b.count) }
-    ensures reached { (x k : ℕ) → OpensOne forms.now x k → ComesAfter last x k → IsReached result x k }
-{
-    let mut earliest = best;
-    for form in forms {
-        earliest = earlier(last, earliest, opening_of(form));
-    }
-    earliest
-}
-
-/// The same, where this stack is met after others.
-fn earliest_by(
-    plan: &Plan,
-    stack: &[u32],
+/// The earliest opening after the last one, where a form that comes to this size is met after others. One that comes to
+/// more than `most` is passed over.
+fn earlier_form(
+    form: &Form,
+    size: u64,
+    most: u64,
     last: Option<Opening>,
     best: Option<Opening>,
 ) -> Option<Opening>
     ensures taken { (x k : ℕ) → IsReached best x k → IsReached result x k }
     ensures after { IfSome best (λ b. ComesAfter last b.component b.count)
         → IfSome result (λ b. ComesAfter last b.component b.count) }
-    ensures reached { (x k : ℕ) → Opens plan.now.forms.now stack.now x k
+    ensures reached { size ≤ most → ComesAfter last form.now.0 (length form.now.1)
+        → IsReached result form.now.0 (length form.now.1) }
+{
+    if size > most {
+        return best;
+    }
+    earlier(last, best, opening_of(form))
+}
+
+/// The same, where the forms of this node are met after others.
+fn earliest_of(
+    plan: &Plan,
+    node: u32,
+    most: u64,
+    last: Option<Opening>,
+    best: Option<Opening>,
+) -> Option<Opening>
+    ensures taken { (x k : ℕ) → IsReached best x k → IsReached result x k }
+    ensures after { IfSome best (λ b. ComesAfter last b.component b.count)
+        → IfSome result (λ b. ComesAfter last b.component b.count) }
+    ensures reached { let own = form_size (cost_of plan.now.costs.now) plan.now.least.now in
+        (x k : ℕ) → OpensOne own most (forms_at plan.now.forms.now node) x k → ComesAfter last x k
+        → IsReached result x k }
+{
+    let forms = plan.forms.of(node);
+    let sizes = plan.sizes.column(node);
+    let mut earliest = best;
+    for place in 0..forms.len() {
+        let size = number_in(sizes, place);
+        earliest = earlier_form(&forms[place], size, most, last, earliest);
+    }
+    earliest
+}
+
+/// The same, where the forms of the next node of this stack are met after others, and what they come to with the other
+/// nodes counts.
+fn earliest_by(
+    plan: &Plan,
+    stack: &[u32],
+    size: u32,
+    last: Option<Opening>,
+    best: Option<Opening>,
+) -> Option<Opening>
+    ensures taken { (x k : ℕ) → IsReached best x k → IsReached result x k }
+    ensures after { IfSome best (λ b. ComesAfter last b.component b.count)
+        → IfSome result (λ b. ComesAfter last b.component b.count) }
+    ensures reached { (x k : ℕ) → Opens plan.now size stack.now x k
         → ComesAfter last x k → IsReached result x k }
 {
-    let Some(node) = stack.first() else {
+    let Some((node, rest)) = stack.split_first() else {
         return best;
     };
-    earliest_of(plan.forms.of(*node), last, best)
+    let need = need_of(plan.least, rest);
+    if need > u64::from(size) {
+        return best;
+    }
+    earliest_of(plan, *node, u64::from(size) - need, last, best)
 }
 
 /// The earliest opening after the last one with which a form of the next node of a stack begins, of those from `first`
-/// on.
+/// on, where the form and the other nodes come to no more than the size.
 pub(crate) fn next_opening(
     plan: &Plan,
     stacks: &NumberLists,
     first: usize,
+    size: u32,
     last: Option<Opening>,
 ) -> Option<Opening>
-    ensures { IsEarliest (OpensOf plan.now.forms.now stacks.now first (length stacks.now)) last result }
+    ensures { IsEarliest (OpensOf plan.now size stacks.now first (length stacks.now)) last result }
 {
     let mut earliest = None;
     for place in first..stacks.len() {
-        earliest = earliest_by(plan, stacks.get(place), last, earliest);
+        earliest = earliest_by(plan, stacks.get(place), size, last, earliest);
     }
     earliest
 }

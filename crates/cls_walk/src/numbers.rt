@@ -1,4 +1,4 @@
-ghost use Rattle.std.specs.Prelude.{◌≡◌, ◌+◌, ◌*◌, max};
+ghost use Rattle.std.specs.Prelude.{◌≡◌, ◌+◌, ◌*◌, max, slice_index};
 ghost use Rattle.cls_term.specs.Costs.{cost_of};
 ghost use Rattle.cls_walk.specs.Tables.{capped};
 
@@ -34,4 +34,11 @@ pub(crate) fn cost_at(costs: &Numbers, component: u32) -> u32
         .get(component as usize)
         .copied()
         .unwrap_or(1)
+}
+
+/// The number at the place, 0 past the last one.
+pub(crate) fn number_in(numbers: &[u64], place: usize) -> u64
+    ensures { result ≡ slice_index numbers.now place }
+{
+    numbers.get(place).copied().unwrap_or(0)
 }

@@ -9,7 +9,7 @@ ghost use Rattle.cls_walk.specs.Tables.{capped};
 
 use crate::numbers::{greater, plus};
 use crate::stage::Stage;
-use crate::upper::head_ways_of;
+use crate::upper::{head_ways_of, leaf_ways_of};
 use cls_base::{OutOfMemory, Rule};
 use std::alloc::Global;
 
@@ -42,7 +42,26 @@ fn with_head(run: Run, component: u32, arguments: usize, ways: u64) -> Run
     }
 }
 
-/// The same for a rule, where head rules with arguments may count for nothing. A pair of nodes is none.
+/// In how many ways a head rule makes a term, where one with arguments may count for nothing.
+fn ways_of_head(
+    alloc: Global,
+    stage: &Stage,
+    component: u32,
+    nodes: &[u32],
+    alone: bool,
+) -> Result<u64, OutOfMemory>
+    ensures { IfOk result (λ n. n ≡ capped (ways_if stage.now alone (component, nodes.now))) }
+{
+    if nodes.is_empty() {
+        return Ok(leaf_ways_of(stage, component));
+    }
+    if alone {
+        return Ok(0);
+    }
+    Ok(head_ways_of(alloc, stage, component, nodes)?)
+}
+
+/// The run with one more rule, where head rules with arguments may count for nothing. A pair of nodes is none.
 fn with_rule(
     alloc: Global,
     stage: &Stage,
@@ -56,11 +75,7 @@ fn with_rule(
     match rule {
         Rule::Head { component, args } => {
             let nodes = args.as_slice();
-            let ways = if alone && !nodes.is_empty() {
-                0
-            } else {
-                head_ways_of(alloc, stage, *component, nodes)?
-            };
+            let ways = ways_of_head(alloc, stage, *component, nodes, alone)?;
             Ok(with_head(run, *component, nodes.len(), ways))
         }
         Rule::Any { left: _, right: _ } => Ok(run),

@@ -2,6 +2,7 @@
 //! place on.
 ghost use Rattle.std.specs.Prelude.{◌≡◌, ℕ, true, false, ◌≤◌, ◌<◌, [], length, OnOk};
 ghost use Rattle.cls_walk.specs.Filled.{needs};
+ghost use Rattle.cls_walk.specs.Tables.{capped};
 ghost use Rattle.cls_walk.specs.Stacks.{AreAdded, Stands};
 
 use crate::fault::WalkFault;
@@ -39,15 +40,22 @@ pub(crate) fn has_empty(stacks: &NumberLists, first: usize) -> bool
     false
 }
 
-/// Whether the least sizes of the nodes come to no more than `left`.
-fn fits(least: &Numbers, stack: &[u32], left: u32) -> bool
-    ensures { result ≡ false → left < needs least.now stack.now }
+/// What the least sizes of the nodes come to.
+pub(crate) fn need_of(least: &Numbers, stack: &[u32]) -> u64
+    ensures { result ≡ capped (needs least.now stack.now) }
 {
     let mut total = 0;
     for node in stack {
         total = plus(total, u64::from(number_of(least, *node)));
     }
-    total <= u64::from(left)
+    total
+}
+
+/// Whether the least sizes of the nodes come to no more than `left`.
+fn fits(least: &Numbers, stack: &[u32], left: u32) -> bool
+    ensures { result ≡ false → left < needs least.now stack.now }
+{
+    need_of(least, stack) <= u64::from(left)
 }
 
 /// Adds the stack to the set, where terms of its nodes may come to `left` and it isn't there already.

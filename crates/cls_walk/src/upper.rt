@@ -1,5 +1,5 @@
 //! The upper bound of the number of terms of a node and size: in how many ways its rules make one.
-ghost use Rattle.std.specs.Prelude.{◌≡◌, IfOk};
+ghost use Rattle.std.specs.Prelude.{◌≡◌, [], IfOk};
 ghost use Rattle.cls_walk.specs.Stages.{head_count, rule_count, rules_count, IsColumn};
 
 use crate::numbers::{cost_at, plus};
@@ -8,6 +8,17 @@ use crate::ways::{pair_ways_of, ways_of};
 use cls_base::{OutOfMemory, Rule};
 use cls_rulebook::RuleBook;
 use std::alloc::Global;
+
+/// In how many ways a component without arguments makes a term.
+pub(crate) fn leaf_ways_of(stage: &Stage, component: u32) -> u64
+    ensures { result ≡ head_count stage.now (component, []) }
+{
+    if cost_at(stage.costs, component) == stage.size {
+        1
+    } else {
+        0
+    }
+}
 
 /// In how many ways a component with arguments of these nodes makes a term.
 pub(crate) fn head_ways_of(
@@ -31,7 +42,11 @@ fn rule_ways_of(alloc: Global, stage: &Stage, rule: &Rule<u32>) -> Result<u64, O
 {
     match rule {
         Rule::Head { component, args } => {
-            Ok(head_ways_of(alloc, stage, *component, args.as_slice())?)
+            let nodes = args.as_slice();
+            if nodes.is_empty() {
+                return Ok(leaf_ways_of(stage, *component));
+            }
+            Ok(head_ways_of(alloc, stage, *component, nodes)?)
         }
         Rule::Any { left, right } => Ok(pair_ways_of(stage, *left, *right)),
     }

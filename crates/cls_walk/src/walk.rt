@@ -1,13 +1,15 @@
 //! The walk: codes are written from the left in their order, by depth-first search over the forms of the node that is
 //! awaited next. A form that comes to more than is left is passed over, and so is one before the cursor.
-ghost use Rattle.std.specs.Prelude.{◌≡◌, ℕ, ◌+◌, ◌-◌, ◌≤◌, [], ◌∷◌, IfOk, List, length, reverse, slice_index};
+ghost use Rattle.std.specs.Prelude.{◌≡◌, ℕ, ◌+◌, ◌≤◌, [], ◌∷◌, IfOk, List, length, reverse};
 ghost use Rattle.cls_term.specs.Costs.{cost_of};
-ghost use Rattle.cls_walk.specs.Filled.{needs, EachRise};
+ghost use Rattle.cls_walk.specs.Filled.{form_size, needs, EachRise};
+ghost use Rattle.cls_walk.specs.Tables.{capped};
 ghost use Rattle.cls_walk.specs.Walks.{IsWanted, IsWantedBy, IsBack, Lists};
 
 use crate::cursor::Cursor;
 use crate::form::Form;
 use crate::least::{left_behind, number_of};
+use crate::numbers::number_in;
 use crate::plan::Plan;
 use cls_base::OutOfMemory;
 use cls_term::NumberLists;
@@ -85,33 +87,40 @@ pub(crate) fn each_form(
         IfOk result (Lists (IsWanted plan.now ns size cursor.entry) walk.old walk.new) }
 {
     let least = number_of(plan.least, node);
-    for form in plan.forms.of(node) {
-        if !follow(plan, walk, form, least, slack, cursor)? {
+    let forms = plan.forms.of(node);
+    let sizes = plan.sizes.column(node);
+    for place in 0..forms.len() {
+        let form = &forms[place];
+        let size = number_in(sizes, place);
+        if !follow(plan, walk, form, size, least, slack, cursor)? {
             return Ok(false);
         }
     }
     Ok(true)
 }
 
-/// The same, for those codes alone that begin with this form of the node, which has this least size.
+/// The same, for those codes alone that begin with this form of the node, which comes to this size, where the node has
+/// this least size.
 #[cycle(descend)]
 fn follow(
     plan: &Plan,
     walk: &mut Walk,
     form: &Form,
+    size: u64,
     least: u32,
     slack: u32,
     cursor: Cursor,
 ) -> Result<bool, OutOfMemory>
     requires rising { EachRise plan.now.forms.now }
     requires few { length walk.old.codes ≤ plan.now.take }
-    requires least { least ≤ cost_of plan.now.costs.now form.now.0 + needs plan.now.least.now form.now.1 }
+    requires size { size ≡ capped (form_size (cost_of plan.now.costs.now) plan.now.least.now form.now) }
+    requires least { least ≤ form_size (cost_of plan.now.costs.now) plan.now.least.now form.now }
     ensures back { IfOk result (IsBack plan.now walk.old walk.new) }
     ensures listed { let ns = reverse walk.old.awaited.items in
-        let size = least + needs plan.now.least.now ns + slack in
-        IfOk result (Lists (IsWantedBy plan.now form.now ns size cursor.entry) walk.old walk.new) }
+        let total = least + needs plan.now.least.now ns + slack in
+        IfOk result (Lists (IsWantedBy plan.now form.now ns total cursor.entry) walk.old walk.new) }
 {
-    let Some(left) = left_behind(plan.costs, plan.least, form, least, slack) else {
+    let Some(left) = left_behind(size, least, slack) else {
         return Ok(true);
     };
     let Some(next) = cursor.step(form.component, form.count) else {

@@ -14,17 +14,17 @@ pub page_of-requires : goal.page_of-requires
 page_of-requires g c =
     let book = g.B.RuleBook.book c.args.book.now in
     let r = request c.args.costs.now (option_copied c.args.after) c.args.max_size c.args.take in
-    let sizes = c.walk_sizes-sizes in
+    let sizes = c.walk_sizes-reached in
     let ok = subst (λ o. IfSome o (λ k. sizes.result ≡ Ok k)) c.in-Some-2.is c.in_ok-size.ensures in
     let forms = subst (λ o. IfSome o (AreFormsUpTo book c.args.counted.now.last)) c.in-Some.is c.in_ok-forms.ensures in
-    let h = ok-at (λ k. AreDueCodes book r (k + 1) sizes.new.walk.codes) sizes.result c.in-Some-2.size ok (sizes.ensures.listed book c.args.max_size forms c.requires.last) in
+    let h = ok-at (λ k. AreDueCodes book r (k + 1) sizes.new.walk.codes) sizes.result c.in-Some-2.size ok (sizes.ensures.listed book c.args.max_size (forms, c.requires.upper) c.requires.last) in
     (h.0, h.1)
 
 pub returns-clause-page : goal.returns-clause-page
 returns-clause-page g c =
     let book = g.B.RuleBook.book c.args.book.now in
     let r = request c.args.costs.now (option_copied c.args.after) c.args.max_size c.args.take in
-    let sizes = c.walk_sizes-sizes in
+    let sizes = c.walk_sizes-reached in
     let codes = sizes.new.walk.codes in
     let s = c.in-Some-2.size in
     let l = c.requires.last in
@@ -32,7 +32,7 @@ returns-clause-page g c =
     let forms = subst (λ o. IfSome o (AreFormsUpTo book c.args.counted.now.last)) c.in-Some.is c.in_ok-forms.ensures in
     let within = ok-at (λ k. k ≤ c.args.counted.now.last) sizes.result s ok sizes.ensures.within in
     let m : s ≤ c.args.max_size = omega (arith, l, within) in
-    let h = ok-at (λ k. AreDueCodes book r (k + 1) codes) sizes.result s ok (sizes.ensures.listed book c.args.max_size forms l) in
+    let h = ok-at (λ k. AreDueCodes book r (k + 1) codes) sizes.result s ok (sizes.ensures.listed book c.args.max_size (forms, c.requires.upper) l) in
     let d : (c.args.take < length codes) ⊎ (s ≡ c.args.max_size) = elim c.if-len-take.branch [
       | then-len-take w ↦ inl (omega (arith, w.if-len-take.true, c.len.ensures))
       | else-len-take w ↦ inr (eqb-true s c.args.max_size (sym w.is_known-is ∙ c.if-not-is_known.false))
@@ -47,7 +47,7 @@ pub returns-clause-within : goal.returns-clause-within
 returns-clause-within g c =
     let book = g.B.RuleBook.book c.args.book.now in
     let r = request c.args.costs.now (option_copied c.args.after) c.args.max_size c.args.take in
-    let sizes = c.walk_sizes-sizes in
+    let sizes = c.walk_sizes-reached in
     let codes = sizes.new.walk.codes in
     let s = c.in-Some-2.size in
     let l = c.requires.last in
@@ -55,7 +55,7 @@ returns-clause-within g c =
     let forms = subst (λ o. IfSome o (AreFormsUpTo book c.args.counted.now.last)) c.in-Some.is c.in_ok-forms.ensures in
     let within = ok-at (λ k. k ≤ c.args.counted.now.last) sizes.result s ok sizes.ensures.within in
     let m : s ≤ c.args.max_size = omega (arith, l, within) in
-    let h = ok-at (λ k. AreDueCodes book r (k + 1) codes) sizes.result s ok (sizes.ensures.listed book c.args.max_size forms l) in
+    let h = ok-at (λ k. AreDueCodes book r (k + 1) codes) sizes.result s ok (sizes.ensures.listed book c.args.max_size (forms, c.requires.upper) l) in
     let d : (c.args.take < length codes) ⊎ (s ≡ c.args.max_size) = elim c.if-len-take.branch [
       | then-len-take w ↦ inl (omega (arith, w.if-len-take.true, c.len.ensures))
       | else-len-take w ↦ inr (eqb-true s c.args.max_size (sym w.is_known-is ∙ c.if-not-is_known.false))

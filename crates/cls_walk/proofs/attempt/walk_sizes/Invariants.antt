@@ -4,8 +4,9 @@ use Rattle.cls_base.specs.Languages.{IsGenerated}
 use Rattle.cls_base.specs.Pages.{IsDue}
 use Rattle.cls_base.specs.Terms.{Applicative, code_of}
 use Rattle.cls_base.specs.declared.rule.Rule.{Rule}
+use Rattle.cls_term.specs.Costs.{cost_of}
 use Rattle.cls_enum.specs.Requests.{request}
-use Rattle.cls_walk.specs.Attempts.{AreFormsUpTo}
+use Rattle.cls_walk.specs.Attempts.{AreKnown}
 use Rattle.cls_walk.specs.PageFronts.{IsDueFront}
 use Rattle.cls_walk.proofs.attempt.walk_sizes.Given as goal
 
@@ -15,7 +16,7 @@ invariant-loop-size l = record {
   awaited : l.walk.awaited.items ≡ [];
   code : l.walk.code.items ≡ [];
   few : length l.walk.codes ≤ l.plan.take;
-  listed : (book : List (List (Rule ℕ))) (max : ℕ) → AreFormsUpTo book l.last l.plan.forms.now → l.last ≤ max
+  listed : (book : List (List (Rule ℕ))) (max : ℕ) → AreKnown book (cost_of l.plan.costs.now) l.last l.plan.forms.now l.plan.upper.now → l.last ≤ max
       → let r = request l.plan.costs.now (option_copied l.after) max l.plan.take in
       (es : List Applicative) × (l.walk.codes ≡ map code_of es) × IsDueFront (IsDue (IsGenerated book 0) r) r.cost l.size ⊥ es;
 }

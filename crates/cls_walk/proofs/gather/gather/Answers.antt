@@ -1,4 +1,4 @@
-use Rattle.std.proofs.Common.{◌≡◌, ◌<◌, List, ℕ, arith, ap, length, subst, ◌∙◌, []}
+use Rattle.std.proofs.Common.{◌≡◌, ◌++◌, ◌<◌, List, ℕ, arith, ap, length, subst, ◌∙◌, []}
 use Rattle.std.specs.Prelude.{slice_index_or}
 use Rattle.cls_walk.specs.Stacks.{AreAdded, IsNext, IsNextOf}
 use Rattle.cls_walk.proofs.Stacks.{added-stack, front-at}
@@ -12,9 +12,9 @@ loop-place-preserved c =
     let inv = c.loop-place.invariant in
     let least = c.args.plan.now.least.now in
     let forms = c.args.plan.now.forms.now in
-    let stack = c.as_slice.result.now in
+    let stack = c.as_slice-stack.result.now in
     let l : i < length old = omega (arith, c.loop-place-test.true, c.len-end.ensures) in
-    let p : stack ≡ slice_index_or old i [] = c.as_slice.ensures.value ∙ c.in_ok-stack.ensures.items ∙ c.get.ensures ∙ ap (λ (zs : List (List ℕ)). slice_index_or zs i []) inv.grown ∙ front-at old inv.more i l in
+    let p : stack ≡ slice_index_or old i [] = c.as_slice-stack.ensures.value ∙ c.in_ok-extend_from_slice.ensures.items ∙ (λ j. c.clear.ensures.items j ++ c.get.ensures j) ∙ ap (λ (zs : List (List ℕ)). slice_index_or zs i []) inv.grown ∙ front-at old inv.more i l in
     let P : ℕ → Type 0 = λ e. AreAdded least c.args.left (IsNext forms c.args.opening stack) e here c.add_forms.new.stacks in
     added-stack least c.args.left forms c.args.opening old c.args.first i (length old) here c.add_forms.new.stacks stack (omega (arith, c.loop-place.auto.place)) p inv (subst P c.len-end.ensures c.in_ok-add_forms.ensures)
 

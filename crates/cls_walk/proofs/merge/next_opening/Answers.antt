@@ -5,14 +5,15 @@ use Rattle.cls_walk.proofs.merge.next_opening.Goals as goal
 
 pub loop-place-preserved : goal.loop-place-preserved
 loop-place-preserved c =
-    let forms = c.args.plan.now.forms.now in
+    let plan = c.args.plan.now in
+    let size = c.args.size in
     let inv = c.loop-place.invariant in
     let e = c.earliest_by-earliest.ensures in
     record {
       after = e.after inv.after;
       reached = λ x k o a.
-          let P : List ℕ → Type 0 = λ s. Opens forms s x k in
-          elim (opens-of-next forms c.args.stacks.now c.args.first c.loop-place.place x k o) [
+          let P : List ℕ → Type 0 = λ s. Opens plan size s x k in
+          elim (opens-of-next plan size c.args.stacks.now c.args.first c.loop-place.place x k o) [
             | inl p ↦ e.taken x k (inv.reached x k p a)
             | inr p ↦ e.reached x k (subst P (sym c.get.ensures) p) a
           ];

@@ -7,5 +7,5 @@ use Rattle.cls_walk.proofs.merge.next_opening.Given as goal
 abbrev pub invariant-loop-place : goal.invariant-loop-place
 invariant-loop-place l = record {
   after : IfSome l.earliest (λ b. ComesAfter l.last b.component b.count);
-  reached : (x k : ℕ) → OpensOf l.plan.forms.now l.stacks l.first l.place x k → ComesAfter l.last x k → IsReached l.earliest x k;
+  reached : (x k : ℕ) → OpensOf l.plan l.size l.stacks l.first l.place x k → ComesAfter l.last x k → IsReached l.earliest x k;
 }

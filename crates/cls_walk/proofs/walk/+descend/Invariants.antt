@@ -12,11 +12,11 @@ decreases-each_form l = 4 * (needs l.plan.now.least.now (l.node ∷ reverse l.wa
 abbrev pub decreases-follow : goal.decreases-follow
 decreases-follow l = 4 * (l.least + needs l.plan.now.least.now (reverse l.walk.now.awaited.items) + l.slack)
 
-abbrev pub invariant-each_form-loop-form : goal.invariant-each_form-loop-form
-invariant-each_form-loop-form l = record {
+abbrev pub invariant-each_form-loop-place : goal.invariant-each_form-loop-place
+invariant-each_form-loop-place l = record {
   awaited : l.walk.awaited.items ≡ l.fn.walk.awaited.items;
   code : l.walk.code.items ≡ l.fn.walk.code.items;
   few : length l.walk.codes ≤ l.plan.take;
   listed : let ns = reverse l.fn.walk.awaited.items in
-      Lists (IsWantedByOne l.plan (take l.form-index l.form-items) ns (needs l.plan.least.now (l.node ∷ ns) + l.slack) l.cursor) l.fn.walk l.walk true;
+      Lists (IsWantedByOne l.plan (take l.place l.forms) ns (needs l.plan.least.now (l.node ∷ ns) + l.slack) l.cursor) l.fn.walk l.walk true;
 }

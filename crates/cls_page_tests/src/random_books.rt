@@ -1,0 +1,79 @@
+//! Rule books by chance, the same ones in each run.
+ghost use Rattle.std.specs.Prelude.{◌≤◌, ◌<◌};
+
+use crate::books::made;
+use crate::hand_book::HandBook;
+use cls_base::{Goals, OutOfMemory, Rule, Rules};
+use std::alloc::Global;
+use std::test::Fail;
+
+/// A linear congruential generator.
+#[derive(Drop)]
+pub(crate) struct Random {
+    state: u64,
+}
+
+impl Random {
+    pub(crate) fn new(seed: u64) -> Random {
+        Random { state: seed }
+    }
+
+    /// The next number, of those below the bound.
+    pub(crate) fn below(&mut self, bound: u32) -> u32
+        requires { 1 ≤ bound }
+        ensures { result < bound }
+    {
+        self.state = self
+            .state
+            .wrapping_mul(6_364_136_223_846_793_005)
+            .wrapping_add(1_442_695_040_888_963_407);
+        ((self.state >> 33) % u64::from(bound)) as u32
+    }
+}
+
+/// One of four components, over at most two terms of nodes.
+fn head(alloc: Global, random: &mut Random, count: u32) -> Result<Rule<u32>, OutOfMemory>
+    requires { 1 ≤ count }
+{
+    let component = random.below(4);
+    let mut args = Vec::new(alloc);
+    for _arg in 0..random.below(3) {
+        args.push(random.below(count))?;
+    }
+    Ok(Rule::Head {
+        component,
+        args: Goals::new(args),
+    })
+}
+
+/// At most four head rules, and in one of four nodes a pair of the node itself and another one.
+fn rules(
+    alloc: Global,
+    random: &mut Random,
+    node: u32,
+    count: u32,
+) -> Result<Rules<u32>, OutOfMemory>
+    requires { 1 ≤ count }
+{
+    let mut rules = Vec::new(alloc);
+    for _rule in 0..1 + random.below(4) {
+        rules.push(head(alloc, random, count)?)?;
+    }
+    if random.below(4) == 0 {
+        rules.push(Rule::Any {
+            left: node,
+            right: random.below(count),
+        })?;
+    }
+    Ok(Rules::new(rules))
+}
+
+/// A book of at most three nodes.
+pub(crate) fn random_book(alloc: Global, random: &mut Random) -> Result<HandBook, Fail> {
+    let count = 1 + random.below(3);
+    let mut nodes = Vec::new(alloc);
+    for node in 0..count {
+        nodes.push(rules(alloc, random, node, count)?)?;
+    }
+    made(nodes)
+}
