@@ -9,7 +9,7 @@ use Rattle.cls_path.specs.Paths.{TypePath, Paths, none, more, listed, type_of_pa
 use Rattle.cls_cover.specs.Lists.{IsAscending, Sublist, ends, drops}
 use Rattle.cls_cover.specs.Covers.{IsMinimal, AreMinimal, MeetsEach, AreCovers, HaveMore, AreWithinLimit}
 use Rattle.cls_library.specs.Arrows.{MultiArrow, arity_of}
-use Rattle.cls_library.specs.Families.{IsFamilyIn}
+use Rattle.cls_library.specs.Families.{IsFamilyIn, NoneBegins}
 use Rattle.cls_library.specs.Libraries.{Library, paths_at, arrows_at}
 use Rattle.cls_library.specs.Reaching.{CoversGoal}
 use Rattle.cls_library.specs.Rules.{IsWide, by_covers, max_covers}
@@ -135,11 +135,9 @@ module _ (l : Library) where
   has_no_first x n goal fs d w h f k = f ((first_family x n goal fs d w h).1 k)
 
   -- where no arrow leads to the first path there is no block
-  pub begins_nowhere : (x n : ℕ) (goal : List TypePath) (q : TypePath) → Some q ≡ slice_get goal 0 → IsFamilyIn l.taxonomy (arrows_at l x n) q [] → HasFirst l (listed goal) x n → ⊥
-  begins_nowhere x n [] q e is h = h
-  begins_nowhere x n (r ∷ rest) q e is h =
-      let f : q ≡ r = cc in
-      Contains-nil h.2.0 (((subst (λ (p : TypePath). IsFamilyIn l.taxonomy (arrows_at l x n) p []) f is).exactly h.2.0).1 h.2.1)
+  pub begins_nowhere : (goal : Paths) (x n : ℕ) → NoneBegins l goal x n → HasFirst l goal x n → ⊥
+  begins_nowhere none x n is h = h
+  begins_nowhere (more q rest) x n is h = Contains-nil h.2.0 ((is.exactly h.2.0).1 h.2.1)
 
   pub first_place : (goal : Paths) (x n : ℕ) → HasFirst l goal x n → (x < length l.components) × (n ≤ arity_of (paths_at l x))
   first_place none x n h = absurd h
@@ -239,6 +237,16 @@ module _ (l : Library) where
             go (inl j) = inl j
             go (inr j) = let v : k ≤ arity_of (paths_at l x) = subst (λ (z : ℕ). k ≤ arity_of (paths_at l z)) j w in inr (j, omega arith)
         back y k w (inr i) = absurd (let j : k < 0 = i.1 in omega arith)
+
+    -- a component by which no block begins
+    pub blocks_passed : (x : ℕ) (blocks : List Block) → ((n : ℕ) → NoneBegins l goal x n) → AreBlocks l goal x 0 blocks → AreBlocks l goal (x + 1) 0 blocks
+    blocks_passed x blocks h a = blocks_next x (arity_of (paths_at l x) + 1) blocks refl (to (arity_of (paths_at l x) + 1))
+      where
+        to : (n : ℕ) → AreBlocks l goal x n blocks
+        to zero = a
+        to (suc n) =
+            let next : n + 1 ≡ suc n = omega arith in
+            subst (λ k. AreBlocks l goal x k blocks) next (blocks_step x n blocks blocks (without_block (begins_nowhere goal x n (h n)) refl) (to n))
 
     -- all components
     pub member_whole : (m : proof.Member) → m.goal ≡ type_of_paths goal → AreBlocks l goal (length l.components) 0 m.blocks → IsMemberFor l goal m

@@ -1,5 +1,5 @@
 //! The blocks of a member: for each component and number of arguments the minimal covers of the first paths of its goal.
-ghost use Rattle.std.specs.Prelude.{◌≡◌, ◌+◌, ◌<◌, ◌≤◌, ◌↔◌, All, false, IfOk, OnOk, IsTrue, length, map};
+ghost use Rattle.std.specs.Prelude.{◌≡◌, ◌+◌, ◌<◌, ◌≤◌, ◌↔◌, All, IfOk, OnOk, IsTrue, length, map};
 ghost use Rattle.cls_cover.specs.Lists.{IsAscending};
 ghost use Rattle.cls_cover.specs.Covers.{AreCovers, AreWithinLimit};
 ghost use Rattle.cls_path.specs.Paths.{listed};
@@ -8,13 +8,12 @@ ghost use Rattle.cls_library.specs.Libraries.{paths_at, IsLibrary};
 ghost use Rattle.cls_library.specs.Rules.{IsWide, max_covers};
 ghost use Rattle.cls_expand.specs.Answers.{IsReady};
 ghost use Rattle.cls_proof.specs.Blocks.{block_of};
-ghost use Rattle.cls_cert.specs.Making.{HasFirst};
 ghost use Rattle.cls_cert.specs.Building.{AreCoversOfFronts, HasFirstFamily, AddsBlock, AreBlocks};
 
 use cls_base::{Numbers, OutOfMemory};
 use cls_cover::{CoverFault, covers};
 use cls_expand::families_of;
-use cls_library::Library;
+use cls_library::{Library, Search};
 use cls_path::Nf;
 use cls_proof::{Block, Blocks, Layer, Layers};
 use std::alloc::Global;
@@ -59,27 +58,17 @@ fn has_first(families: &[Numbers]) -> bool
     }
 }
 
-/// Whether an arrow of the component that takes so many arguments may lead to the first path of the goal. If not, none
-/// does.
-fn may_begin(lib: &Library, goal: &Nf, x: u32, n: u32) -> bool
-    requires { x < length lib.now.components }
-    ensures { result ≡ false → HasFirst lib.now (listed goal.now) x n → ⊥ }
-{
-    match goal.paths().first() {
-        Some(path) => lib.may_reach(x, n, path),
-        None => true,
-    }
-}
-
 /// Adds the block of the arrows that take so many arguments, if one of them leads to the first path of the goal.
 fn add_block(
     alloc: Global,
     lib: &Library,
     goal: &Nf,
+    search: &Search<'_>,
     x: u32,
     n: u32,
     blocks: &mut Vec<Block>,
 ) -> Result<(), OutOfMemory>
+    requires search { search.now ≡ record { library = lib.now; goal = listed goal.now } }
     requires declared { x < length lib.now.components }
     requires within { n ≤ arity_of (paths_at lib.now x) }
     requires ready { IsReady lib.now goal.now }
@@ -87,7 +76,7 @@ fn add_block(
     ensures { OnOk result
         (AddsBlock lib.now (listed goal.now) x n (map block_of blocks.old.items) (map block_of blocks.new.items)) }
 {
-    if !may_begin(lib, goal, x, n) {
+    if !search.may_begin_by(x, n) {
         return Ok(());
     }
     let families = families_of(alloc, lib, goal, x, n)?;
@@ -109,9 +98,11 @@ fn add_blocks(
     alloc: Global,
     lib: &Library,
     goal: &Nf,
+    search: &Search<'_>,
     x: u32,
     blocks: &mut Vec<Block>,
 ) -> Result<(), OutOfMemory>
+    requires search { search.now ≡ record { library = lib.now; goal = listed goal.now } }
     requires library { IsLibrary lib.now }
     requires declared { x < length lib.now.components }
     requires ready { IsReady lib.now goal.now }
@@ -119,8 +110,11 @@ fn add_blocks(
     ensures { OnOk result (AreBlocks lib.now (listed goal.now) x 0 (map block_of blocks.old.items)
         → AreBlocks lib.now (listed goal.now) (x + 1) 0 (map block_of blocks.new.items)) }
 {
+    if !search.may_begin(x) {
+        return Ok(());
+    }
     for n in 0..lib.arity(x) + 1 {
-        add_block(alloc, lib, goal, x, n, blocks)?;
+        add_block(alloc, lib, goal, search, x, n, blocks)?;
     }
     Ok(())
 }
@@ -131,9 +125,10 @@ pub(crate) fn blocks_of(alloc: Global, lib: &Library, goal: &Nf) -> Result<Block
     requires narrow { IsWide lib.now (listed goal.now) → ⊥ }
     ensures { IfOk result (AreBlocks lib.now (listed goal.now) (length lib.now.components) 0) }
 {
+    let search = Search::new(lib, goal);
     let mut blocks = Vec::new(alloc);
     for x in 0..lib.count() {
-        add_blocks(alloc, lib, goal, x, &mut blocks)?;
+        add_blocks(alloc, lib, goal, &search, x, &mut blocks)?;
     }
     Ok(Blocks::new(blocks))
 }

@@ -9,7 +9,7 @@ use Rattle.cls_base.specs.Types.{ClosedType}
 use Rattle.cls_base.proofs.Lists.{Contains-here, Contains-later, Contains-cases, Contains-nil}
 use Rattle.cls_path.specs.Paths.{TypePath, Paths, none, more, listed}
 use Rattle.cls_library.specs.Arrows.{MultiArrow}
-use Rattle.cls_library.specs.Families.{IsFamilyIn}
+use Rattle.cls_library.specs.Families.{IsFamilyIn, NoneBegins}
 use Rattle.cls_library.specs.Libraries.{Library, arrows_at}
 use Rattle.cls_proof.specs.Certificates.{Block}
 use Rattle.cls_check.specs.declared.place.Place.{Place}
@@ -31,9 +31,9 @@ empty_walked l P arrows n (more q rest) = ((λ k d m. absurd (omega arith)), emp
 pub nowhere_walked : (l : Library) (goals : List (List TypePath)) (p : Place) (q : TypePath) (rest : Paths) → IsFamilyIn l.taxonomy (arrows_in l p) q [] → IsWalked l goals p (more q rest) (empty_layers (path_total (more q rest)))
 nowhere_walked l goals p q rest is = ((λ k d m. inr (steps_nowhere l (arrows_in l p) q [] [] is refl _)), empty_walked l (IsBelowGoal l goals) (arrows_in l p) p.n rest)
 
-pub begins_nowhere : (l : Library) (goals : List (List TypePath)) (p : Place) (goal : List TypePath) (q : TypePath) → Some q ≡ slice_get goal 0 → IsFamilyIn l.taxonomy (arrows_in l p) q [] → IsWalked l goals p (listed goal) (empty_layers (path_total (listed goal)))
-begins_nowhere l goals p [] q e is = absurd cc
-begins_nowhere l goals p (r ∷ rest) q e is = let f : q ≡ r = cc in nowhere_walked l goals p r (listed rest) (subst (λ (x : TypePath). IsFamilyIn l.taxonomy (arrows_in l p) x []) f is)
+pub begins_nowhere : (l : Library) (goals : List (List TypePath)) (p : Place) (form : Paths) → NoneBegins l form p.component p.n → IsWalked l goals p form (empty_layers (path_total form))
+begins_nowhere l goals p none is = absurd is
+begins_nowhere l goals p (more q rest) is = nowhere_walked l goals p q rest is
 
 -- what is known of a block whose place and layers have other names
 module _ (l : Library) (k : ℕ) (b : Block) (p : Place) (layers : List (List (List ℕ))) (there : p ≡ block_place b) (are : layers ≡ b.layers) where

@@ -1,6 +1,6 @@
 //! The members of a certificate.
-ghost use Rattle.std.specs.Prelude.{ℕ, ◌<◌, ◌≤◌, ◌≡◌, ◌↔◌, ◌^◌, false, List, All, length, map, IfOk, OnOk, IfErr, IsTrue};
-ghost use Rattle.cls_path.specs.Paths.{TypePath, listed, type_of_paths, SuitsAll};
+ghost use Rattle.std.specs.Prelude.{ℕ, ◌<◌, ◌≤◌, ◌≡◌, ◌↔◌, ◌^◌, All, length, map, IfOk, OnOk, IfErr, IsTrue};
+ghost use Rattle.cls_path.specs.Paths.{listed, type_of_paths, SuitsAll};
 ghost use Rattle.cls_library.specs.Arrows.{arity_of};
 ghost use Rattle.cls_library.specs.Libraries.{variances_in, paths_at, IsLibrary};
 ghost use Rattle.cls_proof.specs.Blocks.{block_of};
@@ -9,7 +9,7 @@ ghost use Rattle.cls_proof.specs.Members.{member_of};
 ghost use Rattle.cls_check.specs.Checking.{Accepts, IsPlace, PassesLayers, path_total, empty_layers};
 ghost use Rattle.cls_check.specs.Goals.{AllSuit, AreForms, AreGoals};
 ghost use Rattle.cls_check.specs.Places.{Stands, block_place};
-ghost use Rattle.cls_check.specs.Tests.{TellsMember, IsBlockWalked, IsOtherWalked, IsWalked, IsWalkedAt};
+ghost use Rattle.cls_check.specs.Tests.{TellsMember, IsBlockWalked, IsOtherWalked, IsWalkedAt};
 ghost use Rattle.cls_check.specs.Verdicts.{IsRefusedAs};
 
 use crate::fault::{CheckFault, Reason};
@@ -18,7 +18,7 @@ use crate::layers::{block_places, place_of};
 use crate::place::Place;
 use crate::steps::is_walked;
 use cls_base::OutOfMemory;
-use cls_library::Library;
+use cls_library::{Library, Search};
 use cls_norm::normal;
 use cls_path::Nf;
 use cls_proof::{Block, Layer, Member};
@@ -126,9 +126,10 @@ fn is_unblocked(
     if !are_blocks_walked(alloc, lib, goals, form, blocks)? {
         return Ok(false);
     }
+    let search = Search::new(lib, form);
     let none = no_layers(alloc, form.paths().len())?;
     for component in 0..lib.count() {
-        if !are_others_walked(alloc, lib, goals, form, places, &none, component)? {
+        if !are_others_walked(alloc, lib, goals, form, &search, places, &none, component)? {
             return Ok(false);
         }
     }
@@ -165,10 +166,12 @@ fn are_others_walked(
     lib: &Library,
     goals: &Goals,
     form: &Nf,
+    search: &Search<'_>,
     places: &IndexSet<Place>,
     none: &[Layer],
     component: u32,
 ) -> Result<bool, OutOfMemory>
+    requires search { search.now ≡ record { library = lib.now; goal = listed form.now } }
     requires library { IsLibrary lib.now }
     requires goals { AllSuit lib.now goals.now }
     requires suits { SuitsAll (variances_in lib.now.taxonomy) (listed form.now) }
@@ -177,9 +180,12 @@ fn are_others_walked(
     ensures { IfOk result (λ answer. IsTrue answer ↔ ((n : ℕ) → n ≤ arity_of (paths_at lib.now component)
         → IsOtherWalked lib.now goals.now places.now.keys (listed form.now) (record { component = component; n = n }))) }
 {
+    if !search.may_begin(component) {
+        return Ok(true);
+    }
     for n in 0..lib.arity(component) + 1 {
         let place = Place { component, n };
-        if !is_other_walked(alloc, lib, goals, form, places, none, place)? {
+        if !is_other_walked(alloc, lib, goals, form, search, places, none, place)? {
             return Ok(false);
         }
     }
@@ -192,10 +198,12 @@ fn is_other_walked(
     lib: &Library,
     goals: &Goals,
     form: &Nf,
+    search: &Search<'_>,
     places: &IndexSet<Place>,
     none: &[Layer],
     place: Place,
 ) -> Result<bool, OutOfMemory>
+    requires search { search.now ≡ record { library = lib.now; goal = listed form.now } }
     requires place { Stands lib.now place }
     requires goals { AllSuit lib.now goals.now }
     requires suits { SuitsAll (variances_in lib.now.taxonomy) (listed form.now) }
@@ -203,25 +211,13 @@ fn is_other_walked(
     ensures { IfOk result (λ answer. IsTrue answer
         ↔ IsOtherWalked lib.now goals.now places.now.keys (listed form.now) place) }
 {
-    if !may_begin(lib, form, place) {
+    if !search.may_begin_by(place.component, place.n) {
         return Ok(true);
     }
     if places.contains(&place) {
         return Ok(true);
     }
     is_walked(alloc, lib, goals, place, form, none)
-}
-
-/// Whether an arrow may lead to the first path of the goal. If not, layers without a set are enough.
-fn may_begin(lib: &Library, goal: &Nf, place: Place) -> bool
-    requires { Stands lib.now place }
-    ensures { result ≡ false → (goals : List (List TypePath))
-        → IsWalked lib.now goals place (listed goal.now) (empty_layers (path_total (listed goal.now))) }
-{
-    match goal.paths().first() {
-        Some(path) => lib.may_reach(place.component, place.n, path),
-        None => true,
-    }
 }
 
 /// So many layers without a set.

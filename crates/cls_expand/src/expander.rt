@@ -1,9 +1,8 @@
 //! The rules of a goal: for each component and each number of arguments the minimal covers of the goal by its arrows,
 //! and for each cover one rule.
-ghost use Rattle.std.specs.Prelude.{◌≡◌, ℕ, ◌+◌, ◌<◌, ◌≤◌, Contains, IfOk, MatchBool, List, [], false, length, map};
+ghost use Rattle.std.specs.Prelude.{◌≡◌, ℕ, ◌+◌, ◌<◌, ◌≤◌, Contains, IfOk, MatchBool, List, [], length, map};
 ghost use Rattle.cls_path.specs.Paths.{TypePath, Paths, more, listed};
 ghost use Rattle.cls_library.specs.Arrows.{arity_of};
-ghost use Rattle.cls_library.specs.Families.{IsFamilyIn};
 ghost use Rattle.cls_library.specs.Libraries.{paths_at, arrows_at};
 ghost use Rattle.cls_library.specs.Rules.{IsWideBy, IsChoice, omega_rules};
 ghost use Rattle.cls_expand.specs.Answers.{IsAnswer, IsAnswerBy, IsReady, rule_of};
@@ -14,7 +13,7 @@ use crate::spine::Spine;
 use cls_base::{Goals, Numbers, OutOfMemory, Rule, Rules};
 use cls_core::{Answer, Expand, TypedExpand};
 use cls_cover::{CoverFault, covers};
-use cls_library::Library;
+use cls_library::{Library, Search};
 use cls_path::Nf;
 use indexmap::IndexSet;
 use std::alloc::Global;
@@ -108,9 +107,10 @@ fn all_rules(alloc: Global, lib: &Library, goal: &Nf) -> Result<Answer<Nf>, OutO
     if goal.paths().is_empty() {
         return Ok(Answer::Rules(omega(alloc, lib.count())?));
     }
+    let search = Search::new(lib, goal);
     let mut spines = IndexSet::new(alloc);
     for x in 0..lib.count() {
-        if !add_component(alloc, lib, goal, x, &mut spines)? {
+        if !add_component(alloc, lib, goal, &search, x, &mut spines)? {
             return Ok(Answer::Wide);
         }
     }
@@ -128,11 +128,12 @@ fn component_rules(
     requires declared { x < length lib.now.components }
     ensures { IfOk result (IsAnswerBy lib.now x goal.now) }
 {
+    let search = Search::new(lib, goal);
     let mut spines = IndexSet::new(alloc);
     if goal.paths().is_empty() {
         let args = Vec::new(alloc);
         spines.insert(Spine { component: x, args })?;
-    } else if !add_component(alloc, lib, goal, x, &mut spines)? {
+    } else if !add_component(alloc, lib, goal, &search, x, &mut spines)? {
         return Ok(Answer::Wide);
     }
     Ok(Answer::Rules(head_rules(alloc, spines)?))
@@ -214,27 +215,17 @@ fn add_covers(
     Ok(true)
 }
 
-/// Whether an arrow of the component that takes so many arguments may lead to the first path of the goal. If not, none does.
-fn may_begin(lib: &Library, goal: &Nf, x: u32, n: u32) -> bool
-    requires { x < length lib.now.components }
-    ensures { result ≡ false → (q : TypePath) (rest : Paths) → listed goal.now ≡ more q rest
-        → IsFamilyIn lib.now.taxonomy (arrows_at lib.now x n) q [] }
-{
-    match goal.paths().first() {
-        Some(path) => lib.may_reach(x, n, path),
-        None => true,
-    }
-}
-
 /// Adds the rules of one number of arguments, and answers whether the goal isn't wide by them.
 fn add_places(
     alloc: Global,
     lib: &Library,
     goal: &Nf,
+    search: &Search<'_>,
     x: u32,
     n: u32,
     spines: &mut IndexSet<Spine>,
 ) -> Result<bool, OutOfMemory>
+    requires search { search.now ≡ record { library = lib.now; goal = listed goal.now } }
     requires declared { x < length lib.now.components }
     requires within { n ≤ arity_of (paths_at lib.now x) }
     requires ready { IsReady lib.now goal.now }
@@ -243,7 +234,7 @@ fn add_places(
         → MatchBool narrow (AreBegun lib.now (listed goal.now) from x (n + 1) [] spines.new.keys)
         (IsWideBy lib.now x (listed goal.now))) }
 {
-    if !may_begin(lib, goal, x, n) {
+    if !search.may_begin_by(x, n) {
         return Ok(true);
     }
     let families = families_of(alloc, lib, goal, x, n)?;
@@ -259,9 +250,11 @@ fn add_component(
     alloc: Global,
     lib: &Library,
     goal: &Nf,
+    search: &Search<'_>,
     x: u32,
     spines: &mut IndexSet<Spine>,
 ) -> Result<bool, OutOfMemory>
+    requires search { search.now ≡ record { library = lib.now; goal = listed goal.now } }
     requires declared { x < length lib.now.components }
     requires ready { IsReady lib.now goal.now }
     ensures { IfOk result (λ narrow. (q : TypePath) (rest : Paths) (from : ℕ) → listed goal.now ≡ more q rest → from ≤ x
@@ -269,11 +262,14 @@ fn add_component(
         → MatchBool narrow (AreBegun lib.now (listed goal.now) from (x + 1) 0 [] spines.new.keys)
         (IsWideBy lib.now x (listed goal.now))) }
 {
+    if !search.may_begin(x) {
+        return Ok(true);
+    }
     let arity = lib.arity(x);
     for n in 0..arity {
-        if !add_places(alloc, lib, goal, x, n, spines)? {
+        if !add_places(alloc, lib, goal, search, x, n, spines)? {
             return Ok(false);
         }
     }
-    add_places(alloc, lib, goal, x, arity, spines)
+    add_places(alloc, lib, goal, search, x, arity, spines)
 }

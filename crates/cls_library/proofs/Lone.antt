@@ -37,7 +37,7 @@ alone d a b n l = elim (class-of d b) [
   ]
 ]
 
-head-alone : (d : Declared) (x y : Head) → is_alone (class_by d.pairs) y ≡ true → may_be_below (is_below d) x y ≡ true → x ≡ y
+pub head-alone : (d : Declared) (x y : Head) → is_alone (class_by d.pairs) y ≡ true → may_be_below (is_below d) x y ≡ true → x ≡ y
 head-alone d (Covariant a) (Covariant b) n l = ap (λ (k : ℕ). Covariant (record { 0 = k })) (alone d a.0 b.0 (not-zero (class_by d.pairs b.0) n) l)
 head-alone d (Covariant a) Product n l = cc
 head-alone d (Covariant a) (Sealed b) n l = cc

@@ -1,10 +1,13 @@
 -- internal: what a path is at its end, behind its leading arrows
-use Rattle.std.specs.Prelude.{ℕ, ◌≡◌, ◌+◌, ◌==◌, ◌&&◌, ◌≤◌, min, Bool, true, false, not, List, [], ◌∷◌, length, slice_get, slice_index_or, Some}
+use Rattle.std.specs.Prelude.{ℕ, ◌≡◌, ◌%◌, IsTrue, Option, None, ◌+◌, ◌==◌, ◌&&◌, ◌≤◌, min, Bool, true, false, not, List, [], ◌∷◌, length, slice_get, slice_index_or, Some}
+use Rattle.std.specs.Int.{bit_at}
 use Rattle.cls_base.specs.Limits.{max_arity}
+use Rattle.cls_taxon.specs.Orders.{Declared, class_by}
 use Rattle.cls_path.specs.Paths.{TypePath, atom, inside, unit, left, right, function, sealed, listed}
 use Rattle.cls_library.specs.declared.ending.Head.{Head}
 use Rattle.cls_library.specs.declared.ending.Head.TheVariants.{Covariant, Product, Sealed}
 use Rattle.cls_library.specs.declared.ending.Ending.{Ending}
+use Rattle.cls_library.specs.declared.sought.Sought.{Sought}
 use Rattle.cls_library.specs.Arrows.{leading_arrows, arity_of}
 use Rattle.cls_library.specs.Splits.{places_from}
 
@@ -31,6 +34,32 @@ abbrev pub is_alone : (ℕ → ℕ) → Head → Bool
 is_alone class (Covariant c) = not (class c.0 == 0)
 is_alone class Product = true
 is_alone class (Sealed c) = not (class c.0 == 0)
+
+-- the flag of the head, one of 64
+abbrev pub mark_of : Head → ℕ
+mark_of (Covariant c) = c.0 % 64
+mark_of Product = 0
+mark_of (Sealed c) = c.0 % 64
+
+-- whether the flag of the head is set in the word
+abbrev pub is_marked : ℕ → Head → Bool
+is_marked word h = bit_at word (mark_of h) == 1
+
+-- the flag of the head of each path is set in the word
+abbrev pub AreMarked : ℕ → List TypePath → Type 0
+AreMarked word [] = Unit {0}
+AreMarked word (p ∷ ps) = IsTrue (is_marked word (head_of p)) × AreMarked word ps
+
+-- what is sought of the endings that may lead to the path
+pub record IsSought (d : Declared) (q : TypePath) (s : Sought) : Type 0 where
+  pub ending : s.ending ≡ ending_of q
+  pub alone : s.alone ≡ is_alone (class_by d.pairs) s.ending.head
+
+-- what is sought for the first path, if there is one
+abbrev pub IsFirstSought : Declared → List TypePath → Option Sought → Type 0
+IsFirstSought d [] None = Unit {0}
+IsFirstSought d (q ∷ qs) (Some s) = IsSought d q s
+IsFirstSought d _ _ = ⊥
 
 module _ (test : ℕ → ℕ → Bool) where
   -- whether a path of the one head may be below one of the other

@@ -1,36 +1,40 @@
 //! A component of a library.
-ghost use Rattle.std.specs.Prelude.{◌≡◌, ◌≤◌, [], false, IfOk};
+ghost use Rattle.std.specs.Prelude.{◌≡◌, ℕ, ◌≤◌, [], false, IfOk};
 ghost use Rattle.cls_base.specs.Limits.{max_arity};
-ghost use Rattle.cls_path.specs.Paths.{listed, Suits, SuitsAll};
+ghost use Rattle.cls_path.specs.Paths.{TypePath, listed, Suits, SuitsAll};
+ghost use Rattle.cls_taxon.specs.Orders.{Declared, class_by};
 ghost use Rattle.cls_library.specs.Arrows.{arity_of, arrows_of};
+ghost use Rattle.cls_library.specs.Endings.{IsSought, is_alone};
 ghost use Rattle.cls_library.specs.Families.{IsFamilyIn};
 ghost use Rattle.cls_library.specs.Libraries.{variances_in};
 
 use crate::arrow::Arrows;
 use crate::column::Column;
-use crate::ending::Ending;
 use crate::endings::Endings;
 use crate::family::family_of;
+use crate::marks::Marks;
 use crate::measure::arity;
+use crate::sought::Sought;
 use cls_base::{Numbers, OutOfMemory};
 use cls_path::{Nf, Path};
 use cls_taxon::Taxonomy;
 use std::alloc::Global;
 use std::marker::Model;
 
-/// A component: its paths, the places of its arrows for each number of arguments, the endings of its paths, and its weight.
-/// It is seen as its paths and its weight.
+/// A component: its paths, the places of its arrows for each number of arguments, the endings of its paths, the flags of their
+/// heads, and its weight. It is seen as its paths and its weight.
 #[derive(Drop)]
 pub(crate) struct Component {
     paths: Nf,
     columns: Vec<Column>,
     endings: Endings,
+    marks: Marks,
     weight: u64,
 }
 
 impl Model for Component {
     ghost use Rattle.cls_path.specs.Paths.{listed};
-    ghost use Rattle.cls_library.specs.Endings.{IsKept};
+    ghost use Rattle.cls_library.specs.Endings.{AreMarked, IsKept};
     ghost use Rattle.cls_library.specs.Libraries as libraries;
     ghost use Rattle.cls_library.specs.Stored.{coded_component};
 
@@ -40,7 +44,8 @@ impl Model for Component {
 
     ghost view = { λ c. record { paths = listed c.paths; weight = c.weight } };
 
-    ghost invariant = { λ c. IsKept c.paths c.columns.items c.endings.kinds.keys c.endings.places.items };
+    ghost invariant = { λ c. IsKept c.paths c.columns.items c.endings.kinds.keys c.endings.places.items
+        × AreMarked c.marks.word c.paths };
 }
 
 impl Component {
@@ -54,10 +59,12 @@ impl Component {
             columns.push(Column::new(alloc, paths.paths(), count)?)?;
         }
         let endings = Endings::new(alloc, paths.paths())?;
+        let marks = Marks::of(paths.paths());
         Ok(Component {
             paths,
             columns,
             endings,
+            marks,
             weight,
         })
     }
@@ -73,6 +80,7 @@ impl Component {
             paths,
             columns,
             endings,
+            marks: self.marks,
             weight: self.weight,
         })
     }
@@ -106,11 +114,25 @@ impl Component {
         Arrows::new(self.paths.paths(), self.columns[count].as_slice(), count)
     }
 
-    /// Whether one of them may have a target below the path, by what its path is at its end. If not, none has.
-    pub fn may_reach(&self, taxonomy: &Taxonomy, count: usize, path: &Path) -> bool
-        ensures { result ≡ false → IsFamilyIn taxonomy.now (arrows_of count self.now.paths) path.now [] }
+    /// Whether an arrow may lead to the path for which this is sought, by the flags of heads. If not, none does.
+    pub fn may_lead(&self, sought: Sought) -> bool
+        ensures { result ≡ false → (d : Declared) (q : TypePath) → IsSought d q sought
+            → (n : ℕ) → IsFamilyIn d (arrows_of n self.now.paths) q [] }
     {
-        self.endings.may_reach(taxonomy, count, Ending::of(path))
+        if sought.alone {
+            self.marks.has(sought.ending.head)
+        } else {
+            true
+        }
+    }
+
+    /// The same for the arrows that take so many arguments, by the endings of the paths.
+    pub fn may_lead_by(&self, taxonomy: &Taxonomy, count: usize, sought: Sought) -> bool
+        requires { sought.alone ≡ is_alone (class_by taxonomy.now.pairs) sought.ending.head }
+        ensures { result ≡ false → (q : TypePath) → IsSought taxonomy.now q sought
+            → IsFamilyIn taxonomy.now (arrows_of count self.now.paths) q [] }
+    {
+        self.endings.may_lead(taxonomy, count, sought)
     }
 
     /// The strictly ascending positions of those of them whose target is below the path. Only those are tested that have as
@@ -127,7 +149,8 @@ impl Component {
         requires suits { Suits (variances_in taxonomy.now) path.now }
         ensures { IfOk result (IsFamilyIn taxonomy.now (arrows_of count self.now.paths) path.now) }
     {
-        if !self.may_reach(taxonomy, count, path) {
+        let sought = Sought::of(taxonomy, path);
+        if !self.may_lead_by(taxonomy, count, sought) {
             return Ok(Numbers::new(Vec::new(alloc)));
         }
         let family = family_of(
@@ -138,6 +161,7 @@ impl Component {
             count,
             self.endings.kinds.as_slice(),
             &self.endings.places,
+            sought,
             path,
         )?;
         Ok(Numbers::new(family))

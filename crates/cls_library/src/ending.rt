@@ -1,10 +1,11 @@
 //! What paths are at their ends, behind their leading arrows.
-ghost use Rattle.std.specs.Prelude.{◌≡◌};
+ghost use Rattle.std.specs.Prelude.{◌≡◌, ◌<◌};
 ghost use Rattle.cls_taxon.specs.Decisions.{is_below};
 ghost use Rattle.cls_taxon.specs.Orders.{class_by};
-ghost use Rattle.cls_library.specs.Endings.{ending_of, ending_behind, head_of, is_alone, may_be_below, may_end_below};
+ghost use Rattle.cls_library.specs.Endings.{ending_of, ending_behind, head_of, is_alone, mark_of, may_be_below, may_end_below};
 
 use crate::measure::{TOO_MANY, leading_arrows};
+use crate::sought::Sought;
 use cls_base::{Name, Taxa};
 use cls_path::{Form, Path};
 use cls_taxon::Taxonomy;
@@ -47,6 +48,17 @@ impl Head {
         match self {
             Head::Covariant(name) | Head::Sealed(name) => taxonomy.class(name) != 0,
             Head::Product => true,
+        }
+    }
+
+    /// The flag of the head, one of 64.
+    pub fn mark(self) -> u32
+        ensures mark { result ≡ mark_of self }
+        ensures within { result < 64 }
+    {
+        match self {
+            Head::Covariant(name) | Head::Sealed(name) => name.0 % 64,
+            Head::Product => 0,
         }
     }
 
@@ -93,15 +105,15 @@ impl Ending {
         self.arrows == wanted && self.head.may_be_below(taxonomy, upper.head)
     }
 
-    /// The same, where it is known whether another head may be below that of the other ending.
-    pub fn may_lead(self, taxonomy: &Taxonomy, count: usize, upper: Ending, alone: bool) -> bool
-        requires { alone ≡ is_alone (class_by taxonomy.now.pairs) upper.head }
-        ensures { result ≡ may_end_below (is_below taxonomy.now) count self upper }
+    /// The same for the ending that is sought.
+    pub fn may_lead(self, taxonomy: &Taxonomy, count: usize, sought: Sought) -> bool
+        requires { sought.alone ≡ is_alone (class_by taxonomy.now.pairs) sought.ending.head }
+        ensures { result ≡ may_end_below (is_below taxonomy.now) count self sought.ending }
     {
-        if alone {
-            upper.behind(count) == self
+        if sought.alone {
+            sought.ending.behind(count) == self
         } else {
-            self.may_end_below(taxonomy, count, upper)
+            self.may_end_below(taxonomy, count, sought.ending)
         }
     }
 }

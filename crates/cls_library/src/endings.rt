@@ -2,9 +2,11 @@
 ghost use Rattle.std.specs.Prelude.{◌≡◌, IfOk};
 ghost use Rattle.std.specs.List.{list_any};
 ghost use Rattle.cls_taxon.specs.Decisions.{is_below};
-ghost use Rattle.cls_library.specs.Endings.{AreEndings, may_end_below};
+ghost use Rattle.cls_taxon.specs.Orders.{class_by};
+ghost use Rattle.cls_library.specs.Endings.{AreEndings, is_alone, may_end_below};
 
 use crate::ending::Ending;
+use crate::sought::Sought;
 use cls_base::OutOfMemory;
 use cls_path::Path;
 use cls_taxon::Taxonomy;
@@ -46,15 +48,17 @@ impl Endings {
         Ok(Endings { kinds, places })
     }
 
-    /// Whether a path of some ending, behind its first `count` arrows, may be below one of the ending `upper`.
-    pub fn may_reach(&self, taxonomy: &Taxonomy, count: usize, upper: Ending) -> bool
-        ensures { result ≡ list_any (λ lower. may_end_below (is_below taxonomy.now) count lower upper) self.now.kinds.keys }
+    /// Whether a path of some ending, behind its first `count` arrows, may be below one of the ending that is sought.
+    pub fn may_lead(&self, taxonomy: &Taxonomy, count: usize, sought: Sought) -> bool
+        requires { sought.alone ≡ is_alone (class_by taxonomy.now.pairs) sought.ending.head }
+        ensures { result ≡ list_any
+            (λ lower. may_end_below (is_below taxonomy.now) count lower sought.ending) self.now.kinds.keys }
     {
-        if self.kinds.len() > FEW && upper.head.is_alone(taxonomy) {
-            return self.kinds.contains(&upper.behind(count));
+        if self.kinds.len() > FEW && sought.alone {
+            return self.kinds.contains(&sought.ending.behind(count));
         }
         for lower in self.kinds.as_slice() {
-            if lower.may_end_below(taxonomy, count, upper) {
+            if lower.may_lead(taxonomy, count, sought) {
                 return true;
             }
         }

@@ -1,9 +1,11 @@
 //! Libraries: components over an order of names.
-ghost use Rattle.std.specs.Prelude.{◌≡◌, ◌+◌, ◌≤◌, ◌<◌, [], false, length, map, remove, IfOk, IfErr, OnOk, OnErr};
+ghost use Rattle.std.specs.Prelude.{◌≡◌, ℕ, ◌+◌, ◌≤◌, ◌<◌, [], false, length, map, remove, IfOk, IfErr, OnOk, OnErr};
 ghost use Rattle.cls_base.specs.Limits.{max_library_weight};
 ghost use Rattle.cls_base.specs.Schemas.{schema_of};
-ghost use Rattle.cls_path.specs.Paths.{listed, Suits};
+ghost use Rattle.cls_path.specs.Paths.{TypePath, listed, Suits};
+ghost use Rattle.cls_taxon.specs.Orders.{class_by};
 ghost use Rattle.cls_library.specs.Arrows.{arity_of};
+ghost use Rattle.cls_library.specs.Endings.{IsSought, is_alone};
 ghost use Rattle.cls_library.specs.Families.{IsFamilyIn};
 ghost use Rattle.cls_library.specs.Libraries.{variances_in, paths_at, arrows_at, total_of, IsLibrary, IsComponentOf, IsWithinLimits};
 ghost use Rattle.cls_library.specs.Refusals.{Adds, Accepts, Refuses, IsLibraryOf, RefusesAt};
@@ -12,6 +14,7 @@ use crate::arrow::Arrows;
 use crate::component::Component;
 use crate::fault::{LibraryFault, LibraryKind};
 use crate::gather::gather;
+use crate::sought::Sought;
 use cls_base::limits::MAX_COMPONENTS;
 use cls_base::{Numbers, OutOfMemory, Schema};
 use cls_kind::Kinds;
@@ -147,12 +150,23 @@ impl Library {
         &self.taxonomy
     }
 
-    /// Whether an arrow that takes so many arguments may have a target below the path. If not, none has. It takes no memory.
-    pub fn may_reach(&self, x: u32, n: u32, path: &Path) -> bool
+    /// Whether an arrow of the component may lead to the path for which this is sought. If not, none does.
+    pub(crate) fn may_lead(&self, x: u32, sought: Sought) -> bool
         requires { x < length self.now.components }
-        ensures { result ≡ false → IsFamilyIn self.now.taxonomy (arrows_at self.now x n) path.now [] }
+        ensures { result ≡ false → (q : TypePath) → IsSought self.now.taxonomy q sought
+            → (n : ℕ) → IsFamilyIn self.now.taxonomy (arrows_at self.now x n) q [] }
     {
-        self.components[x as usize].may_reach(&self.taxonomy, n as usize, path)
+        self.components[x as usize].may_lead(sought)
+    }
+
+    /// The same for the arrows that take so many arguments.
+    pub(crate) fn may_lead_by(&self, x: u32, n: u32, sought: Sought) -> bool
+        requires declared { x < length self.now.components }
+        requires alone { sought.alone ≡ is_alone (class_by self.now.taxonomy.pairs) sought.ending.head }
+        ensures { result ≡ false → (q : TypePath) → IsSought self.now.taxonomy q sought
+            → IsFamilyIn self.now.taxonomy (arrows_at self.now x n) q [] }
+    {
+        self.components[x as usize].may_lead_by(&self.taxonomy, n as usize, sought)
     }
 
     /// The strictly ascending positions of the arrows that take so many arguments and whose target is below the path. The only error is

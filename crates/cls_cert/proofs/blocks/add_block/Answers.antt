@@ -1,10 +1,11 @@
-use Rattle.std.proofs.Common.{List, ℕ, refl, sym, ◌∙◌, subst}
+use Rattle.std.proofs.Common.{List, ℕ, ◌<◌, length, refl, sym, ◌∙◌, subst}
 use Rattle.cls_path.specs.Paths.{listed}
+use Rattle.cls_library.specs.Families.{NoneBegins, Search}
 use Rattle.cls_library.specs.Libraries.{arrows_at}
 use Rattle.cls_expand.specs.Making.{AreFamilies}
 use Rattle.cls_expand.proofs.Places.{families_ascend}
 use Rattle.cls_cert.specs.Building.{without_block}
-use Rattle.cls_cert.proofs.BlockLaws.{few_covers, has_first, has_no_first, layers_are, block_added}
+use Rattle.cls_cert.proofs.BlockLaws.{begins_nowhere, few_covers, has_first, has_no_first, layers_are, block_added}
 use Rattle.cls_cert.proofs.Lists.{differs}
 use Rattle.cls_cert.proofs.blocks.add_block.Goals as goal
 
@@ -20,8 +21,13 @@ front_covers-requires-clause-few c =
     let h = subst (λ (fs : List (List ℕ)). AreFamilies l (arrows_at l c.args.x c.args.n) c.args.goal.now fs) (sym c.as_slice-2.ensures.value) c.in_ok-families.ensures in
     few_covers l c.args.x c.args.n c.args.goal.now c.as_slice-2.result.now c.requires.declared c.requires.within c.requires.narrow h
 
-pub returns-then-not-may_begin : goal.returns-then-not-may_begin
-returns-then-not-may_begin c = without_block (c.may_begin.ensures c.if-not-may_begin.true) refl
+pub may_begin_by-requires : goal.may_begin_by-requires
+may_begin_by-requires c = subst (λ (s : Search). c.args.x < length s.library.components) (sym c.requires.search) c.requires.declared
+
+pub returns-then-not-may_begin_by : goal.returns-then-not-may_begin_by
+returns-then-not-may_begin_by c =
+    without_block (begins_nowhere c.args.lib.now (listed c.args.goal.now) c.args.x c.args.n
+    (subst (λ (s : Search). NoneBegins s.library s.goal c.args.x c.args.n) c.requires.search (c.may_begin_by.ensures c.if-not-may_begin_by.true))) refl
 
 pub returns-then-not-has_first : goal.returns-then-not-has_first
 returns-then-not-has_first c =

@@ -1,19 +1,24 @@
-use Rattle.std.proofs.Common.{ℕ, List, sym, subst, Contains}
+use Rattle.std.proofs.Common.{ℕ, ◌<◌, List, length, sym, subst, Contains}
 use Rattle.cls_path.specs.Paths.{Paths, listed}
 use Rattle.cls_cover.specs.declared.minimal.CoverFault.{CoverFault}
 use Rattle.cls_cover.specs.Faults.{AreTooMany, HasCause}
 use Rattle.cls_cover.specs.Covers.{MeetsEach, AreMinimal}
+use Rattle.cls_library.specs.Families.{NoneBegins, Search}
 use Rattle.cls_library.specs.Libraries.{arrows_at}
 use Rattle.cls_library.specs.Rules.{HasManyCovers, IsWideBy, by_covers}
 use Rattle.cls_expand.specs.Making.{AreFamilies}
 use Rattle.cls_expand.proofs.FamilyCovers.{many_from}
 use Rattle.cls_expand.proofs.Places.{if_ok_map, families_ascend, cover_below, place_done}
-use Rattle.cls_expand.proofs.Unreached.{place_passed}
+use Rattle.cls_expand.proofs.Unreached.{place_begins_nowhere}
 use Rattle.cls_expand.proofs.expander.add_places.Goals as goal
 
-pub returns-then-not-may_begin : goal.returns-then-not-may_begin
-returns-then-not-may_begin c = λ q rest from e le b.
-    place_passed c.args.lib.now c.args.x c.args.n (listed c.args.goal.now) q rest from c.args.spines.now.keys c.requires.declared c.requires.within (c.may_begin.ensures c.if-not-may_begin.true q rest e) e le b
+pub may_begin_by-requires : goal.may_begin_by-requires
+may_begin_by-requires c = subst (λ (s : Search). c.args.x < length s.library.components) (sym c.requires.search) c.requires.declared
+
+pub returns-then-not-may_begin_by : goal.returns-then-not-may_begin_by
+returns-then-not-may_begin_by c = λ q rest from e le b.
+    place_begins_nowhere c.args.lib.now c.args.x c.args.n (listed c.args.goal.now) q rest from c.args.spines.now.keys c.requires.declared c.requires.within
+    (subst (λ (s : Search). NoneBegins s.library s.goal c.args.x c.args.n) c.requires.search (c.may_begin_by.ensures c.if-not-may_begin_by.true)) e le b
 
 pub covers-requires : goal.covers-requires
 covers-requires c = record { ascending = families_ascend c.args.lib.now (arrows_at c.args.lib.now c.args.x c.args.n) c.args.goal.now c.as_slice.result.now (subst (λ (fs : List (List ℕ)). AreFamilies c.args.lib.now (arrows_at c.args.lib.now c.args.x c.args.n) c.args.goal.now fs) (sym c.as_slice.ensures.value) c.in_ok-families.ensures) }

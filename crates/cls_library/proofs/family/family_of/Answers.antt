@@ -58,7 +58,7 @@ loop-i-preserved c =
           (elim w.else-may_lead.branch [
             | else-may_lead-via-then-may_lead+else-le w' ↦ (λ l. differs (sym w'.if-le.false ∙ w'.le.ensures.cases.1
                 (subst (λ x. PathLe (below_in d) (variances_in d) x q) (sym (w'.target_of.ensures ∙ target w'.index-paths-place.result w'.index-paths-place.is)) l)))
-            | else-may_lead-via-else-may_lead w' ↦ not-below c.args.kinds.now c.args.endings.now paths k c.requires.endings place.within (is_below d) n q (variances_in d) c.of-upper.result _ c.of-upper.ensures place.enough w'.if-may_lead.ensures
+            | else-may_lead-via-else-may_lead w' ↦ not-below c.args.kinds.now c.args.endings.now paths k c.requires.endings place.within (is_below d) n q (variances_in d) c.args.sought.ending _ c.requires.sought.ending place.enough w'.if-may_lead.ensures
           ]))
     ]
 

@@ -11,7 +11,7 @@ family_of-requires-clause-column c =
     let inside = c.self.inside in
     let same : listed inside.paths ≡ c.args.self.now.paths = ap (λ (x : Component). x.paths) c.self.view_is in
     rw (c.as_slice.ensures, c.paths.ensures)
-    (column-places inside.paths inside.columns.items inside.endings.kinds.keys inside.endings.places.items c.self.invariant c.args.self.now.paths same c.args.count c.requires.within c.index.result.now c.index.ensures)
+    (column-places inside.paths inside.columns.items inside.endings.kinds.keys inside.endings.places.items c.self.invariant.0 c.args.self.now.paths same c.args.count c.requires.within c.index.result.now c.index.ensures)
 
 pub family_of-requires-clause-paths : goal.family_of-requires-clause-paths
 family_of-requires-clause-paths c =
@@ -22,5 +22,5 @@ pub returns : goal.returns
 returns c =
     let inside = c.self.inside in
     let same : listed inside.paths ≡ c.args.self.now.paths = ap (λ (x : Component). x.paths) c.self.view_is in
-    let arrows : arrows_at_places c.args.count inside.paths c.index.result.now ≡ arrows_of c.args.count c.args.self.now.paths = column-arrows inside.paths inside.columns.items inside.endings.kinds.keys inside.endings.places.items c.self.invariant c.args.self.now.paths same c.args.count c.requires.within c.index.result.now c.index.ensures in
+    let arrows : arrows_at_places c.args.count inside.paths c.index.result.now ≡ arrows_of c.args.count c.args.self.now.paths = column-arrows inside.paths inside.columns.items inside.endings.kinds.keys inside.endings.places.items c.self.invariant.0 c.args.self.now.paths same c.args.count c.requires.within c.index.result.now c.index.ensures in
     rw (c.new-2.ensures, ← arrows, ← c.paths.ensures, ← c.as_slice.ensures) c.in_ok-family.ensures

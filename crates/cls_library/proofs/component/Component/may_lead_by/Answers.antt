@@ -8,16 +8,15 @@ use Rattle.cls_library.specs.Endings.{may_end_below, ending_of}
 use Rattle.cls_library.specs.Families.{IsFamilyIn}
 use Rattle.cls_library.specs.Libraries.{Component, variances_in}
 use Rattle.cls_library.proofs.Unreached.{no-family}
-use Rattle.cls_library.proofs.component.Component.may_reach.Goals as goal
+use Rattle.cls_library.proofs.component.Component.may_lead_by.Goals as goal
 
 pub returns : goal.returns
-returns c = λ e.
+returns c = λ e q sought.
     let inside = c.self.inside in
     let test = is_below c.args.taxonomy.now in
-    let q = c.args.path.now in
     let n = c.args.count in
     let same : listed inside.paths ≡ c.args.self.now.paths = ap (λ (x : Component). x.paths) c.self.view_is in
     let none : list_any (λ lower. may_end_below test n lower (ending_of q)) inside.endings.kinds.keys ≡ false =
-    ap (λ (upper : Ending). list_any (λ lower. may_end_below test n lower upper) inside.endings.kinds.keys) (sym c.of.ensures) ∙ (sym c.may_reach.ensures ∙ e) in
+    ap (λ (upper : Ending). list_any (λ lower. may_end_below test n lower upper) inside.endings.kinds.keys) (sym sought.ending) ∙ (sym c.may_lead.ensures ∙ e) in
     subst (λ (ps : Paths). IsFamilyIn c.args.taxonomy.now (arrows_of n ps) q []) same
-    (no-family test (variances_in c.args.taxonomy.now) n q inside.endings.kinds.keys none inside.endings.places.items inside.paths c.self.invariant.endings)
+    (no-family test (variances_in c.args.taxonomy.now) n q inside.endings.kinds.keys none inside.endings.places.items inside.paths c.self.invariant.0.endings)
