@@ -6,6 +6,7 @@ use Rattle.std.proofs.lemmas.Bool.Decides.{nat_tests}
 use Rattle.std.proofs.lemmas.Option.{slice_get_within, get_or_from_slice_get}
 use Rattle.indexmap.specs.IndexSet.{insert_key}
 use Rattle.cls_base.specs.Limits.{max_arity}
+use Rattle.cls_base.specs.Lists.{AreBelow}
 use Rattle.cls_base.specs.Taxonomies.{Variance}
 use Rattle.cls_base.specs.Taxa.{Below}
 use Rattle.cls_path.specs.Paths.{TypePath, atom, inside, unit, left, right, function, sealed, listed, PathLe, atoms, inside_atom, insides, units, left_unit, right_unit, lefts, rights, functions, contravariants, invariants, Suits, SuitsAll}
@@ -115,7 +116,7 @@ endings-more hs [] (b ∷ ps) k p h e = absurd h
 endings-more hs (j ∷ ks) [] k p h e = absurd h
 
 module _ (kinds : List Ending) where
-  kind-at : (ks : List ℕ) (ps : List TypePath) (i : ℕ) → AreEndings kinds ks ps → i < length ps
+  pub kind-at : (ks : List ℕ) (ps : List TypePath) (i : ℕ) → AreEndings kinds ks ps → i < length ps
       → (i < length ks) × (slice_get kinds (get_or ks i 0) ≡ Some (ending_of (slice_index_or ps i unit)))
   kind-at [] [] i h l = absurd (omega arith)
   kind-at (k ∷ ks) (p ∷ ps) zero h l = (omega arith, h.0)
@@ -158,3 +159,16 @@ pub suits-at : (variance : ℕ → Variance) (n : ℕ) (ps : List TypePath) (i :
 suits-at variance n [] i h l = absurd (omega arith)
 suits-at variance n (p ∷ ps) zero h l = target-suits variance n p h.0
 suits-at variance n (p ∷ ps) (suc i) h l = suits-at variance n ps i h.1 (omega arith)
+
+-- the places of the endings among the different ones
+pub endings-below : (kinds : List Ending) (ks : List ℕ) (ps : List TypePath) → AreEndings kinds ks ps → AreBelow (length kinds) ks
+endings-below kinds [] [] h = tt
+endings-below kinds (k ∷ ks) (p ∷ ps) h = (slice_get_within kinds k (ending_of p) h.0, endings-below kinds ks ps h.1)
+endings-below kinds [] (p ∷ ps) h = absurd h
+endings-below kinds (k ∷ ks) [] h = absurd h
+
+pub endings-length : (kinds : List Ending) (ks : List ℕ) (ps : List TypePath) → AreEndings kinds ks ps → length ks ≡ length ps
+endings-length kinds [] [] h = refl
+endings-length kinds (k ∷ ks) (p ∷ ps) h = let r = endings-length kinds ks ps h.1 in omega arith
+endings-length kinds [] (p ∷ ps) h = absurd h
+endings-length kinds (k ∷ ks) [] h = absurd h

@@ -58,7 +58,7 @@ same-heads (Covariant c) = equal c.0 c.0 refl
 same-heads Product = refl
 same-heads (Sealed c) = equal c.0 c.0 refl
 
-same-endings : (x : Ending) → eq-value.it x x ≡ true
+pub same-endings : (x : Ending) → eq-value.it x x ≡ true
 same-endings x = (λ j. equal x.arrows x.arrows refl j && same-heads x.head j)
 
 same-bool : (a b : Bool) → (a ≡ true → b ≡ true) → (b ≡ true → a ≡ true) → a ≡ b

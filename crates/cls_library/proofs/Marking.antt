@@ -1,12 +1,10 @@
 -- Flags of heads: a head whose flag isn't set leads to no path that it alone leads to.
-use Rattle.std.proofs.Common.{◌≡◌, ℕ, ◌%◌, ◌*◌, ◌^◌, ◌<◌, ◌⊎◌, inl, inr, ◌==◌, Bool, true, false, List, [], ◌∷◌, ◌++◌, refl, sym, subst, ap, ◌∙◌, arith, IsTrue, w64}
-use Rattle.std.specs.Prelude.{◌&&◌}
+use Rattle.std.proofs.Common.{◌≡◌, ℕ, ◌%◌, ◌*◌, ◌^◌, ◌<◌, inl, inr, ◌==◌, true, false, List, [], ◌∷◌, ◌++◌, sym, subst, ap, ◌∙◌, arith, IsTrue, w64}
 use Rattle.std.specs.Int.{bit_at}
 use Rattle.std.specs.Int.RustNames.{bit_or}
 use Rattle.std.proofs.lemmas.Bool.{cases_Bool}
 use Rattle.std.proofs.lemmas.Nat.Bits.{bit_at_set_same, bit_at_set_other}
 use native.Mathlib.Decide.{ℕ_discrete}
-use Rattle.cls_base.specs.Limits.{max_arity}
 use Rattle.cls_taxon.specs.Decisions.{is_below}
 use Rattle.cls_taxon.specs.Orders.{Declared, class_by}
 use Rattle.cls_path.specs.Paths.{TypePath, listed}

@@ -1,5 +1,5 @@
 -- internal: what a path is at its end, behind its leading arrows
-use Rattle.std.specs.Prelude.{ℕ, ◌≡◌, ◌%◌, IsTrue, Option, None, ◌+◌, ◌==◌, ◌&&◌, ◌≤◌, min, Bool, true, false, not, List, [], ◌∷◌, length, slice_get, slice_index_or, Some}
+use Rattle.std.specs.Prelude.{ℕ, ◌≡◌, ◌↔◌, ◌%◌, IsTrue, Option, None, ◌+◌, ◌==◌, ◌&&◌, ◌≤◌, min, Bool, true, false, not, List, [], ◌∷◌, length, slice_get, slice_index_or, Some}
 use Rattle.std.specs.Int.{bit_at}
 use Rattle.cls_base.specs.Limits.{max_arity}
 use Rattle.cls_taxon.specs.Orders.{Declared, class_by}
@@ -72,6 +72,11 @@ module _ (test : ℕ → ℕ → Bool) where
   -- whether a path of the first ending, behind n of its arrows, may be below one of the second
   abbrev pub may_end_below : ℕ → Ending → Ending → Bool
   may_end_below n e f = (e.arrows == min (max_arity + 1) (n + f.arrows)) && may_be_below e.head f.head
+
+-- the place where the ending stands among different ones, if it is one of them
+abbrev pub IsFound : List Ending → Ending → Option ℕ → Type 0
+IsFound kinds e None = (j : ℕ) → slice_get kinds j ≡ Some e → ⊥
+IsFound kinds e (Some k) = (j : ℕ) → (slice_get kinds j ≡ Some e) ↔ (j ≡ k)
 
 -- at the place of each path stands its ending
 abbrev pub AreEndings : List Ending → List ℕ → List TypePath → Type 0

@@ -1,5 +1,5 @@
 -- internal: arrows as the code finds them, by the places of their paths
-use Rattle.std.specs.Prelude.{ℕ, zero, suc, ◌+◌, nat_lt, if◌then◌else◌, List, [], ◌∷◌, map, slice_index_or, Option, None, Some}
+use Rattle.std.specs.Prelude.{ℕ, zero, suc, ◌≡◌, ◌⊎◌, ◌+◌, ◌++◌, nat_lt, if◌then◌else◌, List, [], ◌∷◌, map, Contains, slice_get, slice_index_or, Option, None, Some}
 use Rattle.std.specs.Borrow.{Bor}
 use Rattle.cls_path.specs.Paths.{TypePath, unit, function, Paths, listed}
 use Rattle.cls_library.specs.Arrows.{MultiArrow, leading_arrows}
@@ -34,6 +34,11 @@ paths_of_form nf = listed nf.now
 abbrev pub places_from : ℕ → ℕ → List TypePath → List ℕ
 places_from n i [] = []
 places_from n i (p ∷ ps) = if nat_lt (leading_arrows p) n then places_from n (i + 1) ps else i ∷ places_from n (i + 1) ps
+
+-- old, with the position of the place in the column behind it, if the place stands there
+abbrev pub PutsPosition : List ℕ → ℕ → List ℕ → List ℕ → Type 0
+PutsPosition column place old new =
+    ((i : ℕ) × (slice_get column i ≡ Some place) × (new ≡ old ++ i ∷ [])) ⊎ ((Contains column place → ⊥) × (new ≡ old))
 
 -- the paths at these places, each split at its first n arrows
 abbrev pub arrows_at_places : ℕ → List TypePath → List ℕ → List MultiArrow

@@ -1,5 +1,5 @@
 //! A component of a library.
-ghost use Rattle.std.specs.Prelude.{◌≡◌, ℕ, ◌≤◌, [], false, IfOk};
+ghost use Rattle.std.specs.Prelude.{◌≡◌, ℕ, ◌≤◌, [], false, IfOk, IsTrue};
 ghost use Rattle.cls_base.specs.Limits.{max_arity};
 ghost use Rattle.cls_path.specs.Paths.{TypePath, listed, Suits, SuitsAll};
 ghost use Rattle.cls_taxon.specs.Orders.{Declared, class_by};
@@ -11,7 +11,7 @@ ghost use Rattle.cls_library.specs.Libraries.{variances_in};
 use crate::arrow::Arrows;
 use crate::column::Column;
 use crate::endings::Endings;
-use crate::family::family_of;
+use crate::family::{family_along, family_of};
 use crate::marks::Marks;
 use crate::measure::arity;
 use crate::sought::Sought;
@@ -34,6 +34,8 @@ pub(crate) struct Component {
 
 impl Model for Component {
     ghost use Rattle.cls_path.specs.Paths.{listed};
+    ghost use Rattle.std.specs.Prelude.{length};
+    ghost use Rattle.cls_library.specs.Chains.{AreChained};
     ghost use Rattle.cls_library.specs.Endings.{AreMarked, IsKept};
     ghost use Rattle.cls_library.specs.Libraries as libraries;
     ghost use Rattle.cls_library.specs.Stored.{coded_component};
@@ -45,7 +47,9 @@ impl Model for Component {
     ghost view = { λ c. record { paths = listed c.paths; weight = c.weight } };
 
     ghost invariant = { λ c. IsKept c.paths c.columns.items c.endings.kinds.keys c.endings.places.items
-        × AreMarked c.marks.word c.paths };
+        × AreMarked c.marks.word c.paths
+        × AreChained 0 (length c.endings.kinds.keys)
+        c.endings.places.items c.endings.chains.firsts.items c.endings.chains.next.items };
 }
 
 impl Component {
@@ -135,8 +139,9 @@ impl Component {
         self.endings.may_lead(taxonomy, count, sought)
     }
 
-    /// The strictly ascending positions of those of them whose target is below the path. Only those are tested that have as
-    /// many arrows behind the first `count` as the path, and whose head may be below that of the path.
+    /// The strictly ascending positions of the arrows that take so many arguments and whose target is below the path. Only
+    /// those are tested that have as many arrows behind the first `count` as the path, and whose head may be below that of
+    /// the path.
     pub fn family(
         &self,
         alloc: Global,
@@ -150,6 +155,9 @@ impl Component {
         ensures { IfOk result (IsFamilyIn taxonomy.now (arrows_of count self.now.paths) path.now) }
     {
         let sought = Sought::of(taxonomy, path);
+        if sought.alone {
+            return self.family_along(alloc, taxonomy, count, sought, path);
+        }
         if !self.may_lead_by(taxonomy, count, sought) {
             return Ok(Numbers::new(Vec::new(alloc)));
         }
@@ -162,6 +170,38 @@ impl Component {
             self.endings.kinds.as_slice(),
             &self.endings.places,
             sought,
+            path,
+        )?;
+        Ok(Numbers::new(family))
+    }
+
+    /// The same for a path whose head is alone.
+    fn family_along(
+        &self,
+        alloc: Global,
+        taxonomy: &Taxonomy,
+        count: usize,
+        sought: Sought,
+        path: &Path,
+    ) -> Result<Numbers, OutOfMemory>
+        requires sought { IsSought taxonomy.now path.now sought }
+        requires alone { IsTrue sought.alone }
+        requires within { count ≤ arity_of self.now.paths }
+        requires paths { SuitsAll (variances_in taxonomy.now) self.now.paths }
+        requires suits { Suits (variances_in taxonomy.now) path.now }
+        ensures { IfOk result (IsFamilyIn taxonomy.now (arrows_of count self.now.paths) path.now) }
+    {
+        let Some(kind) = self.endings.find(sought.ending.behind(count)) else {
+            return Ok(Numbers::new(Vec::new(alloc)));
+        };
+        let family = family_along(
+            alloc,
+            taxonomy,
+            self.paths.paths(),
+            self.columns[count].as_slice(),
+            count,
+            &self.endings,
+            kind,
             path,
         )?;
         Ok(Numbers::new(family))

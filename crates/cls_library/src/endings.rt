@@ -1,10 +1,12 @@
 //! The endings of the paths of a component.
-ghost use Rattle.std.specs.Prelude.{◌≡◌, IfOk};
+ghost use Rattle.std.specs.Prelude.{◌≡◌, IfOk, length};
 ghost use Rattle.std.specs.List.{list_any};
 ghost use Rattle.cls_taxon.specs.Decisions.{is_below};
 ghost use Rattle.cls_taxon.specs.Orders.{class_by};
-ghost use Rattle.cls_library.specs.Endings.{AreEndings, is_alone, may_end_below};
+ghost use Rattle.cls_library.specs.Chains.{AreChained};
+ghost use Rattle.cls_library.specs.Endings.{AreEndings, IsFound, is_alone, may_end_below};
 
+use crate::chains::Chains;
 use crate::ending::Ending;
 use crate::sought::Sought;
 use cls_base::OutOfMemory;
@@ -16,17 +18,20 @@ use std::alloc::Global;
 /// So many endings are gone over one by one.
 const FEW: usize = 8;
 
-/// Different endings, and for each path the place of its own among them.
+/// Different endings, for each path the place of its own among them, and the chains of the paths of one ending.
 #[derive(Drop)]
 pub(crate) struct Endings {
     pub kinds: IndexSet<Ending>,
     pub places: Vec<usize>,
+    pub chains: Chains,
 }
 
 impl Endings {
     /// The endings of the paths.
     pub fn new(alloc: Global, paths: &[Path]) -> Result<Endings, OutOfMemory>
-        ensures { IfOk result (λ endings. AreEndings endings.kinds.keys endings.places.items paths.now) }
+        ensures endings { IfOk result (λ made. AreEndings made.kinds.keys made.places.items paths.now) }
+        ensures chains { IfOk result (λ made. AreChained
+            0 (length made.kinds.keys) made.places.items made.chains.firsts.items made.chains.next.items) }
     {
         let mut kinds = IndexSet::new(alloc);
         let mut places = Vec::with_capacity(alloc, paths.len())?;
@@ -34,18 +39,45 @@ impl Endings {
             let (place, _) = kinds.insert_full(Ending::of(path))?;
             places.push(place)?;
         }
-        Ok(Endings { kinds, places })
+        let chains = Chains::new(alloc, &places, kinds.len())?;
+        Ok(Endings {
+            kinds,
+            places,
+            chains,
+        })
     }
 
     /// Endings equal to these.
     pub fn copy(&self, alloc: Global) -> Result<Endings, OutOfMemory>
         ensures kinds { IfOk result (λ copy. copy.kinds.keys ≡ self.now.kinds.keys) }
         ensures places { IfOk result (λ copy. copy.places.items ≡ self.now.places.items) }
+        ensures firsts { IfOk result (λ copy. copy.chains.firsts.items ≡ self.now.chains.firsts.items) }
+        ensures next { IfOk result (λ copy. copy.chains.next.items ≡ self.now.chains.next.items) }
     {
         let kinds = self.kinds.clone()?;
         let mut places = Vec::new(alloc);
         places.extend_from_slice(&self.places)?;
-        Ok(Endings { kinds, places })
+        let chains = self.chains.copy(alloc)?;
+        Ok(Endings {
+            kinds,
+            places,
+            chains,
+        })
+    }
+
+    /// The place of the ending among the different ones, if it is one of them.
+    pub fn find(&self, ending: Ending) -> Option<usize>
+        ensures { IsFound self.now.kinds.keys ending result }
+    {
+        if self.kinds.len() > FEW {
+            return self.kinds.get_index_of(&ending);
+        }
+        for (place, kind) in self.kinds.as_slice().iter().enumerate() {
+            if ending == *kind {
+                return Some(place);
+            }
+        }
+        None
     }
 
     /// Whether a path of some ending, behind its first `count` arrows, may be below one of the ending that is sought.

@@ -1,13 +1,18 @@
 //! The family of a path: the arrows of a component that lead to it.
-ghost use Rattle.std.specs.Prelude.{◌≡◌, IfOk};
+ghost use Rattle.std.specs.Prelude.{◌≡◌, ◌^◌, ◌<◌, Contains, IfOk, IsTrue, MatchOption, OnOk, length, slice_get};
+ghost use Rattle.std.specs.List.Sorted.{IsStrictlyIncreasing};
 ghost use Rattle.cls_path.specs.Paths.{listed, Suits, SuitsAll};
-ghost use Rattle.cls_library.specs.Endings.{AreEndings, IsSought};
+ghost use Rattle.cls_taxon.specs.Orders.{class_by};
+ghost use Rattle.cls_library.specs.Arrows.{arrows_of};
+ghost use Rattle.cls_library.specs.Chains.{AreChained};
+ghost use Rattle.cls_library.specs.Endings.{AreEndings, IsFound, IsSought, ending_behind, ending_of, head_of, is_alone};
 ghost use Rattle.cls_library.specs.Families.{IsFamilyIn};
 ghost use Rattle.cls_library.specs.Libraries.{variances_in};
-ghost use Rattle.cls_library.specs.Splits.{arrows_at_places, places_from};
+ghost use Rattle.cls_library.specs.Splits.{PutsPosition, arrows_at_places, places_from};
 
 use crate::arrow::target_of;
 use crate::ending::Ending;
+use crate::endings::Endings;
 use crate::sought::Sought;
 use cls_base::OutOfMemory;
 use cls_path::Path;
@@ -48,4 +53,67 @@ pub(crate) fn family_of(
         }
     }
     Ok(family)
+}
+
+/// The same for a path to which the paths of one ending alone may lead: only these are tested, along their chain. `kind` is
+/// the place of that ending.
+pub(crate) fn family_along(
+    alloc: Global,
+    taxonomy: &Taxonomy,
+    paths: &[Path],
+    column: &[usize],
+    count: usize,
+    endings: &Endings,
+    kind: usize,
+    path: &Path,
+) -> Result<Vec<u32>, OutOfMemory>
+    requires column { column.now ≡ places_from count 0 paths.now }
+    requires endings { AreEndings endings.now.kinds.keys endings.now.places.items paths.now }
+    requires chains { AreChained 0 (length endings.now.kinds.keys)
+        endings.now.places.items endings.now.chains.firsts.items endings.now.chains.next.items }
+    requires kind { IsFound endings.now.kinds.keys (ending_behind count (ending_of path.now)) (Some kind) }
+    requires alone { IsTrue (is_alone (class_by taxonomy.now.pairs) (head_of path.now)) }
+    requires paths { SuitsAll (variances_in taxonomy.now) (listed paths.now) }
+    requires suits { Suits (variances_in taxonomy.now) path.now }
+    ensures { IfOk result (λ family.
+        IsFamilyIn taxonomy.now (arrows_of count (listed paths.now)) path.now family.items) }
+{
+    let mut family = Vec::new(alloc);
+    let mut place = endings.chains.firsts[kind] as usize;
+    while place < paths.len() {
+        if target_of(&paths[place], count).le(taxonomy, path) {
+            put_position(&mut family, column, place)?;
+        }
+        place = endings.chains.next[place] as usize;
+    }
+    Ok(family)
+}
+
+/// Puts the position of the place in the column behind the others, if the place stands there.
+fn put_position(family: &mut Vec<u32>, column: &[usize], place: usize) -> Result<(), OutOfMemory>
+    requires { IsStrictlyIncreasing column.now }
+    ensures { OnOk result (PutsPosition column.now place family.old.items family.new.items) }
+{
+    let Some(i) = position_of(column, place) else {
+        return Ok(());
+    };
+    let Ok(position) = u32::try_from(i) else {
+        return Err(OutOfMemory);
+    };
+    family.push(position)?;
+    Ok(())
+}
+
+/// The position of the place in the column. In a column of all paths it is the place itself.
+fn position_of(column: &[usize], place: usize) -> Option<usize>
+    requires { IsStrictlyIncreasing column.now }
+    ensures { MatchOption result (Contains column.now place → ⊥) (λ i. slice_get column.now i ≡ Some place) }
+{
+    if place < column.len() && column[place] == place {
+        return Some(place);
+    }
+    match column.binary_search(&place) {
+        Ok(i) => Some(i),
+        Err(_) => None,
+    }
 }

@@ -1,11 +1,12 @@
-use Rattle.std.proofs.Common.{◌≡◌, take, sym, subst, ap, ◌∙◌, Some}
+use Rattle.std.proofs.Common.{◌≡◌, List, take, sym, subst, ap, ◌∙◌, Some}
 use Rattle.std.specs.Prelude.{slice_get}
-use Rattle.std.proofs.lemmas.List.{take_more}
+use Rattle.std.proofs.lemmas.List.{take_all, take_more}
 use Rattle.indexmap.specs.IndexSet.{insert_key}
+use Rattle.cls_path.specs.Paths.{TypePath}
 use Rattle.cls_library.specs.contracts.ending.EndingPartialEq.TheImpl.{eq-value}
 use Rattle.cls_library.specs.declared.ending.Ending.{Ending}
 use Rattle.cls_library.specs.Endings.{ending_of, AreEndings}
-use Rattle.cls_library.proofs.EndingLaws.{same-ending, keeps, endings-kept, endings-more}
+use Rattle.cls_library.proofs.EndingLaws.{same-ending, keeps, endings-below, endings-kept, endings-more}
 use Rattle.cls_library.proofs.endings.Endings.new.Goals as goal
 
 pub loop-path-preserved : goal.loop-path-preserved
@@ -24,3 +25,10 @@ loop-path-preserved c =
     let kept : AreEndings gs ks (take i items) = endings-kept hs gs (λ j x e. subst (λ l. slice_get l j ≡ Some x) (sym grown) (keeps hs c.of.result j x e)) ks (take i items) c.loop-path.invariant in
     rw (c.in_ok-push.ensures.items, take_more items i p c.loop-path-test.true, ← c.path-item.is)
     (endings-more gs ks (take i items) k p kept found)
+
+pub new-requires : goal.new-requires
+new-requires c =
+    let keys = c.loop-path.kinds.keys in
+    let whole : AreEndings keys c.loop-path.places.items c.args.paths.now =
+    subst (λ (ps : List TypePath). AreEndings keys c.loop-path.places.items ps) (take_all c.loop-path.path-index c.args.paths.now c.loop-path-test.false) c.loop-path.invariant in
+    rw (c.len.ensures.len, c.deref.ensures.value) (endings-below keys c.loop-path.places.items c.args.paths.now whole)

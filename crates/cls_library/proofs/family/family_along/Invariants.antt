@@ -1,0 +1,15 @@
+use Rattle.std.proofs.Common.{◌≡◌, ◌-◌, ◌<◌, length, take}
+use Rattle.std.specs.Prelude.{slice_index_or}
+use Rattle.cls_path.specs.Paths.{listed}
+use Rattle.cls_library.specs.Arrows.{arrows_of}
+use Rattle.cls_library.specs.Families.{IsFamilyIn}
+use Rattle.cls_library.proofs.family.family_along.Given as goal
+
+abbrev pub invariant-loop-place : goal.invariant-loop-place
+invariant-loop-place l = record {
+  family : IsFamilyIn l.fn.taxonomy (arrows_of l.fn.count (listed (take l.place l.fn.paths))) l.fn.path l.family.items;
+  kind : l.place < length l.fn.paths → slice_index_or l.fn.endings.places.items l.place 0 ≡ l.fn.kind;
+}
+
+abbrev pub decreases-loop-place : goal.decreases-loop-place
+decreases-loop-place l = length l.fn.paths - l.place
