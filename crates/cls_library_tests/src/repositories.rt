@@ -1,59 +1,19 @@
-//! Repositories from texts: the worked library, and for each fault lines that have it.
+//! Repositories from texts: a library, and for each fault lines that have it. Faults of long lines and of large libraries are tested
+//! over whole runs.
 use crate::texts::nested;
 use cls_lexer::Line;
 use cls_repo::{RepoFault, Repository};
 use std::alloc::Global;
 use std::test::Fail;
 
-/// A library of 42 components on lists, numbers and texts.
-const WORKED: &str = "sub Nat Int
+/// A library of two components.
+const SORTED: &str = "sub Nat Int
 kind a = Int | Str
-kind b = Int | Str
 comp input : List(Int)
-comp words : List(Str)
 comp sort : List($a) -> List($a) & Asc
-comp rev : (List($a) -> List($a)) & (Asc -> Desc) & (Desc -> Asc)
-comp dedup : (List($a) -> List($a)) & (Asc -> Asc) & (Desc -> Desc)
-comp tail : (List($a) -> List($a)) & (Asc -> Asc) & (Desc -> Desc)
-comp take : Nat -> (List($a) -> List($a)) & (Asc -> Asc) & (Desc -> Desc)
-comp drop : Nat -> (List($a) -> List($a)) & (Asc -> Asc) & (Desc -> Desc)
-comp map : ($a -> $b) -> List($a) -> List($b)
-comp filter : ($a -> Bool) -> (List($a) -> List($a)) & (Asc -> Asc) & (Desc -> Desc)
-comp fold : ($b -> $a -> $b) -> $b -> List($a) -> $b
-comp concat : List($a) -> List($a) -> List($a)
-comp zero : Nat
-comp two : Nat
-comp inc : Int -> Int
-comp neg : Int -> Int
-comp add : Int -> Int -> Int
-comp mul : Int -> Int -> Int
-comp max2 : Int -> Int -> Int
-comp even : Int -> Bool
-comp odd : Int -> Bool
-comp less : Int -> Int -> Bool
-comp not : Bool -> Bool
-comp both : Bool -> Bool -> Bool
-comp yes : Bool
-comp length : List($a) -> Nat
-comp sum : List(Int) -> Int
-comp first : List($a) -> $a
-comp last : List($a) -> $a
-comp show : Int -> Str
-comp parse : Str -> Int
-comp upper : Str -> Str
-comp trim : Str -> Str
-comp cat : Str -> Str -> Str
-comp empty : Str
-comp split : Str -> List(Str)
-comp join : List(Str) -> Str
-comp size : Str -> Nat
-comp isempty : List($a) -> Bool
-comp pair : $a -> $b -> $a * $b
-comp fst : $a * $b -> $a
-comp snd : $a * $b -> $b
-text input = xs
 text sort = sorted({1})
-text rev = reversed({1})
+cost sort 2
+variance Box inv
 end
 ";
 
@@ -141,28 +101,15 @@ fn refusal(alloc: Global, text: &str) -> Result<String, Fail> {
 }
 
 #[test]
-fn the_worked_library_is_read(rt: HostRuntime) -> Result<(), Fail> {
-    let repository = read(rt.alloc(), WORKED)??;
-    assert_eq!(rt; repository.components.len(), 42);
-    assert_eq!(rt; repository.library.count(), 42);
-    assert_eq!(rt; repository.templates.len(), 42);
-    assert_eq!(rt; repository.costs.as_slice().len(), 42);
-    assert_eq!(rt; repository.variables.len(), 2);
-    assert_eq!(rt; repository.names.len(), 7);
-    assert_eq!(rt; repository.names.number("Str").0, 2);
-    assert_eq!(rt; repository.names.number("Bool").0, 6);
-    assert_eq!(rt; repository.components.number("snd").0, 41);
+fn a_library_is_read(rt: HostRuntime) -> Result<(), Fail> {
+    let repository = read(rt.alloc(), SORTED)??;
+    assert_eq!(rt; repository.components.len(), 2);
+    assert_eq!(rt; repository.library.count(), 2);
+    assert_eq!(rt; repository.templates.len(), 2);
+    assert_eq!(rt; repository.costs.as_slice(), [1, 2].as_slice());
+    assert_eq!(rt; repository.variables.len(), 1);
+    assert_eq!(rt; repository.names.number("Asc").0, 4);
     Ok(())
-}
-
-/// So many components of this type, and the end.
-fn components_of(alloc: Global, count: u32, spelled: &str) -> Result<String, Fail> {
-    let mut text = String::new(alloc);
-    for number in 0..count {
-        text.push_str(format!(in alloc; "comp x{number} : {spelled}\n")?.as_str())?;
-    }
-    text.push_str("end")?;
-    Ok(text)
 }
 
 #[test]
@@ -170,64 +117,5 @@ fn first_faults_are_named(rt: HostRuntime) -> Result<(), Fail> {
     for (text, fault) in FIRST_FAULTS {
         assert_eq!(rt; refusal(rt.alloc(), text)?.as_str(), fault, "of {text}");
     }
-    Ok(())
-}
-
-#[test]
-fn large_lines_are_refused(rt: HostRuntime) -> Result<(), Fail> {
-    let alloc = rt.alloc();
-    let longest = nested(alloc, 65_536, "#", "", "")?;
-    assert_eq!(rt; refusal(alloc, longest.as_str())?.as_str(), "1 no-end");
-    let long = nested(alloc, 65_537, "#", "", "")?;
-    assert_eq!(rt; refusal(alloc, long.as_str())?.as_str(), "1 long");
-    let deepest = components_of(alloc, 1, nested(alloc, 64, "(", "A", ")")?.as_str())?;
-    assert_eq!(rt; refusal(alloc, deepest.as_str())?.as_str(), "");
-    let deep = components_of(alloc, 1, nested(alloc, 65, "(", "A", ")")?.as_str())?;
-    assert_eq!(rt; refusal(alloc, deep.as_str())?.as_str(), "1 deep");
-    let largest = components_of(alloc, 1, nested(alloc, 340, "A & ", "A", "")?.as_str())?;
-    assert_eq!(rt; refusal(alloc, largest.as_str())?.as_str(), "");
-    let large = components_of(alloc, 1, nested(alloc, 341, "A & ", "A", "")?.as_str())?;
-    assert_eq!(rt; refusal(alloc, large.as_str())?.as_str(), "1 nodes");
-    Ok(())
-}
-
-#[test]
-fn a_line_that_is_no_text_is_refused(rt: HostRuntime) -> Result<(), Fail> {
-    let mut lines = Vec::new(rt.alloc());
-    lines.push(Line::new(rt.alloc(), b"# \xff")?)?;
-    let Err(fault) = Repository::read(rt.alloc(), &lines) else {
-        return Err("a repository".into());
-    };
-    assert_eq!(rt; fault.line, 1);
-    assert_eq!(rt; fault.words(rt.alloc())?.as_str(), "utf8");
-    Ok(())
-}
-
-#[test]
-fn large_libraries_are_refused(rt: HostRuntime) -> Result<(), Fail> {
-    let alloc = rt.alloc();
-    let most = components_of(alloc, 1_000, "A")?;
-    assert_eq!(rt; refusal(alloc, most.as_str())?.as_str(), "");
-    let many = components_of(alloc, 1_001, "A")?;
-    assert_eq!(rt; refusal(alloc, many.as_str())?.as_str(), "1001 components");
-    let heavy = nested(alloc, 7, "(", "A & B & C", ") -> A & B & C")?;
-    let library = components_of(alloc, 77, heavy.as_str())?;
-    assert_eq!(rt; refusal(alloc, library.as_str())?.as_str(), "77 library");
-    let arity = components_of(alloc, 1, nested(alloc, 33, "A -> ", "A", "")?.as_str())?;
-    assert_eq!(rt; refusal(alloc, arity.as_str())?.as_str(), "1 arity x0");
-    Ok(())
-}
-
-#[test]
-fn many_or_large_instances_are_refused(rt: HostRuntime) -> Result<(), Fail> {
-    let alloc = rt.alloc();
-    let kind = nested(alloc, 16, "A | ", "A", "")?;
-    let many = format!(in alloc;
-        "kind a = {kind}\nkind b = {kind}\nkind c = {kind}\ncomp f : $a -> $b -> $c\nend"
-    )?;
-    assert_eq!(rt; refusal(alloc, many.as_str())?.as_str(), "4 instances f");
-    let kind = nested(alloc, 340, "A & ", "A", "")?;
-    let large = format!(in alloc; "kind a = {kind}\ncomp x : $a -> $a -> $a -> $a -> $a\nend")?;
-    assert_eq!(rt; refusal(alloc, large.as_str())?.as_str(), "2 instance x");
     Ok(())
 }

@@ -18,7 +18,8 @@ fn goal(alloc: Global, library: &Library, text: &str) -> Result<Nf, Fail>
 {
     // For the prover: what holds of each library.
     let _count = library.count();
-    let goal = normal(alloc, library.taxonomy(), &type_of_text(alloc, text)?)?;
+    let ty = type_of_text(alloc, text)?;
+    let goal = normal(alloc, library.taxonomy(), &ty)?;
     if !fit(alloc, &goal)? {
         return Err("not fit".into());
     }

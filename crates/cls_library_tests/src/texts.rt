@@ -17,10 +17,20 @@ struct Alphabet {
 }
 
 fn letters(alloc: Global) -> Result<Alphabet, Fail> {
-    let mut names = Names::new(alloc);
-    let mut variables = Names::new(alloc);
-    read_schema(alloc, &mut names, &mut variables, LETTERS)?;
-    Ok(Alphabet { names, variables })
+    let mut alphabet = Alphabet {
+        names: Names::new(alloc),
+        variables: Names::new(alloc),
+    };
+    read(alloc, &mut alphabet, LETTERS)?;
+    Ok(alphabet)
+}
+
+/// The schema that the text spells over the alphabet.
+fn read(alloc: Global, alphabet: &mut Alphabet, text: &str) -> Result<Schema, Fail> {
+    if text.len() > MAX_LINE_BYTES {
+        return Err("too long".into());
+    }
+    Ok(read_schema(alloc, &mut alphabet.names, &mut alphabet.variables, text)?)
 }
 
 /// The type that the text spells.
@@ -34,11 +44,8 @@ pub fn type_of_text(alloc: Global, text: &str) -> Result<Ty, Fail> {
 
 /// The schema that the text spells.
 pub fn schema_of_text(alloc: Global, text: &str) -> Result<Schema, Fail> {
-    if text.len() > MAX_LINE_BYTES {
-        return Err("too long".into());
-    }
     let mut alphabet = letters(alloc)?;
-    Ok(read_schema(alloc, &mut alphabet.names, &mut alphabet.variables, text)?)
+    read(alloc, &mut alphabet, text)
 }
 
 /// The text inside, so many times between the other two.
