@@ -211,7 +211,8 @@ fn are_told<R: Threads + Wait + Sync>(rt: &R, alloc: Global, slot: Slot) -> Resu
 /// Whether the line that ends after the token has the fault that the mark tells and, if it may end there, the line with a
 /// `)` more.
 fn is_end_told<R: Threads + Wait + Sync>(rt: &R, alloc: Global, slot: Slot) -> Result<bool, Fail> {
-    let front = slot.tokens.get(..slot.place + 1).unwrap_or(slot.tokens);
+    let count = slot.place.saturating_add(1);
+    let front = slot.tokens.get(..count).unwrap_or(slot.tokens);
     let line = with_word(alloc, front, front.len(), "")?;
     let end = Some(format!(in alloc; "syntax {}", line.len())?);
     if !slot.mark.is_ascii_uppercase() {
