@@ -1,13 +1,13 @@
-pub mod Asking
-pub mod Begins
 pub mod BelowFacts
 pub mod Candidates
 pub mod CellTables
+pub mod Enumerations
 pub mod Faults
+pub mod HeldTerms
 pub mod Laws
 pub mod Members
+pub mod PageRequests
+pub mod PartialTerms
 pub mod Plans
 pub mod Requests
 pub mod States
-pub mod Shelves
-pub mod Stocks

@@ -6,7 +6,7 @@ ghost use Rattle.cls_term.specs.Order.{order_of};
 ghost use Rattle.cls_enum.specs.Members.{IsIn};
 ghost use Rattle.cls_enum.specs.Requests.{later, due_after};
 
-use crate::asked::Asked;
+use crate::page_request::PageRequest;
 use cls_base::OutOfMemory;
 use cls_term::{Bank, Term};
 use std::cmp::Ordering;
@@ -17,20 +17,20 @@ pub(crate) fn add_due(
     node: u32,
     numbers: &[u32],
     size: u32,
-    asked: &Asked,
+    request: &PageRequest,
     due: &mut Vec<u32>,
 ) -> Result<(), OutOfMemory>
     requires sized { (e : Applicative) → IsIn (map (at bank.now) numbers.now) e
-        → size_of (cost_of asked.now.costs.now) e ≡ size }
+        → size_of (cost_of request.now.costs.now) e ≡ size }
     ensures { OnOk result (due.new.items ≡ due_after node
-        (λ n. later (cost_of asked.now.costs.now) (option_copied asked.now.after) (at bank.now n))
+        (λ n. later (cost_of request.now.costs.now) (option_copied request.now.after) (at bank.now n))
         due.old.items numbers.now) }
 {
     if node > 0 {
         return Ok(());
     }
     for number in numbers {
-        if is_later(bank, *number, size, asked) {
+        if is_later(bank, *number, size, request) {
             due.push(*number)?;
         }
     }
@@ -38,23 +38,23 @@ pub(crate) fn add_due(
 }
 
 /// Whether the term, which is of this size, comes after the token.
-fn is_later(bank: &Bank, number: u32, size: u32, asked: &Asked) -> bool
-    requires sized { size_of (cost_of asked.now.costs.now) (at bank.now number) ≡ size }
-    ensures { result ≡ later (cost_of asked.now.costs.now) (option_copied asked.now.after) (at bank.now number) }
+fn is_later(bank: &Bank, number: u32, size: u32, request: &PageRequest) -> bool
+    requires sized { size_of (cost_of request.now.costs.now) (at bank.now number) ≡ size }
+    ensures { result ≡ later (cost_of request.now.costs.now) (option_copied request.now.after) (at bank.now number) }
 {
-    match asked.after {
+    match request.after {
         None => true,
-        Some(token) => order_with(bank, number, size, asked, token).is_gt(),
+        Some(token) => order_with(bank, number, size, request, token).is_gt(),
     }
 }
 
 /// Compares a term of the bank with the token, where the sizes of both are given.
-fn order_with(bank: &Bank, number: u32, size: u32, asked: &Asked, token: &Term) -> Ordering
-    requires sized { size_of (cost_of asked.now.costs.now) (at bank.now number) ≡ size }
-    requires token { asked.now.after_size ≡ size_of (cost_of asked.now.costs.now) token.now }
-    ensures { result ≡ order_of (cost_of asked.now.costs.now) (at bank.now number) token.now }
+fn order_with(bank: &Bank, number: u32, size: u32, request: &PageRequest, token: &Term) -> Ordering
+    requires sized { size_of (cost_of request.now.costs.now) (at bank.now number) ≡ size }
+    requires token { request.now.after_size ≡ size_of (cost_of request.now.costs.now) token.now }
+    ensures { result ≡ order_of (cost_of request.now.costs.now) (at bank.now number) token.now }
 {
-    match u64::from(size).cmp(&asked.after_size) {
+    match u64::from(size).cmp(&request.after_size) {
         Ordering::Equal => bank.order_code_to(number, token),
         by_size => by_size,
     }

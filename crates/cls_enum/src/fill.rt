@@ -3,15 +3,15 @@ ghost use Rattle.cls_base.specs.Limits.{max_term_length};
 ghost use Rattle.cls_base.specs.Terms.{length_of};
 ghost use Rattle.cls_term.specs.Banks.{at, term_by};
 ghost use Rattle.cls_base.specs.Lists.{AreBelow};
-ghost use Rattle.cls_enum.specs.Begins.{begun_term, IsAsBefore, IsBegun};
+ghost use Rattle.cls_enum.specs.PartialTerms.{partial_term, IsAsBefore, IsPartial};
 ghost use Rattle.cls_enum.specs.Members.{AreFound};
 ghost use Rattle.cls_enum.specs.Plans.{ArePruned};
-ghost use Rattle.cls_enum.specs.Stocks.{stocked, filled, applied_filled, Finds, FindsTooMany};
+ghost use Rattle.cls_enum.specs.HeldTerms.{held_terms, filled, applied_filled, Finds, FindsTooMany};
 
 use crate::PageFault;
-use crate::begun::Begun;
+use crate::held::Held;
+use crate::partial_term::PartialTerm;
 use crate::plan::{Place, is_barren};
-use crate::stock::Stock;
 use cls_term::SpineSet;
 use std::alloc::Global;
 
@@ -20,33 +20,33 @@ use std::alloc::Global;
 #[cycle(fill)]
 pub(crate) fn fill(
     alloc: Global,
-    stock: &Stock,
-    begun: &mut Begun,
+    held: &Held,
+    partial: &mut PartialTerm,
     places: &[Place],
     rest: u32,
     found: &mut SpineSet,
 ) -> Result<(), PageFault>
-    requires begun { IsBegun stock.now.bank.now begun.old }
-    requires room { begun.old.occurrences < 2 ^ 34 }
+    requires partial { IsPartial held.now.bank.now partial.old }
+    requires room { partial.old.occurrences < 2 ^ 34 }
     requires small { rest < 2 ^ 31 }
-    requires pruned { ArePruned (stocked stock.now) places.now }
-    requires found { AreFound stock.now.bank.now found.old }
-    ensures added { IfOk result (λ _. Finds stock.now found.old found.new
-        (filled stock.now places.now rest (begun_term stock.now.bank.now begun.old))) }
-    ensures same { IfOk result (λ _. IsAsBefore begun.old begun.new) }
-    ensures over { IfErr result (FindsTooMany stock.now found.old
-        (filled stock.now places.now rest (begun_term stock.now.bank.now begun.old))) }
+    requires pruned { ArePruned (held_terms held.now) places.now }
+    requires found { AreFound held.now.bank.now found.old }
+    ensures added { IfOk result (λ _. Finds held.now found.old found.new
+        (filled held.now places.now rest (partial_term held.now.bank.now partial.old))) }
+    ensures same { IfOk result (λ _. IsAsBefore partial.old partial.new) }
+    ensures over { IfErr result (FindsTooMany held.now found.old
+        (filled held.now places.now rest (partial_term held.now.bank.now partial.old))) }
 {
-    if is_barren(places, rest, begun.occurrences) {
+    if is_barren(places, rest, partial.occurrences) {
         return Ok(());
     }
     let Some((place, others)) = places.split_first() else {
-        return add(alloc, stock, begun.head, begun.args.as_slice(), found);
+        return add(alloc, held, partial.head, partial.args.as_slice(), found);
     };
     let first = if others.is_empty() { rest } else { 0 };
     for size in first..rest + 1 {
-        let numbers = stock.cells.get(size, place.node);
-        fill_each(alloc, stock, begun, numbers, others, rest - size, found)?;
+        let numbers = held.cells.get(size, place.node);
+        fill_each(alloc, held, partial, numbers, others, rest - size, found)?;
     }
     Ok(())
 }
@@ -55,35 +55,35 @@ pub(crate) fn fill(
 #[cycle(fill)]
 fn fill_each(
     alloc: Global,
-    stock: &Stock,
-    begun: &mut Begun,
+    held: &Held,
+    partial: &mut PartialTerm,
     numbers: &[u32],
     places: &[Place],
     rest: u32,
     found: &mut SpineSet,
 ) -> Result<(), PageFault>
-    requires numbers { AreBelow (length stock.now.bank.now) numbers.now }
-    requires begun { IsBegun stock.now.bank.now begun.old }
-    requires room { begun.old.occurrences < 2 ^ 33 }
+    requires numbers { AreBelow (length held.now.bank.now) numbers.now }
+    requires partial { IsPartial held.now.bank.now partial.old }
+    requires room { partial.old.occurrences < 2 ^ 33 }
     requires small { rest < 2 ^ 31 }
-    requires pruned { ArePruned (stocked stock.now) places.now }
-    requires found { AreFound stock.now.bank.now found.old }
-    ensures added { IfOk result (λ _. Finds stock.now found.old found.new
-        (applied_filled stock.now places.now rest (begun_term stock.now.bank.now begun.old) numbers.now)) }
-    ensures same { IfOk result (λ _. IsAsBefore begun.old begun.new) }
-    ensures over { IfErr result (FindsTooMany stock.now found.old
-        (applied_filled stock.now places.now rest (begun_term stock.now.bank.now begun.old) numbers.now)) }
+    requires pruned { ArePruned (held_terms held.now) places.now }
+    requires found { AreFound held.now.bank.now found.old }
+    ensures added { IfOk result (λ _. Finds held.now found.old found.new
+        (applied_filled held.now places.now rest (partial_term held.now.bank.now partial.old) numbers.now)) }
+    ensures same { IfOk result (λ _. IsAsBefore partial.old partial.new) }
+    ensures over { IfErr result (FindsTooMany held.now found.old
+        (applied_filled held.now places.now rest (partial_term held.now.bank.now partial.old) numbers.now)) }
 {
-    if is_barren(places, rest, begun.occurrences + 1) {
+    if is_barren(places, rest, partial.occurrences + 1) {
         return Ok(());
     }
     for number in numbers {
-        let more = u64::from(stock.bank.length(*number));
-        begun.args.push(*number)?;
-        begun.occurrences += more;
-        fill(alloc, stock, begun, places, rest, found)?;
-        begun.args.pop();
-        begun.occurrences -= more;
+        let more = u64::from(held.bank.length(*number));
+        partial.args.push(*number)?;
+        partial.occurrences += more;
+        fill(alloc, held, partial, places, rest, found)?;
+        partial.args.pop();
+        partial.occurrences -= more;
     }
     Ok(())
 }
@@ -91,21 +91,21 @@ fn fill_each(
 /// Adds a spine, unless it is there, and answers whether there are too many.
 fn add(
     alloc: Global,
-    stock: &Stock,
+    held: &Held,
     head: u32,
     args: &[u32],
     found: &mut SpineSet,
 ) -> Result<(), PageFault>
-    requires args { AreBelow (length stock.now.bank.now) args.now }
-    requires short { length_of (term_by stock.now.bank.now (head, args.now)) ≤ max_term_length }
-    requires found { AreFound stock.now.bank.now found.old }
+    requires args { AreBelow (length held.now.bank.now) args.now }
+    requires short { length_of (term_by held.now.bank.now (head, args.now)) ≤ max_term_length }
+    requires found { AreFound held.now.bank.now found.old }
     ensures added { IfOk result (λ _.
-        Finds stock.now found.old found.new (term_by stock.now.bank.now (head, args.now) ∷ [])) }
-    ensures over { IfErr result (FindsTooMany stock.now found.old (term_by stock.now.bank.now (head, args.now) ∷ [])) }
+        Finds held.now found.old found.new (term_by held.now.bank.now (head, args.now) ∷ [])) }
+    ensures over { IfErr result (FindsTooMany held.now found.old (term_by held.now.bank.now (head, args.now) ∷ [])) }
 {
-    let _count = stock.bank.count();
+    let _count = held.bank.count();
     found.insert(alloc, head, args)?;
-    if found.len() as u64 > stock.limit {
+    if found.len() as u64 > held.limit {
         return Err(PageFault::TooManyTerms);
     }
     Ok(())

@@ -10,21 +10,21 @@
 //! to no term that is short enough.
 #![tactic(auto)]
 
-mod asked;
-mod begun;
 mod bounds;
 mod cells;
 mod due;
+mod enumeration;
 mod fault;
 mod fill;
 mod find;
+mod held;
 pub mod laws;
 mod listed;
 mod make;
+mod page_request;
 mod paging;
+mod partial_term;
 mod plan;
-mod shelf;
-mod stock;
 
 pub use fault::PageFault;
 pub use listed::Page;

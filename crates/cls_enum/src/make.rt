@@ -9,8 +9,8 @@ ghost use Rattle.cls_enum.specs.Plans.{PlansPruned, plan_candidates};
 use crate::PageFault;
 use crate::cells::Cells;
 use crate::find::find;
+use crate::held::Held;
 use crate::plan::Plan;
-use crate::stock::Stock;
 use cls_base::OutOfMemory;
 use cls_term::{Bank, SpineSet};
 use std::alloc::Global;
@@ -34,8 +34,8 @@ pub(crate) fn make(
     ensures over { IfErr result (λ fault. IfTooMany fault
         (IsOverfull limit [] (plan_candidates (cell_of bank.old cells.now) size plans.now))) }
 {
-    let stock = Stock { bank, cells, limit };
-    let found = find(alloc, &stock, plans, size)?;
+    let held = Held { bank, cells, limit };
+    let found = find(alloc, &held, plans, size)?;
     if found.len() as u64 > limit {
         return Err(PageFault::TooManyTerms);
     }

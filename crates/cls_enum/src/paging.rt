@@ -6,20 +6,20 @@ ghost use Rattle.cls_base.specs.Pages.{IsPage};
 ghost use Rattle.cls_base.specs.Terms.{length_of, size_of};
 ghost use Rattle.cls_term.specs.Banks.{at};
 ghost use Rattle.cls_term.specs.Costs.{cost_of};
-ghost use Rattle.cls_enum.specs.Asking.{asked_request};
+ghost use Rattle.cls_enum.specs.PageRequests.{request_of};
 ghost use Rattle.cls_enum.specs.Faults.{IfTooMany};
 ghost use Rattle.cls_enum.specs.Plans.{book_of, AllReady};
 ghost use Rattle.cls_enum.specs.Requests.{request};
 ghost use Rattle.cls_enum.specs.States.{ExceedsPool, FitsPool};
-ghost use Rattle.cls_enum.specs.Shelves.{IsMadeTo, HasPage, AreTooManyAt, NeedsTooMany};
+ghost use Rattle.cls_enum.specs.Enumerations.{IsMadeTo, HasPage, AreTooManyAt, NeedsTooMany};
 
 use crate::PageFault;
-use crate::asked::Asked;
 use crate::bounds::{is_wide, next_plans};
 use crate::cells::Cells;
+use crate::enumeration::{Enumeration, make_node};
 use crate::listed::Page;
+use crate::page_request::PageRequest;
 use crate::plan::{NodePlans, plans};
-use crate::shelf::{Shelf, make_node};
 use cls_base::{Numbers, OutOfMemory};
 use cls_rulebook::RuleBook;
 use cls_term::{Bank, Term};
@@ -28,54 +28,61 @@ use std::alloc::Global;
 /// Makes terms, size after size, until the page is known.
 fn collect(
     alloc: Global,
-    asked: &Asked,
+    request: &PageRequest,
     plans: Vec<NodePlans>,
-    shelf: &mut Shelf,
+    enumeration: &mut Enumeration,
 ) -> Result<(), PageFault>
     requires some { 0 < length plans.items }
     requires few { length plans.items < 2 ^ 32 }
-    requires ready { AllReady (book_of plans.items) (cost_of asked.now.costs.now) 0 plans.items }
-    requires kept { IsMadeTo plans.items asked.now 0 0 shelf.old }
-    requires within { shelf.old.total ≤ asked.now.pool }
-    ensures done { IfOk result (λ _. HasPage plans.items asked.now shelf.new) }
-    ensures over { IfErr result (NeedsTooMany plans.items asked.now) }
+    requires ready { AllReady (book_of plans.items) (cost_of request.now.costs.now) 0 plans.items }
+    requires kept { IsMadeTo plans.items request.now 0 0 enumeration.old }
+    requires within { enumeration.old.total ≤ request.now.pool }
+    ensures done { IfOk result (λ _. HasPage plans.items request.now enumeration.new) }
+    ensures over { IfErr result (NeedsTooMany plans.items request.now) }
 {
     let wide = is_wide(plans.as_slice());
     let mut current = plans;
-    for size in 0..asked.max {
+    for size in 0..request.max {
         let rules = current.as_slice();
-        make_node(alloc, asked, rules, 0, size, shelf)?;
-        if shelf.due.len() > asked.take as usize {
+        make_node(alloc, request, rules, 0, size, enumeration)?;
+        if enumeration.due.len() > request.take as usize {
             return Ok(());
         }
-        make_others(alloc, asked, rules, size, shelf)?;
-        current = next_plans(alloc, &shelf.bank, &shelf.cells, size, current, wide)?;
+        make_others(alloc, request, rules, size, enumeration)?;
+        current = next_plans(
+            alloc,
+            &enumeration.bank,
+            &enumeration.cells,
+            size,
+            current,
+            wide,
+        )?;
     }
     let rules = current.as_slice();
-    make_node(alloc, asked, rules, 0, asked.max, shelf)
+    make_node(alloc, request, rules, 0, request.max, enumeration)
 }
 
 /// Makes the terms of one size of all nodes but the start.
 fn make_others(
     alloc: Global,
-    asked: &Asked,
+    request: &PageRequest,
     plans: &[NodePlans],
     size: u32,
-    shelf: &mut Shelf,
+    enumeration: &mut Enumeration,
 ) -> Result<(), PageFault>
-    requires size { size ≤ asked.now.max }
+    requires size { size ≤ request.now.max }
     requires some { 0 < length plans.now }
     requires few { length plans.now < 2 ^ 32 }
-    requires ready { AllReady (book_of plans.now) (cost_of asked.now.costs.now) size plans.now }
-    requires kept { IsMadeTo plans.now asked.now size 1 shelf.old }
-    requires within { shelf.old.total ≤ asked.now.pool }
-    ensures kept { IfOk result (λ _. IsMadeTo plans.now asked.now (size + 1) 0 shelf.new) }
-    ensures within { IfOk result (λ _. shelf.new.total ≤ asked.now.pool) }
-    ensures same { IfOk result (λ _. length shelf.new.due.items ≡ length shelf.old.due.items) }
-    ensures over { IfErr result (AreTooManyAt plans.now asked.now (size + 1) 0) }
+    requires ready { AllReady (book_of plans.now) (cost_of request.now.costs.now) size plans.now }
+    requires kept { IsMadeTo plans.now request.now size 1 enumeration.old }
+    requires within { enumeration.old.total ≤ request.now.pool }
+    ensures kept { IfOk result (λ _. IsMadeTo plans.now request.now (size + 1) 0 enumeration.new) }
+    ensures within { IfOk result (λ _. enumeration.new.total ≤ request.now.pool) }
+    ensures same { IfOk result (λ _. length enumeration.new.due.items ≡ length enumeration.old.due.items) }
+    ensures over { IfErr result (AreTooManyAt plans.now request.now (size + 1) 0) }
 {
     for node in 1..plans.len() as u32 {
-        make_node(alloc, asked, plans, node, size, shelf)?;
+        make_node(alloc, request, plans, node, size, enumeration)?;
     }
     Ok(())
 }
@@ -108,7 +115,7 @@ pub fn page<B: RuleBook>(
         (request costs.now (option_copied after.entry) max_size take) pool)) }
 {
     let plans = plans(alloc, book, costs)?;
-    let asked = Asked {
+    let request = PageRequest {
         costs,
         after,
         after_size: token_size(costs, after),
@@ -116,28 +123,33 @@ pub fn page<B: RuleBook>(
         take,
         pool,
     };
-    list(alloc, &asked, plans)
+    list(alloc, &request, plans)
 }
 
 /// The page of the rules of these plans.
-fn list(alloc: Global, asked: &Asked, plans: Vec<NodePlans>) -> Result<Page, PageFault>
-    requires taken { 1 ≤ asked.now.take }
+fn list(alloc: Global, request: &PageRequest, plans: Vec<NodePlans>) -> Result<Page, PageFault>
+    requires taken { 1 ≤ request.now.take }
     requires some { 0 < length plans.items }
     requires few { length plans.items < 2 ^ 32 }
-    requires ready { AllReady (book_of plans.items) (cost_of asked.now.costs.now) 0 plans.items }
+    requires ready { AllReady (book_of plans.items) (cost_of request.now.costs.now) 0 plans.items }
     ensures page { IfOk result (λ p.
-        IsPage (IsGenerated (book_of plans.items) 0) (asked_request asked.now) p.terms p.more) }
-    ensures within { IfOk result (λ _. FitsPool (book_of plans.items) (asked_request asked.now) asked.now.pool) }
-    ensures over { IfErr result (NeedsTooMany plans.items asked.now) }
+        IsPage (IsGenerated (book_of plans.items) 0) (request_of request.now) p.terms p.more) }
+    ensures within { IfOk result (λ _. FitsPool (book_of plans.items) (request_of request.now) request.now.pool) }
+    ensures over { IfErr result (NeedsTooMany plans.items request.now) }
 {
-    let mut shelf = Shelf {
+    let mut enumeration = Enumeration {
         bank: Bank::new(alloc),
         cells: Cells::new(alloc, plans.len() as u32),
         due: Vec::new(alloc),
         total: 0,
     };
-    collect(alloc, asked, plans, &mut shelf)?;
-    Ok(first_due(alloc, &shelf.bank, shelf.due.as_slice(), asked.take)?)
+    collect(alloc, request, plans, &mut enumeration)?;
+    Ok(first_due(
+        alloc,
+        &enumeration.bank,
+        enumeration.due.as_slice(),
+        request.take,
+    )?)
 }
 
 /// The first of the due terms.

@@ -120,7 +120,8 @@ fn node_plans(alloc: Global, rules: &[Rule<u32>], costs: &Numbers) -> Result<Vec
 /// The plan of a rule.
 fn rule_plan(alloc: Global, rule: &Rule<u32>, costs: &Numbers) -> Result<Plan, OutOfMemory>
     ensures rule { IfOk result (λ plan. rule_of plan ≡ rule.now) }
-    ensures ready { IfOk result (λ plan. (b : List (List (Rule ℕ))) (s : ℕ) → IsReady b (cost_of costs.now) s plan) }
+    ensures ready { IfOk result (λ plan. (b : List (List (Rule ℕ))) (s : ℕ)
+        → IsReady b (cost_of costs.now) s plan) }
 {
     match rule {
         Rule::Head { component, args } => {

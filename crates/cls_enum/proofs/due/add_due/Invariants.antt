@@ -7,4 +7,4 @@ use Rattle.cls_enum.specs.Requests.{later}
 use Rattle.cls_enum.proofs.due.add_due.Given as goal
 
 abbrev pub invariant-loop-number : goal.invariant-loop-number
-invariant-loop-number l = l.due.items ≡ l.fn.due.items ++ filter (λ n. later (cost_of l.asked.costs.now) (option_copied l.asked.after) (at l.bank n)) (take l.number-index l.numbers)
+invariant-loop-number l = l.due.items ≡ l.fn.due.items ++ filter (λ n. later (cost_of l.request.costs.now) (option_copied l.request.after) (at l.bank n)) (take l.number-index l.numbers)

@@ -9,5 +9,5 @@ use Rattle.cls_enum.proofs.find.find_applied.Given as goal
 
 abbrev pub invariant-loop-number : goal.invariant-loop-number
 invariant-loop-number l =
-    let cell = cell_of l.stock.bank.now l.stock.cells.now in
-    IsAdded l.stock.bank.now l.fn.found (flat_map (λ f. fills cell f (nodes_of l.places) l.rest) (map (at l.stock.bank.now) (take l.number-index l.numbers))) l.found
+    let cell = cell_of l.held.bank.now l.held.cells.now in
+    IsAdded l.held.bank.now l.fn.found (flat_map (λ f. fills cell f (nodes_of l.places) l.rest) (map (at l.held.bank.now) (take l.number-index l.numbers))) l.found

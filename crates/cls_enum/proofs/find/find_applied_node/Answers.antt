@@ -11,19 +11,19 @@ use Rattle.cls_enum.proofs.find.find_applied_node.Goals as goal
 
 pub loop-smaller-preserved : goal.loop-smaller-preserved
 loop-smaller-preserved c =
-    let ts = c.args.stock.now.bank.now in
-    let cell = cell_of ts c.args.stock.now.cells.now in
+    let ts = c.args.held.now.bank.now in
+    let cell = cell_of ts c.args.held.now.cells.now in
     over-step ts (λ (t : ℕ). flat_map (λ (f : Applicative). fills cell f (nodes_of c.args.places.now) (c.args.size - t)) (cell t c.args.left)) c.args.found.now c.loop-smaller.found c.find_applied.new.found c.loop-smaller.smaller _
     (ap (λ (ns : List ℕ). flat_map (λ (f : Applicative). fills cell f (nodes_of c.args.places.now) (c.args.size - c.loop-smaller.smaller)) (map (at ts) ns)) c.get-numbers.ensures)
     c.loop-smaller.invariant c.in_ok-find_applied.ensures.added
 
 pub returns-in_err-find_applied-clause-over : goal.returns-in_err-find_applied-clause-over
 returns-in_err-find_applied-clause-over c =
-    let ts = c.args.stock.now.bank.now in
-    let cell = cell_of ts c.args.stock.now.cells.now in
+    let ts = c.args.held.now.bank.now in
+    let cell = cell_of ts c.args.held.now.cells.now in
     let p = err_from_is_err_and c.from_residual.result c.from_residual.ensures.1 in
     rw (p.1, p.2) (IfTooMany-weaker _ _ _
-    (over-over ts (λ (t : ℕ). flat_map (λ (f : Applicative). fills cell f (nodes_of c.args.places.now) (c.args.size - t)) (cell t c.args.left)) c.args.found.now c.loop-smaller.found c.find_applied.new.found c.loop-smaller.smaller c.args.size c.args.stock.now.limit _ (omega (arith, c.loop-smaller-test.true))
+    (over-over ts (λ (t : ℕ). flat_map (λ (f : Applicative). fills cell f (nodes_of c.args.places.now) (c.args.size - t)) (cell t c.args.left)) c.args.found.now c.loop-smaller.found c.find_applied.new.found c.loop-smaller.smaller c.args.size c.args.held.now.limit _ (omega (arith, c.loop-smaller-test.true))
     (ap (λ (ns : List ℕ). flat_map (λ (f : Applicative). fills cell f (nodes_of c.args.places.now) (c.args.size - c.loop-smaller.smaller)) (map (at ts) ns)) c.get-numbers.ensures)
     c.loop-smaller.invariant)
     c.in_err-find_applied.ensures.over)

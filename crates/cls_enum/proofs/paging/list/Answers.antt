@@ -6,7 +6,7 @@ use Rattle.cls_base.specs.Pages.{IsPage}
 use Rattle.cls_base.specs.Terms.{Applicative}
 use Rattle.cls_term.specs.Banks.{at}
 use Rattle.cls_enum.specs.Plans.{book_of, rule_of}
-use Rattle.cls_enum.specs.Asking.{asked_request}
+use Rattle.cls_enum.specs.PageRequests.{request_of}
 use Rattle.cls_enum.specs.declared.plan.Plan.{Plan}
 use Rattle.cls_enum.proofs.StateLaws.{page-is, within-at}
 use Rattle.cls_enum.proofs.StateSteps.{kept-initial}
@@ -14,15 +14,15 @@ use Rattle.cls_enum.proofs.paging.list.Goals as goal
 
 pub collect-requires-clause-kept : goal.collect-requires-clause-kept
 collect-requires-clause-kept c =
-    kept-initial (book_of c.args.plans.items) (asked_request c.args.asked.now) c.len.result c.new.result c.new-2.result c.new-3.result.items
+    kept-initial (book_of c.args.plans.items) (request_of c.args.request.now) c.len.result c.new.result c.new-2.result c.new-3.result.items
     (omega (arith, c.len.ensures, c.args.plans.ok.0, length-map c.args.plans.items (λ (x : List Plan). map rule_of x))) c.new.ensures c.new-2.ensures c.new-3.ensures.items
 
 pub returns-clause-page : goal.returns-clause-page
 returns-clause-page c =
     let book = book_of c.args.plans.items in
-    let r = asked_request c.args.asked.now in
-    let ts = c.collect.new.shelf.bank in
-    let due = c.collect.new.shelf.due.items in
+    let r = request_of c.args.request.now in
+    let ts = c.collect.new.enumeration.bank in
+    let due = c.collect.new.enumeration.due.items in
     let d = c.in_ok-collect.ensures.done in
     let decides : (r.take < length (map (at ts) due)) ⊎ (d.size ≡ r.max) = elim d.decides [ inl l ↦ inl (omega (arith, length-map due (at ts))) | inr p ↦ inr p ] in
     let h = page-is book r d.size d.pairs (map (at ts) due) d.state (omega (arith, c.requires.taken)) d.within_max decides in
@@ -34,9 +34,9 @@ returns-clause-page c =
 pub returns-clause-within : goal.returns-clause-within
 returns-clause-within c =
     let book = book_of c.args.plans.items in
-    let r = asked_request c.args.asked.now in
-    let ts = c.collect.new.shelf.bank in
-    let due = c.collect.new.shelf.due.items in
+    let r = request_of c.args.request.now in
+    let ts = c.collect.new.enumeration.bank in
+    let due = c.collect.new.enumeration.due.items in
     let d = c.in_ok-collect.ensures.done in
     let decides : (r.take < length (map (at ts) due)) ⊎ (d.size ≡ r.max) = elim d.decides [ inl l ↦ inl (omega (arith, length-map due (at ts))) | inr p ↦ inr p ] in
-    within-at book r d.size c.args.asked.now.pool d.pairs (map (at ts) due) d.state d.within_pool decides
+    within-at book r d.size c.args.request.now.pool d.pairs (map (at ts) due) d.state d.within_pool decides

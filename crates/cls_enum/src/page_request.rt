@@ -9,7 +9,7 @@ use cls_term::Term;
 
 /// What a page is asked for, with the size of the token, and how many terms may be held.
 #[derive(Clone, Copy)]
-pub(crate) struct Asked<'a> {
+pub(crate) struct PageRequest<'a> {
     pub(crate) costs: &'a Numbers,
     pub(crate) after: Option<&'a Term>,
     pub(crate) after_size: u64,

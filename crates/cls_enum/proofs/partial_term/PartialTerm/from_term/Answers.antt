@@ -4,15 +4,15 @@ use Rattle.cls_term.proofs.BankSteps.{spine-found}
 use Rattle.cls_base.proofs.Lists.{AreBelow-more}
 use Rattle.cls_term.specs.Banks.{at, term_by}
 use Rattle.cls_base.specs.Lists.{AreBelow}
-use Rattle.cls_enum.proofs.begun.Begun.from_term.Goals as goal
+use Rattle.cls_enum.proofs.partial_term.PartialTerm.from_term.Goals as goal
 
 pub returns-clause-term : goal.returns-clause-term
 returns-clause-term c =
     let ts = c.args.bank.now in
     ap (λ (l : List ℕ). term_by ts (c.head.result, l)) (c.in_ok-args.ensures.items_if_clones_equal (λ x y h. h)) ∙ spine-found ts (at ts c.args.number) c.head.result c.args-2.result.now c.head.ensures c.args-2.ensures.terms
 
-pub returns-clause-begun : goal.returns-clause-begun
-returns-clause-begun c =
+pub returns-clause-partial : goal.returns-clause-partial
+returns-clause-partial c =
     let ts = c.args.bank.now in
     let q = c.in_ok-args.ensures.items_if_clones_equal (λ x y h. h) in
     let e = ap (λ (l : List ℕ). term_by ts (c.head.result, l)) q ∙ spine-found ts (at ts c.args.number) c.head.result c.args-2.result.now c.head.ensures c.args-2.ensures.terms in

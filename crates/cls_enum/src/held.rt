@@ -6,10 +6,9 @@ ghost use Rattle.cls_enum.specs.CellTables.{cell_at};
 use crate::cells::Cells;
 use cls_term::Bank;
 
-/// What is at hand while the terms of one size of a node are found: the terms of smaller sizes, and how many may be
-/// found.
+/// The terms that are held while those of one size of a node are found, all of smaller sizes, and how many may be found.
 #[derive(Clone, Copy)]
-pub(crate) struct Stock<'a> {
+pub(crate) struct Held<'a> {
     pub(crate) bank: &'a Bank,
     pub(crate) cells: &'a Cells,
     pub(crate) limit: u64,

@@ -2,8 +2,8 @@
 use Rattle.std.specs.Prelude.{option_copied}
 use Rattle.cls_base.specs.Pages.{Request}
 use Rattle.cls_enum.specs.Requests.{request}
-use Rattle.cls_enum.specs.declared.asked.Asked.{Asked}
+use Rattle.cls_enum.specs.declared.page_request.PageRequest.{PageRequest}
 
 -- the request that it is of
-abbrev pub asked_request : Asked → Request
-asked_request asked = request asked.costs.now (option_copied asked.after) asked.max asked.take
+abbrev pub request_of : PageRequest → Request
+request_of r = request r.costs.now (option_copied r.after) r.max r.take
