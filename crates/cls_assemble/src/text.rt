@@ -77,7 +77,8 @@ fn write_hole(
     requires written { AreWritten (texts_by templates.now arguments.now) spans.old (string_bytes text.old) }
     ensures text { OnOk result (string_bytes text.new
         ≡ string_bytes text.old ++ argument_text (texts_by templates.now arguments.now) number) }
-    ensures written { OnOk result (AreWritten (texts_by templates.now arguments.now) spans.new (string_bytes text.new)) }
+    ensures written { OnOk result
+        (AreWritten (texts_by templates.now arguments.now) spans.new (string_bytes text.new)) }
 {
     let index = usize::from(number) - 1;
     if index >= arguments.len() {

@@ -33,10 +33,6 @@ max_term_size = 1024
 abbrev pub max_page_terms : ℕ
 max_page_terms = 10000
 
--- terms that may be held to make a page
-abbrev pub max_pool : ℕ
-max_pool = 200000
-
 -- nodes, depth and spread of a type
 abbrev pub max_type_nodes : ℕ
 max_type_nodes = 1024

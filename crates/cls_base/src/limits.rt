@@ -24,9 +24,6 @@ pub const MAX_TERM_SIZE: u32 = 1_024;
 /// The most terms that a listing may ask for.
 pub const MAX_PAGE_TERMS: u32 = 10_000;
 
-/// The most terms that may be held to make a page.
-pub const MAX_POOL: u64 = 200_000;
-
 /// The most nodes of a type.
 pub const MAX_TYPE_NODES: u64 = 1_024;
 

@@ -41,11 +41,13 @@ pub trait Taxa {
 
     ghost reflexive: { (t : Self) (a : ℕ) → IsTrue (is_below t a a) };
 
-    ghost transitive: { (t : Self) (a b c : ℕ) → IsTrue (is_below t a b) → IsTrue (is_below t b c) → IsTrue (is_below t a c) };
+    ghost transitive: { (t : Self) (a b c : ℕ)
+        → IsTrue (is_below t a b) → IsTrue (is_below t b c) → IsTrue (is_below t a c) };
 
     ghost antisymmetric: { (t : Self) (a b : ℕ) → IsTrue (is_below t a b) → IsTrue (is_below t b a) → a ≡ b };
 
-    ghost one_variance: { (t : Self) (a b : ℕ) → IsTrue (is_below t a b) → variance_of_name t a ≡ variance_of_name t b };
+    ghost one_variance: { (t : Self) (a b : ℕ)
+        → IsTrue (is_below t a b) → variance_of_name t a ≡ variance_of_name t b };
 
     ghost one_class: { (t : Self) (a b : ℕ) → IsTrue (is_below t a b) → class t a ≡ class t b };
 }

@@ -178,7 +178,8 @@ fn are_others_walked(
     requires none { none.now ≡ empty_layers (path_total (listed form.now)) }
     requires component { component < length lib.now.components }
     ensures { IfOk result (λ answer. IsTrue answer ↔ ((n : ℕ) → n ≤ arity_of (paths_at lib.now component)
-        → IsOtherWalked lib.now goals.now places.now.keys (listed form.now) (record { component = component; n = n }))) }
+        → IsOtherWalked lib.now goals.now places.now.keys (listed form.now)
+        (record { component = component; n = n }))) }
 {
     if !search.may_begin(component) {
         return Ok(true);

@@ -131,7 +131,8 @@ fn number_rules<G: Key + Drop>(
     ensures numbers { IfOk result (λ r. IfSome r (λ n.
         n ≡ rules_from G.eq (room.now.rows.now.keys ++ added.old.keys) rules.now)) }
     ensures many { IfOk result (λ r. IfNone r
-        (room.now.most < length (insert_all G.eq (room.now.rows.now.keys ++ added.old.keys) (arguments_in rules.now)))) }
+        (room.now.most
+        < length (insert_all G.eq (room.now.rows.now.keys ++ added.old.keys) (arguments_in rules.now)))) }
     ensures few { IfOk result (λ r. IfSome r (λ _. length (room.now.rows.now.keys ++ added.new.keys) ≤ room.now.most)) }
 {
     let mut numbered = Vec::with_capacity(alloc, rules.len())?;

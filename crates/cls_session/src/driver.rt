@@ -108,7 +108,8 @@ pub fn answer_lines<R: Threads + Wait + Sync, K: Sink, G: Gate + Sync>(
         (BreaksLines (K.seen sink.old) (K.seen sink.new) session.old text) }
     ensures no_feed { OnOk result (HasNoFeed reader.new) }
     ensures counted { OnOk result
-        (lines_of_session session.new + length reader.new ≤ lines_of_session session.old + length (reader.old ++ piece.now)) }
+        (lines_of_session session.new + length reader.new
+        ≤ lines_of_session session.old + length (reader.old ++ piece.now)) }
     ensures faults { CountsFaults result (K.seen sink.old) (K.seen sink.new) }
 {
     let mut rest = piece;

@@ -20,7 +20,8 @@ pub(crate) fn intern_token(
     behind: bool,
     token: &Token,
 ) -> Result<Name, OutOfMemory>
-    ensures constructors { OnOk result (constructors.new ≡ constructors_after constructors.old behind (word_of token.now)) }
+    ensures constructors { OnOk result
+        (constructors.new ≡ constructors_after constructors.old behind (word_of token.now)) }
     ensures variables { OnOk result (variables.new ≡ variables_after variables.old behind (word_of token.now)) }
     ensures number { IfOk result (λ name. name.0
         ≡ number_in constructors.new variables.new behind (sort_of (word_of token.now)) token.now.text.now) }

@@ -51,7 +51,8 @@ fn step(
     token: &Token,
 ) -> Result<Option<Place>, OutOfMemory>
     ensures { IfOk result (λ p. next_of (outer_of frames.new.items) p
-        ≡ step (number_of components.now) (state_of (outer_of frames.old.items) place) token.now.kind token.now.text.now) }
+        ≡ step (number_of components.now) (state_of (outer_of frames.old.items) place)
+        token.now.kind token.now.text.now) }
 {
     match place {
         Place::Operand => match token.kind {
