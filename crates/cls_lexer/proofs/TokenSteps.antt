@@ -1,5 +1,5 @@
 -- How the tokens of a line follow one another.
-use Rattle.std.proofs.Common.{◌≡◌, ℕ, suc, zero, ◌+◌, ◌-◌, ◌<◌, ◌≤◌, Bool, true, false, List, [], ◌∷◌, ◌++◌, refl, ap, sym, ◌∙◌, drop, take, length, get_or, arith, add-zero, append_assoc, append-nil}
+use Rattle.std.proofs.Common.{Option, Some, None, slice_get, ◌≡◌, ℕ, suc, zero, ◌+◌, ◌-◌, ◌<◌, ◌≤◌, Bool, true, false, List, [], ◌∷◌, ◌++◌, refl, ap, sym, ◌∙◌, drop, take, length, get_or, arith, add-zero, append_assoc, append-nil}
 use Rattle.std.proofs.lemmas.List.{drop_more, drop_all, drop-drop, length-take-le}
 use Rattle.std.specs.Prelude.{if◌then◌else◌, ◌==◌, ◌&&◌}
 use Rattle.std.proofs.lemmas.List.Sums.{prefix_len-le-length}
@@ -107,3 +107,18 @@ loop_token line bytes out new at p same l b is pushed h =
 pub loop_end : (line : List ℕ) (out : List Located) (at : ℕ) → length line ≤ at → out ++ tokens_from at 0 (drop at line) ≡ tokens_of line → out ≡ tokens_of line
 unfolding tokens_from
 loop_end line out at l h = sym (append-nil out) ∙ (ap (λ (xs : List ℕ). out ++ tokens_from at 0 xs) (sym (drop_all at line l)) ∙ h)
+
+-- the first token of the line is the one that stands behind blanks alone
+pub first_token :
+    (line bytes text : List ℕ) (at : ℕ) (p : TokenKind × ℕ) → bytes ≡ line → at < length line
+    → is_blank (get_or bytes at 0) ≡ false → p ≡ token_at (get_or bytes at 0) (drop (at + 1) bytes)
+    → text ≡ take p.1 (drop at line) → tokens_from at 0 (drop at line) ≡ tokens_of line
+    → ◌≡◌ {A = Option Located} (Some (record { kind = p.0; start = at; text = text })) (slice_get (tokens_of line) 0)
+first_token line bytes text at p same l b is cut h =
+    let here : List ℕ → Located = λ xs. record { kind = p.0; start = at; text = xs } in
+    ap (λ (xs : List ℕ). Some (here xs)) cut
+    ∙ ap (λ (ts : List Located). slice_get ts 0) (loop_token line bytes [] (here (take p.1 (drop at line)) ∷ []) at p same l b is refl h)
+
+-- a line of blanks has none
+pub no_token : (line : List ℕ) (at : ℕ) → length line ≤ at → tokens_from at 0 (drop at line) ≡ tokens_of line → ◌≡◌ {A = Option Located} None (slice_get (tokens_of line) 0)
+no_token line at l h = ap (λ (ts : List Located). slice_get ts 0) (loop_end line [] at l h)

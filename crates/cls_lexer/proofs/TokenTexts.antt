@@ -1,15 +1,17 @@
 -- The text of a token of a line.
-use Rattle.std.proofs.Common.{◌≡◌, ℕ, ◌+◌, ◌<◌, List, ◌∷◌, map, take, drop, get_or, length, false, ap, sym, subst, ◌∙◌}
+use Rattle.std.proofs.Common.{Option, slice_get, ◌≡◌, ℕ, ◌+◌, ◌<◌, List, ◌∷◌, map, take, drop, get_or, length, false, ap, sym, subst, ◌∙◌}
 use Rattle.std.specs.Prelude.{IsTrue}
+use Rattle.std.specs.Option.{option_map}
 use Rattle.std.proofs.lemmas.Bool.{and_from}
 use Rattle.std.proofs.lemmas.List.{drop_more}
+use Rattle.std.proofs.lemmas.Option.{slice_get-map}
 use Rattle.std.proofs.lemmas.Simd.{map-map}
 use Rattle.cls_lexer.specs.declared.token.TokenKind.{TokenKind}
 use Rattle.cls_lexer.specs.declared.token.TokenKind.TheVariants.{Number}
 use Rattle.cls_lexer.specs.declared.token.Token.{Token}
 use Rattle.cls_lexer.specs.Numerals.{is_numeral}
 use Rattle.cls_lexer.specs.Characters.{is_blank}
-use Rattle.cls_lexer.specs.Tokens.{token_at, located, tokens_of}
+use Rattle.cls_lexer.specs.Tokens.{Located, token_at, located, tokens_of}
 use Rattle.cls_lexer.specs.Spelling.{Spells, name, number, to, at_most, and, times, opens, closes, comma, dollar, colon, equals, bar, too_long, other}
 use Rattle.cls_lexer.specs.Words.{said, words, words_of}
 use Rattle.cls_lexer.proofs.TokenSpelling.{token_spelled}
@@ -40,6 +42,11 @@ token_numeral b bs blank e = numeral_spelled (token_at b bs).0 (take (token_at b
 pub words_of-tokens : (line : List ℕ) (tokens : List Token) → map located tokens ≡ tokens_of line → words tokens ≡ words_of line
 unfolding words_of
 words_of-tokens line tokens are = sym (map-map said located tokens) ∙ ap (map said) are
+
+-- what the first token says is the first of what the line says
+pub first_word : (line : List ℕ) (token : Option Located) → token ≡ slice_get (tokens_of line) 0 → option_map said token ≡ slice_get (words_of line) 0
+unfolding words_of
+first_word line token is = ap (option_map said) is ∙ sym (slice_get-map said (tokens_of line) 0)
 
 -- the text of a token that the loop over the line cuts off
 pub loop_numeral :

@@ -1,6 +1,7 @@
 -- To be read and believed: Lines, Skipped, Characters, Spelling, Numerals, Names and Words. Tokens scans as the code does; laws
 -- say by Spelling what it comes to.
 pub mod Characters
+pub mod Contents
 pub mod LineLaws
 pub mod Lines
 pub mod Names

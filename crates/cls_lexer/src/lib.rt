@@ -19,5 +19,5 @@ pub use line::{Line, TextFault};
 pub use line_reader::LineReader;
 pub use names::Names;
 pub use numeral::Numeral;
-pub use scan::{byte_at, tokens};
+pub use scan::{byte_at, first_token, tokens};
 pub use token::{Token, TokenKind};

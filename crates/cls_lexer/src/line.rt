@@ -28,13 +28,25 @@ pub enum TextFault {
 /// carriage return directly before the line feed, or before the end of the text, belongs to the ending.
 #[derive(Drop)]
 pub struct Line {
-    bytes: Vec<u8>,
+    content: Content,
+}
+
+/// The bytes of a line: a text if they can be read as one.
+#[derive(Drop)]
+enum Content {
+    Text(String),
+    Unread(Vec<u8>),
 }
 
 impl Model for Line {
+    ghost use Rattle.std.specs.Prelude.{ℕ, List};
+    ghost use Rattle.cls_lexer.specs.Contents.{bytes_of, TellsText};
+
     ghost Value = { List ℕ };
 
-    ghost view = { λ l. l.bytes.items };
+    ghost view = { λ l. bytes_of l.content };
+
+    ghost invariant = { λ l. TellsText l.content };
 }
 
 impl Line {
@@ -42,9 +54,7 @@ impl Line {
     pub fn new(alloc: Global, bytes: &[u8]) -> Result<Line, OutOfMemory>
         ensures { IfOk result (λ line. line ≡ bytes.now) }
     {
-        Ok(Line {
-            bytes: Vec::from_slice(alloc, bytes)?,
-        })
+        Ok(Line::of_bytes(Vec::from_slice(alloc, bytes)?))
     }
 
     /// The line that these bytes are, of which one carriage return at the end belongs to the ending.
@@ -55,14 +65,36 @@ impl Line {
         if count > 0 && bytes[count - 1] == b'\r' {
             bytes.truncate(count - 1);
         }
-        Line { bytes }
+        Line::of_bytes(bytes)
+    }
+
+    /// The line of these bytes.
+    fn of_bytes(bytes: Vec<u8>) -> Line
+        ensures { result ≡ bytes.items }
+    {
+        if bytes.len() > MAX_LINE_BYTES {
+            return Line {
+                content: Content::Unread(bytes),
+            };
+        }
+        match String::from_utf8(bytes) {
+            Ok(text) => Line {
+                content: Content::Text(text),
+            },
+            Err(error) => Line {
+                content: Content::Unread(error.into_bytes()),
+            },
+        }
     }
 
     /// The bytes of the line.
     pub fn as_bytes(&self) -> &[u8]
         ensures { result.now ≡ self.now }
     {
-        self.bytes.as_slice()
+        match &self.content {
+            Content::Text(text) => text.as_bytes(),
+            Content::Unread(bytes) => bytes.as_slice(),
+        }
     }
 
     /// The line as a text.
@@ -76,12 +108,10 @@ impl Line {
         ensures not_utf8 { (result ≡ Err TextFault.NotUtf8)
             ↔ ((length self.now ≤ max_line_bytes) × ¬ IsUtf8 self.now) }
     {
-        if self.bytes.len() > MAX_LINE_BYTES {
-            return Err(TextFault::TooLong);
-        }
-        match str::from_utf8(self.bytes.as_slice()) {
-            Ok(text) => Ok(text),
-            Err(_) => Err(TextFault::NotUtf8),
+        match &self.content {
+            Content::Text(text) => Ok(text.as_str()),
+            Content::Unread(bytes) if bytes.len() > MAX_LINE_BYTES => Err(TextFault::TooLong),
+            Content::Unread(_) => Err(TextFault::NotUtf8),
         }
     }
 

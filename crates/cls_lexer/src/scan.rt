@@ -1,9 +1,10 @@
-ghost use Rattle.std.specs.Prelude.{◌≡◌, ◌+◌, ◌<◌, ◌≤◌, ◌^◌, length, map, IfOk, nat_le, if◌then◌else◌};
+ghost use Rattle.std.specs.Prelude.{◌≡◌, ◌+◌, ◌<◌, ◌≤◌, ◌^◌, length, map, slice_get, IfOk, nat_le, if◌then◌else◌};
+ghost use Rattle.std.specs.Option.{option_map};
 ghost use Rattle.std.specs.List.{prefix_len};
 ghost use Rattle.cls_base.specs.Limits.{max_name_bytes};
 ghost use Rattle.cls_lexer.specs.Characters.{is_digit, is_name_byte, is_continuation};
 ghost use Rattle.cls_lexer.specs.Tokens.{token_at, tokens_of, located, byte_at};
-ghost use Rattle.cls_lexer.specs.Words.{words, words_of};
+ghost use Rattle.cls_lexer.specs.Words.{word_of, words, words_of};
 
 use crate::characters::{is_blank, is_continuation, is_digit, is_name_byte, is_name_start};
 use crate::token::{Token, TokenKind};
@@ -40,6 +41,29 @@ pub fn tokens<'a>(alloc: Global, line: &'a str) -> Result<Vec<Token<'a>>, OutOfM
     Ok(out)
 }
 
+/// The first token of the line, which has fewer than 2^32 bytes, or None if it has only blanks. It takes no memory.
+pub fn first_token<'a>(line: &'a str) -> Option<Token<'a>>
+    requires { length line.now < 2 ^ 32 }
+    ensures token { option_map located result ≡ slice_get (tokens_of line.now) 0 }
+    ensures word { option_map word_of result ≡ slice_get (words_of line.now) 0 }
+{
+    let bytes = line.as_bytes();
+    let mut at = 0;
+    while at < bytes.len() {
+        let first = bytes[at];
+        if !is_blank(first) {
+            let (kind, len) = token_at(first, &bytes[at + 1..]);
+            return Some(Token {
+                kind,
+                text: &line[at..at + len],
+                start: at as u32,
+            });
+        }
+        at += 1;
+    }
+    None
+}
+
 /// The byte at which the token of this number begins, or the length of the line if it has no such token.
 pub fn byte_at(line: &str, tokens: &[Token], place: usize) -> u32
     requires few { length line.now < 2 ^ 32 }
@@ -53,6 +77,7 @@ pub fn byte_at(line: &str, tokens: &[Token], place: usize) -> u32
 }
 
 /// The kind and the length of the token that the bytes begin with.
+#[inline]
 #[tactic(auto, using(crate::proofs::TokenSteps::runs), unfolding(crate::specs::Tokens::token_at))]
 fn token_at(first: u8, rest: &[u8]) -> (TokenKind, usize)
     requires { length rest.now < 2 ^ 32 }

@@ -38,12 +38,12 @@ pub enum TokenKind {
 /// A token of a line.
 #[derive(Clone, Copy, Debug)]
 pub struct Token<'a> {
-    /// What the token is.
-    pub kind: TokenKind,
     /// Its bytes.
     pub text: &'a str,
     /// How many bytes of the line stand in front of the token.
     pub start: u32,
+    /// What the token is.
+    pub kind: TokenKind,
     // A number's text is decimal digits, at least one.
     pub ghost digits: { kind ≡ Number → IsTrue (is_numeral text.now) },
 }

@@ -1,4 +1,4 @@
-use Rattle.std.proofs.Common.{◌≡◌, arith, sym, refl, length, ◌+◌, ◌-◌}
+use Rattle.std.proofs.Common.{◌≡◌, ◌∙◌, arith, sym, refl, length, ◌+◌, ◌-◌}
 use Rattle.std.proofs.lemmas.List.{nil_from_length, get_or_read}
 use Rattle.cls_lexer.proofs.LineEndings.{without_return-take, without_return-same}
 use Rattle.cls_lexer.proofs.line.Line.ended.Goals as goal
@@ -6,7 +6,7 @@ use Rattle.cls_lexer.proofs.line.Line.ended.Goals.{then-count-gt0+then-index-eq1
 
 pub returns : goal.returns
 returns c =
-    elim c.if-count-gt0.branch [
+    c.of_bytes.ensures ∙ elim c.if-count-gt0.branch [
       | then-count-gt0+then-index-eq13 w ↦
           let kept = w.truncate.ensures.items in
           let is = w.bytes-is in

@@ -1,0 +1,14 @@
+use Rattle.std.proofs.Common.{◌≡◌, ◌-◌, ◌≤◌, drop, length}
+use Rattle.std.specs.Str.{IsCharBoundary}
+use Rattle.cls_lexer.specs.Tokens.{tokens_from, tokens_of}
+use Rattle.cls_lexer.proofs.scan.first_token.Given as goal
+
+abbrev pub invariant-loop-at : goal.invariant-loop-at
+invariant-loop-at l = record {
+  within : l.at ≤ length l.line;
+  boundary : IsCharBoundary l.line l.at;
+  same : tokens_from l.at 0 (drop l.at l.line) ≡ tokens_of l.line;
+}
+
+abbrev pub decreases-loop-at : goal.decreases-loop-at
+decreases-loop-at l = length l.line - l.at
