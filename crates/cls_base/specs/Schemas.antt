@@ -1,6 +1,6 @@
 -- Type schemas as finite trees: types that may have variables.
 use Rattle.std.specs.Prelude.{ℕ}
-use Rattle.cls_base.specs.declared.schema.Schema.{Schema, Omega, Con', Prod', Arrow', Meet', Var}
+use Rattle.cls_base.specs.declared.schema.Schema.{Schema, Omega, Bare, Con', Prod', Arrow', Meet', Var}
 
 -- A variable is its number in the table of variable names.
 pub data OpenType : Type 0 where
@@ -14,6 +14,7 @@ pub data OpenType : Type 0 where
 -- the open type that a `Schema` stands for, wherever its parts lie
 abbrev pub schema_of : Schema → OpenType
 schema_of Omega = omega
+schema_of (Bare c) = constructor c.0 omega
 schema_of (Con' c p s) = constructor c.0 (schema_of s)
 schema_of (Prod' p s q t) = product (schema_of s) (schema_of t)
 schema_of (Arrow' p s q t) = arrow (schema_of s) (schema_of t)

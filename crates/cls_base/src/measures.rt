@@ -59,6 +59,7 @@ impl Ty {
     {
         match self {
             Ty::Omega => 1,
+            Ty::Bare(_) => 2,
             Ty::Con(_, argument) => 1 + argument.nodes(),
             Ty::Prod(left, right) | Ty::Arrow(left, right) | Ty::Meet(left, right) => {
                 1 + left.nodes() + right.nodes()
@@ -81,7 +82,7 @@ impl Ty {
         ensures { result ≡ open_at (strength_of place) (type_of self.now) }
     {
         match self {
-            Ty::Omega => 0,
+            Ty::Omega | Ty::Bare(_) => 0,
             Ty::Con(_, argument) => {
                 if matches!(**argument, Ty::Omega) {
                     0
@@ -125,6 +126,7 @@ impl Ty {
         const CAP: u64 = 1_000_001;
         match self {
             Ty::Omega => (0, 0),
+            Ty::Bare(_) => (1, 1),
             Ty::Con(_, argument) => {
                 let (paths, spread) = argument.weight();
                 let paths = paths.max(1);

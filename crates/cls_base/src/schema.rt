@@ -1,5 +1,5 @@
 ghost use Rattle.std.specs.Prelude.{◌≡◌, IfOk};
-ghost use Rattle.cls_base.specs.Schemas.{schema_of};
+ghost use Rattle.cls_base.specs.Schemas.{constructor, schema_of};
 
 use crate::out_of_memory::OutOfMemory;
 use crate::ty::Name;
@@ -10,7 +10,9 @@ use std::alloc::Global;
 pub enum Schema {
     /// The type of every term.
     Omega,
-    /// A constructor over a schema. A bare name is the name over omega.
+    /// A bare name, which is the constructor over omega.
+    Bare(Name),
+    /// A constructor over a schema. Over omega it stands for the same tree as the bare name.
     Con(Name, Box<Schema>),
     /// A product of two schemas.
     Prod(Box<Schema>, Box<Schema>),
@@ -23,12 +25,23 @@ pub enum Schema {
 }
 
 impl Schema {
+    /// The constructor over the schema: a bare name over omega. The only error is out of memory.
+    pub fn over(alloc: Global, name: Name, argument: Schema) -> Result<Schema, OutOfMemory>
+        ensures { IfOk result (λ whole. schema_of whole ≡ constructor name.0 (schema_of argument)) }
+    {
+        match argument {
+            Schema::Omega => Ok(Schema::Bare(name)),
+            argument => Ok(Schema::Con(name, Box::new(alloc, argument)?)),
+        }
+    }
+
     /// A schema equal to this one. The only error is out of memory.
     pub fn copy(&self, alloc: Global) -> Result<Schema, OutOfMemory>
         ensures { IfOk result (λ schema. schema_of schema ≡ schema_of self.now) }
     {
         match self {
             Schema::Omega => Ok(Schema::Omega),
+            Schema::Bare(name) => Ok(Schema::Bare(*name)),
             Schema::Con(name, argument) => {
                 let argument = Box::new(alloc, argument.copy(alloc)?)?;
                 Ok(Schema::Con(*name, argument))

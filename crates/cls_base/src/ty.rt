@@ -1,4 +1,5 @@
 ghost use Rattle.std.specs.Prelude.{◌≡◌, ◌↔◌, IfOk};
+ghost use Rattle.cls_base.specs.Types.{constructor};
 ghost use Rattle.cls_base.specs.Ty.{type_of};
 ghost use Rattle.cls_base.specs.TypeOrder.{form_of, order_of};
 
@@ -20,7 +21,9 @@ pub struct Name(pub u32);
 pub enum Ty {
     /// The type of every term.
     Omega,
-    /// A constructor over a type. A bare name is the name over omega.
+    /// A bare name, which is the constructor over omega.
+    Bare(Name),
+    /// A constructor over a type. Over omega it stands for the same tree as the bare name.
     Con(Name, Box<Ty>),
     /// A product of two types.
     Prod(Box<Ty>, Box<Ty>),
@@ -31,6 +34,16 @@ pub enum Ty {
 }
 
 impl Ty {
+    /// The constructor over the type: a bare name over omega. The only error is out of memory.
+    pub fn over(alloc: Global, name: Name, argument: Ty) -> Result<Ty, OutOfMemory>
+        ensures { IfOk result (λ whole. type_of whole ≡ constructor name.0 (type_of argument)) }
+    {
+        match argument {
+            Ty::Omega => Ok(Ty::Bare(name)),
+            argument => Ok(Ty::Con(name, Box::new(alloc, argument)?)),
+        }
+    }
+
     /// Compares by form, in the order in which the forms are listed, and types of one form by their parts from left to
     /// right. This order is the project's own choice.
     pub fn order(&self, other: &Ty) -> Ordering
@@ -44,6 +57,9 @@ impl Ty {
         ensures { result ≡ order_of (type_of self.now) (type_of other.now) }
     {
         match (self, other) {
+            (Ty::Bare(c), Ty::Bare(d)) => c.0.cmp(&d.0),
+            (Ty::Bare(c), Ty::Con(d, t)) => c.0.cmp(&d.0).then(Ty::Omega.form().cmp(&t.form())),
+            (Ty::Con(c, s), Ty::Bare(d)) => c.0.cmp(&d.0).then(s.form().cmp(&Ty::Omega.form())),
             (Ty::Con(c, s), Ty::Con(d, t)) => c.0.cmp(&d.0).then(s.order_by_parts(t)),
             (Ty::Prod(s, t), Ty::Prod(u, v)) => s.order_by_parts(u).then(t.order_by_parts(v)),
             (Ty::Arrow(s, t), Ty::Arrow(u, v)) => s.order_by_parts(u).then(t.order_by_parts(v)),
@@ -58,7 +74,7 @@ impl Ty {
     {
         match self {
             Ty::Omega => 0,
-            Ty::Con(..) => 1,
+            Ty::Bare(_) | Ty::Con(..) => 1,
             Ty::Prod(..) => 2,
             Ty::Arrow(..) => 3,
             Ty::Meet(..) => 4,
@@ -71,6 +87,7 @@ impl Ty {
     {
         match self {
             Ty::Omega => Ok(Ty::Omega),
+            Ty::Bare(name) => Ok(Ty::Bare(*name)),
             Ty::Con(name, argument) => {
                 let argument = Box::new(alloc, argument.copy(alloc)?)?;
                 Ok(Ty::Con(*name, argument))
