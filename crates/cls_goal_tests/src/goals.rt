@@ -64,7 +64,7 @@ pub fn doubling(alloc: Global, count: u32) -> Result<Library, Fail>
 }
 
 fn name(alloc: Global, number: u32) -> Result<Schema, Fail> {
-    Ok(Schema::Con(Name(number), Box::new(alloc, Schema::Omega)?))
+    Ok(Schema::Bare(Name(number)))
 }
 
 fn arrow(alloc: Global, source: Schema, target: Schema) -> Result<Schema, Fail> {

@@ -25,9 +25,10 @@ pub(crate) fn fill(alloc: Global, schema: &Schema, chosen: &[Chosen<'_>]) -> Res
 {
     match schema {
         Schema::Omega => Ok(Ty::Omega),
+        Schema::Bare(name) => Ok(Ty::Bare(*name)),
         Schema::Con(name, argument) => {
             let argument = fill(alloc, argument, chosen)?;
-            Ok(Ty::Con(*name, Box::new(alloc, argument)?))
+            Ok(Ty::over(alloc, *name, argument)?)
         }
         Schema::Prod(left, right) => {
             let left = Box::new(alloc, fill(alloc, left, chosen)?)?;
@@ -54,6 +55,7 @@ pub(crate) fn filled_nodes(schema: &Schema, chosen: &[Chosen<'_>]) -> u64
 {
     match schema {
         Schema::Omega => 1,
+        Schema::Bare(_) => 2,
         Schema::Con(_, argument) => TOO_MANY.min(1 + filled_nodes(argument, chosen)),
         Schema::Prod(left, right) | Schema::Arrow(left, right) | Schema::Meet(left, right) => {
             TOO_MANY.min(1 + filled_nodes(left, chosen) + filled_nodes(right, chosen))
@@ -71,6 +73,7 @@ fn type_nodes(ty: &Ty) -> u64
 {
     match ty {
         Ty::Omega => 1,
+        Ty::Bare(_) => 2,
         Ty::Con(_, argument) => TOO_MANY.min(1 + type_nodes(argument)),
         Ty::Prod(left, right) | Ty::Arrow(left, right) | Ty::Meet(left, right) => {
             TOO_MANY.min(1 + type_nodes(left) + type_nodes(right))

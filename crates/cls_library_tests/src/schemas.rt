@@ -35,7 +35,7 @@ pub fn two_kinds(alloc: Global, first: &str, second: &str) -> Result<Kinds, Fail
 fn names(alloc: Global, count: u32) -> Result<Vec<Ty>, Fail> {
     let mut types = Vec::new(alloc);
     for number in 0..count {
-        types.push(Ty::Con(Name(number), Box::new(alloc, Ty::Omega)?))?;
+        types.push(Ty::Bare(Name(number)))?;
     }
     Ok(types)
 }

@@ -1,5 +1,6 @@
 //! The paths that a type falls into.
 ghost use Rattle.std.specs.Prelude.{◌≡◌, ◌∷◌, ◌++◌, [], IfOk, OnOk, map};
+ghost use Rattle.cls_base.specs.Types.{constructor, omega};
 ghost use Rattle.cls_base.specs.Ty.{type_of};
 ghost use Rattle.cls_base.specs.Taxa.{Below};
 ghost use Rattle.cls_path.specs.Paths.{atom, inside, unit, left, right, function, sealed, listed};
@@ -17,6 +18,7 @@ pub(crate) fn paths_of<T: Taxa>(alloc: Global, taxa: &T, ty: &Ty) -> Result<Vec<
 {
     match ty {
         Ty::Omega => Ok(Vec::new(alloc)),
+        Ty::Bare(name) => Ok(alone(alloc, taxa, *name)?),
         Ty::Con(name, argument) => {
             let argument = paths_of(alloc, taxa, argument)?;
             match taxa.variance(*name) {
@@ -42,6 +44,19 @@ pub(crate) fn paths_of<T: Taxa>(alloc: Global, taxa: &T, ty: &Ty) -> Result<Vec<
             let first = paths_of(alloc, taxa, first)?;
             let second = paths_of(alloc, taxa, second)?;
             Ok(joined(first, second)?)
+        }
+    }
+}
+
+/// The path of a bare name, which is the name over the empty list unless it is covariant.
+fn alone<T: Taxa>(alloc: Global, taxa: &T, name: Name) -> Result<Vec<Path>, OutOfMemory>
+    ensures { IfOk result (λ paths.
+        ArePathsOf (Below (T.is_below taxa.now)) (T.variance_of_name taxa.now) (constructor name.0 omega) (listed paths.items)) }
+{
+    match taxa.variance(name) {
+        Variance::Co => Ok(under_name(alloc, name, Vec::new(alloc))?),
+        Variance::Contra | Variance::Inv => {
+            Ok(under_sealed_name(alloc, name, Nf::empty(alloc))?)
         }
     }
 }

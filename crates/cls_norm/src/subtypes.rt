@@ -6,7 +6,8 @@
 //! with each part of the other once at most, and no path is made. Only under invariant names a type that is below another is
 //! compared with it by normal forms: a comparison both ways would double the work at each depth.
 ghost use Rattle.std.specs.Prelude.{◌≡◌, ◌↔◌, [], IfOk, OnOk, IsTrue};
-ghost use Rattle.cls_base.specs.Types.{nodes, omega};
+ghost use Rattle.cls_base.specs.Types as types;
+ghost use Rattle.cls_base.specs.Types.{constructor, nodes};
 ghost use Rattle.cls_base.specs.Taxonomies.{covariant};
 ghost use Rattle.cls_base.specs.Ty.{type_of};
 ghost use Rattle.cls_base.specs.Taxa.{Below};
@@ -80,6 +81,7 @@ fn are_below<T: Taxa>(
 {
     match upper {
         Ty::Omega => Ok(true),
+        Ty::Bare(name) => Ok(are_below_bare(alloc, taxa, lowers, *name)?),
         Ty::Con(name, argument) => match taxa.variance(*name) {
             Variance::Co => {
                 if is_omega(argument) {
@@ -111,6 +113,27 @@ fn are_below<T: Taxa>(
     }
 }
 
+/// Whether the intersection of the types is below the bare name.
+#[cycle(below)]
+fn are_below_bare<T: Taxa>(
+    alloc: Global,
+    taxa: &T,
+    lowers: &[&Ty],
+    name: Name,
+) -> Result<bool, OutOfMemory>
+    ensures { IfOk result (λ answer. IsTrue answer
+        ↔ PathsLe (Below (T.is_below taxa.now)) (T.variance_of_name taxa.now)
+        (paths_of_all (T.variance_of_name taxa.now) lowers.now)
+        (paths_of (T.variance_of_name taxa.now) (constructor name.0 types.omega))) }
+{
+    match taxa.variance(name) {
+        Variance::Co => Ok(have_name(taxa, lowers, name)),
+        Variance::Contra | Variance::Inv => {
+            Ok(has_name_below(alloc, taxa, lowers, name, &Ty::Omega)?)
+        }
+    }
+}
+
 /// Whether the intersection of the types is below what has the upper type behind the step.
 #[cycle(below)]
 fn parts_are_below<T: Taxa>(
@@ -127,48 +150,54 @@ fn parts_are_below<T: Taxa>(
         (paths_behind (T.variance_of_name taxa.now) step.entry
         (paths_of (T.variance_of_name taxa.now) (type_of upper.now)))) }
 {
-    let parts = parts_behind(alloc, taxa, lowers, step)?;
+    let omega = Ty::Omega;
+    let parts = parts_behind(alloc, taxa, lowers, step, &omega)?;
     if lacks_part(step, &parts) {
         return Ok(false);
     }
     Ok(are_below(alloc, taxa, &parts, upper)?)
 }
 
-/// The parts of the types that lie behind the step.
+/// The parts of the types that lie behind the step. Bare names have the omega that is passed as their part.
 #[cycle(below)]
 fn parts_behind<'a, T: Taxa>(
     alloc: Global,
     taxa: &T,
     lowers: &[&'a Ty],
     step: Step<'_>,
+    omega: &'a Ty,
 ) -> Result<Vec<&'a Ty>, OutOfMemory>
-    requires { Stands (T.variance_of_name taxa.now) step }
+    requires stands { Stands (T.variance_of_name taxa.now) step }
+    requires omega { type_of omega.now ≡ types.omega }
     ensures { IfOk result (λ parts. Adds (Below (T.is_below taxa.now)) (T.variance_of_name taxa.now) step.entry
         (paths_of_all (T.variance_of_name taxa.now) lowers.now) (nodes_of_all lowers.now) [] parts.items) }
 {
     let mut parts = Vec::new(alloc);
     for lower in lowers {
-        put_parts(alloc, taxa, *lower, step, &mut parts)?;
+        put_parts(alloc, taxa, *lower, step, omega, &mut parts)?;
     }
     Ok(parts)
 }
 
-/// Puts the parts of the type that lie behind the step at the end.
+/// Puts the parts of the type that lie behind the step at the end. Bare names have the omega that is passed as their part.
 #[cycle(below)]
 fn put_parts<'a, T: Taxa>(
     alloc: Global,
     taxa: &T,
     lower: &'a Ty,
     step: Step<'_>,
+    omega: &'a Ty,
     parts: &mut Vec<&'a Ty>,
 ) -> Result<(), OutOfMemory>
-    requires { Stands (T.variance_of_name taxa.now) step }
+    requires stands { Stands (T.variance_of_name taxa.now) step }
+    requires omega { type_of omega.now ≡ types.omega }
     ensures { OnOk result (Adds (Below (T.is_below taxa.now)) (T.variance_of_name taxa.now) step.entry
         (paths_of (T.variance_of_name taxa.now) (type_of lower.now)) (nodes (type_of lower.now))
         parts.old.items parts.new.items) }
 {
     match lower {
         Ty::Omega => Ok(()),
+        Ty::Bare(name) => Ok(put_omega(taxa, *name, step, omega, parts)?),
         Ty::Con(name, argument) => {
             if is_entered(taxa, step, *name) {
                 parts.push(argument)?;
@@ -190,10 +219,29 @@ fn put_parts<'a, T: Taxa>(
             Step::Name(_) | Step::Left | Step::Right => Ok(()),
         },
         Ty::Meet(first, second) => {
-            put_parts(alloc, taxa, first, step, parts)?;
-            Ok(put_parts(alloc, taxa, second, step, parts)?)
+            put_parts(alloc, taxa, first, step, omega, parts)?;
+            Ok(put_parts(alloc, taxa, second, step, omega, parts)?)
         }
     }
+}
+
+/// Puts the omega at the end if the step goes into the bare name.
+fn put_omega<'a, T: Taxa>(
+    taxa: &T,
+    name: Name,
+    step: Step<'_>,
+    omega: &'a Ty,
+    parts: &mut Vec<&'a Ty>,
+) -> Result<(), OutOfMemory>
+    requires stands { Stands (T.variance_of_name taxa.now) step }
+    requires omega { type_of omega.now ≡ types.omega }
+    ensures { OnOk result (Adds (Below (T.is_below taxa.now)) (T.variance_of_name taxa.now) step.entry
+        (paths_of (T.variance_of_name taxa.now) (constructor name.0 types.omega)) 2 parts.old.items parts.new.items) }
+{
+    if is_entered(taxa, step, name) {
+        parts.push(omega)?;
+    }
+    Ok(())
 }
 
 /// Whether the step needs a part, as each but one behind a source does, and there is none.
@@ -218,7 +266,7 @@ fn is_entered<T: Taxa>(taxa: &T, step: Step<'_>, name: Name) -> bool
 
 /// Whether the type is omega.
 fn is_omega(ty: &Ty) -> bool
-    ensures { IsTrue result ↔ (type_of ty.now ≡ omega) }
+    ensures { IsTrue result ↔ (type_of ty.now ≡ types.omega) }
 {
     matches!(ty, Ty::Omega)
 }
@@ -257,6 +305,7 @@ fn has_name<T: Taxa>(taxa: &T, lower: &Ty, name: Name) -> bool
         (paths_of (T.variance_of_name taxa.now) (type_of lower.now)) (atom name.0) }
 {
     match lower {
+        Ty::Bare(other) => taxa.below(*other, name),
         Ty::Con(other, _) => taxa.below(*other, name),
         Ty::Meet(first, second) => has_name(taxa, first, name) || has_name(taxa, second, name),
         Ty::Omega | Ty::Prod(..) | Ty::Arrow(..) => false,
@@ -303,6 +352,7 @@ fn is_name_below<T: Taxa>(
         (sealed name.0 (paths_of (T.variance_of_name taxa.now) (type_of argument.now)))) }
 {
     match lower {
+        Ty::Bare(other) => Ok(is_bare_below(alloc, taxa, *other, name, argument)?),
         Ty::Con(other, inner) => {
             if !taxa.below(*other, name) {
                 return Ok(false);
@@ -322,6 +372,29 @@ fn is_name_below<T: Taxa>(
             Ok(is_name_below(alloc, taxa, second, name, argument)?)
         }
         Ty::Omega | Ty::Prod(..) | Ty::Arrow(..) => Ok(false),
+    }
+}
+
+/// Whether the bare name is below the name over the argument. The name is contravariant or invariant.
+fn is_bare_below<T: Taxa>(
+    alloc: Global,
+    taxa: &T,
+    bare: Name,
+    name: Name,
+    argument: &Ty,
+) -> Result<bool, OutOfMemory>
+    requires { IsSealing (T.variance_of_name taxa.now name.0) }
+    ensures { IfOk result (λ answer. IsTrue answer
+        ↔ SomeLe (Below (T.is_below taxa.now)) (T.variance_of_name taxa.now)
+        (paths_of (T.variance_of_name taxa.now) (constructor bare.0 types.omega))
+        (sealed name.0 (paths_of (T.variance_of_name taxa.now) (type_of argument.now)))) }
+{
+    if !taxa.below(bare, name) {
+        return Ok(false);
+    }
+    match taxa.variance(name) {
+        Variance::Inv => Ok(are_equivalent(alloc, taxa, &Ty::Omega, argument)?),
+        Variance::Co | Variance::Contra => Ok(true),
     }
 }
 

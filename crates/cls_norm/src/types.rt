@@ -31,7 +31,7 @@ pub fn path_type(alloc: Global, path: &Path) -> Result<Ty, OutOfMemory>
     ensures { IfOk result (λ ty. closed.type_of ty ≡ type_of_path path.now) }
 {
     match path.form() {
-        Form::Atom(name) => Ok(Ty::Con(*name, Box::new(alloc, Ty::Omega)?)),
+        Form::Atom(name) => Ok(Ty::Bare(*name)),
         Form::Con(name, rest) => {
             let rest = path_type(alloc, rest)?;
             Ok(Ty::Con(*name, Box::new(alloc, rest)?))
@@ -54,7 +54,7 @@ pub fn path_type(alloc: Global, path: &Path) -> Result<Ty, OutOfMemory>
         }
         Form::Sealed(name, argument) => {
             let argument = type_of(alloc, argument)?;
-            Ok(Ty::Con(*name, Box::new(alloc, argument)?))
+            Ok(Ty::over(alloc, *name, argument)?)
         }
     }
 }

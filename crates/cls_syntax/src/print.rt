@@ -34,6 +34,7 @@ fn push_type(text: &mut String, names: &Names, ty: &Ty, strength: u8) -> Result<
 {
     match ty {
         Ty::Omega => text.push_str("omega")?,
+        Ty::Bare(name) => text.push_str(names.text(*name))?,
         Ty::Con(name, argument) => {
             text.push_str(names.text(*name))?;
             if !is_omega(argument) {

@@ -108,8 +108,7 @@ fn step<T: Tree>(
                 Ok(Some(Place::Operand))
             }
             _ => {
-                let bare = T::constructor(alloc, head, T::omega())?;
-                let product = product_of(alloc, level.product.take(), bare)?;
+                let product = product_of(alloc, level.product.take(), T::bare(head))?;
                 after(alloc, frames, level, product, sort)
             }
         },
@@ -176,8 +175,7 @@ fn finish<T: Tree>(
     match place {
         Place::After(read) => Ok(Some(close(alloc, level, read)?)),
         Place::AfterName(name) => {
-            let bare = T::constructor(alloc, name, T::omega())?;
-            let product = product_of(alloc, level.product.take(), bare)?;
+            let product = product_of(alloc, level.product.take(), T::bare(name))?;
             Ok(Some(close(alloc, level, product)?))
         }
         _ => Ok(None),

@@ -29,6 +29,12 @@ pub(crate) trait Tree: Drop {
         Self: Sized,
         ensures { option_map tree result ≡ leaf name.0 };
 
+    /// A bare name.
+    fn bare(name: Name) -> Self
+    where
+        Self: Sized,
+        ensures { tree result ≡ schema.constructor name.0 schema.omega };
+
     /// A constructor over a tree.
     fn constructor(alloc: Global, name: Name, argument: Self) -> Result<Self, OutOfMemory>
     where
@@ -67,8 +73,12 @@ impl Tree for Schema {
         Some(Schema::Var(name))
     }
 
+    fn bare(name: Name) -> Schema {
+        Schema::Bare(name)
+    }
+
     fn constructor(alloc: Global, name: Name, argument: Schema) -> Result<Schema, OutOfMemory> {
-        Ok(Schema::Con(name, Box::new(alloc, argument)?))
+        Schema::over(alloc, name, argument)
     }
 
     fn product(alloc: Global, left: Schema, right: Schema) -> Result<Schema, OutOfMemory> {
@@ -97,8 +107,12 @@ impl Tree for Ty {
         None
     }
 
+    fn bare(name: Name) -> Ty {
+        Ty::Bare(name)
+    }
+
     fn constructor(alloc: Global, name: Name, argument: Ty) -> Result<Ty, OutOfMemory> {
-        Ok(Ty::Con(name, Box::new(alloc, argument)?))
+        Ty::over(alloc, name, argument)
     }
 
     fn product(alloc: Global, left: Ty, right: Ty) -> Result<Ty, OutOfMemory> {

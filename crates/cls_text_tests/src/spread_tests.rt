@@ -3,7 +3,7 @@ use std::alloc::Global;
 use std::test::Fail;
 
 fn name(alloc: Global, number: u32) -> Result<Ty, Fail> {
-    Ok(Ty::Con(Name(number), Box::new(alloc, Ty::Omega)?))
+    Ok(Ty::Bare(Name(number)))
 }
 
 fn meet(alloc: Global, left: Ty, right: Ty) -> Result<Ty, Fail> {

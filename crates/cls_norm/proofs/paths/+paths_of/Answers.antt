@@ -17,6 +17,10 @@ returns-in-Omega g t c =
     let through = g.met.T.Taxa.transitive c.args.taxa.now in
     rw (c.in-Omega.is, c.new.ensures.items) (omega_paths b v one through)
 
+pub returns-in_ok-alone-in-Bare : goal.returns-in_ok-alone-in-Bare
+returns-in_ok-alone-in-Bare g t c =
+    rw c.in-Bare.is c.in_ok-alone-in-Bare.ensures
+
 pub returns-in_ok-under_name-in-Co : goal.returns-in_ok-under_name-in-Co
 returns-in_ok-under_name-in-Co g t c =
     let b = Below (g.T.Taxa.is_below c.args.taxa.now) in

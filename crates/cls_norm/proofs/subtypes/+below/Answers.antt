@@ -7,7 +7,7 @@ use Rattle.cls_base.specs.Taxa.{Below, variance_of}
 use Rattle.cls_base.specs.Taxonomies.{covariant, contravariant, invariant}
 use Rattle.cls_base.specs.declared.ty.Ty.{Ty}
 use Rattle.cls_path.specs.Laws.{IsPartialOrder}
-use Rattle.cls_path.specs.Paths.{Paths, sealed, PathsLe, empty, SomeLe, paths_of}
+use Rattle.cls_path.specs.Paths.{Paths, none, sealed, PathsLe, empty, SomeLe, paths_of}
 use Rattle.cls_path.proofs.PathLaws.{derivations_are_decided}
 use Rattle.cls_norm.specs.Subtypes.{Adds, IsLacking, IsSealing, paths_of_all, nodes_of_all}
 use Rattle.cls_norm.proofs.Steps.{append_none, both, to_append_first, to_append_second, from_append}
@@ -95,6 +95,30 @@ are_below-returns-then-is_omega g t c =
     let e = c.have_name.ensures in
     rw (c.in-Con.is, ← k, ← c.deref.ensures) ((λ h. a.0 (e.0 h)), (λ l. e.1 (a.1 l)))
 
+pub are_below-returns-in_ok-are_below_bare-in-Bare : goal.are_below-returns-in_ok-are_below_bare-in-Bare
+are_below-returns-in_ok-are_below_bare-in-Bare g t c =
+    rw c.in-Bare.is c.in_ok-are_below_bare-in-Bare.ensures
+
+pub are_below_bare-returns-in-Co : goal.are_below_bare-returns-in-Co
+are_below_bare-returns-in-Co g t c =
+    let b = Below (g.T.Taxa.is_below c.args.taxa.now) in
+    let v = g.T.Taxa.variance_of_name c.args.taxa.now in
+    let x = paths_of_all v c.args.lowers.now in
+    let k : covariant ≡ v c.args.name.0 = ap variance_of (sym c.in-Co.is) ∙ c.variance.ensures.is in
+    let a = bare_upper b v x c.args.name.0 none refl in
+    let e = c.have_name.ensures in
+    rw (← k) ((λ h. a.0 (e.0 h)), (λ l. e.1 (a.1 l)))
+
+pub are_below_bare-returns-in_ok-has_name_below-in-Contra : goal.are_below_bare-returns-in_ok-has_name_below-in-Contra
+are_below_bare-returns-in_ok-has_name_below-in-Contra g t c =
+    let b = Below (g.T.Taxa.is_below c.args.taxa.now) in
+    let v = g.T.Taxa.variance_of_name c.args.taxa.now in
+    let x = paths_of_all v c.args.lowers.now in
+    let w : IsSealing (v c.args.name.0) = elim c.in-Contra.is [ inl e ↦ inl (sym c.variance.ensures.is ∙ ap variance_of e) | inr e ↦ inr (sym c.variance.ensures.is ∙ ap variance_of e) ] in
+    let e = c.in_ok-has_name_below-in-Contra.ensures in
+    let k = sealed_upper b v (v c.args.name.0) w x c.args.name.0 none in
+    ((λ h. k.0 (e.0 h)), (λ l. e.1 (k.1 l)))
+
 pub has_name_below-is_name_below-requires : goal.has_name_below-is_name_below-requires
 has_name_below-is_name_below-requires g t c κs within =
     let s = nodes_at c.args.lowers.now c.loop-lower.lower-index c.lower-item.result c.loop-lower-test.true c.lower-item.is in
@@ -121,6 +145,10 @@ has_name_below-returns g t c =
     let q = sealed c.args.name.0 (paths_of v (type_of c.args.argument.now)) in
     let e = drop_all c.loop-lower.lower-index c.args.lowers.now c.loop-lower-test.false in
     no (λ o. nowhere b v q (subst (λ (l : List (Bor Ty)). SomeLe b v (paths_of_all v l) q) e (c.loop-lower.invariant o)))
+
+pub is_name_below-returns-in_ok-is_bare_below-in-Bare : goal.is_name_below-returns-in_ok-is_bare_below-in-Bare
+is_name_below-returns-in_ok-is_bare_below-in-Bare g t c =
+    rw c.in-Bare.is c.in_ok-is_bare_below-in-Bare.ensures
 
 pub is_name_below-returns-then-not-below : goal.is_name_below-returns-then-not-below
 is_name_below-returns-then-not-below g t c =
@@ -278,12 +306,16 @@ parts_behind-returns g t c =
     let parts = c.loop-lower.parts.items in
     c.loop-lower.invariant parts (subst (λ (l : List (Bor Ty)). Adds b v c.args.step (paths_of_all v l) (nodes_of_all l) parts parts) (sym e) (none_added b v c.args.step 0 parts))
 
+pub put_parts-returns-in_ok-put_omega-in-Bare : goal.put_parts-returns-in_ok-put_omega-in-Bare
+put_parts-returns-in_ok-put_omega-in-Bare g t c =
+    rw c.in-Bare.is c.in_ok-put_omega-in-Bare.ensures
+
 pub put_parts-returns-in_ok-push-in-Con : goal.put_parts-returns-in_ok-push-in-Con
 put_parts-returns-in_ok-push-in-Con g t c =
     let b = Below (g.T.Taxa.is_below c.args.taxa.now) in
     let v = g.T.Taxa.variance_of_name c.args.taxa.now in
     rw c.in-Con.is (name_entered b v (g.met.T.Taxa.one_variance c.args.taxa.now) c.args.step c.in-Con.name.0 (type_of c.in-Con.argument.value) c.deref.result c.args.parts.now.items c.push.new.self.items
-    (ap type_of (sym c.deref.ensures)) c.in_ok-push-in-Con.ensures.items c.requires (c.is_entered.ensures.0 c.if-is_entered.true))
+    (ap type_of (sym c.deref.ensures)) c.in_ok-push-in-Con.ensures.items c.requires.stands (c.is_entered.ensures.0 c.if-is_entered.true))
 
 pub put_parts-returns-else-is_entered : goal.put_parts-returns-else-is_entered
 put_parts-returns-else-is_entered g t c =

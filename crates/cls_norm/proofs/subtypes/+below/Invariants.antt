@@ -10,6 +10,9 @@ use Rattle.cls_norm.proofs.subtypes.+below.Given as goal
 abbrev pub decreases-are_below : goal.decreases-are_below
 decreases-are_below g l = 2 * (nodes_of_all l.lowers.now + nodes (type_of l.upper.now))
 
+abbrev pub decreases-are_below_bare : goal.decreases-are_below_bare
+decreases-are_below_bare g l = 2 * (nodes_of_all l.lowers.now + 1) + 1
+
 abbrev pub decreases-parts_are_below : goal.decreases-parts_are_below
 decreases-parts_are_below g l = 2 * (nodes_of_all l.lowers.now + nodes_of_step l.step + nodes (type_of l.upper.now)) + 1
 

@@ -1,5 +1,6 @@
 use Rattle.std.proofs.Common.{sym, ◌∙◌, inl, inr}
 use Rattle.std.proofs.lemmas.Bool.{false≢true}
+use Rattle.cls_base.specs.Types.{omega}
 use Rattle.cls_base.specs.Ty.{type_of}
 use Rattle.cls_base.specs.Taxa.{Below}
 use Rattle.cls_path.specs.Paths.{atom, paths_of}
@@ -8,12 +9,19 @@ use Rattle.cls_norm.proofs.Parts.{name_at}
 use Rattle.cls_norm.proofs.Uppers.{other_not_named}
 use Rattle.cls_norm.proofs.subtypes.+has_name.Goals as goal
 
+pub returns-in-Bare : goal.returns-in-Bare
+returns-in-Bare g t c =
+    let b = Below (g.T.Taxa.is_below c.args.taxa.now) in
+    let v = g.T.Taxa.variance_of_name c.args.taxa.now in
+    let k = name_at b v (g.met.T.Taxa.one_variance c.args.taxa.now) c.in-Bare.other.0 c.args.name.0 omega c.requires in
+    rw c.in-Bare.is ((λ h. k.0 (sym c.below.ensures.is ∙ h)), (λ o. c.below.ensures.is ∙ k.1 o))
+
 pub returns-in-Con : goal.returns-in-Con
 returns-in-Con g t c =
     let b = Below (g.T.Taxa.is_below c.args.taxa.now) in
     let v = g.T.Taxa.variance_of_name c.args.taxa.now in
     let k = name_at b v (g.met.T.Taxa.one_variance c.args.taxa.now) c.in-Con.other.0 c.args.name.0 (type_of c.in-Con.field-1.value) c.requires in
-    rw c.in-Con.is ((λ h. k.0 (sym c.below.ensures.is ∙ h)), (λ o. c.below.ensures.is ∙ k.1 o))
+    rw c.in-Con.is ((λ h. k.0 (sym c.below-in-Con.ensures.is ∙ h)), (λ o. c.below-in-Con.ensures.is ∙ k.1 o))
 
 pub returns-then-has_name : goal.returns-then-has_name
 returns-then-has_name g t c =
