@@ -1,12 +1,10 @@
 -- Paths whose heads have rising classes: none is below another.
-use Rattle.std.proofs.Common.{◌≡◌, ℕ, ◌<◌, Bool, false, List, [], ◌∷◌, sym, ap, inl, inr, arith}
-use Rattle.std.specs.Prelude.{Contains}
+use Rattle.std.proofs.Common.{◌≡◌, ℕ, ◌<◌, Bool, false, List, [], ◌∷◌, sym, ap, arith}
 use Rattle.std.specs.List.{IsDistinct, AllByRecursion}
 use Rattle.std.proofs.lemmas.Map.Keys.{IsDistinct-cons}
-use Rattle.cls_base.proofs.Lists.{Contains-later, Contains-here}
 use Rattle.cls_base.specs.Taxonomies.{Variance}
 use Rattle.cls_base.specs.Taxa.{Below}
-use Rattle.cls_path.specs.Paths.{TypePath, PathLe, Suits, SuitsAll, listed}
+use Rattle.cls_path.specs.Paths.{TypePath, Suits, SuitsAll, listed}
 use Rattle.cls_path.specs.Labels.{head_of}
 use Rattle.cls_path.specs.Groups.{comparable}
 use Rattle.cls_path.proofs.GroupLaws.{distinct_none, not_comparable}
