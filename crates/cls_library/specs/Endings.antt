@@ -1,5 +1,5 @@
 -- internal: what a path is at its end, behind its leading arrows
-use Rattle.std.specs.Prelude.{ℕ, ◌≡◌, ◌↔◌, ◌%◌, IsTrue, Option, None, ◌+◌, ◌==◌, ◌&&◌, ◌≤◌, min, Bool, true, false, not, List, [], ◌∷◌, length, slice_get, slice_index_or, Some}
+use Rattle.std.specs.Prelude.{ℕ, ◌≡◌, ◌↔◌, ◌%◌, ◌/◌, IsTrue, Option, None, ◌+◌, ◌==◌, ◌&&◌, ◌≤◌, min, Bool, true, false, not, List, [], ◌∷◌, length, slice_get, slice_index_or, Some}
 use Rattle.std.specs.Int.{bit_at}
 use Rattle.cls_base.specs.Limits.{max_arity}
 use Rattle.cls_taxon.specs.Orders.{Declared, class_by}
@@ -35,20 +35,24 @@ is_alone class (Covariant c) = not (class c.0 == 0)
 is_alone class Product = true
 is_alone class (Sealed c) = not (class c.0 == 0)
 
--- the flag of the head, one of 64
+-- the flag of the head, one of 1,024
 abbrev pub mark_of : Head → ℕ
-mark_of (Covariant c) = c.0 % 64
+mark_of (Covariant c) = c.0 % 1024
 mark_of Product = 0
-mark_of (Sealed c) = c.0 % 64
+mark_of (Sealed c) = c.0 % 1024
 
--- whether the flag of the head is set in the word
-abbrev pub is_marked : ℕ → Head → Bool
-is_marked word h = bit_at word (mark_of h) == 1
+-- whether the flag is set in the words, each of which has 64
+abbrev pub is_set : List ℕ → ℕ → Bool
+is_set words k = bit_at (slice_index_or words (k / 64) 0) (k % 64) == 1
 
--- the flag of the head of each path is set in the word
-abbrev pub AreMarked : ℕ → List TypePath → Type 0
-AreMarked word [] = Unit {0}
-AreMarked word (p ∷ ps) = IsTrue (is_marked word (head_of p)) × AreMarked word ps
+-- whether the flag of the head is set
+abbrev pub is_marked : List ℕ → Head → Bool
+is_marked words h = is_set words (mark_of h)
+
+-- the flag of the head of each path is set
+abbrev pub AreMarked : List ℕ → List TypePath → Type 0
+AreMarked words [] = Unit {0}
+AreMarked words (p ∷ ps) = IsTrue (is_marked words (head_of p)) × AreMarked words ps
 
 -- what is sought of the endings that may lead to the path
 pub record IsSought (d : Declared) (q : TypePath) (s : Sought) : Type 0 where

@@ -47,7 +47,7 @@ impl Model for Component {
     ghost view = { λ c. record { paths = listed c.paths; weight = c.weight } };
 
     ghost invariant = { λ c. IsKept c.paths c.columns.items c.endings.kinds.keys c.endings.places.items
-        × AreMarked c.marks.word c.paths
+        × AreMarked c.marks.words c.paths
         × AreChained 0 (length c.endings.kinds.keys)
         c.endings.places.items c.endings.chains.firsts.items c.endings.chains.next.items };
 }

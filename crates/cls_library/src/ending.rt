@@ -51,13 +51,13 @@ impl Head {
         }
     }
 
-    /// The flag of the head, one of 64.
+    /// The flag of the head, one of 1,024.
     pub fn mark(self) -> u32
         ensures mark { result ≡ mark_of self }
-        ensures within { result < 64 }
+        ensures within { result < 1024 }
     {
         match self {
-            Head::Covariant(name) | Head::Sealed(name) => name.0 % 64,
+            Head::Covariant(name) | Head::Sealed(name) => name.0 % 1024,
             Head::Product => 0,
         }
     }

@@ -1,32 +1,38 @@
-//! Which heads paths may have: a Bloom filter of one word, with one flag for each head.
+//! Which heads paths may have: a Bloom filter of one hash.
 ghost use Rattle.std.specs.Prelude.{◌≡◌};
 ghost use Rattle.cls_library.specs.Endings.{AreMarked, is_marked};
 
 use crate::ending::Head;
 use cls_path::Path;
 
+/// The number of words of 64 flags.
+const WORDS: usize = 16;
+
 /// The flags of heads.
 #[derive(Clone, Copy, Debug, PartialEq, Eq)]
 pub(crate) struct Marks {
-    pub word: u64,
+    pub words: [u64; WORDS],
 }
 
 impl Marks {
     /// The flags of the heads of the paths.
     pub fn of(paths: &[Path]) -> Marks
-        ensures { AreMarked result.word paths.now }
+        ensures { AreMarked result.words paths.now }
     {
-        let mut word = 0;
+        let mut words = [0; WORDS];
         for path in paths {
-            word |= 1 << Head::of(path).mark();
+            let mark = Head::of(path).mark();
+            words[(mark / 64) as usize] |= 1 << (mark % 64);
         }
-        Marks { word }
+        Marks { words }
     }
 
     /// Whether the flag of the head is set. If not, it is the head of no path.
-    pub fn has(self, head: Head) -> bool
-        ensures { result ≡ is_marked self.word head }
+    pub fn has(&self, head: Head) -> bool
+        ensures { result ≡ is_marked self.now.words head }
     {
-        (self.word >> head.mark()) & 1 == 1
+        let mark = head.mark();
+        let word = self.words[(mark / 64) as usize];
+        (word >> (mark % 64)) & 1 == 1
     }
 }

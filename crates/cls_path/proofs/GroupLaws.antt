@@ -173,7 +173,7 @@ by_all : {X : Type 0} (P : X → Type 0) (xs : List X) → AllByRecursion P xs �
 by_all P [] a x c = absurd (Contains-nil x c)
 by_all P (y ∷ xs) a x c = elim (Contains-cases y xs x c) [ inl e ↦ subst P (sym e) a.0 | inr k ↦ by_all P xs a.1 x k ]
 
-distinct_none : {X : Type 0} (e : X → X → Bool) → IsDistinct e []
+pub distinct_none : {X : Type 0} (e : X → X → Bool) → IsDistinct e []
 unfolding IsDistinct
 distinct_none e = tt
 
@@ -217,7 +217,7 @@ no_left true y e = cc
 no_left false y e = refl
 
 module _ (test : ℕ → ℕ → Bool) (variance : ℕ → Variance) where
-  flips : (p q : TypePath) → comparable test variance p q ≡ comparable test variance q p
+  pub flips : (p q : TypePath) → comparable test variance p q ≡ comparable test variance q p
   flips p q = either_way (path_below test variance p q) (path_below test variance q p)
 
   apart_last :
@@ -292,7 +292,7 @@ module _ (test : ℕ → ℕ → Bool) (variance : ℕ → Variance) where
         step false e = refl
         step true e = absurd (f (tested_le test variance reflexive transitive one_variance p q s t e))
 
-    not_comparable : (p q : TypePath) → Suits variance p → Suits variance q → (PathLe (Below test) variance p q → ⊥) → (PathLe (Below test) variance q p → ⊥) → comparable test variance p q ≡ false
+    pub not_comparable : (p q : TypePath) → Suits variance p → Suits variance q → (PathLe (Below test) variance p q → ⊥) → (PathLe (Below test) variance q p → ⊥) → comparable test variance p q ≡ false
     not_comparable p q s t f g = neither _ _ (not_below p q s t f) (not_below q p t s g)
 
     suits_at : (n : List TypePath) (p : TypePath) → SuitsAll variance (listed n) → Contains n p → Suits variance p

@@ -170,7 +170,7 @@ module _ (class : ℕ → ℕ) where
     later_below (contravariants v w b k) = same_in refl
     later_below (invariants v w b h k) = same_in refl
 
-    head_same : {p q : TypePath} → PathLe below variance p q → head_of class p ≡ head_of class q
+    pub head_same : {p q : TypePath} → PathLe below variance p q → head_of class p ≡ head_of class q
     head_same (atoms {c = c} {d = d} b) = ap one_span (one_class c d b)
     head_same (inside_atom {c = c} {d = d} b) = ap one_span (one_class c d b)
     head_same (insides {c = c} {d = d} b h) = ap one_span (one_class c d b)

@@ -10,6 +10,7 @@ pub mod LabelLaws
 pub mod Orders
 pub mod PathLaws
 pub mod Remains
+pub mod RisingHeads
 pub mod RoundTrip
 pub mod Sorting
 pub mod Soundness

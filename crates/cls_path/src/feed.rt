@@ -1,9 +1,17 @@
-//! What paths give to a hasher.
+//! What paths give to a hasher: one number for each kind with its name. The kind stands in the upper half.
 ghost use Rattle.std.specs.Prelude.{◌≡◌, fold};
 ghost use Rattle.cls_path.specs.Feed.{path_writes, list_writes};
 
 use crate::path::{Form, Nf, Path};
 use std::hash::Hasher;
+
+const CON: u64 = 1 << 32;
+const UNIT: u64 = 2 << 32;
+const LEFT: u64 = 3 << 32;
+const RIGHT: u64 = 4 << 32;
+const ARROW: u64 = 5 << 32;
+const SEALED: u64 = 6 << 32;
+const END: u64 = 7 << 32;
 
 impl Path {
     #[cycle(feed)]
@@ -11,32 +19,27 @@ impl Path {
         ensures { state.new ≡ fold H.write state.old (path_writes self.now) }
     {
         match &self.form {
-            Form::Atom(name) => {
-                state.write_u8(0);
-                state.write_u32(name.0);
-            }
+            Form::Atom(name) => state.write_u64(u64::from(name.0)),
             Form::Con(name, rest) => {
-                state.write_u8(1);
-                state.write_u32(name.0);
+                state.write_u64(u64::from(name.0) + CON);
                 rest.feed(state);
             }
-            Form::Unit => state.write_u8(2),
+            Form::Unit => state.write_u64(UNIT),
             Form::Left(rest) => {
-                state.write_u8(3);
+                state.write_u64(LEFT);
                 rest.feed(state);
             }
             Form::Right(rest) => {
-                state.write_u8(4);
+                state.write_u64(RIGHT);
                 rest.feed(state);
             }
             Form::Arrow(source, rest) => {
-                state.write_u8(5);
+                state.write_u64(ARROW);
                 source.feed(state);
                 rest.feed(state);
             }
             Form::Sealed(name, argument) => {
-                state.write_u8(6);
-                state.write_u32(name.0);
+                state.write_u64(u64::from(name.0) + SEALED);
                 argument.feed(state);
             }
         }
@@ -49,9 +52,8 @@ impl Nf {
         ensures { state.new ≡ fold H.write state.old (list_writes self.now) }
     {
         for path in &self.paths {
-            state.write_u8(7);
             path.feed(state);
         }
-        state.write_u8(8);
+        state.write_u64(END);
     }
 }

@@ -171,6 +171,13 @@ impl GroupKey {
     }
 }
 
+/// The class of the name at the head of the path, or the greatest number for a product.
+pub(crate) fn head_class<T: Taxa>(taxa: &T, path: &Path) -> u64
+    ensures { result ≡ (head_of (T.class taxa.now) path.now).low }
+{
+    head(taxa, path).low
+}
+
 fn names<T: Taxa>(taxa: &T, path: &Path) -> Span
     ensures { result ≡ names_of (T.class taxa.now) path.now }
 {

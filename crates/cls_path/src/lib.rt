@@ -8,6 +8,7 @@
 
 mod below;
 mod feed;
+mod few;
 mod groups;
 mod key;
 mod label;

@@ -15,6 +15,6 @@ returns-then-sought c = λ e d q sought n.
     let same : listed inside.paths ≡ c.args.self.now.paths = ap (λ (x : Component). x.paths) c.self.view_is in
     let head : c.args.sought.ending.head ≡ head_of q = ap (λ (x : Ending). x.head) sought.ending in
     let alone : is_alone (class_by d.pairs) (head_of q) ≡ true = ap (is_alone (class_by d.pairs)) (sym head) ∙ (sym sought.alone ∙ c.if-sought.true) in
-    let unmarked : is_marked inside.marks.word (head_of q) ≡ false = ap (is_marked inside.marks.word) (sym head) ∙ (sym c.has.ensures ∙ e) in
+    let unmarked : is_marked inside.marks.words (head_of q) ≡ false = ap (is_marked inside.marks.words) (sym head) ∙ (sym c.has.ensures ∙ e) in
     subst (λ (ps : Paths). IsFamilyIn d (arrows_of n ps) q []) same
-    (no-family-unmarked d n q alone inside.marks.word unmarked inside.paths c.self.invariant.1)
+    (no-family-unmarked d n q alone inside.marks.words unmarked inside.paths c.self.invariant.1)
