@@ -2,9 +2,11 @@
 use Rattle.std.proofs.Common.{◌≡◌, ℕ, suc, ◌+◌, ◌<◌, ◌≤◌, Bool, true, false, cond, not, List, [], ◌∷◌, ◌++◌, length, map, take, drop, get_or, refl, sym, ap, subst, ◌∙◌, arith, append_assoc, append-nil, length-append, if◌then◌else◌, ◌||◌, Some}
 use Rattle.std.specs.List.{position, position_or_len, list_any}
 use Rattle.std.proofs.lemmas.List.{append_cancel_left, take_more, take-append-drop}
+use Rattle.std.proofs.Math.Seq.{take-append_seam}
 use Rattle.std.proofs.lemmas.List.Quantifiers.{position-Some}
 use Rattle.std.proofs.lemmas.List.Sums.{position_or_len_is}
 use Rattle.indexmap.specs.IndexSet.{insert_key, insert_all}
+use Rattle.cls_core.specs.Adding.{GoesOn}
 use Rattle.cls_core.specs.Numbers.{numbers_from, rule_from, rules_from, answer_from}
 use Rattle.cls_core.specs.Arguments.{arguments_of_rule, arguments_in, arguments_of, map_rule, map_answer, rule_count}
 use Rattle.cls_base.specs.declared.rule.Rule.{Rule}
@@ -44,6 +46,19 @@ module _ {A : Type 0} (p : A → Bool) where
   place-last (x ∷ xs) y e h =
       elim (p x) as (λ b. (b || list_any p xs) ≡ false → cond (not b) (1 + position_or_len p (xs ++ y ∷ [])) 0 ≡ cond (not b) (1 + position_or_len p xs) 0) [ true ↦ λ f. cc | false ↦ λ f. ap (λ n. 1 + n) (place-last xs y f h) ] e
 
+-- lists that go on behind others
+pub goes_same : {A : Type 0} (xs : List A) → GoesOn xs xs
+goes_same xs = record { more = []; is = sym (append-nil xs) }
+
+pub goes_equal : {A : Type 0} (xs ys : List A) → ys ≡ xs → GoesOn xs ys
+goes_equal xs ys e = record { more = []; is = e ∙ sym (append-nil xs) }
+
+pub goes_on : {A : Type 0} (xs ys zs : List A) → GoesOn xs ys → GoesOn ys zs → GoesOn xs zs
+goes_on xs ys zs h k = record { more = h.more ++ k.more; is = k.is ∙ (ap (λ l. l ++ k.more) h.is ∙ append_assoc xs h.more k.more) }
+
+pub goes_cut : {A : Type 0} (xs ys : List A) → GoesOn xs ys → take (length xs) ys ≡ xs
+goes_cut xs ys h = ap (take (length xs)) h.is ∙ take-append_seam xs h.more
+
 module _ {G : Type 0} (eq : G → G → Bool) where
   pub all-append : (gs xs ys : List G) → insert_all eq gs (xs ++ ys) ≡ insert_all eq (insert_all eq gs xs) ys
   all-append gs [] ys = refl
@@ -52,6 +67,9 @@ module _ {G : Type 0} (eq : G → G → Bool) where
   one-grows : (gs : List G) (x : G) (b : Bool) → (more : List G) × ((if b then gs else gs ++ x ∷ []) ≡ gs ++ more)
   one-grows gs x true = ([], sym (append-nil gs))
   one-grows gs x false = (x ∷ [], refl)
+
+  pub goes_key : (gs ks : List G) (x : G) → ks ≡ insert_key eq gs x → GoesOn gs ks
+  goes_key gs ks x e = let k = one-grows gs x (list_any (eq x) gs) in record { more = k.0; is = e ∙ k.1 }
 
   -- the goals go on as they were
   pub all-front : (gs xs : List G) → (more : List G) × (insert_all eq gs xs ≡ gs ++ more)

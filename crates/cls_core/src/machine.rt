@@ -11,7 +11,7 @@ use crate::copying::{copy_goals, copy_states};
 use crate::entry::{Entry, History};
 use crate::filing::Filing;
 use crate::finished::{Finished, Rows};
-use crate::numbering::{Numbered, Room, number_answer};
+use crate::numbering::number_whole;
 use crate::state::RowState;
 use cls_base::{Key, OutOfMemory};
 use indexmap::IndexSet;
@@ -201,22 +201,16 @@ impl<G: Key + Drop> Core<G> {
         ensures over { IfOk result (λ f. f ≡ Filing.OverLimits → self.new ≡ self.old) }
         ensures unchanged { IfErr result (λ a. (a ≡ answer) × (self.new ≡ self.old)) }
     {
-        let rows = &self.goals;
-        let Ok(numbered) = number_answer(alloc, &Room { rows, most }, &answer) else {
+        let Ok(numbered) = number_whole(alloc, &mut self.goals, most, &answer) else {
             return Err(answer);
         };
-        let Some(numbered) = numbered else {
+        let Some(numbers) = numbered else {
             return Ok(Filing::OverLimits);
         };
-        let Numbered {
-            answer: numbers,
-            mut added,
-        } = numbered;
-        let count = added.len();
+        let rows = self.states.len();
+        let count = self.goals.len() - rows;
         let Ok(()) = self.states.reserve(count) else {
-            return Err(answer);
-        };
-        let Ok(()) = self.goals.append(&mut added) else {
+            self.goals.truncate(rows);
             return Err(answer);
         };
         add_free(&mut self.states, count);

@@ -1,9 +1,9 @@
 //! An answer's goals as numbers of rows. Each goal that has no row yet is put behind those that have one, as long as there
-//! are no more rows than there may be.
-ghost use Rattle.std.specs.Prelude.{◌≡◌, ◌<◌, ◌≤◌, ◌++◌, IfOk, IfNone, IfSome, length};
+//! are no more rows than there may be. A row that is there stays.
+ghost use Rattle.std.specs.Prelude.{◌≡◌, ◌<◌, ◌≤◌, IfOk, OnErr, IfNone, IfSome, length};
 ghost use Rattle.std.specs.List.{position_or_len};
 ghost use Rattle.indexmap.specs.IndexSet.{insert_key, insert_all};
-ghost use Rattle.cls_core.specs.Adding.{AddsGoal, AddsGoals};
+ghost use Rattle.cls_core.specs.Adding.{GoesOn};
 ghost use Rattle.cls_core.specs.Arguments.{arguments_of_rule, arguments_in};
 ghost use Rattle.cls_core.specs.Machine.{grown};
 ghost use Rattle.cls_core.specs.Numbers.{numbers_from, rule_from, rules_from, answer_from};
@@ -13,67 +13,54 @@ use cls_base::{Goals, Key, OutOfMemory, Rule, Rules};
 use indexmap::IndexSet;
 use std::alloc::Global;
 
-/// The goals that have a row, in the order of the rows, and how many rows there may be.
-#[derive(Drop)]
-pub(crate) struct Room<'a, G: Key + Drop> {
-    pub rows: &'a IndexSet<G>,
-    pub most: u32,
-}
-
-/// An answer in numbers, and the goals that go behind the rows for it.
-#[derive(Drop)]
-pub(crate) struct Numbered<G: Key + Drop> {
-    pub answer: Answer<u32>,
-    pub added: IndexSet<G>,
-}
-
-// The number of one goal. It is added unless it is among the rows or those that were added before. None comes if and only
-// if there would be too many rows.
+// The number of one goal. It is put behind the rows unless it is among them. None comes if and only if there would be too
+// many rows.
+#[tactic(auto, using(crate::proofs::Insertion::goes_same, crate::proofs::Insertion::goes_equal, crate::proofs::Insertion::goes_key))]
 fn number_goal<G: Key + Drop>(
     alloc: Global,
-    room: &Room<'_, G>,
-    added: &mut IndexSet<G>,
+    rows: &mut IndexSet<G>,
+    most: u32,
     goal: &G,
 ) -> Result<Option<u32>, OutOfMemory>
-    requires { length (room.now.rows.now.keys ++ added.old.keys) ≤ room.now.most }
-    ensures added { IfOk result (λ r. IfSome r (λ _.
-        AddsGoal G.eq room.now.rows.now.keys added.old.keys goal.now added.new.keys)) }
+    requires { length rows.old.keys ≤ most }
+    ensures added { IfOk result (λ r. IfSome r (λ _. rows.new.keys ≡ insert_key G.eq rows.old.keys goal.now)) }
     ensures number { IfOk result (λ r. IfSome r (λ n.
-        n ≡ position_or_len (G.eq goal.now) (room.now.rows.now.keys ++ added.old.keys))) }
-    ensures few { IfOk result (λ r. IfSome r (λ _. length (room.now.rows.now.keys ++ added.new.keys) ≤ room.now.most)) }
+        n ≡ position_or_len (G.eq goal.now) rows.old.keys)) }
+    ensures few { IfOk result (λ r. IfSome r (λ _. length rows.new.keys ≤ most)) }
     ensures many { IfOk result (λ r. IfNone r
-        (room.now.most < length (insert_key G.eq (room.now.rows.now.keys ++ added.old.keys) goal.now))) }
+        (most < length (insert_key G.eq rows.old.keys goal.now))) }
+    ensures front { GoesOn rows.old.keys rows.new.keys }
 {
-    let most = room.most as usize;
-    if let Some(row) = room.rows.get_index_of(goal) {
+    if let Some(row) = rows.get_index_of(goal) {
         return Ok(Some(row as u32));
     }
-    let (place, _) = added.insert_full(goal.copy(alloc)?)?;
-    if added.len() > most - room.rows.len() {
+    if rows.len() >= most as usize {
         return Ok(None);
     }
-    Ok(Some((room.rows.len() + place) as u32))
+    let (row, _) = rows.insert_full(goal.copy(alloc)?)?;
+    Ok(Some(row as u32))
 }
 
 // The numbers of goals, one after the other. None comes if and only if there would be too many rows.
+#[tactic(auto, using(crate::proofs::Insertion::goes_same, crate::proofs::Insertion::goes_on))]
 fn number_goals<G: Key + Drop>(
     alloc: Global,
-    room: &Room<'_, G>,
-    added: &mut IndexSet<G>,
+    rows: &mut IndexSet<G>,
+    most: u32,
     goals: &[G],
 ) -> Result<Option<Goals<u32>>, OutOfMemory>
-    requires { length (room.now.rows.now.keys ++ added.old.keys) ≤ room.now.most }
-    ensures added { IfOk result (λ r. IfSome r (λ _.
-        AddsGoals G.eq room.now.rows.now.keys added.old.keys goals.now added.new.keys)) }
+    requires { length rows.old.keys ≤ most }
+    ensures added { IfOk result (λ r. IfSome r (λ _. rows.new.keys ≡ insert_all G.eq rows.old.keys goals.now)) }
     ensures numbers { IfOk result (λ r. IfSome r (λ n.
-        n ≡ numbers_from G.eq (room.now.rows.now.keys ++ added.old.keys) goals.now)) }
-    ensures few { IfOk result (λ r. IfSome r (λ _. length (room.now.rows.now.keys ++ added.new.keys) ≤ room.now.most)) }
+        n ≡ numbers_from G.eq rows.old.keys goals.now)) }
+    ensures few { IfOk result (λ r. IfSome r (λ _. length rows.new.keys ≤ most)) }
     ensures many { IfOk result (λ r. IfNone r
-        (room.now.most < length (insert_all G.eq (room.now.rows.now.keys ++ added.old.keys) goals.now))) }
+        (most < length (insert_all G.eq rows.old.keys goals.now))) }
+    ensures front { GoesOn rows.old.keys rows.new.keys }
 {
     let mut numbers = Vec::with_capacity(alloc, goals.len())?;
     for goal in goals {
-        let Some(number) = number_goal(alloc, room, added, goal)? else {
+        let Some(number) = number_goal(alloc, rows, most, goal)? else {
             return Ok(None);
         };
         numbers.push(number)?;
@@ -82,35 +69,37 @@ fn number_goals<G: Key + Drop>(
 }
 
 // A rule in numbers. None comes if and only if there would be too many rows.
+#[tactic(auto, using(crate::proofs::Insertion::goes_same, crate::proofs::Insertion::goes_on))]
 fn number_rule<G: Key + Drop>(
     alloc: Global,
-    room: &Room<'_, G>,
-    added: &mut IndexSet<G>,
+    rows: &mut IndexSet<G>,
+    most: u32,
     rule: &Rule<G>,
 ) -> Result<Option<Rule<u32>>, OutOfMemory>
-    requires { length (room.now.rows.now.keys ++ added.old.keys) ≤ room.now.most }
+    requires { length rows.old.keys ≤ most }
     ensures added { IfOk result (λ r. IfSome r (λ _.
-        AddsGoals G.eq room.now.rows.now.keys added.old.keys (arguments_of_rule rule.now) added.new.keys)) }
+        rows.new.keys ≡ insert_all G.eq rows.old.keys (arguments_of_rule rule.now))) }
     ensures numbers { IfOk result (λ r. IfSome r (λ n.
-        n ≡ rule_from G.eq (room.now.rows.now.keys ++ added.old.keys) rule.now)) }
-    ensures few { IfOk result (λ r. IfSome r (λ _. length (room.now.rows.now.keys ++ added.new.keys) ≤ room.now.most)) }
+        n ≡ rule_from G.eq rows.old.keys rule.now)) }
+    ensures few { IfOk result (λ r. IfSome r (λ _. length rows.new.keys ≤ most)) }
     ensures many { IfOk result (λ r. IfNone r
-        (room.now.most
-        < length (insert_all G.eq (room.now.rows.now.keys ++ added.old.keys) (arguments_of_rule rule.now)))) }
+        (most
+        < length (insert_all G.eq rows.old.keys (arguments_of_rule rule.now)))) }
+    ensures front { GoesOn rows.old.keys rows.new.keys }
 {
     match rule {
         Rule::Head { component, args } => {
-            let Some(args) = number_goals(alloc, room, added, args.as_slice())? else {
+            let Some(args) = number_goals(alloc, rows, most, args.as_slice())? else {
                 return Ok(None);
             };
             let component = *component;
             Ok(Some(Rule::Head { component, args }))
         }
         Rule::Any { left, right } => {
-            let Some(left) = number_goal(alloc, room, added, left)? else {
+            let Some(left) = number_goal(alloc, rows, most, left)? else {
                 return Ok(None);
             };
-            let Some(right) = number_goal(alloc, room, added, right)? else {
+            let Some(right) = number_goal(alloc, rows, most, right)? else {
                 return Ok(None);
             };
             Ok(Some(Rule::Any { left, right }))
@@ -119,25 +108,26 @@ fn number_rule<G: Key + Drop>(
 }
 
 // Rules in numbers, one after the other. None comes if and only if there would be too many rows.
+#[tactic(auto, using(crate::proofs::Insertion::goes_same, crate::proofs::Insertion::goes_on))]
 fn number_rules<G: Key + Drop>(
     alloc: Global,
-    room: &Room<'_, G>,
-    added: &mut IndexSet<G>,
+    rows: &mut IndexSet<G>,
+    most: u32,
     rules: &[Rule<G>],
 ) -> Result<Option<Rules<u32>>, OutOfMemory>
-    requires { length (room.now.rows.now.keys ++ added.old.keys) ≤ room.now.most }
+    requires { length rows.old.keys ≤ most }
     ensures added { IfOk result (λ r. IfSome r (λ _.
-        AddsGoals G.eq room.now.rows.now.keys added.old.keys (arguments_in rules.now) added.new.keys)) }
+        rows.new.keys ≡ insert_all G.eq rows.old.keys (arguments_in rules.now))) }
     ensures numbers { IfOk result (λ r. IfSome r (λ n.
-        n ≡ rules_from G.eq (room.now.rows.now.keys ++ added.old.keys) rules.now)) }
+        n ≡ rules_from G.eq rows.old.keys rules.now)) }
     ensures many { IfOk result (λ r. IfNone r
-        (room.now.most
-        < length (insert_all G.eq (room.now.rows.now.keys ++ added.old.keys) (arguments_in rules.now)))) }
-    ensures few { IfOk result (λ r. IfSome r (λ _. length (room.now.rows.now.keys ++ added.new.keys) ≤ room.now.most)) }
+        (most < length (insert_all G.eq rows.old.keys (arguments_in rules.now)))) }
+    ensures few { IfOk result (λ r. IfSome r (λ _. length rows.new.keys ≤ most)) }
+    ensures front { GoesOn rows.old.keys rows.new.keys }
 {
     let mut numbered = Vec::with_capacity(alloc, rules.len())?;
     for rule in rules {
-        let Some(number) = number_rule(alloc, room, added, rule)? else {
+        let Some(number) = number_rule(alloc, rows, most, rule)? else {
             return Ok(None);
         };
         numbered.push(number)?;
@@ -145,31 +135,57 @@ fn number_rules<G: Key + Drop>(
     Ok(Some(Rules::new(numbered)))
 }
 
-/// An answer in numbers. None comes if and only if there would be too many rows. The only error is out of memory.
-pub(crate) fn number_answer<G: Key + Drop>(
+// An answer in numbers. None comes if and only if there would be too many rows.
+#[tactic(auto, using(crate::proofs::Insertion::goes_same, crate::proofs::Insertion::goes_on))]
+fn number_answer<G: Key + Drop>(
     alloc: Global,
-    room: &Room<'_, G>,
+    rows: &mut IndexSet<G>,
+    most: u32,
     answer: &Answer<G>,
-) -> Result<Option<Numbered<G>>, OutOfMemory>
-    requires { length room.now.rows.now.keys ≤ room.now.most }
-    ensures added { IfOk result (λ r. IfSome r (λ n.
-        room.now.rows.now.keys ++ n.added.keys ≡ grown G.eq room.now.rows.now.keys answer.now)) }
+) -> Result<Option<Answer<u32>>, OutOfMemory>
+    requires { length rows.old.keys ≤ most }
+    ensures added { IfOk result (λ r. IfSome r (λ _.
+        rows.new.keys ≡ grown G.eq rows.old.keys answer.now)) }
     ensures numbers { IfOk result (λ r. IfSome r (λ n.
-        n.answer ≡ answer_from G.eq room.now.rows.now.keys answer.now)) }
+        n ≡ answer_from G.eq rows.old.keys answer.now)) }
     ensures few { IfOk result (λ r. IfSome r (λ _.
-        length (grown G.eq room.now.rows.now.keys answer.now) ≤ room.now.most)) }
+        length (grown G.eq rows.old.keys answer.now) ≤ most)) }
     ensures many { IfOk result (λ r. IfNone r
-        (room.now.most < length (grown G.eq room.now.rows.now.keys answer.now))) }
+        (most < length (grown G.eq rows.old.keys answer.now))) }
+    ensures front { GoesOn rows.old.keys rows.new.keys }
 {
-    let mut added: IndexSet<G> = IndexSet::new(alloc);
-    let answer = match answer {
+    match answer {
         Answer::Rules(rules) => {
-            let Some(rules) = number_rules(alloc, room, &mut added, rules.as_slice())? else {
+            let Some(rules) = number_rules(alloc, rows, most, rules.as_slice())? else {
                 return Ok(None);
             };
-            Answer::Rules(rules)
+            Ok(Some(Answer::Rules(rules)))
         }
-        Answer::Wide => Answer::Wide,
-    };
-    Ok(Some(Numbered { answer, added }))
+        Answer::Wide => Ok(Some(Answer::Wide)),
+    }
+}
+
+/// An answer in numbers. None comes if and only if there would be too many rows, and leaves the rows as they were, as does
+/// the Err. The only error is out of memory.
+#[tactic(auto, using(crate::proofs::Insertion::goes_cut))]
+pub(crate) fn number_whole<G: Key + Drop>(
+    alloc: Global,
+    rows: &mut IndexSet<G>,
+    most: u32,
+    answer: &Answer<G>,
+) -> Result<Option<Answer<u32>>, OutOfMemory>
+    requires { length rows.old.keys ≤ most }
+    ensures added { IfOk result (λ r. IfSome r (λ _. rows.new.keys ≡ grown G.eq rows.old.keys answer.now)) }
+    ensures numbers { IfOk result (λ r. IfSome r (λ n. n ≡ answer_from G.eq rows.old.keys answer.now)) }
+    ensures few { IfOk result (λ r. IfSome r (λ _. length (grown G.eq rows.old.keys answer.now) ≤ most)) }
+    ensures many { IfOk result (λ r. IfNone r (most < length (grown G.eq rows.old.keys answer.now))) }
+    ensures over { IfOk result (λ r. IfNone r (rows.new.keys ≡ rows.old.keys)) }
+    ensures unchanged { OnErr result (rows.new.keys ≡ rows.old.keys) }
+{
+    let count = rows.len();
+    let numbered = number_answer(alloc, rows, most, answer);
+    if !matches!(numbered, Ok(Some(_))) {
+        rows.truncate(count);
+    }
+    numbered
 }

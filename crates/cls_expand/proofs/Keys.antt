@@ -2,12 +2,13 @@
 use Rattle.std.proofs.Common.{ℕ, ◌≡◌, ◌+◌, ◌<◌, refl, sym, ◌∙◌, subst, ap, ◌⊎◌, inl, inr, List, [], ◌∷◌, ◌++◌, length, get_or, take, Bool, true, false, Contains}
 use Rattle.std.specs.Prelude.{map, if◌then◌else◌, ◌&&◌, ◌||◌}
 use Rattle.std.specs.List.{list_any}
+use Rattle.std.specs.Cmp.Lexicographic.{pointwise}
 use Rattle.std.proofs.lemmas.Slice.Eq.{slice_eq-Decides}
 use Rattle.std.proofs.lemmas.Bool.Decides.{Decides-eqb}
 use Rattle.std.specs.Ordering.{eq_by_cmp}
 use Rattle.cls_base.specs.declared.rule.Rule.{Rule}
-use Rattle.cls_base.specs.declared.rule.Rule.TheVariants.{Head}
-use Rattle.cls_base.proofs.Lists.{Contains-nil, Contains-here, Contains-later, Contains-cases, take_next}
+use Rattle.cls_base.specs.declared.rule.Rule.TheVariants.{Head, Any}
+use Rattle.cls_base.proofs.Lists.{Contains-nil, Contains-here, Contains-later, Contains-cases, map_last, take_next}
 use Rattle.cls_path.specs.Paths.{TypePath, Paths, more, listed, type_of_paths}
 use Rattle.cls_path.specs.PathOrder.{list_order}
 use Rattle.cls_path.specs.OrderLaws.{list_equal, list_same}
@@ -15,7 +16,7 @@ use Rattle.cls_norm.specs.Fit.{IsFit}
 use Rattle.cls_library.specs.Libraries.{Library}
 use Rattle.cls_library.specs.Rules.{Choice, IsRuleFor, IsTooLarge, IsChoice, IsWideBy, by_size}
 use Rattle.cls_expand.specs.declared.spine.Spine.{Spine}
-use Rattle.cls_expand.specs.Making.{rule_of_spine, rules_of_spines, choice_at, AreBegun}
+use Rattle.cls_expand.specs.Making.{rule_of_spine, rules_of_spines, choice_at, AreBegun, PutsNew}
 use Rattle.cls_expand.specs.Listing.{rule_component, rule_args, all_back, unlisted}
 use Rattle.cls_expand.proofs.Making.{begun_cover}
 use Rattle.cls_expand.specs.Determined.{made_same}
@@ -31,6 +32,20 @@ both_back false b e f = absurd (let g : false ≡ true = e in cc)
 
 lists_same : (a b : List TypePath) → (eq_by_cmp list_order a b ≡ true → a ≡ b) × (a ≡ b → eq_by_cmp list_order a b ≡ true)
 lists_same a b = (list_same a b, λ e. subst (λ (z : List TypePath). eq_by_cmp list_order a z ≡ true) e (list_equal.refl a))
+
+args_of_rule : Rule (List TypePath) → List (List TypePath)
+args_of_rule (Head x args) = args
+args_of_rule (Any m n) = []
+
+same_args : (x y : ℕ) (own args : List (List TypePath)) → ◌≡◌ {A = Rule (List TypePath)} (Head y own) (Head x args) → own ≡ args
+unfolding args_of_rule
+same_args x y own args e = ap args_of_rule e
+
+-- whether a rule is that of a component with these arguments
+pub rule_is : (r : Rule (List TypePath)) (x y : ℕ) (own slice args : List (List TypePath)) (b : Bool) → r ≡ Head y own → y ≡ x → slice ≡ own → b ≡ pointwise (eq_by_cmp list_order) slice args → (b ≡ true → r ≡ Head x args) × (r ≡ Head x args → b ≡ true)
+rule_is r x y own slice args b e f g h =
+    let d = slice_eq-Decides lists_same slice args b h in
+    ((λ t. e ∙ (let k : own ≡ args = sym g ∙ d.0 t in (λ i. Head (f i) (k i)))), (λ k. d.1 (g ∙ same_args x y own args (sym e ∙ k))))
 
 -- spines are the same if and only if their rules are equal
 same_rule : (s t : Spine) → spine_same s t ≡ true → rule_of_spine s ≡ rule_of_spine t
@@ -68,13 +83,12 @@ member_any (k ∷ keys) s m = go (λ h. member_any keys s h) (Contains-cases (ru
     go rest (inr h) = or_true (spine_same s k) (list_any (spine_same s) keys) (rest h)
 
 -- a key that is put behind others where it isn't among them
-pub inserted : (keys : List Spine) (s : Spine) (new : List Spine) → new ≡ (if list_any (spine_same s) keys then keys else keys ++ s ∷ [])
-    → (Contains (rules_of_spines keys) (rule_of_spine s) × (new ≡ keys)) ⊎ ((Contains (rules_of_spines keys) (rule_of_spine s) → ⊥) × (new ≡ keys ++ s ∷ []))
+pub inserted : (keys : List Spine) (s : Spine) (new : List Spine) → new ≡ (if list_any (spine_same s) keys then keys else keys ++ s ∷ []) → PutsNew (rules_of_spines keys) (rule_of_spine s) (rules_of_spines keys) (rules_of_spines new)
 inserted keys s new e = go (list_any (spine_same s) keys) refl e
   where
-    go : (b : Bool) → list_any (spine_same s) keys ≡ b → new ≡ (if b then keys else keys ++ s ∷ []) → (Contains (rules_of_spines keys) (rule_of_spine s) × (new ≡ keys)) ⊎ ((Contains (rules_of_spines keys) (rule_of_spine s) → ⊥) × (new ≡ keys ++ s ∷ []))
-    go true f g = inl (any_member keys s f, g)
-    go false f g = inr ((λ m. absurd (let t : list_any (spine_same s) keys ≡ true = member_any keys s m in let k : false ≡ true = sym f ∙ t in cc)), g)
+    go : (b : Bool) → list_any (spine_same s) keys ≡ b → new ≡ (if b then keys else keys ++ s ∷ []) → PutsNew (rules_of_spines keys) (rule_of_spine s) (rules_of_spines keys) (rules_of_spines new)
+    go true f g = inl (any_member keys s f, ap rules_of_spines g)
+    go false f g = inr ((λ m. absurd (let t : list_any (spine_same s) keys ≡ true = member_any keys s m in let k : false ≡ true = sym f ∙ t in cc)), ap rules_of_spines g ∙ map_last rule_of_spine keys s)
 
 module _ (l : Library) where
   -- a choice whose arguments are all fit isn't too large
@@ -97,13 +111,12 @@ module _ (l : Library) where
         unfit = u.2;
       })
 
-  pub cover_step : (x n : ℕ) (covers : List (List ℕ)) (i : ℕ) (s slice : List ℕ) (goal : Paths) (from : ℕ) (old new : List Spine) (spine : Spine) → spine.component ≡ x → i < length covers → s ≡ get_or covers i s → slice ≡ s
-      → IsRuleFor l (choice_at x n slice) (Head x (map listed spine.args.items)) → ((m : Paths) → Contains (map listed spine.args.items) m → IsFit (type_of_paths m))
-      → new ≡ (if list_any (spine_same spine) old then old else old ++ spine ∷ []) → AreBegun l goal from x n (take i covers) old → AreBegun l goal from x n (take (i + 1) covers) new
-  cover_step x n covers i s slice goal from old new spine same m g e rule fit k h =
+  pub cover_step : (x n : ℕ) (covers : List (List ℕ)) (i : ℕ) (s slice : List ℕ) (goal : Paths) (from : ℕ) (old new : List (Rule Paths)) (args : List Paths) → i < length covers → s ≡ get_or covers i s → slice ≡ s
+      → IsRuleFor l (choice_at x n slice) (Head x args) → ((m : Paths) → Contains args m → IsFit (type_of_paths m))
+      → PutsNew old (Head x args) old new → AreBegun l goal from x n (take i covers) old → AreBegun l goal from x n (take (i + 1) covers) new
+  cover_step x n covers i s slice goal from old new args m g e rule fit k h =
       let cut : take (i + 1) covers ≡ take i covers ++ s ∷ [] = take_next covers i s m ∙ ap (λ (t : List ℕ). take i covers ++ t ∷ []) (sym g) in
-      let made : IsRuleFor l (choice_at x n s) (Head x (map listed spine.args.items)) = subst (λ (t : List ℕ). IsRuleFor l (choice_at x n t) (Head x (map listed spine.args.items))) e rule in
-      let all : (m : Paths) → Contains made.arguments m → IsFit (type_of_paths m) = λ m j. fit m (subst (λ (ns : List Paths). Contains ns m) (arguments_are (choice_at x n s) x (map listed spine.args.items) made) j) in
-      let here : IsRuleFor l (choice_at x n s) (rule_of_spine spine) = subst (λ (y : ℕ). IsRuleFor l (choice_at x n s) (Head y (map listed spine.args.items))) (sym same) made in
+      let made : IsRuleFor l (choice_at x n s) (Head x args) = subst (λ (t : List ℕ). IsRuleFor l (choice_at x n t) (Head x args)) e rule in
+      let all : (m : Paths) → Contains made.arguments m → IsFit (type_of_paths m) = λ m j. fit m (subst (λ (ns : List Paths). Contains ns m) (arguments_are (choice_at x n s) x args made) j) in
       subst (λ (list : List (List ℕ)). AreBegun l goal from x n list new) (sym cut)
-      (begun_cover l goal from x n (take i covers) old s spine new h here (not_large goal (choice_at x n s) (Head x (map listed spine.args.items)) made all) (inserted old spine new k))
+      (begun_cover l goal from x n (take i covers) old s (Head x args) new h made (not_large goal (choice_at x n s) (Head x args) made all) k)

@@ -1,5 +1,5 @@
 -- What the rules of a goal generate is what has the goal.
-use Rattle.std.proofs.Common.{ℕ, zero, suc, ◌≡◌, ◌<◌, ◌≤◌, ◌+◌, ◌↔◌, refl, sym, subst, ◌⊎◌, inl, inr, List, [], ◌∷◌, length, arith, Contains}
+use Rattle.std.proofs.Common.{ℕ, ◌≡◌, ◌↔◌, refl, sym, subst, inl, inr, List, [], ◌∷◌, length, arith, Contains}
 use Rattle.cls_base.specs.Terms.{Applicative, component, apply, IsTermOver}
 use Rattle.cls_base.specs.Spines.{spine}
 use Rattle.cls_base.specs.declared.rule.Rule.{Rule}
@@ -8,7 +8,7 @@ use Rattle.cls_base.specs.Languages.{Generates, Applies, by_head, by_any, done, 
 use Rattle.cls_path.specs.Paths.{Paths, none, more, first_in, SuitsAll}
 use Rattle.cls_base.proofs.Lists.{Contains-nil}
 use Rattle.cls_cover.specs.Members.{Member, first, later}
-use Rattle.cls_cover.proofs.Lists.{contains_member, member_contains, member_append, member_append_left, member_append_right}
+use Rattle.cls_cover.proofs.Lists.{contains_member, member_contains, member_append_left, member_append_right}
 use Rattle.cls_core.specs.Arguments.{arguments_in}
 use Rattle.cls_library.specs.Libraries.{Library, IsLibrary, variances_in}
 use Rattle.cls_library.specs.Rules.{IsRules, HasRule, omega_rules, heads, numbers_from}

@@ -1,5 +1,6 @@
 pub mod Adding
 pub mod FamilyCovers
+pub mod Fresh
 pub mod Keeping
 pub mod Keys
 pub mod LanguageTyping

@@ -13,8 +13,7 @@ use Rattle.cls_library.specs.Arrows.{arity_of}
 use Rattle.cls_library.specs.Libraries.{Library, paths_at, arrows_at}
 use Rattle.cls_library.specs.Reaching.{CoversGoal}
 use Rattle.cls_library.specs.Rules.{Choice, ComesBefore, IsRuleFor, IsTooLarge, HasManyCovers, IsWideBy, by_covers, by_size, IsWide, IsRules, IsRulesBy, FirstOnes, no_more}
-use Rattle.cls_expand.specs.declared.spine.Spine.{Spine}
-use Rattle.cls_expand.specs.Making.{rule_of_spine, rules_of_spines, IsEarlier, IsChosen, choice_at, AreBegun}
+use Rattle.cls_expand.specs.Making.{IsEarlier, IsChosen, choice_at, AreBegun, PutsNew}
 use Rattle.cls_expand.specs.Listing.{first_ones_old, first_ones_new, all_last, append_last, append_nothing}
 
 pub in_mapped : {A B : Type 0} (f : A → B) (xs : List A) (y : B) → Contains (map f xs) y → (x : A) × Contains xs x × (f x ≡ y)
@@ -56,14 +55,13 @@ module _ (l : Library) (goal : Paths) (from : ℕ) where
 
   module _ (x n : ℕ) where
     -- one cover more
-    pub begun_cover : (covers : List (List ℕ)) (spines : List Spine) (s : List ℕ) (spine : Spine) (new : List Spine) → AreBegun l goal from x n covers spines → IsRuleFor l (choice_at x n s) (rule_of_spine spine) → (IsTooLarge l goal (choice_at x n s) → ⊥)
-        → (Contains (rules_of_spines spines) (rule_of_spine spine) × (new ≡ spines)) ⊎ ((Contains (rules_of_spines spines) (rule_of_spine spine) → ⊥) × (new ≡ spines ++ spine ∷ []))
-        → AreBegun l goal from x n (covers ++ s ∷ []) new
-    begun_cover covers spines s spine new b r f u = record {
+    pub begun_cover : (covers : List (List ℕ)) (rules : List (Rule Paths)) (s : List ℕ) (rule : Rule Paths) (new : List (Rule Paths)) → AreBegun l goal from x n covers rules → IsRuleFor l (choice_at x n s) rule → (IsTooLarge l goal (choice_at x n s) → ⊥)
+        → PutsNew rules rule rules new → AreBegun l goal from x n (covers ++ s ∷ []) new
+    begun_cover covers rules s rule new b r f u = record {
       choices = b.choices;
       chosen = b.chosen;
-      candidates = b.candidates ++ rule_of_spine spine ∷ [];
-      made = subst (λ (cs : List Choice). AllZip (IsRuleFor l) cs (b.candidates ++ rule_of_spine spine ∷ [])) (sym whole) (all_last (IsRuleFor l) (b.choices ++ map (choice_at x n) covers) b.candidates (choice_at x n s) (rule_of_spine spine) b.made r);
+      candidates = b.candidates ++ rule ∷ [];
+      made = subst (λ (cs : List Choice). AllZip (IsRuleFor l) cs (b.candidates ++ rule ∷ [])) (sym whole) (all_last (IsRuleFor l) (b.choices ++ map (choice_at x n) covers) b.candidates (choice_at x n s) rule b.made r);
       first_ones = ones u;
       fit = (λ c m. each c (Contains-append_cases (b.choices ++ map (choice_at x n) covers) (choice_at x n s ∷ []) c (subst (λ (cs : List Choice). Contains cs c) whole m)));
       narrow = b.narrow;
@@ -75,9 +73,9 @@ module _ (l : Library) (goal : Paths) (from : ℕ) where
         none_seen : (r : Rule Paths) → Contains [] r → ⊥
         none_seen r m = Contains-nil r m
 
-        ones : (Contains (rules_of_spines spines) (rule_of_spine spine) × (new ≡ spines)) ⊎ ((Contains (rules_of_spines spines) (rule_of_spine spine) → ⊥) × (new ≡ spines ++ spine ∷ [])) → FirstOnes [] (b.candidates ++ rule_of_spine spine ∷ []) (rules_of_spines new)
-        ones (inl v) = subst (λ (ss : List Spine). FirstOnes [] (b.candidates ++ rule_of_spine spine ∷ []) (rules_of_spines ss)) (sym v.1) (first_ones_old (rule_of_spine spine) b.first_ones (inr v.0))
-        ones (inr v) = subst (λ (ss : List Spine). FirstOnes [] (b.candidates ++ rule_of_spine spine ∷ []) (rules_of_spines ss)) (sym v.1) (subst (λ (rs : List (Rule Paths)). FirstOnes [] (b.candidates ++ rule_of_spine spine ∷ []) rs) (sym (map_last rule_of_spine spines spine)) (first_ones_new (rule_of_spine spine) b.first_ones (none_seen (rule_of_spine spine)) v.0))
+        ones : PutsNew rules rule rules new → FirstOnes [] (b.candidates ++ rule ∷ []) new
+        ones (inl v) = subst (λ (rs : List (Rule Paths)). FirstOnes [] (b.candidates ++ rule ∷ []) rs) (sym v.1) (first_ones_old rule b.first_ones (inr v.0))
+        ones (inr v) = subst (λ (rs : List (Rule Paths)). FirstOnes [] (b.candidates ++ rule ∷ []) rs) (sym v.1) (first_ones_new rule b.first_ones (none_seen rule) v.0)
 
         each : (c : Choice) → Contains (b.choices ++ map (choice_at x n) covers) c ⊎ Contains (choice_at x n s ∷ []) c → IsTooLarge l goal c → ⊥
         each c (inl m) t = b.fit c m t
@@ -87,8 +85,8 @@ module _ (l : Library) (goal : Paths) (from : ℕ) where
         ]
 
     -- one number of arguments more
-    pub begun_place : (covers : List (List ℕ)) (spines : List Spine) → from ≤ x → x < length l.components → n ≤ arity_of (paths_at l x) → AreMinimal (CoversGoal l (arrows_at l x n) goal) covers → (HasManyCovers l goal x n → ⊥) → AreBegun l goal from x n covers spines → AreBegun l goal from x (n + 1) [] spines
-    begun_place covers spines h d w a t b = record {
+    pub begun_place : (covers : List (List ℕ)) (rules : List (Rule Paths)) → from ≤ x → x < length l.components → n ≤ arity_of (paths_at l x) → AreMinimal (CoversGoal l (arrows_at l x n) goal) covers → (HasManyCovers l goal x n → ⊥) → AreBegun l goal from x n covers rules → AreBegun l goal from x (n + 1) [] rules
+    begun_place covers rules h d w a t b = record {
       choices = b.choices ++ map (choice_at x n) covers;
       chosen = record {
         in_order = rises_append ComesBefore b.choices (map (choice_at x n) covers) b.chosen.in_order (rises_choices x n covers a.in_order) (λ c e m k. let u = in_mapped (choice_at x n) covers e k in earlier_before x n c e ((b.chosen.exactly c).0 m).2 (sym (ap (λ (z : Choice). z.component) u.2)) (sym (ap (λ (z : Choice). z.places) u.2)));
@@ -138,8 +136,8 @@ module _ (l : Library) (goal : Paths) (from : ℕ) where
             Contains-append_right b.choices (map (choice_at x n) covers) c (subst (λ (z : Choice). Contains (map (choice_at x n) covers) z) same (Contains-map (choice_at x n) covers c.cover m))
 
   -- one component more
-  pub begun_component : (x n : ℕ) (spines : List Spine) → arity_of (paths_at l x) < n → AreBegun l goal from x n [] spines → AreBegun l goal from (x + 1) 0 [] spines
-  begun_component x n spines h b = record {
+  pub begun_component : (x n : ℕ) (rules : List (Rule Paths)) → arity_of (paths_at l x) < n → AreBegun l goal from x n [] rules → AreBegun l goal from (x + 1) 0 [] rules
+  begun_component x n rules h b = record {
     choices = b.choices;
     chosen = record { in_order = b.chosen.in_order; exactly = (λ c. ((λ m. let r = (b.chosen.exactly c).0 m in (r.0, r.1, widen c.component c.places r.2)), (λ k. (b.chosen.exactly c).1 (k.0, k.1, narrowed c.component c.places k.0.within k.2)))) };
     candidates = b.candidates;
@@ -168,8 +166,8 @@ module _ (l : Library) (q : TypePath) (rest : Paths) where
   goal = more q rest
 
   -- all components
-  pub begun_rules : (spines : List Spine) → AreBegun l goal 0 (length l.components) 0 [] spines → (IsWide l goal → ⊥) × IsRules l goal (rules_of_spines spines)
-  begun_rules spines b = (
+  pub begun_rules : (rules : List (Rule Paths)) → AreBegun l goal 0 (length l.components) 0 [] rules → (IsWide l goal → ⊥) × IsRules l goal (rules)
+  begun_rules rules b = (
     (λ w. wide w.component w.declared w.wide),
     record {
       choices = b.choices;
@@ -185,8 +183,8 @@ module _ (l : Library) (q : TypePath) (rest : Paths) where
       wide x d (by_size c e t) = b.fit c (Contains-append_left b.choices [] c ((b.chosen.exactly c).1 (t.choice, omega arith, inl t.choice.declared))) t
 
   -- one component alone
-  pub begun_by : (x : ℕ) (spines : List Spine) → AreBegun l goal x (x + 1) 0 [] spines → (IsWideBy l x goal → ⊥) × IsRulesBy l x goal (rules_of_spines spines)
-  begun_by x spines b = (
+  pub begun_by : (x : ℕ) (rules : List (Rule Paths)) → AreBegun l goal x (x + 1) 0 [] rules → (IsWideBy l x goal → ⊥) × IsRulesBy l x goal (rules)
+  begun_by x rules b = (
     wide,
     record {
       choices = b.choices;

@@ -1,8 +1,7 @@
 -- Steps of the expander.
 use Rattle.std.proofs.Common.{ℕ, zero, suc, ◌≡◌, ◌+◌, ◌<◌, ◌≤◌, refl, sym, ◌∙◌, subst, ap, List, [], ◌∷◌, ◌++◌, length, get_or, take, arith, rules, Bool, true, false, Result, Ok, Err, All, Contains}
-use Rattle.std.specs.Prelude.{map, MatchBool, IfOk, OnOk, slice_get, IsSomeAnd, if◌then◌else◌}
+use Rattle.std.specs.Prelude.{map, MatchBool, IfOk, OnOk, slice_get, IsSomeAnd}
 use Rattle.std.specs.Bool.{◌==◌}
-use Rattle.std.specs.List.{list_any}
 use Rattle.cls_base.proofs.Lists.{map_last}
 use Rattle.cls_base.specs.declared.rule.Rule.{Rule}
 use Rattle.cls_base.specs.declared.rule.Rule.TheVariants.{Head, Any}
@@ -115,7 +114,7 @@ module _ (l : Library) (arrows : List MultiArrow) where
 
 module _ (l : Library) (x n : ℕ) (goal : List TypePath) (fs list : List (List ℕ)) where
   pub place_done : x < length l.components → n ≤ arity_of (paths_at l x) → AreFamilies l (arrows_at l x n) goal fs → AreMinimal (MeetsEach fs) list → ((j : ℕ) → j ≤ length fs → HasMore (MeetsEach (take j fs)) 1024 → ⊥)
-      → (narrow : Bool) (old new : List Spine) (q : TypePath) (rest : Paths) (from : ℕ) → listed goal ≡ more q rest → from ≤ x → AreBegun l (listed goal) from x n [] old
+      → (narrow : Bool) (old new : List (Rule Paths)) (q : TypePath) (rest : Paths) (from : ℕ) → listed goal ≡ more q rest → from ≤ x → AreBegun l (listed goal) from x n [] old
       → (((s : List ℕ) → Contains list s → IsChoice l (more q rest) (choice_at x n s)) → AreBegun l (more q rest) from x n [] old → MatchBool narrow (AreBegun l (more q rest) from x n list new) (IsWideBy l x (more q rest)))
       → MatchBool narrow (AreBegun l (listed goal) from x (n + 1) [] new) (IsWideBy l x (listed goal))
   place_done d w h m t narrow old new q rest from e le b f =
@@ -126,41 +125,38 @@ module _ (l : Library) (x n : ℕ) (goal : List TypePath) (fs list : List (List 
       (λ k. subst (λ (p : Paths). IsWideBy l x p) (sym e) k)
       (f choice (subst (λ (p : Paths). AreBegun l p from x n [] old) e b))
 
--- the rules of the spines
-pub heads_init : (rs : List (Rule (List TypePath))) (iterator keys : List Spine) → rs ≡ [] → iterator ≡ keys → map rule_of rs ++ map rule_of_spine iterator ≡ map rule_of_spine keys
-heads_init rs iterator keys e f = ap (λ (qs : List (Rule (List TypePath))). map rule_of qs ++ map rule_of_spine iterator) e ∙ ap (map rule_of_spine) f
+-- the rules of the spines, put behind others
+pub heads_init : (old rs : List (Rule (List TypePath))) (iterator keys : List Spine) → rs ≡ old → iterator ≡ keys → map rule_of rs ++ map rule_of_spine iterator ≡ map rule_of old ++ map rule_of_spine keys
+heads_init old rs iterator keys e f = ap (λ (qs : List (Rule (List TypePath))). map rule_of qs ++ map rule_of_spine iterator) e ∙ ap (λ (ss : List Spine). map rule_of old ++ map rule_of_spine ss) f
 
 last_apart : {A : Type 0} (xs ys : List A) (x : A) → (xs ++ x ∷ []) ++ ys ≡ xs ++ x ∷ ys
 last_apart [] ys x = refl
 last_apart (z ∷ xs) ys x = ap (λ l. z ∷ l) (last_apart xs ys x)
 
-pub heads_step : (old new : List (Rule (List TypePath))) (r : Rule (List TypePath)) (before after keys : List Spine) (s : Spine) → new ≡ old ++ r ∷ [] → rule_of r ≡ rule_of_spine s → before ≡ s ∷ after → map rule_of old ++ map rule_of_spine before ≡ map rule_of_spine keys → map rule_of new ++ map rule_of_spine after ≡ map rule_of_spine keys
-heads_step old new r before after keys s e f g h =
+pub heads_step : (old new : List (Rule (List TypePath))) (r : Rule (List TypePath)) (before after : List Spine) (all : List (Rule Paths)) (s : Spine) → new ≡ old ++ r ∷ [] → rule_of r ≡ rule_of_spine s → before ≡ s ∷ after → map rule_of old ++ map rule_of_spine before ≡ all → map rule_of new ++ map rule_of_spine after ≡ all
+heads_step old new r before after all s e f g h =
     ap (λ (qs : List (Rule (List TypePath))). map rule_of qs ++ map rule_of_spine after) e
     ∙ (ap (λ (qs : List (Rule Paths)). qs ++ map rule_of_spine after) (map_last rule_of old r)
     ∙ (last_apart (map rule_of old) (map rule_of_spine after) (rule_of r)
     ∙ (ap (λ (q : Rule Paths). map rule_of old ++ q ∷ map rule_of_spine after) f
     ∙ (ap (λ (ss : List Spine). map rule_of old ++ map rule_of_spine ss) (sym g) ∙ h))))
 
-pub heads_done : (rs : List (Rule (List TypePath))) (iterator keys : List Spine) → iterator ≡ [] → map rule_of rs ++ map rule_of_spine iterator ≡ map rule_of_spine keys → map rule_of rs ≡ map rule_of_spine keys
-heads_done rs iterator keys e h = sym (append_nothing (map rule_of rs)) ∙ (ap (λ (ss : List Spine). map rule_of rs ++ map rule_of_spine ss) (sym e) ∙ h)
+pub heads_done : (rs : List (Rule (List TypePath))) (iterator : List Spine) (all : List (Rule Paths)) → iterator ≡ [] → map rule_of rs ++ map rule_of_spine iterator ≡ all → map rule_of rs ≡ all
+heads_done rs iterator all e h = sym (append_nothing (map rule_of rs)) ∙ (ap (λ (ss : List Spine). map rule_of rs ++ map rule_of_spine ss) (sym e) ∙ h)
 
 -- the answer, once all components are done
-pub rules_all : (l : Library) (goal : Paths) (q : TypePath) (rest : Paths) (x : ℕ) (spines : List Spine) (rs : List (Rule Paths)) → goal ≡ more q rest → x ≡ length l.components → AreBegun l goal 0 x 0 [] spines → rs ≡ map rule_of_spine spines → (IsWide l goal → ⊥) × IsRules l goal rs
-rules_all l goal q rest x spines rs e f b g =
-    let k : AreBegun l (more q rest) 0 (length l.components) 0 [] spines = subst (λ (y : ℕ). AreBegun l (more q rest) 0 y 0 [] spines) f (subst (λ (p : Paths). AreBegun l p 0 x 0 [] spines) e b) in
-    let r = begun_rules l q rest spines k in
-    subst (λ (p : Paths). (IsWide l p → ⊥) × IsRules l p rs) (sym e) (r.0, subst (λ (ss : List (Rule Paths)). IsRules l (more q rest) ss) (sym g) r.1)
+pub rules_all : (l : Library) (goal : Paths) (q : TypePath) (rest : Paths) (x : ℕ) (rs : List (Rule Paths)) → goal ≡ more q rest → x ≡ length l.components → AreBegun l goal 0 x 0 [] rs → (IsWide l goal → ⊥) × IsRules l goal rs
+rules_all l goal q rest x rs e f b =
+    let k : AreBegun l (more q rest) 0 (length l.components) 0 [] rs = subst (λ (y : ℕ). AreBegun l (more q rest) 0 y 0 [] rs) f (subst (λ (p : Paths). AreBegun l p 0 x 0 [] rs) e b) in
+    subst (λ (p : Paths). (IsWide l p → ⊥) × IsRules l p rs) (sym e) (begun_rules l q rest rs k)
 
-pub rules_by_all : (l : Library) (goal : Paths) (q : TypePath) (rest : Paths) (x : ℕ) (spines : List Spine) (rs : List (Rule Paths)) → goal ≡ more q rest → AreBegun l goal x (x + 1) 0 [] spines → rs ≡ map rule_of_spine spines → (IsWideBy l x goal → ⊥) × IsRulesBy l x goal rs
-rules_by_all l goal q rest x spines rs e b g =
-    let r = begun_by l q rest x spines (subst (λ (p : Paths). AreBegun l p x (x + 1) 0 [] spines) e b) in
-    subst (λ (p : Paths). (IsWideBy l x p → ⊥) × IsRulesBy l x p rs) (sym e) (r.0, subst (λ (ss : List (Rule Paths)). IsRulesBy l x (more q rest) ss) (sym g) r.1)
+pub rules_by_all : (l : Library) (goal : Paths) (q : TypePath) (rest : Paths) (x : ℕ) (rs : List (Rule Paths)) → goal ≡ more q rest → AreBegun l goal x (x + 1) 0 [] rs → (IsWideBy l x goal → ⊥) × IsRulesBy l x goal rs
+rules_by_all l goal q rest x rs e b =
+    subst (λ (p : Paths). (IsWideBy l x p → ⊥) × IsRulesBy l x p rs) (sym e) (begun_by l q rest x rs (subst (λ (p : Paths). AreBegun l p x (x + 1) 0 [] rs) e b))
 
-pub rules_by_none : (l : Library) (x : ℕ) (goal : Paths) (spines : List Spine) (s : Spine) (rs : List (Rule Paths)) → goal ≡ none → spines ≡ s ∷ [] → rule_of_spine s ≡ Head x [] → rs ≡ map rule_of_spine spines → (IsWideBy l x goal → ⊥) × IsRulesBy l x goal rs
-rules_by_none l x goal spines s rs e f g h =
-    subst (λ (p : Paths). (IsWideBy l x p → ⊥) × IsRulesBy l x p rs) (sym e)
-    (not_wide, h ∙ (ap (map rule_of_spine) f ∙ ap (λ (r : Rule Paths). r ∷ []) g))
+pub rules_by_none : (l : Library) (x : ℕ) (goal : Paths) (rs : List (Rule Paths)) → goal ≡ none → rs ≡ Head x [] ∷ [] → (IsWideBy l x goal → ⊥) × IsRulesBy l x goal rs
+rules_by_none l x goal rs e f =
+    subst (λ (p : Paths). (IsWideBy l x p → ⊥) × IsRulesBy l x p rs) (sym e) (not_wide, f)
   where
     not_wide : IsWideBy l x none → ⊥
     not_wide w = elim w [ ]
@@ -168,7 +164,3 @@ rules_by_none l x goal spines s rs e f g h =
 -- keys that are put behind others where they aren't among them
 abbrev pub spine_same : Spine → Spine → Bool
 spine_same = eq-value.it
-
-pub alone : (eq : Spine → Spine → Bool) (keys : List Spine) (s : Spine) → keys ≡ [] → (if list_any (eq s) keys then keys else keys ++ s ∷ []) ≡ s ∷ []
-alone eq [] s e = refl
-alone eq (k ∷ keys) s e = absurd (let n : suc (length keys) ≡ 0 = ap (λ (ks : List Spine). length ks) e in omega arith)

@@ -9,8 +9,8 @@ use Rattle.cls_library.specs.Arrows.{MultiArrow, arity_of}
 use Rattle.cls_library.specs.Families.{IsFamilyIn, NoneBegins}
 use Rattle.cls_library.specs.Libraries.{Library, paths_at, arrows_at}
 use Rattle.cls_library.specs.Reaching.{CoversGoal}
-use Rattle.cls_library.specs.Rules.{Front, more_front, HasManyCovers, max_covers}
-use Rattle.cls_expand.specs.declared.spine.Spine.{Spine}
+use Rattle.cls_library.specs.Rules.{Front, more_front, max_covers}
+use Rattle.cls_base.specs.declared.rule.Rule.{Rule}
 use Rattle.cls_expand.specs.Making.{AreBegun}
 use Rattle.cls_expand.proofs.Making.{begun_place, begun_component}
 
@@ -47,33 +47,33 @@ module _ (l : Library) (arrows : List MultiArrow) where
 
 -- one number of arguments more, without a rule
 pub place_passed :
-    (l : Library) (x n : ℕ) (goal : Paths) (q : TypePath) (rest : Paths) (from : ℕ) (spines : List Spine) → x < length l.components
+    (l : Library) (x n : ℕ) (goal : Paths) (q : TypePath) (rest : Paths) (from : ℕ) (rules : List (Rule Paths)) → x < length l.components
     → n ≤ arity_of (paths_at l x) → IsFamilyIn l.taxonomy (arrows_at l x n) q [] → goal ≡ more q rest → from ≤ x
-    → AreBegun l goal from x n [] spines → AreBegun l goal from x (n + 1) [] spines
-place_passed l x n goal q rest from spines d w h e le b =
-    begun_place l goal from x n [] spines le d w
+    → AreBegun l goal from x n [] rules → AreBegun l goal from x (n + 1) [] rules
+place_passed l x n goal q rest from rules d w h e le b =
+    begun_place l goal from x n [] rules le d w
     (subst (λ (p : Paths). AreMinimal (CoversGoal l (arrows_at l x n) p) []) (sym e) (no_covers l (arrows_at l x n) q h rest))
     (λ m. few_covers l (arrows_at l x n) q h rest m.front (subst (λ (p : Paths). Front m.front p) e m.is_front) m.over) b
 
 -- the same where the search passes over the place
 pub place_begins_nowhere :
-    (l : Library) (x n : ℕ) (goal : Paths) (q : TypePath) (rest : Paths) (from : ℕ) (spines : List Spine) → x < length l.components
+    (l : Library) (x n : ℕ) (goal : Paths) (q : TypePath) (rest : Paths) (from : ℕ) (rules : List (Rule Paths)) → x < length l.components
     → n ≤ arity_of (paths_at l x) → NoneBegins l goal x n → goal ≡ more q rest → from ≤ x
-    → AreBegun l goal from x n [] spines → AreBegun l goal from x (n + 1) [] spines
-place_begins_nowhere l x n goal q rest from spines d w h e le b =
-    place_passed l x n goal q rest from spines d w (subst (λ (g : Paths). NoneBegins l g x n) e h) e le b
+    → AreBegun l goal from x n [] rules → AreBegun l goal from x (n + 1) [] rules
+place_begins_nowhere l x n goal q rest from rules d w h e le b =
+    place_passed l x n goal q rest from rules d w (subst (λ (g : Paths). NoneBegins l g x n) e h) e le b
 
 -- one component more, without a rule
 pub component_passed :
-    (l : Library) (x : ℕ) (goal : Paths) (q : TypePath) (rest : Paths) (from : ℕ) (spines : List Spine) → x < length l.components
+    (l : Library) (x : ℕ) (goal : Paths) (q : TypePath) (rest : Paths) (from : ℕ) (rules : List (Rule Paths)) → x < length l.components
     → ((n : ℕ) → NoneBegins l goal x n) → goal ≡ more q rest → from ≤ x
-    → AreBegun l goal from x 0 [] spines → AreBegun l goal from (x + 1) 0 [] spines
-component_passed l x goal q rest from spines d h e le b =
-    begun_component l goal from x (arity_of (paths_at l x) + 1) spines (omega arith) (to (arity_of (paths_at l x) + 1) (omega arith))
+    → AreBegun l goal from x 0 [] rules → AreBegun l goal from (x + 1) 0 [] rules
+component_passed l x goal q rest from rules d h e le b =
+    begun_component l goal from x (arity_of (paths_at l x) + 1) rules (omega arith) (to (arity_of (paths_at l x) + 1) (omega arith))
   where
-    to : (n : ℕ) → n ≤ arity_of (paths_at l x) + 1 → AreBegun l goal from x n [] spines
+    to : (n : ℕ) → n ≤ arity_of (paths_at l x) + 1 → AreBegun l goal from x n [] rules
     to zero m = b
     to (suc n) m =
         let next : n + 1 ≡ suc n = omega arith in
-        subst (λ k. AreBegun l goal from x k [] spines) next
-        (place_begins_nowhere l x n goal q rest from spines d (omega arith) (h n) e le (to n (omega arith)))
+        subst (λ k. AreBegun l goal from x k [] rules) next
+        (place_begins_nowhere l x n goal q rest from rules d (omega arith) (h n) e le (to n (omega arith)))

@@ -80,6 +80,10 @@ unfolding back
 back_is (Head x args) = ap (Head x) (all_back args)
 back_is (Any n m) = (λ i. Any (unlisted_back n i) (unlisted_back m i))
 
+-- rules of the program that are one rule of the definition are equal
+pub rule_given : (r q : Rule (List TypePath)) → rule_of r ≡ rule_of q → r ≡ q
+rule_given r q e = sym (back_is r) ∙ (ap back e ∙ back_is q)
+
 backs_are : (rs : List (Rule (List TypePath))) → map back (map rule_of rs) ≡ rs
 backs_are [] = refl
 backs_are (r ∷ rs) = (λ i. back_is r i ∷ backs_are rs i)

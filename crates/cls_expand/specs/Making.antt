@@ -45,12 +45,16 @@ IsChosen l goal from x n c = IsChoice l goal c × (from ≤ c.component) × IsEa
 abbrev pub choice_at : ℕ → ℕ → List ℕ → Choice
 choice_at x n s = record { component = x; places = n; cover = s }
 
--- the spines are what the choices before component x and n arguments make, and covers of these
-pub record AreBegun (l : Library) (goal : Paths) (from x n : ℕ) (covers : List (List ℕ)) (spines : List Spine) : Type 0 where
+-- the rules are what the choices before component x and n arguments make, and covers of these
+pub record AreBegun (l : Library) (goal : Paths) (from x n : ℕ) (covers : List (List ℕ)) (rules : List (Rule Paths)) : Type 0 where
   pub choices : List Choice
   pub chosen : AreChoices l (IsChosen l goal from x n) choices
   pub candidates : List (Rule Paths)
   pub made : AllZip (IsRuleFor l) (choices ++ map (choice_at x n) covers) candidates
-  pub first_ones : FirstOnes [] candidates (rules_of_spines spines)
+  pub first_ones : FirstOnes [] candidates rules
   pub fit : (c : Choice) → Contains (choices ++ map (choice_at x n) covers) c → IsTooLarge l goal c → ⊥
   pub narrow : (y k : ℕ) → from ≤ y → IsEarlier x n y k → HasManyCovers l goal y k → ⊥
+
+-- x is put last, unless it is one of some
+abbrev pub PutsNew : {A : Type 0} → List A → A → List A → List A → Type 0
+PutsNew some x old new = (Contains some x × (new ≡ old)) ⊎ ((Contains some x → ⊥) × (new ≡ old ++ x ∷ []))

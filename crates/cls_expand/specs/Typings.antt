@@ -1,8 +1,8 @@
 -- internal: the answers of goals are the rules of the typing, that is, a term has the type of a goal if and only if it fits one of its rules.
-use Rattle.std.proofs.Common.{ℕ, ◌≡◌, ◌<◌, refl, sym, ◌∙◌, subst, ap, List, [], ◌∷◌, ◌++◌, length, Contains, arith}
+use Rattle.std.proofs.Common.{ℕ, ◌≡◌, refl, sym, ◌∙◌, subst, ap, List, [], ◌∷◌, ◌++◌, length, Contains, arith}
 use Rattle.std.specs.Prelude.{map, ◌≢◌}
 use Rattle.std.specs.List.{AllZip}
-use Rattle.cls_base.specs.Terms.{Applicative, component, apply, head_of, IsTermOver}
+use Rattle.cls_base.specs.Terms.{Applicative, component, apply, IsTermOver}
 use Rattle.cls_base.specs.Spines.{spine}
 use Rattle.cls_base.specs.Types.{ClosedType}
 use Rattle.cls_base.specs.Typing.{by_instance, by_application, by_intersection, by_subsumption}

@@ -1,21 +1,19 @@
 //! The rules of a goal: for each component and each number of arguments the minimal covers of the goal by its arrows,
 //! and for each cover one rule.
-ghost use Rattle.std.specs.Prelude.{◌≡◌, ℕ, ◌+◌, ◌<◌, ◌≤◌, Contains, IfOk, MatchBool, List, [], length, map};
+ghost use Rattle.std.specs.Prelude.{◌≡◌, ℕ, ◌+◌, ◌<◌, ◌≤◌, IfOk, MatchBool, [], length, map};
 ghost use Rattle.cls_path.specs.Paths.{TypePath, Paths, more, listed};
 ghost use Rattle.cls_library.specs.Arrows.{arity_of};
 ghost use Rattle.cls_library.specs.Libraries.{paths_at, arrows_at};
-ghost use Rattle.cls_library.specs.Rules.{IsWideBy, IsChoice, omega_rules};
+ghost use Rattle.cls_library.specs.Rules.{IsWideBy, omega_rules};
 ghost use Rattle.cls_expand.specs.Answers.{IsAnswer, IsAnswerBy, IsReady, rule_of};
-ghost use Rattle.cls_expand.specs.Making.{AreBegun, AreFamilies, rule_of_spine, choice_at};
+ghost use Rattle.cls_expand.specs.Making.{AreBegun, AreFamilies};
 
-use crate::arguments::{all_fit, arguments};
-use crate::spine::Spine;
+use crate::cover_rules::add_covers;
 use cls_base::{Goals, Numbers, OutOfMemory, Rule, Rules};
 use cls_core::{Answer, Expand, TypedExpand};
 use cls_cover::{CoverFault, covers};
 use cls_library::{Library, Search};
 use cls_path::Nf;
-use indexmap::IndexSet;
 use std::alloc::Global;
 use std::marker::Model;
 
@@ -108,13 +106,13 @@ fn all_rules(alloc: Global, lib: &Library, goal: &Nf) -> Result<Answer<Nf>, OutO
         return Ok(Answer::Rules(omega(alloc, lib.count())?));
     }
     let search = Search::new(lib, goal);
-    let mut spines = IndexSet::new(alloc);
+    let mut rules = Vec::new(alloc);
     for x in 0..lib.count() {
-        if !add_component(alloc, lib, goal, &search, x, &mut spines)? {
+        if !add_component(alloc, lib, goal, &search, x, &mut rules)? {
             return Ok(Answer::Wide);
         }
     }
-    Ok(Answer::Rules(head_rules(alloc, spines)?))
+    Ok(Answer::Rules(Rules::new(rules)))
 }
 
 /// The rules of the goal by one component.
@@ -129,14 +127,14 @@ fn component_rules(
     ensures { IfOk result (IsAnswerBy lib.now x goal.now) }
 {
     let search = Search::new(lib, goal);
-    let mut spines = IndexSet::new(alloc);
+    let mut rules = Vec::new(alloc);
     if goal.paths().is_empty() {
-        let args = Vec::new(alloc);
-        spines.insert(Spine { component: x, args })?;
-    } else if !add_component(alloc, lib, goal, &search, x, &mut spines)? {
+        let args = Goals::new(Vec::new(alloc));
+        rules.push(Rule::Head { component: x, args })?;
+    } else if !add_component(alloc, lib, goal, &search, x, &mut rules)? {
         return Ok(Answer::Wide);
     }
-    Ok(Answer::Rules(head_rules(alloc, spines)?))
+    Ok(Answer::Rules(Rules::new(rules)))
 }
 
 /// The rules of omega: each component alone, and any term applied to any.
@@ -150,19 +148,6 @@ fn omega(alloc: Global, count: u32) -> Result<Rules<Nf>, OutOfMemory>
     }
     let (left, right) = (Nf::empty(alloc), Nf::empty(alloc));
     rules.push(Rule::Any { left, right })?;
-    Ok(Rules::new(rules))
-}
-
-/// The rules of the spines.
-fn head_rules(alloc: Global, spines: IndexSet<Spine>) -> Result<Rules<Nf>, OutOfMemory>
-    ensures { IfOk result (λ rules. map rule_of rules ≡ map rule_of_spine spines.keys) }
-{
-    let mut rules = Vec::with_capacity(alloc, spines.len())?;
-    for spine in spines {
-        let Spine { component, args } = spine;
-        let args = Goals::new(args);
-        rules.push(Rule::Head { component, args })?;
-    }
     Ok(Rules::new(rules))
 }
 
@@ -186,35 +171,6 @@ pub fn families_of(
     Ok(families)
 }
 
-/// Adds the rule of each cover, and answers whether all are fit.
-fn add_covers(
-    alloc: Global,
-    lib: &Library,
-    x: u32,
-    n: u32,
-    covers: &[Numbers],
-    spines: &mut IndexSet<Spine>,
-) -> Result<bool, OutOfMemory>
-    requires declared { x < length lib.now.components }
-    requires within { n ≤ arity_of (paths_at lib.now x) }
-    requires below { (s : List ℕ) → Contains covers.now s
-        → (i : ℕ) → Contains s i → i < length (arrows_at lib.now x n) }
-    ensures { IfOk result (λ narrow. (q : TypePath) (rest : Paths) (from : ℕ) → from ≤ x
-        → ((s : List ℕ) → Contains covers.now s → IsChoice lib.now (more q rest) (choice_at x n s))
-        → AreBegun lib.now (more q rest) from x n [] spines.old.keys
-        → MatchBool narrow (AreBegun lib.now (more q rest) from x n covers.now spines.new.keys)
-        (IsWideBy lib.now x (more q rest))) }
-{
-    for cover in covers {
-        let args = arguments(alloc, lib, x, n, cover.as_slice())?;
-        if !all_fit(alloc, args.as_slice())? {
-            return Ok(false);
-        }
-        spines.insert(Spine { component: x, args })?;
-    }
-    Ok(true)
-}
-
 /// Adds the rules of one number of arguments, and answers whether the goal isn't wide by them.
 fn add_places(
     alloc: Global,
@@ -223,15 +179,15 @@ fn add_places(
     search: &Search<'_>,
     x: u32,
     n: u32,
-    spines: &mut IndexSet<Spine>,
+    rules: &mut Vec<Rule<Nf>>,
 ) -> Result<bool, OutOfMemory>
     requires search { search.now ≡ record { library = lib.now; goal = listed goal.now } }
     requires declared { x < length lib.now.components }
     requires within { n ≤ arity_of (paths_at lib.now x) }
     requires ready { IsReady lib.now goal.now }
     ensures { IfOk result (λ narrow. (q : TypePath) (rest : Paths) (from : ℕ) → listed goal.now ≡ more q rest → from ≤ x
-        → AreBegun lib.now (listed goal.now) from x n [] spines.old.keys
-        → MatchBool narrow (AreBegun lib.now (listed goal.now) from x (n + 1) [] spines.new.keys)
+        → AreBegun lib.now (listed goal.now) from x n [] (map rule_of rules.old.items)
+        → MatchBool narrow (AreBegun lib.now (listed goal.now) from x (n + 1) [] (map rule_of rules.new.items))
         (IsWideBy lib.now x (listed goal.now))) }
 {
     if !search.may_begin_by(x, n) {
@@ -239,7 +195,7 @@ fn add_places(
     }
     let families = families_of(alloc, lib, goal, x, n)?;
     match covers(alloc, families.as_slice(), MAX_COVERS) {
-        Ok(list) => add_covers(alloc, lib, x, n, list.as_slice(), spines),
+        Ok(list) => add_covers(alloc, lib, x, n, list.as_slice(), rules),
         Err(CoverFault::TooManyCovers(_)) => Ok(false),
         Err(CoverFault::OutOfMemory) => Err(OutOfMemory),
     }
@@ -252,14 +208,14 @@ fn add_component(
     goal: &Nf,
     search: &Search<'_>,
     x: u32,
-    spines: &mut IndexSet<Spine>,
+    rules: &mut Vec<Rule<Nf>>,
 ) -> Result<bool, OutOfMemory>
     requires search { search.now ≡ record { library = lib.now; goal = listed goal.now } }
     requires declared { x < length lib.now.components }
     requires ready { IsReady lib.now goal.now }
     ensures { IfOk result (λ narrow. (q : TypePath) (rest : Paths) (from : ℕ) → listed goal.now ≡ more q rest → from ≤ x
-        → AreBegun lib.now (listed goal.now) from x 0 [] spines.old.keys
-        → MatchBool narrow (AreBegun lib.now (listed goal.now) from (x + 1) 0 [] spines.new.keys)
+        → AreBegun lib.now (listed goal.now) from x 0 [] (map rule_of rules.old.items)
+        → MatchBool narrow (AreBegun lib.now (listed goal.now) from (x + 1) 0 [] (map rule_of rules.new.items))
         (IsWideBy lib.now x (listed goal.now))) }
 {
     if !search.may_begin(x) {
@@ -267,9 +223,9 @@ fn add_component(
     }
     let arity = lib.arity(x);
     for n in 0..arity {
-        if !add_places(alloc, lib, goal, search, x, n, spines)? {
+        if !add_places(alloc, lib, goal, search, x, n, rules)? {
             return Ok(false);
         }
     }
-    add_places(alloc, lib, goal, search, x, arity, spines)
+    add_places(alloc, lib, goal, search, x, arity, rules)
 }

@@ -10,6 +10,7 @@
 
 mod additions;
 mod arguments;
+mod cover_rules;
 mod expander;
 pub mod laws;
 mod memo;

@@ -1,35 +1,35 @@
-use Rattle.std.proofs.Common.{arith, ap, subst, ◌≡◌, ◌<◌, ◌≤◌, ◌∙◌, ◌++◌, ◌+◌, length}
+use Rattle.std.proofs.Common.{arith, ap, subst, ◌≡◌, ◌<◌, ◌≤◌, ◌∙◌, ◌+◌, length}
 use Rattle.std.specs.Prelude.{IfNone, IfSome}
-use Rattle.cls_core.specs.Adding.{AddsGoals}
 use Rattle.cls_core.specs.Numbers.{rule_from}
 use Rattle.indexmap.specs.IndexSet.{insert_all}
 use Rattle.cls_core.specs.Arguments.{arguments_of_rule}
-use Rattle.cls_core.proofs.Insertion.{rule-step, numbered-step, rules-take}
+use Rattle.cls_core.proofs.Insertion.{rule-step, numbered-step, rules-take, goes_on}
 use Rattle.cls_core.proofs.numbering.number_rules.Goals as goal
 
 pub returns-in_default-clause-many : goal.returns-in_default-clause-many
 returns-in_default-clause-many g c =
-    let gs = c.args.room.now.rows.now.keys ++ c.args.added.now.keys in
+    let gs = c.args.rows.now.keys in
     let rs = c.args.rules.now in
     let eq = g.G.PartialEq.eq in
-    let ks = c.args.room.now.rows.now.keys ++ c.loop-rule.added.keys in
-    let next = rule-step eq gs rs ks c.loop-rule.rule-index c.rule-item.result c.loop-rule-test.true c.loop-rule.invariant.0 c.rule-item.is in
-    let over = subst (λ r. IfNone r (c.args.room.now.most < length (insert_all eq ks (arguments_of_rule c.rule-item.result)))) c.in_default.is c.in_ok-number.ensures.many in
+    let ks = c.loop-rule.rows.keys in
+    let next = rule-step eq gs rs ks c.loop-rule.rule-index c.rule-item.result c.loop-rule-test.true c.loop-rule.invariant.added c.rule-item.is in
+    let over = subst (λ r. IfNone r (c.args.most < length (insert_all eq ks (arguments_of_rule c.rule-item.result)))) c.in_default.is c.in_ok-number.ensures.many in
     omega (arith, over, ap length next, rules-take eq gs rs (c.loop-rule.rule-index + 1))
 
 pub loop-rule-preserved : goal.loop-rule-preserved
 loop-rule-preserved g c =
     let eq = g.G.PartialEq.eq in
-    let rows = c.args.room.now.rows.now.keys in
-    let gs = rows ++ c.args.added.now.keys in
+    let gs = c.args.rows.now.keys in
     let rs = c.args.rules.now in
     let r = c.rule-item.result in
-    let new = c.number_rule.new.added.keys in
+    let old = c.loop-rule.rows.keys in
+    let new = c.number_rule.new.rows.keys in
     let i = c.loop-rule.invariant in
-    let added = subst (λ n. IfSome n (λ _. AddsGoals eq rows c.loop-rule.added.keys (arguments_of_rule r) new)) c.in-Some.is c.in_ok-number.ensures.added in
-    let number = subst (λ n. IfSome n (λ m. m ≡ rule_from eq (rows ++ c.loop-rule.added.keys) r)) c.in-Some.is c.in_ok-number.ensures.numbers in
-    let few = subst (λ n. IfSome n (λ _. length (rows ++ new) ≤ c.args.room.now.most)) c.in-Some.is c.in_ok-number.ensures.few in (
-      added ∙ rule-step eq gs rs _ c.loop-rule.rule-index r c.loop-rule-test.true i.0 c.rule-item.is,
-      numbered-step eq gs rs _ _ _ _ c.loop-rule.rule-index r c.loop-rule-test.true i.0 c.rule-item.is i.1 number c.in_ok-push.ensures.items,
-      few,
-    )
+    let added = subst (λ n. IfSome n (λ _. new ≡ insert_all eq old (arguments_of_rule r))) c.in-Some.is c.in_ok-number.ensures.added in
+    let number = subst (λ n. IfSome n (λ m. m ≡ rule_from eq old r)) c.in-Some.is c.in_ok-number.ensures.numbers in
+    let few = subst (λ n. IfSome n (λ _. length new ≤ c.args.most)) c.in-Some.is c.in_ok-number.ensures.few in record {
+      added = added ∙ rule-step eq gs rs old c.loop-rule.rule-index r c.loop-rule-test.true i.added c.rule-item.is;
+      numbers = numbered-step eq gs rs old _ _ _ c.loop-rule.rule-index r c.loop-rule-test.true i.added c.rule-item.is i.numbers number c.in_ok-push.ensures.items;
+      few = few;
+      front = goes_on gs old new i.front c.in_ok-number.ensures.front;
+    }

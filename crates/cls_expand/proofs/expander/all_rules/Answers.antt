@@ -1,13 +1,16 @@
 use Rattle.std.proofs.Common.{◌≡◌, ◌≤◌, ◌<◌, [], List, length, sym, subst, arith}
-use Rattle.cls_path.specs.Paths.{listed}
-use Rattle.cls_expand.specs.declared.spine.Spine.{Spine}
+use Rattle.std.specs.Prelude.{map}
+use Rattle.cls_path.specs.Paths.{TypePath, listed}
+use Rattle.cls_base.specs.declared.rule.Rule.{Rule}
+use Rattle.cls_core.specs.declared.answer.Answer.TheVariants.{Rules}
+use Rattle.cls_expand.specs.Answers.{IsAnswer, rule_of}
 use Rattle.cls_expand.specs.Making.{AreBegun}
 use Rattle.cls_expand.proofs.Making.{begun_none}
 use Rattle.cls_expand.proofs.Places.{when_false, when_true, parts, rules_all}
 use Rattle.cls_expand.proofs.expander.all_rules.Goals as goal
 
 pub loop-x-init : goal.loop-x-init
-loop-x-init c = λ q rest e. subst (λ (ks : List Spine). AreBegun c.args.lib.now (listed c.args.goal.now) 0 0 0 [] ks) (sym c.new-spines.ensures.empty) (begun_none c.args.lib.now (listed c.args.goal.now) 0)
+loop-x-init c = λ q rest e. subst (λ (rs : List (Rule (List TypePath))). AreBegun c.args.lib.now (listed c.args.goal.now) 0 0 0 [] (map rule_of rs)) (sym c.new-rules.ensures.items) (begun_none c.args.lib.now (listed c.args.goal.now) 0)
 
 pub returns-then-not-branch : goal.returns-then-not-branch
 returns-then-not-branch c =
@@ -28,4 +31,5 @@ returns c =
     let u : c.loop-x.x ≤ c.count-x-end.result = c.loop-x.auto.x-end in
     let n : c.count-x-end.result ≡ length c.args.lib.now.components = c.count-x-end.ensures.count in
     let e : c.loop-x.x ≡ length c.args.lib.now.components = omega arith in
-    rules_all c.args.lib.now (listed c.args.goal.now) p.0 p.1 c.loop-x.x c.loop-x.spines.keys _ p.2 e (c.loop-x.invariant p.0 p.1 p.2) c.in_ok-head_rules.ensures
+    subst (λ (rs : List (Rule (List TypePath))). IsAnswer c.args.lib.now c.args.goal.now (Rules rs)) (sym c.new.ensures)
+    (rules_all c.args.lib.now (listed c.args.goal.now) p.0 p.1 c.loop-x.x (map rule_of c.loop-x.rules.items) p.2 e (c.loop-x.invariant p.0 p.1 p.2))

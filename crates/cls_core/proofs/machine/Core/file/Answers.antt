@@ -2,14 +2,45 @@ use Rattle.std.specs.Prelude.{replicate, IfSome}
 use Rattle.std.specs.Vec.{vec_capacity}
 use Rattle.cls_core.specs.Arguments.{arguments_of, rule_count}
 use Rattle.cls_core.specs.Numbers.{answer_from}
-use Rattle.std.proofs.Common.{arith, ap, sym, subst, Some, slice_get, ◌≡◌, ◌≤◌, ◌+◌, ◌-◌, ◌++◌, ◌∙◌, length}
+use Rattle.std.proofs.lemmas.Option.{slice_get_within}
+use Rattle.std.proofs.Common.{arith, length-append, refl, take, ap, sym, subst, Some, slice_get, ◌≡◌, ◌≤◌, ◌+◌, ◌-◌, ◌++◌, ◌∙◌, length}
 use Rattle.cls_core.specs.declared.state.RowState.TheVariants.{Free, Held}
 use Rattle.cls_core.specs.declared.entry.Entry.TheVariants.{File}
 use Rattle.cls_core.specs.Machine.{grown, filed}
+use Rattle.cls_core.specs.Rows.{machine}
 use Rattle.cls_core.proofs.Columns.{held-counts, kept-file}
-use Rattle.cls_core.proofs.AfterFiling.{added-count, filed-rows}
-use Rattle.cls_core.proofs.Insertion.{all-again, answer-count}
+use Rattle.cls_core.proofs.AfterFiling.{filed-rows}
+use Rattle.cls_core.proofs.Insertion.{all-front, all-length, answer-count, goes_cut}
 use Rattle.cls_core.proofs.machine.Core.file.Goals as goal
+
+pub overflow_sub-count : goal.overflow_sub-count
+overflow_sub-count g c =
+    let eq = g.G.PartialEq.eq in
+    let goals = c.self.inside.goals.keys in
+    let new = c.number_whole.new.rows.keys in
+    let more = subst (λ r. IfSome r (λ _. new ≡ grown eq goals c.args.answer)) c.in-Some.is c.in-Ok.ensures.added in
+    omega (arith, ap length more, c.len.ensures.len, c.len-rows.ensures, c.self.invariant.paired, all-length eq goals (arguments_of c.args.answer))
+
+pub returns-in_default-reserve-clause-unchanged : goal.returns-in_default-reserve-clause-unchanged
+returns-in_default-reserve-clause-unchanged g c =
+    let eq = g.G.PartialEq.eq in
+    let i = c.self.inside in
+    let goals = i.goals.keys in
+    let new = c.number_whole.new.rows.keys in
+    let more = subst (λ r. IfSome r (λ _. new ≡ grown eq goals c.args.answer)) c.in-Some.is c.in-Ok.ensures.added in
+    let behind = all-front eq goals (arguments_of c.args.answer) in
+    let rows : c.len-rows.result ≡ length goals = omega (arith, c.len-rows.ensures, c.self.invariant.paired) in
+    let keys : c.truncate.new.self.keys ≡ goals = c.truncate.ensures.keys ∙ (ap (λ n. take n new) rows ∙ goes_cut goals new (record { more = behind.0; is = more ∙ behind.1 })) in
+    let states : c.reserve.new.self.items ≡ i.states.items = c.in_default-reserve.ensures.items in
+    (refl, (λ k. record { rows = machine (keys k) (states k); history = i.history.items }) ∙ c.self.view_is)
+
+pub index_mut-requires : goal.index_mut-requires
+index_mut-requires g c =
+    let i = c.self.inside in
+    let held = subst (λ v. slice_get v.rows.states c.args.row ≡ Some (Held c.args.worker)) (sym c.self.view_is) c.requires.held in
+    let within = slice_get_within i.states.items c.args.row (Held c.args.worker) held in
+    let n = c.len.result - c.len-rows.result in
+    omega (arith, within, ap length c.add_free.ensures, ap length c.in-Ok-reserve.ensures.items, length-append c.reserve.new.self.items (replicate n Free))
 
 pub overflow_sub-self : goal.overflow_sub-self
 overflow_sub-self g c =
@@ -34,21 +65,21 @@ invariant_of-self-2 g c =
     let k = c.self.invariant in
     let goals = i.goals.keys in
     let answer = c.args.answer in
-    let numbered = c.in-Some.numbered in
+    let numbers = c.in-Some.numbers in
     let held = subst (λ v. slice_get v.rows.states c.args.row ≡ Some (Held c.args.worker)) (sym c.self.view_is) c.requires.held in
     let some = held-counts i.states.items c.args.row c.args.worker held in
-    let added = subst (λ r. IfSome r (λ n. goals ++ n.added.keys ≡ grown eq goals answer)) c.in-Some.is c.in-Ok.ensures.added in
-    let numbers = subst (λ r. IfSome r (λ n. n.answer ≡ answer_from eq goals answer)) c.in-Some.is c.in-Ok.ensures.numbers in
+    let new = c.number_whole.new.rows.keys in
+    let more = subst (λ r. IfSome r (λ _. new ≡ grown eq goals answer)) c.in-Some.is c.in-Ok.ensures.added in
+    let given = subst (λ r. IfSome r (λ n. n ≡ answer_from eq goals answer)) c.in-Some.is c.in-Ok.ensures.numbers in
     let few = subst (λ r. IfSome r (λ _. length (grown eq goals answer) ≤ c.args.most)) c.in-Some.is c.in-Ok.ensures.few in
-    let more : c.append.new.self.keys ≡ grown eq goals answer = c.in-Ok-append.ensures.keys ∙ all-again eq goals numbered.added.keys (arguments_of answer) added in
-    let long = added-count eq g.met.G.Eq.laws.refl goals i.states.items answer numbered.added.keys c.len-count.result added c.len-count.ensures.len in
-    kept-file goals i.states.items i.first i.held i.rules (vec_capacity i.history) i.history.items c.args.row c.args.worker c.len-count.result numbered.answer c.append.new.self.keys c.add_free.new.states.items (File c.args.worker c.args.row) c.push_reserved.new.self.items
+    let long : length (grown eq goals answer) ≡ length goals + (c.len.result - c.len-rows.result) = omega (arith, ap length more, c.len.ensures.len, c.len-rows.ensures, c.self.invariant.paired, all-length eq goals (arguments_of answer)) in
+    kept-file goals i.states.items i.first i.held i.rules (vec_capacity i.history) i.history.items c.args.row c.args.worker (c.len.result - c.len-rows.result) numbers new c.add_free.new.states.items (File c.args.worker c.args.row) c.push_reserved.new.self.items
     k held (ap length more ∙ long) (omega (arith, ap length more, few, c.ranges.most.fits))
-    (c.add_free.ensures ∙ ap (λ l. l ++ replicate c.len-count.result Free) c.in-Ok-reserve.ensures.items)
+    (c.add_free.ensures ∙ ap (λ l. l ++ replicate (c.len.result - c.len-rows.result) Free) c.in-Ok-reserve.ensures.items)
     c.push_reserved.ensures.items
     (i.held - 1) (i.rules + c.rule_count.result) (vec_capacity c.push_reserved.new.self)
     (omega (arith, k.held_counted))
-    (ap (λ n. i.rules + n) (c.rule_count.ensures ∙ sym (ap rule_count numbers ∙ answer-count eq goals answer)))
+    (ap (λ n. i.rules + n) (c.rule_count.ensures ∙ sym (ap rule_count given ∙ answer-count eq goals answer)))
     c.push_reserved.ensures.capacity
 
 pub returns-clause-rows : goal.returns-clause-rows
@@ -57,12 +88,12 @@ returns-clause-rows g c _ =
     let i = c.self.inside in
     let goals = i.goals.keys in
     let answer = c.args.answer in
-    let numbered = c.in-Some.numbered in
+    let numbers = c.in-Some.numbers in
     let held = subst (λ v. slice_get v.rows.states c.args.row ≡ Some (Held c.args.worker)) (sym c.self.view_is) c.requires.held in
-    let added = subst (λ r. IfSome r (λ n. goals ++ n.added.keys ≡ grown eq goals answer)) c.in-Some.is c.in-Ok.ensures.added in
-    let numbers = subst (λ r. IfSome r (λ n. n.answer ≡ answer_from eq goals answer)) c.in-Some.is c.in-Ok.ensures.numbers in
-    let more : c.append.new.self.keys ≡ grown eq goals answer = c.in-Ok-append.ensures.keys ∙ all-again eq goals numbered.added.keys (arguments_of answer) added in
-    let long = added-count eq g.met.G.Eq.laws.refl goals i.states.items answer numbered.added.keys c.len-count.result added c.len-count.ensures.len in
-    let behind = c.add_free.ensures ∙ ap (λ l. l ++ replicate c.len-count.result Free) c.in-Ok-reserve.ensures.items in
-    filed-rows eq g.met.G.Eq.laws.refl goals i.states.items answer c.append.new.self.keys c.add_free.new.states.items numbered.answer c.len-count.result c.args.row (Held c.args.worker) more long behind numbers held
+    let new = c.number_whole.new.rows.keys in
+    let more = subst (λ r. IfSome r (λ _. new ≡ grown eq goals answer)) c.in-Some.is c.in-Ok.ensures.added in
+    let given = subst (λ r. IfSome r (λ n. n ≡ answer_from eq goals answer)) c.in-Some.is c.in-Ok.ensures.numbers in
+    let long : length (grown eq goals answer) ≡ length goals + (c.len.result - c.len-rows.result) = omega (arith, ap length more, c.len.ensures.len, c.len-rows.ensures, c.self.invariant.paired, all-length eq goals (arguments_of answer)) in
+    let behind = c.add_free.ensures ∙ ap (λ l. l ++ replicate (c.len.result - c.len-rows.result) Free) c.in-Ok-reserve.ensures.items in
+    filed-rows eq g.met.G.Eq.laws.refl goals i.states.items answer new c.add_free.new.states.items numbers (c.len.result - c.len-rows.result) c.args.row (Held c.args.worker) more long behind given held
     ∙ ap (λ v. filed eq v.rows c.args.row answer) c.self.view_is

@@ -1,5 +1,4 @@
 use Rattle.std.proofs.Common.{sym, ap, subst}
-use Rattle.std.specs.Prelude.{Contains}
 use Rattle.cls_expand.specs.Memos.{StoreSeen, IsStore}
 use Rattle.cls_expand.proofs.Keeping.{alone-store, alone-is}
 use Rattle.cls_expand.proofs.store.Store.replace.Goals as goal
