@@ -37,30 +37,28 @@ use std::time::Instant;
 /// A name that no other schema has.
 const END: u32 = 9_999_999;
 
-fn bare(alloc: Global, number: u32) -> Result<Ty, OutOfMemory> {
-    Ok(Ty::Con(Name(number), Box::new(alloc, Ty::Omega)?))
+fn bare(number: u32) -> Ty {
+    Ty::Bare(Name(number))
 }
 
-fn name(alloc: Global, number: u32) -> Result<Schema, OutOfMemory> {
-    Ok(Schema::Con(Name(number), Box::new(alloc, Schema::Omega)?))
+fn name(number: u32) -> Schema {
+    Schema::Bare(Name(number))
 }
 
 fn arrow(alloc: Global, source: Schema, target: u32) -> Result<Schema, OutOfMemory> {
-    let source = Box::new(alloc, source)?;
-    Ok(Schema::Arrow(source, Box::new(alloc, name(alloc, target)?)?))
+    Ok(Schema::Arrow(Box::new(alloc, (source, name(target)))?))
 }
 
 fn both(alloc: Global, left: Schema, right: Schema) -> Result<Schema, OutOfMemory> {
-    let left = Box::new(alloc, left)?;
-    Ok(Schema::Meet(left, Box::new(alloc, right)?))
+    Ok(Schema::Meet(Box::new(alloc, (left, right))?))
 }
 
 /// For each number below `count` two arrows to that name.
 fn pairs(alloc: Global, count: u32) -> Result<Schema, OutOfMemory> {
     let mut all = Schema::Omega;
     for j in 0..count {
-        let first = arrow(alloc, name(alloc, j.wrapping_add(100_000))?, j)?;
-        let second = arrow(alloc, name(alloc, j.wrapping_add(200_000))?, j)?;
+        let first = arrow(alloc, name(j.wrapping_add(100_000)), j)?;
+        let second = arrow(alloc, name(j.wrapping_add(200_000)), j)?;
         all = both(alloc, all, both(alloc, first, second)?)?;
     }
     Ok(all)
@@ -68,8 +66,8 @@ fn pairs(alloc: Global, count: u32) -> Result<Schema, OutOfMemory> {
 
 /// The four arrows between the names 0 and 1.
 fn four(alloc: Global) -> Result<Schema, OutOfMemory> {
-    let from_first = both(alloc, arrow(alloc, name(alloc, 0)?, 0)?, arrow(alloc, name(alloc, 0)?, 1)?)?;
-    let from_second = both(alloc, arrow(alloc, name(alloc, 1)?, 0)?, arrow(alloc, name(alloc, 1)?, 1)?)?;
+    let from_first = both(alloc, arrow(alloc, name(0), 0)?, arrow(alloc, name(0), 1)?)?;
+    let from_second = both(alloc, arrow(alloc, name(1), 0)?, arrow(alloc, name(1), 1)?)?;
     both(alloc, from_first, from_second)
 }
 
@@ -78,7 +76,7 @@ fn schema(alloc: Global, case: u32, count: u32) -> Result<Schema, OutOfMemory> {
         0 => pairs(alloc, count),
         1 => arrow(alloc, Schema::Var(Name(0)), 0),
         2 => {
-            let one = arrow(alloc, name(alloc, END)?, 0)?;
+            let one = arrow(alloc, name(END), 0)?;
             both(alloc, one, arrow(alloc, Schema::Var(Name(0)), 1)?)
         }
         _ => four(alloc),
@@ -89,8 +87,7 @@ fn schema(alloc: Global, case: u32, count: u32) -> Result<Schema, OutOfMemory> {
 fn names(alloc: Global, count: u32) -> Result<Ty, OutOfMemory> {
     let mut all = Ty::Omega;
     for j in 0..count {
-        let left = Box::new(alloc, all)?;
-        all = Ty::Meet(left, Box::new(alloc, bare(alloc, j)?)?);
+        all = Ty::Meet(Box::new(alloc, (all, bare(j)))?);
     }
     Ok(all)
 }
@@ -99,7 +96,7 @@ fn names(alloc: Global, count: u32) -> Result<Ty, OutOfMemory> {
 fn kinds(alloc: Global, count: u32) -> Result<Kinds, OutOfMemory> {
     let mut items = Vec::new(alloc);
     for number in 0..count {
-        items.push(bare(alloc, number.wrapping_add(300_000))?)?;
+        items.push(bare(number.wrapping_add(300_000)))?;
     }
     let choices = Choices::new(items);
     let mut kinds = Kinds::new(alloc);
@@ -115,7 +112,7 @@ fn library(alloc: Global, case: u32, count: u32) -> Result<Library, OutOfMemory>
     };
     let mut schemas = Vec::new(alloc);
     schemas.push(schema(alloc, case, count)?)?;
-    schemas.push(name(alloc, 0)?)?;
+    schemas.push(name(0))?;
     match Library::build(alloc, taxonomy, &schemas, &kinds(alloc, count)?) {
         Ok(library) => Ok(library),
         Err(_) => Err(OutOfMemory),

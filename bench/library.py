@@ -28,25 +28,23 @@ use std::time::Instant;
 /// A name that no variable has.
 const END: u32 = 9_999_999;
 
-fn bare(alloc: Global, number: u32) -> Result<Ty, OutOfMemory> {
-    Ok(Ty::Con(Name(number), Box::new(alloc, Ty::Omega)?))
+fn bare(number: u32) -> Ty {
+    Ty::Bare(Name(number))
 }
 
-fn name(alloc: Global, number: u32) -> Result<Schema, OutOfMemory> {
-    Ok(Schema::Con(Name(number), Box::new(alloc, Schema::Omega)?))
+fn name(number: u32) -> Schema {
+    Schema::Bare(Name(number))
 }
 
 fn arrow(alloc: Global, source: Schema, target: Schema) -> Result<Schema, OutOfMemory> {
-    let source = Box::new(alloc, source)?;
-    Ok(Schema::Arrow(source, Box::new(alloc, target)?))
+    Ok(Schema::Arrow(Box::new(alloc, (source, target))?))
 }
 
 /// The intersection of names from the first on.
 fn wide(alloc: Global, first: u32, count: u32) -> Result<Ty, OutOfMemory> {
-    let mut ty = bare(alloc, first)?;
+    let mut ty = bare(first);
     for number in 1..count {
-        let left = Box::new(alloc, ty)?;
-        ty = Ty::Meet(left, Box::new(alloc, bare(alloc, first.wrapping_add(number))?)?);
+        ty = Ty::Meet(Box::new(alloc, (ty, bare(first.wrapping_add(number))))?);
     }
     Ok(ty)
 }
@@ -55,10 +53,8 @@ fn wide(alloc: Global, first: u32, count: u32) -> Result<Ty, OutOfMemory> {
 fn fan(alloc: Global, first: u32, count: u32) -> Result<Ty, OutOfMemory> {
     let mut ty = Ty::Omega;
     for number in 0..count {
-        let source = Box::new(alloc, bare(alloc, first.wrapping_add(number))?)?;
-        let one = Ty::Arrow(source, Box::new(alloc, bare(alloc, END)?)?);
-        let left = Box::new(alloc, ty)?;
-        ty = Ty::Meet(left, Box::new(alloc, one)?);
+        let one = Ty::Arrow(Box::new(alloc, (bare(first.wrapping_add(number)), bare(END)))?);
+        ty = Ty::Meet(Box::new(alloc, (ty, one))?);
     }
     Ok(ty)
 }
@@ -101,29 +97,26 @@ fn kinds(alloc: Global, width: u32) -> Result<Kinds, OutOfMemory> {
 
 /// Arrows from names to a name, behind an arrow from the variable 0.
 fn long(alloc: Global) -> Result<Schema, OutOfMemory> {
-    let mut schema = name(alloc, END)?;
+    let mut schema = name(END);
     for number in 0..31 {
-        schema = arrow(alloc, name(alloc, number)?, schema)?;
+        schema = arrow(alloc, name(number), schema)?;
     }
     arrow(alloc, Schema::Var(Name(0)), schema)
 }
 
 /// Two arrows from the variables 6 and 7 to 36 names.
 fn many(alloc: Global) -> Result<Schema, OutOfMemory> {
-    let mut target = name(alloc, 8_000_000)?;
+    let mut target = name(8_000_000);
     for number in 1..36 {
-        let left = Box::new(alloc, target)?;
-        target = Schema::Meet(left, Box::new(alloc, name(alloc, 8_000_000 + number)?)?);
+        target = Schema::Meet(Box::new(alloc, (target, name(8_000_000 + number)))?);
     }
     let inner = arrow(alloc, Schema::Var(Name(7)), target)?;
     arrow(alloc, Schema::Var(Name(6)), inner)
 }
 
 fn three(alloc: Global) -> Result<Schema, OutOfMemory> {
-    let left = Box::new(alloc, name(alloc, 0)?)?;
-    let pair = Schema::Meet(left, Box::new(alloc, name(alloc, 1)?)?);
-    let left = Box::new(alloc, pair)?;
-    Ok(Schema::Meet(left, Box::new(alloc, name(alloc, 2)?)?))
+    let pair = Schema::Meet(Box::new(alloc, (name(0), name(1)))?);
+    Ok(Schema::Meet(Box::new(alloc, (pair, name(2)))?))
 }
 
 /// Three names, and seven times an arrow from what there is to three names.
@@ -138,8 +131,8 @@ fn tower(alloc: Global) -> Result<Schema, OutOfMemory> {
 fn schema(alloc: Global, case: u32) -> Result<Schema, OutOfMemory> {
     match case {
         0 => Ok(Schema::Var(Name(0))),
-        1 => arrow(alloc, Schema::Var(Name(0)), name(alloc, END)?),
-        2 => arrow(alloc, name(alloc, END)?, Schema::Var(Name(0))),
+        1 => arrow(alloc, Schema::Var(Name(0)), name(END)),
+        2 => arrow(alloc, name(END), Schema::Var(Name(0))),
         3 => {
             let inner = arrow(alloc, Schema::Var(Name(2)), Schema::Var(Name(3)))?;
             arrow(alloc, Schema::Var(Name(1)), inner)
@@ -150,10 +143,9 @@ fn schema(alloc: Global, case: u32) -> Result<Schema, OutOfMemory> {
         7 => tower(alloc),
         8 => many(alloc),
         _ => {
-            let pair = Box::new(alloc, name(alloc, 0)?)?;
-            let pair = Schema::Meet(pair, Box::new(alloc, name(alloc, 1)?)?);
-            let one = Box::new(alloc, arrow(alloc, pair, name(alloc, 8_000_000)?)?)?;
-            Ok(Schema::Meet(one, Box::new(alloc, many(alloc)?)?))
+            let pair = Schema::Meet(Box::new(alloc, (name(0), name(1)))?);
+            let one = arrow(alloc, pair, name(8_000_000))?;
+            Ok(Schema::Meet(Box::new(alloc, (one, many(alloc)?))?))
         }
     }
 }

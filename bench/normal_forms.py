@@ -24,37 +24,36 @@ use std::alloc::Global;
 use std::io;
 use std::time::Instant;
 
-fn bare(alloc: Global, number: u32) -> Result<Ty, OutOfMemory> {
-    Ok(Ty::Con(Name(number), Box::new(alloc, Ty::Omega)?))
+fn bare(number: u32) -> Ty {
+    Ty::Bare(Name(number))
 }
 
 fn arrow(alloc: Global, source: Ty, target: Ty) -> Result<Ty, OutOfMemory> {
-    let source = Box::new(alloc, source)?;
-    Ok(Ty::Arrow(source, Box::new(alloc, target)?))
+    Ok(Ty::Arrow(Box::new(alloc, (source, target))?))
 }
 
 /// A path with 32 arrows, of which the first and the last source are given.
 fn tower(alloc: Global, inner: u32, outer: u32) -> Result<Ty, OutOfMemory> {
-    let mut ty = arrow(alloc, bare(alloc, inner)?, bare(alloc, 9_999_999)?)?;
+    let mut ty = arrow(alloc, bare(inner), bare(9_999_999))?;
     for number in 0..30 {
-        ty = arrow(alloc, bare(alloc, number)?, ty)?;
+        ty = arrow(alloc, bare(number), ty)?;
     }
-    arrow(alloc, bare(alloc, outer)?, ty)
+    arrow(alloc, bare(outer), ty)
 }
 
 /// Two arrows, over names of three kinds of 16.
 fn curried(alloc: Global, number: u32) -> Result<Ty, OutOfMemory> {
-    let source = bare(alloc, 100 + number % 16)?;
-    let target = bare(alloc, 200 + (number / 16) % 16)?;
+    let source = bare(100 + number % 16);
+    let target = bare(200 + (number / 16) % 16);
     let inner = arrow(alloc, source, target)?;
-    arrow(alloc, bare(alloc, number / 256)?, inner)
+    arrow(alloc, bare(number / 256), inner)
 }
 
 fn shaped(alloc: Global, shape: &str, number: u32) -> Result<Ty, OutOfMemory> {
     match shape {
-        "names" => bare(alloc, number),
-        "sources" => arrow(alloc, bare(alloc, number)?, bare(alloc, 9_999_999)?),
-        "targets" => arrow(alloc, bare(alloc, 9_999_999)?, bare(alloc, number)?),
+        "names" => Ok(bare(number)),
+        "sources" => arrow(alloc, bare(number), bare(9_999_999)),
+        "targets" => arrow(alloc, bare(9_999_999), bare(number)),
         "curried" => curried(alloc, number),
         "first" => tower(alloc, 7, number),
         _ => tower(alloc, number, 7),
@@ -66,8 +65,7 @@ fn wide(alloc: Global, shape: &str, count: u32) -> Result<Ty, OutOfMemory> {
     let mut ty = Ty::Omega;
     for number in 0..count {
         let one = shaped(alloc, shape, number.wrapping_mul(2_654_435_761) % 4096)?;
-        let left = Box::new(alloc, ty)?;
-        ty = Ty::Meet(left, Box::new(alloc, one)?);
+        ty = Ty::Meet(Box::new(alloc, (ty, one))?);
     }
     Ok(ty)
 }

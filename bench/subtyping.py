@@ -25,18 +25,17 @@ use std::io;
 use std::time::Instant;
 
 fn pair(alloc: Global, operator: u8, left: Ty, right: Ty) -> Result<Ty, OutOfMemory> {
-    let right = Box::new(alloc, right)?;
     if operator == b'@' {
         return match left {
-            Ty::Con(name, _) => Ok(Ty::Con(name, right)),
+            Ty::Bare(name) | Ty::Con(name, _) => Ty::over(alloc, name, right),
             _ => Ok(Ty::Omega),
         };
     }
-    let left = Box::new(alloc, left)?;
+    let parts = Box::new(alloc, (left, right))?;
     match operator {
-        b'&' => Ok(Ty::Meet(left, right)),
-        b'*' => Ok(Ty::Prod(left, right)),
-        _ => Ok(Ty::Arrow(left, right)),
+        b'&' => Ok(Ty::Meet(parts)),
+        b'*' => Ok(Ty::Prod(parts)),
+        _ => Ok(Ty::Arrow(parts)),
     }
 }
 
@@ -50,7 +49,7 @@ fn read(alloc: Global, word: &str) -> Result<Ty, OutOfMemory> {
                 let left = parts.pop().unwrap_or(Ty::Omega);
                 pair(alloc, *byte, left, right)?
             }
-            letter => Ty::Con(Name(u32::from(letter.saturating_sub(b'A'))), Box::new(alloc, Ty::Omega)?),
+            letter => Ty::Bare(Name(u32::from(letter.saturating_sub(b'A')))),
         };
         parts.push(part)?;
     }

@@ -16,7 +16,7 @@ abbrev pub schema_of : Schema → OpenType
 schema_of Omega = omega
 schema_of (Bare c) = constructor c.0 omega
 schema_of (Con' c p s) = constructor c.0 (schema_of s)
-schema_of (Prod' p s q t) = product (schema_of s) (schema_of t)
-schema_of (Arrow' p s q t) = arrow (schema_of s) (schema_of t)
-schema_of (Meet' p s q t) = meet (schema_of s) (schema_of t)
+schema_of (Prod' p s t) = product (schema_of s) (schema_of t)
+schema_of (Arrow' p s t) = arrow (schema_of s) (schema_of t)
+schema_of (Meet' p s t) = meet (schema_of s) (schema_of t)
 schema_of (Var v) = variable v.0

@@ -6,6 +6,6 @@ abbrev pub type_of : Ty → ClosedType
 type_of Omega = omega
 type_of (Bare c) = constructor c.0 omega
 type_of (Con' c p s) = constructor c.0 (type_of s)
-type_of (Prod' p s q t) = product (type_of s) (type_of t)
-type_of (Arrow' p s q t) = arrow (type_of s) (type_of t)
-type_of (Meet' p s q t) = meet (type_of s) (type_of t)
+type_of (Prod' p s t) = product (type_of s) (type_of t)
+type_of (Arrow' p s t) = arrow (type_of s) (type_of t)
+type_of (Meet' p s t) = meet (type_of s) (type_of t)

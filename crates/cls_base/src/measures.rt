@@ -61,7 +61,8 @@ impl Ty {
             Ty::Omega => 1,
             Ty::Bare(_) => 2,
             Ty::Con(_, argument) => 1 + argument.nodes(),
-            Ty::Prod(left, right) | Ty::Arrow(left, right) | Ty::Meet(left, right) => {
+            Ty::Prod(sides) | Ty::Arrow(sides) | Ty::Meet(sides) => {
+                let (left, right) = &**sides;
                 1 + left.nodes() + right.nodes()
             }
         }
@@ -90,19 +91,22 @@ impl Ty {
                     1 + argument.depth_at(Place::Whole)
                 }
             }
-            Ty::Prod(left, right) => {
+            Ty::Prod(sides) => {
+                let (left, right) = &**sides;
                 let inside = left
                     .depth_at(Place::Factor)
                     .max(right.depth_at(Place::Atom));
                 place.round_product() + inside
             }
-            Ty::Arrow(source, target) => {
+            Ty::Arrow(sides) => {
+                let (source, target) = &**sides;
                 let inside = source
                     .depth_at(Place::Source)
                     .max(target.depth_at(Place::Whole));
                 place.round_arrow() + inside
             }
-            Ty::Meet(left, right) => {
+            Ty::Meet(sides) => {
+                let (left, right) = &**sides;
                 let inside = left
                     .depth_at(Place::Source)
                     .max(right.depth_at(Place::Factor));
@@ -132,18 +136,21 @@ impl Ty {
                 let paths = paths.max(1);
                 (paths, CAP.min(spread + paths))
             }
-            Ty::Prod(left, right) => {
+            Ty::Prod(sides) => {
+                let (left, right) = &**sides;
                 let (p, s) = left.weight();
                 let (q, t) = right.weight();
                 let paths = CAP.min((p + q).max(1));
                 (paths, CAP.min(s + t + paths))
             }
-            Ty::Arrow(source, target) => {
+            Ty::Arrow(sides) => {
+                let (source, target) = &**sides;
                 let (_, s) = source.weight();
                 let (q, t) = target.weight();
                 (q, CAP.min(t + q * (1 + s)))
             }
-            Ty::Meet(left, right) => {
+            Ty::Meet(sides) => {
+                let (left, right) = &**sides;
                 let (p, s) = left.weight();
                 let (q, t) = right.weight();
                 (CAP.min(p + q), CAP.min(s + t))

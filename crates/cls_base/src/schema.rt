@@ -15,11 +15,11 @@ pub enum Schema {
     /// A constructor over a schema. Over omega it stands for the same tree as the bare name.
     Con(Name, Box<Schema>),
     /// A product of two schemas.
-    Prod(Box<Schema>, Box<Schema>),
+    Prod(Box<(Schema, Schema)>),
     /// The functions from the first schema to the second.
-    Arrow(Box<Schema>, Box<Schema>),
+    Arrow(Box<(Schema, Schema)>),
     /// The intersection of two schemas.
-    Meet(Box<Schema>, Box<Schema>),
+    Meet(Box<(Schema, Schema)>),
     /// A variable, numbered in a table of its own.
     Var(Name),
 }
@@ -46,17 +46,20 @@ impl Schema {
                 let argument = Box::new(alloc, argument.copy(alloc)?)?;
                 Ok(Schema::Con(*name, argument))
             }
-            Schema::Prod(left, right) => {
-                let left = Box::new(alloc, left.copy(alloc)?)?;
-                Ok(Schema::Prod(left, Box::new(alloc, right.copy(alloc)?)?))
+            Schema::Prod(sides) => {
+                let left = sides.0.copy(alloc)?;
+                let right = sides.1.copy(alloc)?;
+                Ok(Schema::Prod(Box::new(alloc, (left, right))?))
             }
-            Schema::Arrow(source, target) => {
-                let source = Box::new(alloc, source.copy(alloc)?)?;
-                Ok(Schema::Arrow(source, Box::new(alloc, target.copy(alloc)?)?))
+            Schema::Arrow(sides) => {
+                let left = sides.0.copy(alloc)?;
+                let right = sides.1.copy(alloc)?;
+                Ok(Schema::Arrow(Box::new(alloc, (left, right))?))
             }
-            Schema::Meet(left, right) => {
-                let left = Box::new(alloc, left.copy(alloc)?)?;
-                Ok(Schema::Meet(left, Box::new(alloc, right.copy(alloc)?)?))
+            Schema::Meet(sides) => {
+                let left = sides.0.copy(alloc)?;
+                let right = sides.1.copy(alloc)?;
+                Ok(Schema::Meet(Box::new(alloc, (left, right))?))
             }
             Schema::Var(variable) => Ok(Schema::Var(*variable)),
         }

@@ -26,11 +26,11 @@ pub enum Ty {
     /// A constructor over a type. Over omega it stands for the same tree as the bare name.
     Con(Name, Box<Ty>),
     /// A product of two types.
-    Prod(Box<Ty>, Box<Ty>),
+    Prod(Box<(Ty, Ty)>),
     /// The functions from the first type to the second.
-    Arrow(Box<Ty>, Box<Ty>),
+    Arrow(Box<(Ty, Ty)>),
     /// The intersection of two types.
-    Meet(Box<Ty>, Box<Ty>),
+    Meet(Box<(Ty, Ty)>),
 }
 
 impl Ty {
@@ -61,9 +61,9 @@ impl Ty {
             (Ty::Bare(c), Ty::Con(d, t)) => c.0.cmp(&d.0).then(Ty::Omega.form().cmp(&t.form())),
             (Ty::Con(c, s), Ty::Bare(d)) => c.0.cmp(&d.0).then(s.form().cmp(&Ty::Omega.form())),
             (Ty::Con(c, s), Ty::Con(d, t)) => c.0.cmp(&d.0).then(s.order_by_parts(t)),
-            (Ty::Prod(s, t), Ty::Prod(u, v)) => s.order_by_parts(u).then(t.order_by_parts(v)),
-            (Ty::Arrow(s, t), Ty::Arrow(u, v)) => s.order_by_parts(u).then(t.order_by_parts(v)),
-            (Ty::Meet(s, t), Ty::Meet(u, v)) => s.order_by_parts(u).then(t.order_by_parts(v)),
+            (Ty::Prod(s), Ty::Prod(u)) => s.0.order_by_parts(&u.0).then(s.1.order_by_parts(&u.1)),
+            (Ty::Arrow(s), Ty::Arrow(u)) => s.0.order_by_parts(&u.0).then(s.1.order_by_parts(&u.1)),
+            (Ty::Meet(s), Ty::Meet(u)) => s.0.order_by_parts(&u.0).then(s.1.order_by_parts(&u.1)),
             (one, another) => one.form().cmp(&another.form()),
         }
     }
@@ -92,17 +92,20 @@ impl Ty {
                 let argument = Box::new(alloc, argument.copy(alloc)?)?;
                 Ok(Ty::Con(*name, argument))
             }
-            Ty::Prod(left, right) => {
-                let left = Box::new(alloc, left.copy(alloc)?)?;
-                Ok(Ty::Prod(left, Box::new(alloc, right.copy(alloc)?)?))
+            Ty::Prod(sides) => {
+                let left = sides.0.copy(alloc)?;
+                let right = sides.1.copy(alloc)?;
+                Ok(Ty::Prod(Box::new(alloc, (left, right))?))
             }
-            Ty::Arrow(source, target) => {
-                let source = Box::new(alloc, source.copy(alloc)?)?;
-                Ok(Ty::Arrow(source, Box::new(alloc, target.copy(alloc)?)?))
+            Ty::Arrow(sides) => {
+                let left = sides.0.copy(alloc)?;
+                let right = sides.1.copy(alloc)?;
+                Ok(Ty::Arrow(Box::new(alloc, (left, right))?))
             }
-            Ty::Meet(left, right) => {
-                let left = Box::new(alloc, left.copy(alloc)?)?;
-                Ok(Ty::Meet(left, Box::new(alloc, right.copy(alloc)?)?))
+            Ty::Meet(sides) => {
+                let left = sides.0.copy(alloc)?;
+                let right = sides.1.copy(alloc)?;
+                Ok(Ty::Meet(Box::new(alloc, (left, right))?))
             }
         }
     }

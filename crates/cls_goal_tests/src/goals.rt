@@ -56,20 +56,19 @@ pub fn doubling(alloc: Global, count: u32) -> Result<Library, Fail>
 {
     let mut schemas = Vec::new(alloc);
     for number in 0..count {
-        let one = arrow(alloc, name(alloc, number + 1)?, name(alloc, number)?)?;
-        schemas.push(arrow(alloc, name(alloc, number + 1)?, one)?)?;
+        let one = arrow(alloc, name(number + 1), name(number))?;
+        schemas.push(arrow(alloc, name(number + 1), one)?)?;
     }
-    schemas.push(name(alloc, count)?)?;
+    schemas.push(name(count))?;
     library(alloc, &schemas)
 }
 
-fn name(alloc: Global, number: u32) -> Result<Schema, Fail> {
-    Ok(Schema::Bare(Name(number)))
+fn name(number: u32) -> Schema {
+    Schema::Bare(Name(number))
 }
 
 fn arrow(alloc: Global, source: Schema, target: Schema) -> Result<Schema, Fail> {
-    let source = Box::new(alloc, source)?;
-    Ok(Schema::Arrow(source, Box::new(alloc, target)?))
+    Ok(Schema::Arrow(Box::new(alloc, (source, target))?))
 }
 
 /// The goal that the text spells.

@@ -30,17 +30,20 @@ pub(crate) fn fill(alloc: Global, schema: &Schema, chosen: &[Chosen<'_>]) -> Res
             let argument = fill(alloc, argument, chosen)?;
             Ok(Ty::over(alloc, *name, argument)?)
         }
-        Schema::Prod(left, right) => {
-            let left = Box::new(alloc, fill(alloc, left, chosen)?)?;
-            Ok(Ty::Prod(left, Box::new(alloc, fill(alloc, right, chosen)?)?))
+        Schema::Prod(sides) => {
+            let left = fill(alloc, &sides.0, chosen)?;
+            let right = fill(alloc, &sides.1, chosen)?;
+            Ok(Ty::Prod(Box::new(alloc, (left, right))?))
         }
-        Schema::Arrow(source, target) => {
-            let source = Box::new(alloc, fill(alloc, source, chosen)?)?;
-            Ok(Ty::Arrow(source, Box::new(alloc, fill(alloc, target, chosen)?)?))
+        Schema::Arrow(sides) => {
+            let left = fill(alloc, &sides.0, chosen)?;
+            let right = fill(alloc, &sides.1, chosen)?;
+            Ok(Ty::Arrow(Box::new(alloc, (left, right))?))
         }
-        Schema::Meet(left, right) => {
-            let left = Box::new(alloc, fill(alloc, left, chosen)?)?;
-            Ok(Ty::Meet(left, Box::new(alloc, fill(alloc, right, chosen)?)?))
+        Schema::Meet(sides) => {
+            let left = fill(alloc, &sides.0, chosen)?;
+            let right = fill(alloc, &sides.1, chosen)?;
+            Ok(Ty::Meet(Box::new(alloc, (left, right))?))
         }
         Schema::Var(variable) => match type_of(chosen, variable.0) {
             Some(ty) => ty.copy(alloc),
@@ -57,7 +60,8 @@ pub(crate) fn filled_nodes(schema: &Schema, chosen: &[Chosen<'_>]) -> u64
         Schema::Omega => 1,
         Schema::Bare(_) => 2,
         Schema::Con(_, argument) => TOO_MANY.min(1 + filled_nodes(argument, chosen)),
-        Schema::Prod(left, right) | Schema::Arrow(left, right) | Schema::Meet(left, right) => {
+        Schema::Prod(sides) | Schema::Arrow(sides) | Schema::Meet(sides) => {
+            let (left, right) = &**sides;
             TOO_MANY.min(1 + filled_nodes(left, chosen) + filled_nodes(right, chosen))
         }
         Schema::Var(variable) => match type_of(chosen, variable.0) {
@@ -75,7 +79,8 @@ fn type_nodes(ty: &Ty) -> u64
         Ty::Omega => 1,
         Ty::Bare(_) => 2,
         Ty::Con(_, argument) => TOO_MANY.min(1 + type_nodes(argument)),
-        Ty::Prod(left, right) | Ty::Arrow(left, right) | Ty::Meet(left, right) => {
+        Ty::Prod(sides) | Ty::Arrow(sides) | Ty::Meet(sides) => {
+            let (left, right) = &**sides;
             TOO_MANY.min(1 + type_nodes(left) + type_nodes(right))
         }
     }

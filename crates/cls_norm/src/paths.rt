@@ -29,18 +29,21 @@ pub(crate) fn paths_of<T: Taxa>(alloc: Global, taxa: &T, ty: &Ty) -> Result<Vec<
                 }
             }
         }
-        Ty::Prod(first, second) => {
+        Ty::Prod(sides) => {
+            let (first, second) = &**sides;
             let first = paths_of(alloc, taxa, first)?;
             let second = paths_of(alloc, taxa, second)?;
             Ok(in_product(alloc, first, second)?)
         }
-        Ty::Arrow(source, target) => {
+        Ty::Arrow(sides) => {
+            let (source, target) = &**sides;
             let source = paths_of(alloc, taxa, source)?;
             let source = Nf::from_paths(alloc, taxa, source)?;
             let target = paths_of(alloc, taxa, target)?;
             Ok(from_source(alloc, source, target)?)
         }
-        Ty::Meet(first, second) => {
+        Ty::Meet(sides) => {
+            let (first, second) = &**sides;
             let first = paths_of(alloc, taxa, first)?;
             let second = paths_of(alloc, taxa, second)?;
             Ok(joined(first, second)?)

@@ -58,7 +58,8 @@ fn put_pieces<'a>(ty: &'a Ty, pieces: &mut Vec<&'a Ty>) -> Result<(), OutOfMemor
     ensures { OnOk result (Joins (type_of ty.now) pieces.old.items pieces.new.items) }
 {
     match ty {
-        Ty::Meet(first, second) => {
+        Ty::Meet(sides) => {
+            let (first, second) = &**sides;
             put_pieces(first, pieces)?;
             Ok(put_pieces(second, pieces)?)
         }
@@ -94,17 +95,20 @@ fn are_below<T: Taxa>(
                 Ok(has_name_below(alloc, taxa, lowers, *name, argument)?)
             }
         },
-        Ty::Prod(first, second) => {
+        Ty::Prod(sides) => {
+            let (first, second) = &**sides;
             if !parts_are_below(alloc, taxa, lowers, Step::Left, first)? {
                 return Ok(false);
             }
             Ok(parts_are_below(alloc, taxa, lowers, Step::Right, second)?)
         }
-        Ty::Arrow(source, target) => {
+        Ty::Arrow(sides) => {
+            let (source, target) = &**sides;
             let step = Step::Source(source);
             Ok(parts_are_below(alloc, taxa, lowers, step, target)?)
         }
-        Ty::Meet(first, second) => {
+        Ty::Meet(sides) => {
+            let (first, second) = &**sides;
             if !are_below(alloc, taxa, lowers, first)? {
                 return Ok(false);
             }
@@ -204,21 +208,28 @@ fn put_parts<'a, T: Taxa>(
             }
             Ok(())
         }
-        Ty::Prod(first, second) => match step {
-            Step::Left => Ok(parts.push(first)?),
-            Step::Right => Ok(parts.push(second)?),
-            Step::Name(_) | Step::Source(_) => Ok(()),
-        },
-        Ty::Arrow(source, target) => match step {
-            Step::Source(taken) => {
-                if are_below(alloc, taxa, &[taken], source)? {
-                    parts.push(target)?;
-                }
-                Ok(())
+        Ty::Prod(sides) => {
+            let (first, second) = &**sides;
+            match step {
+                Step::Left => Ok(parts.push(first)?),
+                Step::Right => Ok(parts.push(second)?),
+                Step::Name(_) | Step::Source(_) => Ok(()),
             }
-            Step::Name(_) | Step::Left | Step::Right => Ok(()),
         },
-        Ty::Meet(first, second) => {
+        Ty::Arrow(sides) => {
+            let (source, target) = &**sides;
+            match step {
+                Step::Source(taken) => {
+                    if are_below(alloc, taxa, &[taken], source)? {
+                        parts.push(target)?;
+                    }
+                    Ok(())
+                }
+                Step::Name(_) | Step::Left | Step::Right => Ok(()),
+            }
+        },
+        Ty::Meet(sides) => {
+            let (first, second) = &**sides;
             put_parts(alloc, taxa, first, step, omega, parts)?;
             Ok(put_parts(alloc, taxa, second, step, omega, parts)?)
         }
@@ -307,7 +318,10 @@ fn has_name<T: Taxa>(taxa: &T, lower: &Ty, name: Name) -> bool
     match lower {
         Ty::Bare(other) => taxa.below(*other, name),
         Ty::Con(other, _) => taxa.below(*other, name),
-        Ty::Meet(first, second) => has_name(taxa, first, name) || has_name(taxa, second, name),
+        Ty::Meet(sides) => {
+            let (first, second) = &**sides;
+            has_name(taxa, first, name) || has_name(taxa, second, name)
+        }
         Ty::Omega | Ty::Prod(..) | Ty::Arrow(..) => false,
     }
 }
@@ -365,7 +379,8 @@ fn is_name_below<T: Taxa>(
                 Variance::Co | Variance::Contra => Ok(true),
             }
         }
-        Ty::Meet(first, second) => {
+        Ty::Meet(sides) => {
+            let (first, second) = &**sides;
             if is_name_below(alloc, taxa, first, name, argument)? {
                 return Ok(true);
             }

@@ -18,7 +18,7 @@ pub fn type_of(alloc: Global, nf: &Nf) -> Result<Ty, OutOfMemory>
             let mut ty = path_type(alloc, first)?;
             for path in rest {
                 let next = path_type(alloc, path)?;
-                ty = Ty::Meet(Box::new(alloc, ty)?, Box::new(alloc, next)?);
+                ty = Ty::Meet(Box::new(alloc, (ty, next))?);
             }
             Ok(ty)
         }
@@ -36,21 +36,19 @@ pub fn path_type(alloc: Global, path: &Path) -> Result<Ty, OutOfMemory>
             let rest = path_type(alloc, rest)?;
             Ok(Ty::Con(*name, Box::new(alloc, rest)?))
         }
-        Form::Unit => {
-            let left = Box::new(alloc, Ty::Omega)?;
-            Ok(Ty::Prod(left, Box::new(alloc, Ty::Omega)?))
-        }
+        Form::Unit => { Ok(Ty::Prod(Box::new(alloc, (Ty::Omega, Ty::Omega))?)) }
         Form::Left(rest) => {
-            let rest = Box::new(alloc, path_type(alloc, rest)?)?;
-            Ok(Ty::Prod(rest, Box::new(alloc, Ty::Omega)?))
+            let rest = path_type(alloc, rest)?;
+            Ok(Ty::Prod(Box::new(alloc, (rest, Ty::Omega))?))
         }
         Form::Right(rest) => {
-            let omega = Box::new(alloc, Ty::Omega)?;
-            Ok(Ty::Prod(omega, Box::new(alloc, path_type(alloc, rest)?)?))
+            let rest = path_type(alloc, rest)?;
+            Ok(Ty::Prod(Box::new(alloc, (Ty::Omega, rest))?))
         }
         Form::Arrow(source, rest) => {
-            let source = Box::new(alloc, type_of(alloc, source)?)?;
-            Ok(Ty::Arrow(source, Box::new(alloc, path_type(alloc, rest)?)?))
+            let source = type_of(alloc, source)?;
+            let rest = path_type(alloc, rest)?;
+            Ok(Ty::Arrow(Box::new(alloc, (source, rest))?))
         }
         Form::Sealed(name, argument) => {
             let argument = type_of(alloc, argument)?;

@@ -43,21 +43,24 @@ fn push_type(text: &mut String, names: &Names, ty: &Ty, strength: u8) -> Result<
                 text.push_str(")")?;
             }
         }
-        Ty::Arrow(source, target) => {
+        Ty::Arrow(sides) => {
+            let (source, target) = &**sides;
             push_if(text, strength > 0, "(")?;
             push_type(text, names, source, 1)?;
             text.push_str(" -> ")?;
             push_type(text, names, target, 0)?;
             push_if(text, strength > 0, ")")?;
         }
-        Ty::Meet(left, right) => {
+        Ty::Meet(sides) => {
+            let (left, right) = &**sides;
             push_if(text, strength > 1, "(")?;
             push_type(text, names, left, 1)?;
             text.push_str(" & ")?;
             push_type(text, names, right, 2)?;
             push_if(text, strength > 1, ")")?;
         }
-        Ty::Prod(left, right) => {
+        Ty::Prod(sides) => {
+            let (left, right) = &**sides;
             push_if(text, strength > 2, "(")?;
             push_type(text, names, left, 2)?;
             text.push_str(" * ")?;

@@ -82,15 +82,15 @@ impl Tree for Schema {
     }
 
     fn product(alloc: Global, left: Schema, right: Schema) -> Result<Schema, OutOfMemory> {
-        Ok(Schema::Prod(Box::new(alloc, left)?, Box::new(alloc, right)?))
+        Ok(Schema::Prod(Box::new(alloc, (left, right))?))
     }
 
     fn arrow(alloc: Global, source: Schema, target: Schema) -> Result<Schema, OutOfMemory> {
-        Ok(Schema::Arrow(Box::new(alloc, source)?, Box::new(alloc, target)?))
+        Ok(Schema::Arrow(Box::new(alloc, (source, target))?))
     }
 
     fn meet(alloc: Global, left: Schema, right: Schema) -> Result<Schema, OutOfMemory> {
-        Ok(Schema::Meet(Box::new(alloc, left)?, Box::new(alloc, right)?))
+        Ok(Schema::Meet(Box::new(alloc, (left, right))?))
     }
 }
 
@@ -116,14 +116,14 @@ impl Tree for Ty {
     }
 
     fn product(alloc: Global, left: Ty, right: Ty) -> Result<Ty, OutOfMemory> {
-        Ok(Ty::Prod(Box::new(alloc, left)?, Box::new(alloc, right)?))
+        Ok(Ty::Prod(Box::new(alloc, (left, right))?))
     }
 
     fn arrow(alloc: Global, source: Ty, target: Ty) -> Result<Ty, OutOfMemory> {
-        Ok(Ty::Arrow(Box::new(alloc, source)?, Box::new(alloc, target)?))
+        Ok(Ty::Arrow(Box::new(alloc, (source, target))?))
     }
 
     fn meet(alloc: Global, left: Ty, right: Ty) -> Result<Ty, OutOfMemory> {
-        Ok(Ty::Meet(Box::new(alloc, left)?, Box::new(alloc, right)?))
+        Ok(Ty::Meet(Box::new(alloc, (left, right))?))
     }
 }

@@ -2,24 +2,22 @@ use cls_base::{Name, Schema, Ty};
 use std::alloc::Global;
 use std::test::Fail;
 
-fn name(alloc: Global, number: u32) -> Result<Ty, Fail> {
-    Ok(Ty::Bare(Name(number)))
+fn name(number: u32) -> Ty {
+    Ty::Bare(Name(number))
 }
 
 fn meet(alloc: Global, left: Ty, right: Ty) -> Result<Ty, Fail> {
-    let left = Box::new(alloc, left)?;
-    Ok(Ty::Meet(left, Box::new(alloc, right)?))
+    Ok(Ty::Meet(Box::new(alloc, (left, right))?))
 }
 
 fn arrow(alloc: Global, source: Ty, target: Ty) -> Result<Ty, Fail> {
-    let source = Box::new(alloc, source)?;
-    Ok(Ty::Arrow(source, Box::new(alloc, target)?))
+    Ok(Ty::Arrow(Box::new(alloc, (source, target))?))
 }
 
 /// The intersection of three names.
 fn three(alloc: Global) -> Result<Ty, Fail> {
-    let pair = meet(alloc, name(alloc, 0)?, name(alloc, 1)?)?;
-    Ok(meet(alloc, pair, name(alloc, 2)?)?)
+    let pair = meet(alloc, name(0), name(1))?;
+    Ok(meet(alloc, pair, name(2))?)
 }
 
 /// So many arrows over one another, each into the intersection of three names.

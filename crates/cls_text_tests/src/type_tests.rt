@@ -112,7 +112,7 @@ fn names_are_numbered_in_order(rt: HostRuntime) -> Result<(), Fail> {
     let mut names = Names::new(alloc);
     let mut variables = Names::new(alloc);
     let schema = read_schema(alloc, &mut names, &mut variables, "b -> $a * b(c) & $b")?;
-    assert!(rt; matches!(schema, Schema::Arrow(_, _)));
+    assert!(rt; matches!(schema, Schema::Arrow(_)));
     assert_eq!(rt; (names.len(), variables.len()), (2, 2));
     assert_eq!(rt; names.find("c").map(|name| name.0), Some(1));
     assert!(rt; read_schema(alloc, &mut names, &mut variables, "d -> $e -> ,").is_err());

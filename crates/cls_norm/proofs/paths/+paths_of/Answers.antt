@@ -1,6 +1,7 @@
 use Rattle.std.proofs.Common.{rules, ◌≡◌, sym, ◌∙◌, ap, subst, ◌⊎◌, inl, inr}
 use Rattle.cls_base.specs.Ty.{type_of}
 use Rattle.cls_base.specs.Taxa.{Below, variance_of}
+use Rattle.cls_base.specs.declared.ty.Ty.{Ty}
 use Rattle.cls_base.specs.Taxonomies.{covariant, contravariant, invariant}
 use Rattle.cls_path.specs.Paths.{function, listed}
 use Rattle.cls_path.specs.NormalForms.{IsNormalForm}
@@ -52,12 +53,12 @@ returns-in_ok-in_product-in-Prod g t c =
     let v = g.T.Taxa.variance_of_name c.args.taxa.now in
     let one = g.met.T.Taxa.reflexive c.args.taxa.now in
     let through = g.met.T.Taxa.transitive c.args.taxa.now in
-    let s = c.in-Prod.first.value in
-    let t' = c.in-Prod.second.value in
+    let s = c.in-Prod.sides.value.0 in
+    let t' = c.in-Prod.sides.value.1 in
     let n = c.in_ok-first-in-Prod.first.items in
     let m = c.in_ok-second-in-Prod.second.items in
-    let h : ArePathsOf b v (type_of s) (listed n) = subst (λ x. ArePathsOf b v (type_of x) (listed n)) c.deref-in-Prod.ensures c.in_ok-first-in-Prod.ensures in
-    let k : ArePathsOf b v (type_of t') (listed m) = subst (λ x. ArePathsOf b v (type_of x) (listed m)) c.deref-in-Prod-2.ensures c.in_ok-second-in-Prod.ensures in
+    let h : ArePathsOf b v (type_of s) (listed n) = subst (λ (x : Ty × Ty). ArePathsOf b v (type_of x.0) (listed n)) c.deref-in-Prod.ensures c.in_ok-first-in-Prod.ensures in
+    let k : ArePathsOf b v (type_of t') (listed m) = subst (λ (x : Ty × Ty). ArePathsOf b v (type_of x.1) (listed m)) c.deref-in-Prod.ensures c.in_ok-second-in-Prod.ensures in
     rw (c.in-Prod.is, c.in_ok-in_product-in-Prod.ensures, listed-product n m) (product_paths b v one through (type_of s) (type_of t') (listed n) (listed m) h k)
 
 pub returns-in_ok-from_source-in-Arrow : goal.returns-in_ok-from_source-in-Arrow
@@ -66,14 +67,14 @@ returns-in_ok-from_source-in-Arrow g t c =
     let v = g.T.Taxa.variance_of_name c.args.taxa.now in
     let one = g.met.T.Taxa.reflexive c.args.taxa.now in
     let through = g.met.T.Taxa.transitive c.args.taxa.now in
-    let s = c.in-Arrow.source.value in
-    let t' = c.in-Arrow.target.value in
+    let s = c.in-Arrow.sides.value.0 in
+    let t' = c.in-Arrow.sides.value.1 in
     let n = listed c.in_ok-source-in-Arrow.source.items in
     let l = c.in_ok-source-in-Arrow-2.source in
     let m = c.in_ok-target-in-Arrow.target.items in
-    let h : ArePathsOf b v (type_of s) n = subst (λ x. ArePathsOf b v (type_of x) n) c.deref-in-Arrow.ensures c.in_ok-source-in-Arrow.ensures in
+    let h : ArePathsOf b v (type_of s) n = subst (λ (x : Ty × Ty). ArePathsOf b v (type_of x.0) n) c.deref-in-Arrow.ensures c.in_ok-source-in-Arrow.ensures in
     let f : IsNormalForm b v (type_of s) (listed l) = form_of_paths b v one through (type_of s) n (listed l) h c.in_ok-source-in-Arrow-2.ensures in
-    let k : ArePathsOf b v (type_of t') (listed m) = subst (λ x. ArePathsOf b v (type_of x) (listed m)) c.deref-in-Arrow-2.ensures c.in_ok-target-in-Arrow.ensures in
+    let k : ArePathsOf b v (type_of t') (listed m) = subst (λ (x : Ty × Ty). ArePathsOf b v (type_of x.1) (listed m)) c.deref-in-Arrow.ensures c.in_ok-target-in-Arrow.ensures in
     rw (c.in-Arrow.is, c.in_ok-from_source-in-Arrow.ensures, listed-map (function (listed l)) m) (arrow_paths b v one through (type_of s) (type_of t') (listed l) (listed m) f k)
 
 pub returns-in_ok-joined-in-Meet : goal.returns-in_ok-joined-in-Meet
@@ -82,10 +83,10 @@ returns-in_ok-joined-in-Meet g t c =
     let v = g.T.Taxa.variance_of_name c.args.taxa.now in
     let one = g.met.T.Taxa.reflexive c.args.taxa.now in
     let through = g.met.T.Taxa.transitive c.args.taxa.now in
-    let s = c.in-Meet.first.value in
-    let t' = c.in-Meet.second.value in
+    let s = c.in-Meet.sides.value.0 in
+    let t' = c.in-Meet.sides.value.1 in
     let n = c.in_ok-first-in-Meet.first.items in
     let m = c.in_ok-second-in-Meet.second.items in
-    let h : ArePathsOf b v (type_of s) (listed n) = subst (λ x. ArePathsOf b v (type_of x) (listed n)) c.deref-in-Meet.ensures c.in_ok-first-in-Meet.ensures in
-    let k : ArePathsOf b v (type_of t') (listed m) = subst (λ x. ArePathsOf b v (type_of x) (listed m)) c.deref-in-Meet-2.ensures c.in_ok-second-in-Meet.ensures in
+    let h : ArePathsOf b v (type_of s) (listed n) = subst (λ (x : Ty × Ty). ArePathsOf b v (type_of x.0) (listed n)) c.deref-in-Meet.ensures c.in_ok-first-in-Meet.ensures in
+    let k : ArePathsOf b v (type_of t') (listed m) = subst (λ (x : Ty × Ty). ArePathsOf b v (type_of x.1) (listed m)) c.deref-in-Meet.ensures c.in_ok-second-in-Meet.ensures in
     rw (c.in-Meet.is, c.in_ok-joined-in-Meet.ensures, listed-append n m) (meet_paths b v one through (type_of s) (type_of t') (listed n) (listed m) h k)

@@ -48,7 +48,7 @@ are_below-returns-then-not-branch g t c =
     let v = g.T.Taxa.variance_of_name c.args.taxa.now in
     let x = paths_of_all v c.args.lowers.now in
     let e = c.in_ok-parts_are_below-in-Prod.ensures in
-    let k = sides_decide b v x (paths_of v (type_of c.deref-in-Prod.result.now)) (paths_of v (type_of c.in-Prod.second.value)) in
+    let k = sides_decide b v x (paths_of v (type_of c.deref-in-Prod.result.now.0)) (paths_of v (type_of c.deref-in-Prod.result.now.1)) in
     rw (c.in-Prod.is, ← c.deref-in-Prod.ensures) (no (λ l. false≢true (sym c.if-not-branch.true ∙ e.1 (k.1 l).0)))
 
 pub are_below-returns-in_ok-parts_are_below-in-Prod-2 : goal.are_below-returns-in_ok-parts_are_below-in-Prod-2
@@ -58,12 +58,12 @@ are_below-returns-in_ok-parts_are_below-in-Prod-2 g t c =
     let x = paths_of_all v c.args.lowers.now in
     let e = c.in_ok-parts_are_below-in-Prod.ensures in
     let f = c.in_ok-parts_are_below-in-Prod-2.ensures in
-    let k = sides_decide b v x (paths_of v (type_of c.deref-in-Prod.result.now)) (paths_of v (type_of c.deref-in-Prod-2.result.now)) in
-    rw (c.in-Prod.is, ← c.deref-in-Prod.ensures, ← c.deref-in-Prod-2.ensures) ((λ h. k.0 (e.0 c.if-not-branch.false, f.0 h)), (λ l. f.1 (k.1 l).1))
+    let k = sides_decide b v x (paths_of v (type_of c.deref-in-Prod.result.now.0)) (paths_of v (type_of c.deref-in-Prod.result.now.1)) in
+    rw (c.in-Prod.is, ← c.deref-in-Prod.ensures) ((λ h. k.0 (e.0 c.if-not-branch.false, f.0 h)), (λ l. f.1 (k.1 l).1))
 
 pub are_below-returns-in_ok-parts_are_below-in-Arrow : goal.are_below-returns-in_ok-parts_are_below-in-Arrow
 are_below-returns-in_ok-parts_are_below-in-Arrow g t c =
-    rw (c.in-Arrow.is, ← c.deref-in-Arrow.ensures, ← c.deref-in-Arrow-2.ensures) c.in_ok-parts_are_below-in-Arrow.ensures
+    rw (c.in-Arrow.is, ← c.deref-in-Arrow.ensures) c.in_ok-parts_are_below-in-Arrow.ensures
 
 pub are_below-returns-then-not-branch-2 : goal.are_below-returns-then-not-branch-2
 are_below-returns-then-not-branch-2 g t c =
@@ -71,7 +71,7 @@ are_below-returns-then-not-branch-2 g t c =
     let v = g.T.Taxa.variance_of_name c.args.taxa.now in
     let x = paths_of_all v c.args.lowers.now in
     let e = c.in_ok-are_below-in-Meet.ensures in
-    let k = le_append b v x (paths_of v (type_of c.deref-in-Meet.result.now)) (paths_of v (type_of c.in-Meet.second.value)) in
+    let k = le_append b v x (paths_of v (type_of c.deref-in-Meet.result.now.0)) (paths_of v (type_of c.deref-in-Meet.result.now.1)) in
     rw (c.in-Meet.is, ← c.deref-in-Meet.ensures) (no (λ l. false≢true (sym c.if-not-branch-2.true ∙ e.1 (k.0 l).0)))
 
 pub are_below-returns-in_ok-are_below-in-Meet-2 : goal.are_below-returns-in_ok-are_below-in-Meet-2
@@ -81,8 +81,8 @@ are_below-returns-in_ok-are_below-in-Meet-2 g t c =
     let x = paths_of_all v c.args.lowers.now in
     let e = c.in_ok-are_below-in-Meet.ensures in
     let f = c.in_ok-are_below-in-Meet-2.ensures in
-    let k = le_append b v x (paths_of v (type_of c.deref-in-Meet.result.now)) (paths_of v (type_of c.deref-in-Meet-2.result.now)) in
-    rw (c.in-Meet.is, ← c.deref-in-Meet.ensures, ← c.deref-in-Meet-2.ensures) ((λ h. k.1 (e.0 c.if-not-branch-2.false, f.0 h)), (λ l. f.1 (k.0 l).1))
+    let k = le_append b v x (paths_of v (type_of c.deref-in-Meet.result.now.0)) (paths_of v (type_of c.deref-in-Meet.result.now.1)) in
+    rw (c.in-Meet.is, ← c.deref-in-Meet.ensures) ((λ h. k.1 (e.0 c.if-not-branch-2.false, f.0 h)), (λ l. f.1 (k.0 l).1))
 
 pub are_below-returns-then-is_omega : goal.are_below-returns-then-is_omega
 are_below-returns-then-is_omega g t c =
@@ -218,8 +218,8 @@ is_name_below-returns-then-branch g t c =
     let v = g.T.Taxa.variance_of_name c.args.taxa.now in
     let m = paths_of v (type_of c.args.argument.now) in
     let d = c.args.name.0 in
-    let n = paths_of v (type_of c.deref-in-Meet.result.now) in
-    let k = paths_of v (type_of c.in-Meet.second.value) in
+    let n = paths_of v (type_of c.deref-in-Meet.result.now.0) in
+    let k = paths_of v (type_of c.deref-in-Meet.result.now.1) in
     rw (c.in-Meet.is, ← c.deref-in-Meet.ensures) (yes (to_append_first b v n k (sealed d m) (c.in_ok-is_name_below-in-Meet.ensures.0 c.if-branch.true)))
 
 pub is_name_below-returns-in_ok-is_name_below-in-Meet-2 : goal.is_name_below-returns-in_ok-is_name_below-in-Meet-2
@@ -228,11 +228,11 @@ is_name_below-returns-in_ok-is_name_below-in-Meet-2 g t c =
     let v = g.T.Taxa.variance_of_name c.args.taxa.now in
     let m = paths_of v (type_of c.args.argument.now) in
     let d = c.args.name.0 in
-    let n = paths_of v (type_of c.deref-in-Meet.result.now) in
-    let k = paths_of v (type_of c.deref-in-Meet-2.result.now) in
+    let n = paths_of v (type_of c.deref-in-Meet.result.now.0) in
+    let k = paths_of v (type_of c.deref-in-Meet.result.now.1) in
     let e = c.in_ok-is_name_below-in-Meet.ensures in
     let f = c.in_ok-is_name_below-in-Meet-2.ensures in
-    rw (c.in-Meet.is, ← c.deref-in-Meet.ensures, ← c.deref-in-Meet-2.ensures) (
+    rw (c.in-Meet.is, ← c.deref-in-Meet.ensures) (
       (λ h. to_append_second b v n k (sealed d m) (f.0 h)),
       (λ o. elim (from_append b v n k (sealed d m) o) [ inl a ↦ absurd (false≢true (sym c.if-branch.false ∙ e.1 a)) | inr a ↦ f.1 a ]),
     )
@@ -243,7 +243,7 @@ is_name_below-returns-in-Omega-2 g t c =
     let v = g.T.Taxa.variance_of_name c.args.taxa.now in
     let m = paths_of v (type_of c.args.argument.now) in
     let d = c.args.name.0 in
-    no (λ o. other_not_sealed b v (type_of c.args.lower.now) (elim c.in-Omega.is [ inl e ↦ rw e tt | inr e ↦ elim e [ inl r ↦ rw r.2 tt | inr r ↦ rw r.2 tt ] ]) d m o)
+    no (λ o. other_not_sealed b v (type_of c.args.lower.now) (elim c.in-Omega.is [ inl e ↦ rw e tt | inr e ↦ elim e [ inl r ↦ rw r.1 tt | inr r ↦ rw r.1 tt ] ]) d m o)
 
 pub is_name_below-returns-in-Omega-3 : goal.is_name_below-returns-in-Omega-3
 is_name_below-returns-in-Omega-3 g t c =
@@ -251,7 +251,7 @@ is_name_below-returns-in-Omega-3 g t c =
     let v = g.T.Taxa.variance_of_name c.args.taxa.now in
     let m = paths_of v (type_of c.args.argument.now) in
     let d = c.args.name.0 in
-    no (λ o. other_not_sealed b v (type_of c.args.lower.now) (elim c.in-Omega.is [ inl e ↦ rw e tt | inr e ↦ elim e [ inl r ↦ rw r.2 tt | inr r ↦ rw r.2 tt ] ]) d m o)
+    no (λ o. other_not_sealed b v (type_of c.args.lower.now) (elim c.in-Omega.is [ inl e ↦ rw e tt | inr e ↦ elim e [ inl r ↦ rw r.1 tt | inr r ↦ rw r.1 tt ] ]) d m o)
 
 pub parts_are_below-returns-then-lacks_part : goal.parts_are_below-returns-then-lacks_part
 parts_are_below-returns-then-lacks_part g t c =
@@ -327,22 +327,22 @@ pub put_parts-returns-in_ok-push-in-Left : goal.put_parts-returns-in_ok-push-in-
 put_parts-returns-in_ok-push-in-Left g t c =
     let b = Below (g.T.Taxa.is_below c.args.taxa.now) in
     let v = g.T.Taxa.variance_of_name c.args.taxa.now in
-    rw (c.in-Prod.is, c.in-Left.is) (left_part b v (type_of c.in-Prod.first.value) (type_of c.in-Prod.second.value) c.deref-in-Left.result c.args.parts.now.items c.push-in-Left.new.self.items
-    (ap type_of (sym c.deref-in-Left.ensures)) c.in_ok-push-in-Left.ensures.items)
+    rw (c.in-Prod.is, c.in-Left.is) (left_part b v (type_of c.in-Prod.sides.value.0) (type_of c.in-Prod.sides.value.1) _ c.args.parts.now.items c.push-in-Left.new.self.items
+    (ap (λ (s : Ty × Ty). type_of s.0) (sym c.deref-in-Prod.ensures)) c.in_ok-push-in-Left.ensures.items)
 
 pub put_parts-returns-in_ok-push-in-Right : goal.put_parts-returns-in_ok-push-in-Right
 put_parts-returns-in_ok-push-in-Right g t c =
     let b = Below (g.T.Taxa.is_below c.args.taxa.now) in
     let v = g.T.Taxa.variance_of_name c.args.taxa.now in
-    rw (c.in-Prod.is, c.in-Right.is) (right_part b v (type_of c.in-Prod.first.value) (type_of c.in-Prod.second.value) c.deref-in-Right.result c.args.parts.now.items c.push-in-Right.new.self.items
-    (ap type_of (sym c.deref-in-Right.ensures)) c.in_ok-push-in-Right.ensures.items)
+    rw (c.in-Prod.is, c.in-Right.is) (right_part b v (type_of c.in-Prod.sides.value.0) (type_of c.in-Prod.sides.value.1) _ c.args.parts.now.items c.push-in-Right.new.self.items
+    (ap (λ (s : Ty × Ty). type_of s.1) (sym c.deref-in-Prod.ensures)) c.in_ok-push-in-Right.ensures.items)
 
 pub put_parts-returns-in-Name : goal.put_parts-returns-in-Name
 put_parts-returns-in-Name g t c =
     let b = Below (g.T.Taxa.is_below c.args.taxa.now) in
     let v = g.T.Taxa.variance_of_name c.args.taxa.now in
-    let s = type_of c.in-Prod.first.value in
-    let u = type_of c.in-Prod.second.value in
+    let s = type_of c.in-Prod.sides.value.0 in
+    let u = type_of c.in-Prod.sides.value.1 in
     let old = c.args.parts.now.items in
     elim c.in-Name.is [
       | inl r ↦ rw (c.in-Prod.is, r.1) (product_name b v r.0 s u old)
@@ -353,8 +353,8 @@ pub put_parts-returns-in-Name-step : goal.put_parts-returns-in-Name-step
 put_parts-returns-in-Name-step g t c =
     let b = Below (g.T.Taxa.is_below c.args.taxa.now) in
     let v = g.T.Taxa.variance_of_name c.args.taxa.now in
-    let s = type_of c.in-Arrow.source.value in
-    let u = type_of c.in-Arrow.target.value in
+    let s = type_of c.in-Arrow.sides.value.0 in
+    let u = type_of c.in-Arrow.sides.value.1 in
     let old = c.args.parts.now.items in
     elim c.in-Name-step.is [
       | inl r ↦ rw (c.in-Arrow.is, r.1) (arrow_name b v r.0 s u old)
@@ -372,10 +372,10 @@ put_parts-returns-in_ok-push-in-Source g t c =
     let n = paths_of v (type_of taken.now) in
     let e = c.in_ok-are_below-in-Source.ensures in
     let f = append_none n in
-    let k : paths_of v (type_of c.deref-in-Source.result.now) ≡ paths_of v (type_of c.in-Arrow.source.value) = ap (λ (s : Ty). paths_of v (type_of s)) c.deref-in-Source.ensures in
-    let l : PathsLe b v n (paths_of v (type_of c.in-Arrow.source.value)) = subst (λ (m : Paths). PathsLe b v n m) k (subst (λ (x : Paths). PathsLe b v x (paths_of v (type_of c.deref-in-Source.result.now))) f (e.0 c.if-branch.true)) in
-    rw (c.in-Arrow.is, c.in-Source.is) (source_above b v taken (type_of c.in-Arrow.source.value) (type_of c.in-Arrow.target.value) c.deref-then-branch.result c.args.parts.now.items c.push-then-branch.new.self.items
-    (ap type_of (sym c.deref-then-branch.ensures)) c.in_ok-push-in-Source.ensures.items l)
+    let k : paths_of v (type_of c.deref-in-Arrow.result.now.0) ≡ paths_of v (type_of c.in-Arrow.sides.value.0) = ap (λ (s : Ty × Ty). paths_of v (type_of s.0)) c.deref-in-Arrow.ensures in
+    let l : PathsLe b v n (paths_of v (type_of c.in-Arrow.sides.value.0)) = subst (λ (m : Paths). PathsLe b v n m) k (subst (λ (x : Paths). PathsLe b v x (paths_of v (type_of c.deref-in-Arrow.result.now.0))) f (e.0 c.if-branch.true)) in
+    rw (c.in-Arrow.is, c.in-Source.is) (source_above b v taken (type_of c.in-Arrow.sides.value.0) (type_of c.in-Arrow.sides.value.1) _ c.args.parts.now.items c.push-then-branch.new.self.items
+    (ap (λ (s : Ty × Ty). type_of s.1) (sym c.deref-in-Arrow.ensures)) c.in_ok-push-in-Source.ensures.items l)
 
 pub put_parts-returns-else-branch : goal.put_parts-returns-else-branch
 put_parts-returns-else-branch g t c =
@@ -385,14 +385,14 @@ put_parts-returns-else-branch g t c =
     let n = paths_of v (type_of taken.now) in
     let e = c.in_ok-are_below-in-Source.ensures in
     let f = append_none n in
-    let k : paths_of v (type_of c.deref-in-Source.result.now) ≡ paths_of v (type_of c.in-Arrow.source.value) = ap (λ (s : Ty). paths_of v (type_of s)) c.deref-in-Source.ensures in
-    rw (c.in-Arrow.is, c.in-Source.is) (source_passed b v taken (type_of c.in-Arrow.source.value) (type_of c.in-Arrow.target.value) c.args.parts.now.items
-    (λ l. false≢true (sym c.if-branch.false ∙ e.1 (subst (λ (x : Paths). PathsLe b v x (paths_of v (type_of c.deref-in-Source.result.now))) (sym f) (subst (λ (m : Paths). PathsLe b v n m) (sym k) l)))))
+    let k : paths_of v (type_of c.deref-in-Arrow.result.now.0) ≡ paths_of v (type_of c.in-Arrow.sides.value.0) = ap (λ (s : Ty × Ty). paths_of v (type_of s.0)) c.deref-in-Arrow.ensures in
+    rw (c.in-Arrow.is, c.in-Source.is) (source_passed b v taken (type_of c.in-Arrow.sides.value.0) (type_of c.in-Arrow.sides.value.1) c.args.parts.now.items
+    (λ l. false≢true (sym c.if-branch.false ∙ e.1 (subst (λ (x : Paths). PathsLe b v x (paths_of v (type_of c.deref-in-Arrow.result.now.0))) (sym f) (subst (λ (m : Paths). PathsLe b v n m) (sym k) l)))))
 
 pub put_parts-returns-in_ok-put_parts-in-Meet-2 : goal.put_parts-returns-in_ok-put_parts-in-Meet-2
 put_parts-returns-in_ok-put_parts-in-Meet-2 g t c =
     let b = Below (g.T.Taxa.is_below c.args.taxa.now) in
     let v = g.T.Taxa.variance_of_name c.args.taxa.now in
-    let s = type_of c.deref-in-Meet.result.now in
-    let u = type_of c.deref-in-Meet-2.result.now in
-    rw (c.in-Meet.is, ← c.deref-in-Meet.ensures, ← c.deref-in-Meet-2.ensures) (both b v c.args.step (paths_of v s) (paths_of v u) (nodes s) (nodes u) (1 + nodes s + nodes u) c.args.parts.now.items c.put_parts.new.parts.items c.put_parts-in-Meet.new.parts.items (omega arith) c.in_ok-put_parts-in-Meet.ensures c.in_ok-put_parts-in-Meet-2.ensures)
+    let s = type_of c.deref-in-Meet.result.now.0 in
+    let u = type_of c.deref-in-Meet.result.now.1 in
+    rw (c.in-Meet.is, ← c.deref-in-Meet.ensures) (both b v c.args.step (paths_of v s) (paths_of v u) (nodes s) (nodes u) (1 + nodes s + nodes u) c.args.parts.now.items c.put_parts.new.parts.items c.put_parts-in-Meet.new.parts.items (omega arith) c.in_ok-put_parts-in-Meet.ensures c.in_ok-put_parts-in-Meet-2.ensures)

@@ -27,18 +27,18 @@ pub returns-then-has_name : goal.returns-then-has_name
 returns-then-has_name g t c =
     let b = Below (g.T.Taxa.is_below c.args.taxa.now) in
     let v = g.T.Taxa.variance_of_name c.args.taxa.now in
-    let n = paths_of v (type_of c.deref.result.now) in
-    let m = paths_of v (type_of c.in-Meet.second.value) in
+    let n = paths_of v (type_of c.deref.result.now.0) in
+    let m = paths_of v (type_of c.deref.result.now.1) in
     rw (c.in-Meet.is, ← c.deref.ensures) ((λ h. to_append_first b v n m (atom c.args.name.0) (c.has_name.ensures.0 c.if-has_name.true)), (λ o. c.if-has_name.true))
 
 pub returns-else-has_name : goal.returns-else-has_name
 returns-else-has_name g t c =
     let b = Below (g.T.Taxa.is_below c.args.taxa.now) in
     let v = g.T.Taxa.variance_of_name c.args.taxa.now in
-    let n = paths_of v (type_of c.deref.result.now) in
-    let m = paths_of v (type_of c.deref-else-has_name.result.now) in
+    let n = paths_of v (type_of c.deref.result.now.0) in
+    let m = paths_of v (type_of c.deref.result.now.1) in
     let p = atom c.args.name.0 in
-    rw (c.in-Meet.is, ← c.deref.ensures, ← c.deref-else-has_name.ensures) (
+    rw (c.in-Meet.is, ← c.deref.ensures) (
       (λ h. to_append_second b v n m p (c.has_name-else-has_name.ensures.0 h)),
       (λ o. elim (from_append b v n m p o) [ inl a ↦ absurd (false≢true (sym c.if-has_name.false ∙ c.has_name.ensures.1 a)) | inr a ↦ c.has_name-else-has_name.ensures.1 a ]),
     )
@@ -47,10 +47,10 @@ pub returns-in-Omega-2 : goal.returns-in-Omega-2
 returns-in-Omega-2 g t c =
     let b = Below (g.T.Taxa.is_below c.args.taxa.now) in
     let v = g.T.Taxa.variance_of_name c.args.taxa.now in
-    ((λ h. absurd (false≢true h)), (λ o. absurd (other_not_named b v (type_of c.args.lower.now) (elim c.in-Omega.is [ inl e ↦ rw e tt | inr e ↦ elim e [ inl r ↦ rw r.2 tt | inr r ↦ rw r.2 tt ] ]) c.args.name.0 o)))
+    ((λ h. absurd (false≢true h)), (λ o. absurd (other_not_named b v (type_of c.args.lower.now) (elim c.in-Omega.is [ inl e ↦ rw e tt | inr e ↦ elim e [ inl r ↦ rw r.1 tt | inr r ↦ rw r.1 tt ] ]) c.args.name.0 o)))
 
 pub returns-in-Omega-3 : goal.returns-in-Omega-3
 returns-in-Omega-3 g t c =
     let b = Below (g.T.Taxa.is_below c.args.taxa.now) in
     let v = g.T.Taxa.variance_of_name c.args.taxa.now in
-    ((λ h. absurd (false≢true h)), (λ o. absurd (other_not_named b v (type_of c.args.lower.now) (elim c.in-Omega.is [ inl e ↦ rw e tt | inr e ↦ elim e [ inl r ↦ rw r.2 tt | inr r ↦ rw r.2 tt ] ]) c.args.name.0 o)))
+    ((λ h. absurd (false≢true h)), (λ o. absurd (other_not_named b v (type_of c.args.lower.now) (elim c.in-Omega.is [ inl e ↦ rw e tt | inr e ↦ elim e [ inl r ↦ rw r.1 tt | inr r ↦ rw r.1 tt ] ]) c.args.name.0 o)))

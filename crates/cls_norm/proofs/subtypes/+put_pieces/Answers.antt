@@ -13,8 +13,8 @@ returns-in_ok-put_pieces-in-Meet-2 t c =
     let old = c.args.pieces.now.items in
     let mid = c.put_pieces.new.pieces.items in
     let new = c.put_pieces-in-Meet.new.pieces.items in
-    let s = type_of c.in-Meet.first.value in
-    let u = type_of c.in-Meet.second.value in
-    let a : Joins s old mid = subst (λ (x : Ty). Joins (type_of x) old mid) c.deref.ensures c.in_ok-put_pieces-in-Meet.ensures in
-    let b : Joins u mid new = subst (λ (x : Ty). Joins (type_of x) mid new) c.deref-in-Meet.ensures c.in_ok-put_pieces-in-Meet-2.ensures in
+    let s = type_of c.in-Meet.sides.value.0 in
+    let u = type_of c.in-Meet.sides.value.1 in
+    let a : Joins s old mid = subst (λ (x : Ty × Ty). Joins (type_of x.0) old mid) c.deref.ensures c.in_ok-put_pieces-in-Meet.ensures in
+    let b : Joins u mid new = subst (λ (x : Ty × Ty). Joins (type_of x.1) mid new) c.deref.ensures c.in_ok-put_pieces-in-Meet-2.ensures in
     rw c.in-Meet.is (joins_both s u old mid new a b)
