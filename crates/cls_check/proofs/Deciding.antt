@@ -3,20 +3,18 @@ use Rattle.std.proofs.Common.{ℕ, zero, suc, ◌≡◌, ◌+◌, ◌<◌, ◌�
 use Rattle.std.specs.Prelude.{map}
 use Rattle.cls_base.specs.Terms.{Applicative, component, IsTermOver}
 use Rattle.cls_base.specs.Spines.{spine}
-use Rattle.cls_path.specs.Paths.{TypePath, Paths, none, more, paths_of, InPaths, first_in, later_in, listed, type_of_path, type_of_paths}
+use Rattle.cls_path.specs.Paths.{TypePath, Paths, none, more, InPaths, first_in, later_in, listed, type_of_path, type_of_paths}
 use Rattle.cls_base.proofs.Lists.{Contains-here, Contains-later}
-use Rattle.cls_path.specs.NormalForms.{IsNormalForm, IsCanonical, IsCanonicalPath, EachCanonical}
 use Rattle.cls_path.proofs.Completeness.{suits_in, covered, covers_all}
-use Rattle.cls_path.proofs.RoundTrip.{paths_back}
 use Rattle.cls_path.proofs.Transitivity.{le_trans}
 use Rattle.cls_library.specs.Arrows.{MultiArrow, arity_of}
-use Rattle.cls_library.specs.Libraries.{Library, IsLibrary, below_in, variances_in, paths_at, arrows_at, no_component}
+use Rattle.cls_library.specs.Libraries.{Library, IsLibrary, below_in, variances_in, paths_at, arrows_at}
 use Rattle.cls_library.specs.Reaching.{PathLeIn, PathsLeIn, IsReachedBy}
 use Rattle.cls_library.specs.Typing.{HasTypeIn}
 use Rattle.cls_library.proofs.ByCases.{At, at_first, at_later, at_member, at_contains, contains_at}
 use Rattle.cls_library.proofs.PathTyping.{Reaches}
-use Rattle.cls_library.proofs.PathLemma.{from_sources, arrow_from}
-use Rattle.cls_library.proofs.LibraryTyping.{reflexive, transitive, suited, typed, declared, arrow_sources, arrow_leads, paths_are_reached}
+use Rattle.cls_library.proofs.PathLemma.{arrow_from}
+use Rattle.cls_library.proofs.LibraryTyping.{reflexive, transitive, suited, typed, arrow_sources, arrow_leads, paths_are_reached}
 use Rattle.cls_check.specs.Deciding.{arrow_of, source_of, argument_of, IsWanted, SuitIn, AllSuitIn, SomeBelow, AreSuited, IsLeading, KnowsPaths, HaveFirst, AreKept}
 use Rattle.cls_check.proofs.Lists.{pair_at, all_pairs, in_listed, listed_in}
 
@@ -48,10 +46,10 @@ module _ (lib : Library) (law : IsLibrary lib) where
   le_more : (p q r : TypePath) → PathLeIn lib p q → PathLeIn lib q r → PathLeIn lib p r
   le_more p q r h k = le_trans (below_in lib.taxonomy) (variances_in lib.taxonomy) (reflexive lib law) (transitive lib law) q p r h k
 
-  cover_one : (n m : Paths) → PathsLeIn lib n m → (q : TypePath) → InPaths m q → SomeBelow lib n q
+  pub cover_one : (n m : Paths) → PathsLeIn lib n m → (q : TypePath) → InPaths m q → SomeBelow lib n q
   cover_one n m h q i = covered (below_in lib.taxonomy) (variances_in lib.taxonomy) (reflexive lib law) (transitive lib law) n m h q i
 
-  cover_each : (n m : Paths) → ((q : TypePath) → InPaths m q → SomeBelow lib n q) → PathsLeIn lib n m
+  pub cover_each : (n m : Paths) → ((q : TypePath) → InPaths m q → SomeBelow lib n q) → PathsLeIn lib n m
   cover_each n m f = covers_all (below_in lib.taxonomy) (variances_in lib.taxonomy) (reflexive lib law) (transitive lib law) n m f
 
   -- a term has a list of paths if and only if it has each of them
@@ -71,24 +69,11 @@ module _ (lib : Library) (law : IsLibrary lib) where
     (λ h. cover_each had goal (λ q i. k.complete q (goal, m, i) (each_to e goal s h q i))),
   )
 
-  canonical_target : (ns : List Paths) (p : TypePath) → IsCanonicalPath (below_in lib.taxonomy) (variances_in lib.taxonomy) (from_sources ns p) → IsCanonicalPath (below_in lib.taxonomy) (variances_in lib.taxonomy) p
-  canonical_target [] p c = c
-  canonical_target (m ∷ ns) p c = canonical_target ns p c.1
-
-  path_in : (n : Paths) (p : TypePath) → IsCanonical (below_in lib.taxonomy) (variances_in lib.taxonomy) n → InPaths n p → IsCanonicalPath (below_in lib.taxonomy) (variances_in lib.taxonomy) p
-  path_in none p c i = elim i [ ]
-  path_in (more q n) _ c first_in = c.0
-  path_in (more q n) p c (later_in i) = path_in n p c.2 i
-
   pub are_suited : (x n : ℕ) → AreSuited lib (arrows_at lib x n)
   are_suited x n = record {
     targets = (λ i l. arrow_leads lib law x n i (arrow_of (arrows_at lib x n) i) (at_get (arrows_at lib x n) i l));
     sources = (λ i k l. source_in (arrow_of (arrows_at lib x n) i).sources k (λ m. AllSuitIn lib m) tt (λ j m a. (arrow_sources lib law x n i (arrow_of (arrows_at lib x n) i) (at_get (arrows_at lib x n) i l)).0 m (at_member a)));
-    canonical = (λ i l. canonical (arrow_of (arrows_at lib x n) i) (arrow_from n (paths_at lib x) i (arrow_of (arrows_at lib x n) i) (at_get (arrows_at lib x n) i l)).0);
   }
-    where
-      canonical : (a : MultiArrow) → InPaths (paths_at lib x) (from_sources a.sources a.target) → IsCanonicalPath (below_in lib.taxonomy) (variances_in lib.taxonomy) a.target
-      canonical a i = canonical_target a.sources a.target (path_in (paths_at lib x) (from_sources a.sources a.target) (law.each x no_component (declared lib law x (from_sources a.sources a.target) i)).normal.canonical i)
 
   module _ (arrows : List MultiArrow) (goals : List Paths) (es : List Applicative) where
     pub kept_none : (good : List ℕ) → ((i : ℕ) → Contains good i ↔ ((i < length arrows) × IsLeading lib goals (arrow_of arrows i))) → AreKept lib arrows goals es 0 good
@@ -124,13 +109,6 @@ module _ (lib : Library) (law : IsLibrary lib) where
       go [] b = tt
       go (i ∷ good) b = (s.targets i (b i (Contains-here i good)), go good (λ j m. b j (Contains-later j i good m)))
 
-  pub targets_canonical : (arrows : List MultiArrow) (good : List ℕ) → AreSuited lib arrows → ((i : ℕ) → Contains good i → i < length arrows) → EachCanonical (below_in lib.taxonomy) (variances_in lib.taxonomy) (listed (map (λ i. (arrow_of arrows i).target) good))
-  targets_canonical arrows good s b = go good b
-    where
-      go : (good : List ℕ) → ((i : ℕ) → Contains good i → i < length arrows) → EachCanonical (below_in lib.taxonomy) (variances_in lib.taxonomy) (listed (map (λ i. (arrow_of arrows i).target) good))
-      go [] b = tt
-      go (i ∷ good) b = (s.canonical i (b i (Contains-here i good)), go good (λ j m. b j (Contains-later j i good m)))
-
   module _ (x : ℕ) (es : List Applicative) (goals : List Paths) (suits : (n : Paths) → Contains goals n → AllSuitIn lib n) where
     suits_wanted : (q : TypePath) → IsWanted goals q → SuitIn lib q
     suits_wanted q w = suits_one w.0 q (suits w.0 w.1) w.2
@@ -143,45 +121,39 @@ module _ (lib : Library) (law : IsLibrary lib) where
       complete = (λ q w h. let r = (paths_are_reached lib law x es q (suits_wanted q w)).0 h in let m : length es ≤ arity_of (paths_at lib x) = r.within in absurd (omega arith));
     }
 
-    -- the targets that are left, and their normal form, are below the same paths
-    module _ (good : List ℕ) (nf : Paths) (within : length es ≤ arity_of (paths_at lib x)) (b : AreKept lib (arrows_at lib x (length es)) goals es (length es) good)
-        (form : IsNormalForm (below_in lib.taxonomy) (variances_in lib.taxonomy) (type_of_paths (listed (map (λ i. (arrow_of (arrows_at lib x (length es)) i).target) good))) nf) where
-      back : paths_of (variances_in lib.taxonomy) (type_of_paths (listed (map (target_at (arrows_at lib x (length es))) good))) ≡ listed (map (target_at (arrows_at lib x (length es))) good)
-      back = paths_back (listed (map (target_at (arrows_at lib x (length es))) good)) (variances_in lib.taxonomy) (targets_suit (arrows_at lib x (length es)) good (are_suited x (length es)) b.below)
+    -- the targets that are left
+    module _ (good : List ℕ) (within : length es ≤ arity_of (paths_at lib x)) (b : AreKept lib (arrows_at lib x (length es)) goals es (length es) good) where
+      abbrev pub left : Paths
+      left = listed (map (target_at (arrows_at lib x (length es))) good)
 
-      lower : PathsLeIn lib nf (listed (map (target_at (arrows_at lib x (length es))) good))
-      lower = subst (λ (n : Paths). PathsLeIn lib nf n) back form.lower
-
-      upper : PathsLeIn lib (listed (map (target_at (arrows_at lib x (length es))) good)) nf
-      upper = subst (λ (n : Paths). PathsLeIn lib n nf) back form.upper
-
-      reached : (q : TypePath) → SomeBelow lib nf q → IsReachedBy lib x es q
+      reached : (q : TypePath) → SomeBelow lib left q → IsReachedBy lib x es q
       reached q h =
-          let c = cover_one (listed (map (target_at (arrows_at lib x (length es))) good)) nf upper h.0 h.1 in
-          let u = in_listed (target_at (arrows_at lib x (length es))) good c.0 c.1 in
+          let u = in_listed (target_at (arrows_at lib x (length es))) good h.0 h.1 in
           let at = at_get (arrows_at lib x (length es)) u.0 (b.below u.0 u.1) in
           let size = (arrow_from (length es) (paths_at lib x) u.0 (arrow_of (arrows_at lib x (length es)) u.0) at).1 in
           record {
             within = within;
             arrow = arrow_of (arrows_at lib x (length es)) u.0;
             is_one = at_contains at;
-            target = le_more (target_at (arrows_at lib x (length es)) u.0) h.0 q (subst (λ (t : TypePath). PathLeIn lib t h.0) (sym u.2) c.2) h.2;
+            target = subst (λ (t : TypePath). PathLeIn lib t q) (sym u.2) h.2;
             sources = all_pairs (λ e n. HasTypeIn lib e (type_of_paths n)) es (arrow_of (arrows_at lib x (length es)) u.0).sources (component 0) none size (b.sound u.0 u.1);
           }
 
-      found : (q : TypePath) → IsWanted goals q → IsReachedBy lib x es q → SomeBelow lib nf q
+      found : (q : TypePath) → IsWanted goals q → IsReachedBy lib x es q → SomeBelow lib left q
       found q w r =
           let at = contains_at (arrows_at lib x (length es)) r.arrow r.is_one in
           let here = get_at at.1 in
           let leading : IsLeading lib goals (arrow_of (arrows_at lib x (length es)) at.0) = subst (λ (a : MultiArrow). IsLeading lib goals a) (sym here.1) (q, w, r.target) in
           let have : HaveFirst lib es (length es) (arrow_of (arrows_at lib x (length es)) at.0) = subst (λ (a : MultiArrow). HaveFirst lib es (length es) a) (sym here.1) (λ j l. pair_at (λ e n. HasTypeIn lib e (type_of_paths n)) es r.arrow.sources j (component 0) none r.sources l) in
-          let g = b.complete at.0 here.0 leading have in
-          let c = cover_one nf (listed (map (target_at (arrows_at lib x (length es))) good)) lower (target_at (arrows_at lib x (length es)) at.0) (listed_in (target_at (arrows_at lib x (length es))) good at.0 g) in
-          (c.0, c.1, le_more c.0 (target_at (arrows_at lib x (length es)) at.0) q c.2 (subst (λ (a : MultiArrow). PathLeIn lib a.target q) (sym here.1) r.target))
+          let g = b.complete at.0 here.0 leading have in (
+            target_at (arrows_at lib x (length es)) at.0,
+            listed_in (target_at (arrows_at lib x (length es))) good at.0 g,
+            subst (λ (a : MultiArrow). PathLeIn lib a.target q) (sym here.1) r.target,
+          )
 
-      pub all_known : KnowsPaths lib (spine (component x) es) goals nf
+      pub all_known : KnowsPaths lib (spine (component x) es) goals left
       all_known = record {
-        suits = form.normal.suits;
+        suits = targets_suit (arrows_at lib x (length es)) good (are_suited x (length es)) b.below;
         sound = (λ q s h. (paths_are_reached lib law x es q s).1 (reached q h));
         complete = (λ q w h. found q w ((paths_are_reached lib law x es q (suits_wanted q w)).0 h));
       }

@@ -1,11 +1,13 @@
 -- Steps of loops over paths, goals and positions of arrows.
 use Rattle.std.proofs.Common.{ℕ, zero, suc, ◌≡◌, ◌+◌, ◌<◌, ◌≤◌, ◌↔◌, refl, sym, ◌∙◌, subst, ap, ◌⊎◌, inl, inr, List, [], ◌∷◌, ◌++◌, length, get_or, take, arith, Contains, below_more, Some, None, Bool, true, false}
 use Rattle.std.specs.Prelude.{map, slice_get}
+use Rattle.std.specs.Borrow.{Bor}
+use Rattle.std.proofs.lemmas.List.{length-map}
 use Rattle.cls_base.proofs.Lists.{take_next, take_whole, map_last}
 use Rattle.cls_base.specs.Taxonomies.{Variance}
 use Rattle.cls_path.specs.Paths.{TypePath, Paths, none, InPaths, listed, Suits, SuitsAll}
 use Rattle.cls_library.specs.Arrows.{MultiArrow}
-use Rattle.cls_check.specs.Deciding.{no_arrow, arrow_of, source_of, IsWanted}
+use Rattle.cls_check.specs.Deciding.{no_arrow, arrow_of, source_of, IsWanted, paths_in}
 use Rattle.cls_check.proofs.Lists.{Contains-last, Contains-put, position_in, got, not_got}
 
 pub any_default : {A : Type 0} (xs : List A) (k : ℕ) (d e : A) → k < length xs → get_or xs k d ≡ get_or xs k e
@@ -143,10 +145,21 @@ module _ {B : Type 0} (f : B → Paths) (arrows : List MultiArrow) (good : List 
       let e : get_or good m.0 0 ≡ i = any_default good m.0 0 i m.1 ∙ m.2 in
       p m.0 (omega arith) q (subst (λ (x : ℕ). InPaths (source_of (arrow_of arrows x) place) q) (sym e) h)
 
-pub targets_step : (arrows : List MultiArrow) (good : List ℕ) (j : ℕ) (a : MultiArrow) (p : TypePath) (old new : List TypePath) → j < length good → slice_get arrows (get_or good j 0) ≡ Some a → p ≡ a.target → new ≡ old ++ p ∷ []
-    → old ≡ map (λ (i : ℕ). (arrow_of arrows i).target) (take j good) → new ≡ map (λ (i : ℕ). (arrow_of arrows i).target) (take (j + 1) good)
+-- paths that are pointed to
+pub borrowed_is : (had : List (Bor TypePath)) (i : ℕ) (p : Bor TypePath) (d : TypePath) → i < length had → p ≡ get_or had i p → get_or (map (λ b. b.now) had) i d ≡ p.now
+borrowed_is had i p d l h = map_at (λ b. b.now) had i p d l h
+
+pub borrowed_in : (had : List (Bor TypePath)) (i : ℕ) (p : Bor TypePath) → i < length had → p ≡ get_or had i p → InPaths (paths_in had) p.now
+borrowed_in had i p l h = item_in (map (λ b. b.now) had) (map (λ b. b.now) had) i p.now refl (let n = length-map had (λ (b : Bor TypePath). b.now) in omega arith) (sym (borrowed_is had i p p.now l h))
+
+pub borrowed_suits : (v : ℕ → Variance) (had : List (Bor TypePath)) (i : ℕ) (p : Bor TypePath) → i < length had → p ≡ get_or had i p → SuitsAll v (paths_in had) → Suits v p.now
+borrowed_suits v had i p l h s = item_suits v (map (λ b. b.now) had) (map (λ b. b.now) had) i p.now refl (let n = length-map had (λ (b : Bor TypePath). b.now) in omega arith) (sym (borrowed_is had i p p.now l h)) s
+
+pub targets_step : (arrows : List MultiArrow) (good : List ℕ) (j : ℕ) (a : MultiArrow) (p : Bor TypePath) (old new : List (Bor TypePath)) → j < length good → slice_get arrows (get_or good j 0) ≡ Some a → p.now ≡ a.target → new ≡ old ++ p ∷ []
+    → map (λ b. b.now) old ≡ map (λ (i : ℕ). (arrow_of arrows i).target) (take j good) → map (λ b. b.now) new ≡ map (λ (i : ℕ). (arrow_of arrows i).target) (take (j + 1) good)
 targets_step arrows good j a p old new l e t n h =
-    n ∙ (ap (λ (ps : List TypePath). ps ++ p ∷ []) h
+    ap (map (λ (b : Bor TypePath). b.now)) n ∙ (map_last (λ (b : Bor TypePath). b.now) old p
+    ∙ (ap (λ (ps : List TypePath). ps ++ p.now ∷ []) h
     ∙ (ap (λ (q : TypePath). map (λ (i : ℕ). (arrow_of arrows i).target) (take j good) ++ q ∷ []) (t ∙ ap (λ (b : MultiArrow). b.target) (sym (got arrows (get_or good j 0) a no_arrow (sym e))))
     ∙ (sym (map_last (λ (i : ℕ). (arrow_of arrows i).target) (take j good) (get_or good j 0))
-    ∙ ap (map (λ (i : ℕ). (arrow_of arrows i).target)) (sym (take_next good j 0 l)))))
+    ∙ ap (map (λ (i : ℕ). (arrow_of arrows i).target)) (sym (take_next good j 0 l))))))

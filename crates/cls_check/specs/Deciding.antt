@@ -1,10 +1,10 @@
 -- internal: which arrows of a term's head are left while its arguments are looked at one after another
-use Rattle.std.specs.Prelude.{ℕ, ◌<◌, List, [], length, Contains, slice_index_or}
+use Rattle.std.specs.Prelude.{ℕ, ◌<◌, List, [], length, map, Contains, slice_index_or}
+use Rattle.std.specs.Borrow.{Bor}
 use Rattle.cls_base.specs.Terms.{Applicative, component}
-use Rattle.cls_path.specs.Paths.{TypePath, Paths, none, unit, InPaths, type_of_path, type_of_paths, Suits, SuitsAll}
-use Rattle.cls_path.specs.NormalForms.{IsCanonicalPath}
+use Rattle.cls_path.specs.Paths.{TypePath, Paths, none, unit, InPaths, listed, type_of_path, type_of_paths, Suits, SuitsAll}
 use Rattle.cls_library.specs.Arrows.{MultiArrow}
-use Rattle.cls_library.specs.Libraries.{Library, below_in, variances_in}
+use Rattle.cls_library.specs.Libraries.{Library, variances_in}
 use Rattle.cls_library.specs.Reaching.{PathLeIn}
 use Rattle.cls_library.specs.Typing.{HasTypeIn}
 
@@ -21,6 +21,10 @@ source_of a k = slice_index_or a.sources k none
 abbrev pub argument_of : List Applicative → ℕ → Applicative
 argument_of es k = slice_index_or es k (component 0)
 
+-- the paths that are pointed to
+abbrev pub paths_in : List (Bor TypePath) → Paths
+paths_in had = listed (map (λ p. p.now) had)
+
 -- the path is one of a goal
 abbrev pub IsWanted : List Paths → TypePath → Type 0
 IsWanted goals q = (n : Paths) × Contains goals n × InPaths n q
@@ -36,13 +40,10 @@ module _ (l : Library) where
   abbrev pub SomeBelow : Paths → TypePath → Type 0
   SomeBelow n q = (p : TypePath) × InPaths n p × PathLeIn l p q
 
-  -- the targets and sources of the arrows suit the variances, and the lists inside the targets are canonical
+  -- the targets and sources of the arrows suit the variances
   pub record AreSuited (arrows : List MultiArrow) : Type 0 where
     pub targets : (i : ℕ) → i < length arrows → SuitIn (arrow_of arrows i).target
     pub sources : (i k : ℕ) → i < length arrows → AllSuitIn (source_of (arrow_of arrows i) k)
-    pub canonical :
-        (i : ℕ) → i < length arrows
-        → IsCanonicalPath (below_in l.taxonomy) (variances_in l.taxonomy) (arrow_of arrows i).target
 
   -- the arrow leads to a path of a goal
   abbrev pub IsLeading : List Paths → MultiArrow → Type 0

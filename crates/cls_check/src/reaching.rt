@@ -3,7 +3,7 @@ ghost use Rattle.std.specs.Prelude.{◌≡◌, ℕ, ◌<◌, ◌≤◌, ◌↔�
 ghost use Rattle.cls_path.specs.Paths.{TypePath, Paths, listed, InPaths};
 ghost use Rattle.cls_library.specs.Reaching.{PathLeIn, PathsLeIn};
 ghost use Rattle.cls_library.specs.Splits.{paths_of_form};
-ghost use Rattle.cls_check.specs.Deciding.{AreSuited, IsLeading, IsWanted, SuitIn, AllSuitIn, arrow_of, source_of};
+ghost use Rattle.cls_check.specs.Deciding.{AreSuited, IsLeading, IsWanted, SomeBelow, SuitIn, AllSuitIn, arrow_of, source_of, paths_in};
 
 use cls_base::OutOfMemory;
 use cls_library::{Arrows, Library, MultiArrow};
@@ -82,14 +82,44 @@ pub(crate) fn asked_at<'a>(
     Ok(asked)
 }
 
+/// Whether one of the paths is below this one.
+fn is_above(lib: &Library, had: &[&Path], path: &Path) -> bool
+    requires path { SuitIn lib.now path.now }
+    requires had { AllSuitIn lib.now (paths_in had.now) }
+    ensures { IsTrue result ↔ SomeBelow lib.now (paths_in had.now) path.now }
+{
+    for below in had {
+        if below.le(lib.taxonomy(), path) {
+            return true;
+        }
+    }
+    false
+}
+
+/// Whether each path of the goal is above one of these.
+pub(crate) fn are_above(lib: &Library, had: &[&Path], goal: &Nf) -> bool
+    requires goal { AllSuitIn lib.now (listed goal.now) }
+    requires had { AllSuitIn lib.now (paths_in had.now) }
+    ensures { IsTrue result ↔ PathsLeIn lib.now (paths_in had.now) (listed goal.now) }
+{
+    // For the prover: what holds of each library.
+    let _count = lib.count();
+    for path in goal.paths() {
+        if !is_above(lib, had, path) {
+            return false;
+        }
+    }
+    true
+}
+
 /// Whether what the arrow takes at this place is above the paths.
-fn has_source(lib: &Library, arrow: &MultiArrow<'_>, place: usize, had: &Nf) -> bool
+fn has_source(lib: &Library, arrow: &MultiArrow<'_>, place: usize, had: &[&Path]) -> bool
     requires source { AllSuitIn lib.now (source_of arrow.now place) }
-    requires had { AllSuitIn lib.now (listed had.now) }
-    ensures { IsTrue result ↔ PathsLeIn lib.now (listed had.now) (source_of arrow.now place) }
+    requires had { AllSuitIn lib.now (paths_in had.now) }
+    ensures { IsTrue result ↔ PathsLeIn lib.now (paths_in had.now) (source_of arrow.now place) }
 {
     match arrow.source(place) {
-        Some(source) => had.le(lib.taxonomy(), source),
+        Some(source) => are_above(lib, had, source),
         None => true,
     }
 }
@@ -101,13 +131,13 @@ pub(crate) fn with_source(
     arrows: &Arrows<'_>,
     good: &[usize],
     place: usize,
-    had: &Nf,
+    had: &[&Path],
 ) -> Result<Vec<usize>, OutOfMemory>
     requires below { (i : ℕ) → Contains good.now i → i < length arrows.now }
     requires arrows { AreSuited lib.now arrows.now }
-    requires had { AllSuitIn lib.now (listed had.now) }
+    requires had { AllSuitIn lib.now (paths_in had.now) }
     ensures { IfOk result (λ kept. (i : ℕ) → Contains kept.items i
-        ↔ (Contains good.now i × PathsLeIn lib.now (listed had.now) (source_of (arrow_of arrows.now i) place))) }
+        ↔ (Contains good.now i × PathsLeIn lib.now (paths_in had.now) (source_of (arrow_of arrows.now i) place))) }
 {
     let mut kept = Vec::new(alloc);
     for i in good {
@@ -119,17 +149,18 @@ pub(crate) fn with_source(
 }
 
 /// The targets of the arrows at these positions.
-pub(crate) fn targets(
+pub(crate) fn targets<'a>(
     alloc: Global,
-    arrows: &Arrows<'_>,
+    arrows: &Arrows<'a>,
     good: &[usize],
-) -> Result<Vec<Path>, OutOfMemory>
+) -> Result<Vec<&'a Path>, OutOfMemory>
     requires { (i : ℕ) → Contains good.now i → i < length arrows.now }
-    ensures { IfOk result (λ paths. paths.items ≡ map (λ i. (arrow_of arrows.now i).target) good.now) }
+    ensures { IfOk result (λ paths. paths_in paths.items
+        ≡ listed (map (λ i. (arrow_of arrows.now i).target) good.now)) }
 {
     let mut paths = Vec::new(alloc);
     for i in good {
-        paths.push(arrows.get(*i).target().copy(alloc)?)?;
+        paths.push(arrows.get(*i).target())?;
     }
     Ok(paths)
 }

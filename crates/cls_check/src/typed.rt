@@ -8,12 +8,12 @@ ghost use Rattle.cls_path.specs.NormalForms.{IsNormal};
 ghost use Rattle.cls_library.specs.Libraries.{below_in, variances_in};
 ghost use Rattle.cls_library.specs.Splits.{paths_of_form};
 ghost use Rattle.cls_library.specs.Typing.{HasTypeIn};
-ghost use Rattle.cls_check.specs.Deciding.{AllSuitIn, KnowsPaths};
+ghost use Rattle.cls_check.specs.Deciding.{AllSuitIn, KnowsPaths, paths_in};
 
-use crate::reaching::{asked_at, leading, targets, with_source};
+use crate::reaching::{are_above, asked_at, leading, targets, with_source};
 use cls_base::OutOfMemory;
 use cls_library::Library;
-use cls_path::Nf;
+use cls_path::{Nf, Path};
 use cls_term::Term;
 use std::alloc::Global;
 
@@ -26,20 +26,25 @@ pub fn has_type(alloc: Global, lib: &Library, term: &Term, goal: &Nf) -> Result<
     // For the prover: what holds of each library.
     let _count = lib.count();
     let had = paths_had(alloc, lib, term, &[goal])?;
-    Ok(had.le(lib.taxonomy(), goal))
+    Ok(are_above(lib, &had, goal))
 }
 
-/// What the term has of the paths of the goals, as an intersection of paths. The only error is out of memory.
-fn paths_had(alloc: Global, lib: &Library, term: &Term, goals: &[&Nf]) -> Result<Nf, OutOfMemory>
+/// Paths of the library by which the term has what the goals ask of it. The only error is out of memory.
+fn paths_had<'l>(
+    alloc: Global,
+    lib: &'l Library,
+    term: &Term,
+    goals: &[&Nf],
+) -> Result<Vec<&'l Path>, OutOfMemory>
     requires declared { IsTermOver (length lib.now.components) term.now }
     requires suits { (n : Paths) → Contains (map paths_of_form goals.now) n → AllSuitIn lib.now n }
-    ensures { IfOk result (λ had. KnowsPaths lib.now term.now (map paths_of_form goals.now) (listed had)) }
+    ensures { IfOk result (λ had. KnowsPaths lib.now term.now (map paths_of_form goals.now) (paths_in had.items)) }
 {
     let count = term.args.len();
     // For the prover: what holds of each library.
     let _components = lib.count();
     if count > lib.arity(term.head) as usize {
-        return Ok(Nf::empty(alloc));
+        return Ok(Vec::new(alloc));
     }
     let arrows = lib.arrows(term.head, count as u32);
     let mut good = leading(alloc, lib, &arrows, goals)?;
@@ -48,6 +53,5 @@ fn paths_had(alloc: Global, lib: &Library, term: &Term, goals: &[&Nf]) -> Result
         let had = paths_had(alloc, lib, arg, &asked)?;
         good = with_source(alloc, lib, &arrows, &good, place, &had)?;
     }
-    let paths = targets(alloc, &arrows, &good)?;
-    Ok(Nf::from_paths(alloc, lib.taxonomy(), paths)?)
+    Ok(targets(alloc, &arrows, &good)?)
 }

@@ -1,16 +1,15 @@
 use Rattle.std.proofs.Common.{ℕ, ◌≡◌, ◌<◌, ◌≤◌, ◌↔◌, List, [], length, sym, ◌∙◌, subst, ap, arith, Contains}
 use Rattle.std.specs.Prelude.{map}
+use Rattle.std.specs.Borrow.{Bor}
 use Rattle.cls_base.specs.Terms.{Applicative, component, length_of, IsTermOver}
 use Rattle.cls_base.specs.Spines.{spine}
-use Rattle.cls_taxon.specs.Orders.{Declared}
-use Rattle.cls_path.specs.Paths.{TypePath, Paths, listed, type_of_paths, SuitsAll}
-use Rattle.cls_path.specs.NormalForms.{EachCanonical, IsNormalForm}
+use Rattle.cls_path.specs.Paths.{TypePath, Paths, listed}
 use Rattle.cls_library.specs.Arrows.{MultiArrow, arity_of}
-use Rattle.cls_library.specs.Libraries.{below_in, variances_in, paths_at, arrows_at}
+use Rattle.cls_library.specs.Libraries.{paths_at, arrows_at}
 use Rattle.cls_library.specs.Reaching.{PathsLeIn}
 use Rattle.cls_library.specs.Splits.{paths_of_form}
-use Rattle.cls_check.specs.Deciding.{AllSuitIn, AreSuited, AreKept, KnowsPaths, arrow_of, source_of, argument_of}
-use Rattle.cls_check.proofs.Deciding.{are_suited, kept_none, kept_more, none_known, all_known, targets_suit, targets_canonical}
+use Rattle.cls_check.specs.Deciding.{AllSuitIn, AreSuited, AreKept, KnowsPaths, arrow_of, source_of, argument_of, paths_in}
+use Rattle.cls_check.proofs.Deciding.{are_suited, kept_none, kept_more, none_known, all_known}
 use Rattle.cls_check.proofs.DecidingSteps.{any_default}
 use Rattle.cls_check.proofs.Terms.{head_over, argument_over, argument_shorter}
 use Rattle.cls_check.proofs.typed.+paths_had.Goals as goal
@@ -23,7 +22,7 @@ returns-then-count-arity t c =
     let a : c.arity.result ≡ arity_of (paths_at c.args.lib.now c.term.inside.head) = c.arity.ensures in
     let n : c.len-count.result ≡ length c.term.inside.args = c.len-count.ensures in
     let l : c.arity.result < c.len-count.result = c.if-count-arity.true in
-    subst (λ (n : List TypePath). KnowsPaths c.args.lib.now c.args.term.now (map paths_of_form c.args.goals.now) (listed n)) (sym c.empty.ensures)
+    subst (λ (ps : List (Bor TypePath)). KnowsPaths c.args.lib.now c.args.term.now (map paths_of_form c.args.goals.now) (paths_in ps)) (sym c.new.ensures.items)
     (subst (λ (e : Applicative). KnowsPaths c.args.lib.now e (map paths_of_form c.args.goals.now) (listed [])) c.term.view_is
     (none_known c.args.lib.now c.count-components.ensures.library c.term.inside.head c.term.inside.args (map paths_of_form c.args.goals.now) c.requires.suits (omega arith)))
 
@@ -62,30 +61,20 @@ loop-place-preserved t c =
     let same : c.arg-item.result ≡ argument_of c.as_slice-arg-items.result.now c.loop-place.place = c.arg-item.is ∙ any_default c.as_slice-arg-items.result.now c.loop-place.place c.arg-item.result (component 0) c.loop-place-test.true in
     let over = argument_over c.args.lib.now c.count-components.ensures.library (length c.args.lib.now.components) c.term.inside.head c.as_slice-arg-items.result.now c.args.term.now view c.requires.declared c.loop-place.place c.arg-item.result c.arg-item.is c.loop-place-test.true in
     let suited : AreSuited c.args.lib.now c.arrows-arrows.result = subst (λ (arrows : List MultiArrow). AreSuited c.args.lib.now arrows) (sym c.arrows-arrows.ensures.arrows) (are_suited c.args.lib.now c.count-components.ensures.library c.term.inside.head c.len-count.result) in
-    kept_more c.args.lib.now c.count-components.ensures.library c.arrows-arrows.result (map paths_of_form c.args.goals.now) c.as_slice-arg-items.result.now c.loop-place.place c.loop-place.good.items c.in_ok-good-2.good.items (map paths_of_form c.in_ok-asked.asked.items) (listed c.in_ok-had.had)
+    kept_more c.args.lib.now c.count-components.ensures.library c.arrows-arrows.result (map paths_of_form c.args.goals.now) c.as_slice-arg-items.result.now c.loop-place.place c.loop-place.good.items c.in_ok-good-2.good.items (map paths_of_form c.in_ok-asked.asked.items) (paths_in c.in_ok-had.had.items)
     (subst (λ (e : Applicative). IsTermOver (length c.args.lib.now.components) e) same over)
     suited c.loop-place.invariant
     (λ i m q h. c.in_ok-asked.ensures.each i (subst (λ (s : List ℕ). Contains s i) (sym c.deref.ensures.value) m) q h)
-    (subst (λ (e : Applicative). KnowsPaths c.args.lib.now e (map paths_of_form c.in_ok-asked.asked.items) (listed c.in_ok-had.had)) same
-    (subst (λ bs. KnowsPaths c.args.lib.now c.arg-item.result (map paths_of_form bs) (listed c.in_ok-had.had)) c.deref-in-loop-place.ensures.value c.in_ok-had.ensures))
-    (subst (λ (s : List ℕ). (i : ℕ) → Contains c.in_ok-good-2.good.items i ↔ (Contains s i × PathsLeIn c.args.lib.now (listed c.in_ok-had.had) (source_of (arrow_of c.arrows-arrows.result i) c.loop-place.place))) c.deref-in-loop-place-2.ensures.value c.in_ok-good-2.ensures)
+    (subst (λ (e : Applicative). KnowsPaths c.args.lib.now e (map paths_of_form c.in_ok-asked.asked.items) (paths_in c.in_ok-had.had.items)) same
+    (subst (λ bs. KnowsPaths c.args.lib.now c.arg-item.result (map paths_of_form bs) (paths_in c.in_ok-had.had.items)) c.deref-in-loop-place.ensures.value c.in_ok-had.ensures))
+    (subst (λ (ps : List (Bor TypePath)). (i : ℕ) → Contains c.in_ok-good-2.good.items i ↔ (Contains c.loop-place.good.items i × PathsLeIn c.args.lib.now (paths_in ps) (source_of (arrow_of c.arrows-arrows.result i) c.loop-place.place))) c.deref-in-loop-place-3.ensures.value
+    (subst (λ (s : List ℕ). (i : ℕ) → Contains c.in_ok-good-2.good.items i ↔ (Contains s i × PathsLeIn c.args.lib.now (paths_in c.deref-in-loop-place-3.result.now) (source_of (arrow_of c.arrows-arrows.result i) c.loop-place.place))) c.deref-in-loop-place-2.ensures.value c.in_ok-good-2.ensures))
 
 pub targets-requires : goal.targets-requires
 targets-requires t c = λ i m. c.loop-place.invariant.below i (subst (λ (s : List ℕ). Contains s i) c.deref-2.ensures.value m)
 
-pub from_paths-requires-clause-suits : goal.from_paths-requires-clause-suits
-from_paths-requires-clause-suits t c =
-    let suited : AreSuited c.args.lib.now c.arrows-arrows.result = subst (λ (arrows : List MultiArrow). AreSuited c.args.lib.now arrows) (sym c.arrows-arrows.ensures.arrows) (are_suited c.args.lib.now c.count-components.ensures.library c.term.inside.head c.len-count.result) in
-    subst (λ (d : Declared). SuitsAll (variances_in d) (listed c.in_ok-paths.paths.items)) (sym c.taxonomy.ensures)
-    (subst (λ (ps : List TypePath). AllSuitIn c.args.lib.now (listed ps)) (sym c.in_ok-paths.ensures)
-    (targets_suit c.args.lib.now c.count-components.ensures.library c.arrows-arrows.result c.deref-2.result.now suited (λ i m. c.loop-place.invariant.below i (subst (λ (s : List ℕ). Contains s i) c.deref-2.ensures.value m))))
-
-pub from_paths-requires-clause-canonical : goal.from_paths-requires-clause-canonical
-from_paths-requires-clause-canonical t c =
-    let suited : AreSuited c.args.lib.now c.arrows-arrows.result = subst (λ (arrows : List MultiArrow). AreSuited c.args.lib.now arrows) (sym c.arrows-arrows.ensures.arrows) (are_suited c.args.lib.now c.count-components.ensures.library c.term.inside.head c.len-count.result) in
-    subst (λ (d : Declared). EachCanonical (below_in d) (variances_in d) (listed c.in_ok-paths.paths.items)) (sym c.taxonomy.ensures)
-    (subst (λ (ps : List TypePath). EachCanonical (below_in c.args.lib.now.taxonomy) (variances_in c.args.lib.now.taxonomy) (listed ps)) (sym c.in_ok-paths.ensures)
-    (targets_canonical c.args.lib.now c.count-components.ensures.library c.arrows-arrows.result c.deref-2.result.now suited (λ i m. c.loop-place.invariant.below i (subst (λ (s : List ℕ). Contains s i) c.deref-2.ensures.value m))))
+pub with_source-requires-clause-had : goal.with_source-requires-clause-had
+with_source-requires-clause-had t c = subst (λ (ps : List (Bor TypePath)). AllSuitIn c.args.lib.now (paths_in ps)) (sym c.deref-in-loop-place-3.ensures.value) c.in_ok-had.ensures.suits
 
 pub returns : goal.returns
 returns t c =
@@ -98,10 +87,9 @@ returns t c =
     let few : c.len-count.result ≤ c.arity.result = c.if-count-arity.false in
     let kept : AreKept c.args.lib.now (arrows_at c.args.lib.now c.term.inside.head (length c.as_slice-arg-items.result.now)) (map paths_of_form c.args.goals.now) c.as_slice-arg-items.result.now (length c.as_slice-arg-items.result.now) c.loop-place.good.items = subst (λ (found : List MultiArrow). AreKept c.args.lib.now found (map paths_of_form c.args.goals.now) c.as_slice-arg-items.result.now (length c.as_slice-arg-items.result.now) c.loop-place.good.items) arrows
     (subst (λ (k : ℕ). AreKept c.args.lib.now c.arrows-arrows.result (map paths_of_form c.args.goals.now) c.as_slice-arg-items.result.now k c.loop-place.good.items) end c.loop-place.invariant) in
-    let paths : c.in_ok-paths.paths.items ≡ map (λ (i : ℕ). (arrow_of (arrows_at c.args.lib.now c.term.inside.head (length c.as_slice-arg-items.result.now)) i).target) c.loop-place.good.items = c.in_ok-paths.ensures
-    ∙ (ap (λ (found : List MultiArrow). map (λ (i : ℕ). (arrow_of found i).target) c.deref-2.result.now) arrows
+    let paths : paths_in c.in_ok-targets.field-0.items ≡ listed (map (λ (i : ℕ). (arrow_of (arrows_at c.args.lib.now c.term.inside.head (length c.as_slice-arg-items.result.now)) i).target) c.loop-place.good.items) = c.in_ok-targets.ensures
+    ∙ ap listed (ap (λ (found : List MultiArrow). map (λ (i : ℕ). (arrow_of found i).target) c.deref-2.result.now) arrows
     ∙ ap (λ (s : List ℕ). map (λ (i : ℕ). (arrow_of (arrows_at c.args.lib.now c.term.inside.head (length c.as_slice-arg-items.result.now)) i).target) s) c.deref-2.ensures.value) in
-    subst (λ (e : Applicative). KnowsPaths c.args.lib.now e (map paths_of_form c.args.goals.now) (listed c.in_ok-from_paths.field-0)) view
-    (all_known c.args.lib.now c.count-components.ensures.library c.term.inside.head c.as_slice-arg-items.result.now (map paths_of_form c.args.goals.now) c.requires.suits c.loop-place.good.items (listed c.in_ok-from_paths.field-0) (omega arith) kept
-    (subst (λ (ps : List TypePath). IsNormalForm (below_in c.args.lib.now.taxonomy) (variances_in c.args.lib.now.taxonomy) (type_of_paths (listed ps)) (listed c.in_ok-from_paths.field-0)) paths
-    (subst (λ (d : Declared). IsNormalForm (below_in d) (variances_in d) (type_of_paths (listed c.in_ok-paths.paths.items)) (listed c.in_ok-from_paths.field-0)) c.taxonomy.ensures c.in_ok-from_paths.ensures)))
+    subst (λ (e : Applicative). KnowsPaths c.args.lib.now e (map paths_of_form c.args.goals.now) (paths_in c.in_ok-targets.field-0.items)) view
+    (subst (λ (n : Paths). KnowsPaths c.args.lib.now (spine (component c.term.inside.head) c.as_slice-arg-items.result.now) (map paths_of_form c.args.goals.now) n) (sym paths)
+    (all_known c.args.lib.now c.count-components.ensures.library c.term.inside.head c.as_slice-arg-items.result.now (map paths_of_form c.args.goals.now) c.requires.suits c.loop-place.good.items (omega arith) kept))
