@@ -1,5 +1,5 @@
 -- Flags of heads: a head whose flag isn't set leads to no path that it alone leads to.
-use Rattle.std.proofs.Common.{◌≡◌, ℕ, ◌%◌, ◌/◌, ◌*◌, ◌^◌, ◌<◌, length, inl, inr, ◌==◌, true, false, List, [], ◌∷◌, ◌++◌, sym, subst, ap, ◌∙◌, arith, IsTrue, w64}
+use Rattle.std.proofs.Common.{◌≡◌, ℕ, ◌%◌, ◌/◌, ◌*◌, ◌^◌, ◌<◌, length, inl, inr, ◌==◌, true, false, List, [], ◌∷◌, ◌++◌, sym, subst, ap, ◌∙◌, arith, IsTrue, eqb-true, w64}
 use Rattle.std.specs.Prelude.{slice_index_or, slice_set}
 use Rattle.std.specs.Int.{bit_at}
 use Rattle.std.specs.Int.RustNames.{bit_or}
@@ -13,7 +13,7 @@ use Rattle.cls_path.specs.Paths.{TypePath, listed}
 use Rattle.cls_library.specs.declared.ending.Head.{Head}
 use Rattle.cls_library.specs.declared.ending.Head.TheVariants.{Covariant, Product, Sealed}
 use Rattle.cls_library.specs.Arrows.{arrows_of}
-use Rattle.cls_library.specs.Endings.{head_of, ending_of, is_alone, mark_of, is_set, is_marked, may_be_below, may_end_below, AreMarked}
+use Rattle.cls_library.specs.Endings.{head_of, ending_of, ending_behind, is_alone, mark_of, is_set, is_marked, may_be_below, may_end_below, has_depth, AreDeep, AreMarked}
 use Rattle.cls_library.specs.Families.{IsFamilyIn}
 use Rattle.cls_library.specs.Libraries.{variances_in}
 use Rattle.cls_library.proofs.EndingLaws.{both}
@@ -35,7 +35,7 @@ mark-within Product = omega arith
 mark-within (Sealed c) = below_1024 c.0
 
 -- the word with one flag more
-abbrev with_bit : ℕ → ℕ → ℕ
+abbrev pub with_bit : ℕ → ℕ → ℕ
 with_bit word k = bit_or word (1 * 2 ^ k % 2 ^ 64)
 
 -- the words with one flag more
@@ -83,6 +83,31 @@ marked-more words ps p e h = more ps h
     more : (ps : List TypePath) → AreMarked words ps → AreMarked (with_mark words (mark_of (head_of p))) (ps ++ p ∷ [])
     more [] h = (marked-here words (mark_of (head_of p)) room, tt)
     more (b ∷ ps) h = (marked-still words (mark_of (head_of p)) (mark_of (head_of b)) room h.0, more ps h.1)
+
+deep-within : (p : TypePath) → (ending_of p).arrows < 64
+deep-within p = omega arith
+
+-- the flag of the number of arrows of one path more
+pub deep-more : (word : ℕ) (ps : List TypePath) (p : TypePath) → AreDeep word ps → AreDeep (with_bit word (ending_of p).arrows) (ps ++ p ∷ [])
+deep-more word [] p h = (bit-here word (ending_of p).arrows (deep-within p), tt)
+deep-more word (b ∷ ps) p h = (bit-still word (ending_of p).arrows (ending_of b).arrows (deep-within p) h.0, deep-more word ps p h.1)
+
+module _ (d : Declared) (n : ℕ) (q : TypePath) (word : ℕ) (undeep : has_depth word (ending_behind n (ending_of q)).arrows ≡ false) where
+  too-deep : (p : TypePath) → IsTrue (has_depth word (ending_of p).arrows) → may_end_below (is_below d) n (ending_of p) (ending_of q) ≡ false
+  too-deep p m = elim (cases_Bool (may_end_below (is_below d) n (ending_of p) (ending_of q))) [
+    | inl e ↦ absurd (
+        let r = both _ (may_be_below (is_below d) (head_of p) (head_of q)) e in
+        let same : (ending_of p).arrows ≡ (ending_behind n (ending_of q)).arrows = eqb-true (ending_of p).arrows (ending_behind n (ending_of q)).arrows r.0 in
+        differs (sym undeep ∙ subst (λ k. has_depth word k ≡ true) same m))
+    | inr e ↦ e
+  ]
+
+  all-too-deep : (ps : List TypePath) → AreDeep word ps → NonePasses (is_below d) (variances_in d) n q ps
+  all-too-deep [] h = tt
+  all-too-deep (p ∷ ps) h = (too-deep p h.0, all-too-deep ps h.1)
+
+  pub no-family-undeep : (ps : List TypePath) → AreDeep word ps → IsFamilyIn d (arrows_of n (listed ps)) q []
+  no-family-undeep ps h = none-passes (is_below d) (variances_in d) n q ps (all-too-deep ps h)
 
 module _ (d : Declared) (n : ℕ) (q : TypePath) (alone : is_alone (class_by d.pairs) (head_of q) ≡ true) (words : List ℕ) (unmarked : is_marked words (head_of q) ≡ false) where
   fails : (p : TypePath) → IsTrue (is_marked words (head_of p)) → may_end_below (is_below d) n (ending_of p) (ending_of q) ≡ false

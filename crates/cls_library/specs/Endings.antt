@@ -54,6 +54,15 @@ abbrev pub AreMarked : List ℕ → List TypePath → Type 0
 AreMarked words [] = Unit {0}
 AreMarked words (p ∷ ps) = IsTrue (is_marked words (head_of p)) × AreMarked words ps
 
+-- whether the flag of the number of arrows is set in the word
+abbrev pub has_depth : ℕ → ℕ → Bool
+has_depth word n = bit_at word n == 1
+
+-- the flag of the number of arrows that each path begins with is set in the word
+abbrev pub AreDeep : ℕ → List TypePath → Type 0
+AreDeep word [] = Unit {0}
+AreDeep word (p ∷ ps) = IsTrue (has_depth word (ending_of p).arrows) × AreDeep word ps
+
 -- what is sought of the endings that may lead to the path
 pub record IsSought (d : Declared) (q : TypePath) (s : Sought) : Type 0 where
   pub ending : s.ending ≡ ending_of q

@@ -10,6 +10,7 @@ ghost use Rattle.cls_library.specs.Libraries.{variances_in};
 
 use crate::arrow::Arrows;
 use crate::column::Column;
+use crate::depths::Depths;
 use crate::endings::Endings;
 use crate::family::{family_along, family_of};
 use crate::marks::Marks;
@@ -22,13 +23,14 @@ use std::alloc::Global;
 use std::marker::Model;
 
 /// A component: its paths, the places of its arrows for each number of arguments, the endings of its paths, the flags of their
-/// heads, and its weight. It is seen as its paths and its weight.
+/// heads and of their numbers of arrows, and its weight. It is seen as its paths and its weight.
 #[derive(Drop)]
 pub(crate) struct Component {
     paths: Nf,
     columns: Vec<Column>,
     endings: Endings,
     marks: Marks,
+    depths: Depths,
     weight: u64,
 }
 
@@ -36,7 +38,7 @@ impl Model for Component {
     ghost use Rattle.cls_path.specs.Paths.{listed};
     ghost use Rattle.std.specs.Prelude.{length};
     ghost use Rattle.cls_library.specs.Chains.{AreChained};
-    ghost use Rattle.cls_library.specs.Endings.{AreMarked, IsKept};
+    ghost use Rattle.cls_library.specs.Endings.{AreDeep, AreMarked, IsKept};
     ghost use Rattle.cls_library.specs.Libraries as libraries;
     ghost use Rattle.cls_library.specs.Stored.{coded_component};
 
@@ -49,7 +51,8 @@ impl Model for Component {
     ghost invariant = { λ c. IsKept c.paths c.columns.items c.endings.kinds.keys c.endings.places.items
         × AreMarked c.marks.words c.paths
         × AreChained 0 (length c.endings.kinds.keys)
-        c.endings.places.items c.endings.chains.firsts.items c.endings.chains.next.items };
+        c.endings.places.items c.endings.chains.firsts.items c.endings.chains.next.items
+        × AreDeep c.depths.word c.paths };
 }
 
 impl Component {
@@ -64,11 +67,13 @@ impl Component {
         }
         let endings = Endings::new(alloc, paths.paths())?;
         let marks = Marks::of(paths.paths());
+        let depths = Depths::of(paths.paths());
         Ok(Component {
             paths,
             columns,
             endings,
             marks,
+            depths,
             weight,
         })
     }
@@ -85,6 +90,7 @@ impl Component {
             columns,
             endings,
             marks: self.marks,
+            depths: self.depths,
             weight: self.weight,
         })
     }
@@ -130,12 +136,19 @@ impl Component {
         }
     }
 
-    /// The same for the arrows that take so many arguments, by the endings of the paths.
+    /// The same for the arrows that take so many arguments, by the flags of numbers of arrows, and by the endings of the paths
+    /// if these are few or another head may be below the one that is sought.
     pub fn may_lead_by(&self, taxonomy: &Taxonomy, count: usize, sought: Sought) -> bool
         requires { sought.alone ≡ is_alone (class_by taxonomy.now.pairs) sought.ending.head }
         ensures { result ≡ false → (q : TypePath) → IsSought taxonomy.now q sought
             → IsFamilyIn taxonomy.now (arrows_of count self.now.paths) q [] }
     {
+        if !self.depths.has(sought.ending.behind(count).arrows) {
+            return false;
+        }
+        if sought.alone && self.endings.are_many() {
+            return true;
+        }
         self.endings.may_lead(taxonomy, count, sought)
     }
 

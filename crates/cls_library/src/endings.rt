@@ -80,15 +80,17 @@ impl Endings {
         None
     }
 
+    /// Whether there are so many endings that one of them is looked up.
+    pub fn are_many(&self) -> bool {
+        self.kinds.len() > FEW
+    }
+
     /// Whether a path of some ending, behind its first `count` arrows, may be below one of the ending that is sought.
     pub fn may_lead(&self, taxonomy: &Taxonomy, count: usize, sought: Sought) -> bool
         requires { sought.alone ≡ is_alone (class_by taxonomy.now.pairs) sought.ending.head }
         ensures { result ≡ list_any
             (λ lower. may_end_below (is_below taxonomy.now) count lower sought.ending) self.now.kinds.keys }
     {
-        if self.kinds.len() > FEW && sought.alone {
-            return self.kinds.contains(&sought.ending.behind(count));
-        }
         for lower in self.kinds.as_slice() {
             if lower.may_lead(taxonomy, count, sought) {
                 return true;
