@@ -1,5 +1,6 @@
 -- How a rule goes on, as the code does it.
-use Rattle.std.proofs.Common.{◌≡◌, ℕ, ◌+◌, ◌<◌, ◌≤◌, List, ◌∷◌, Option, None, Some, length, take, slice_get, sym, ap, subst, arith}
+use Rattle.std.proofs.Common.{◌≡◌, ℕ, ◌+◌, ◌<◌, ◌≤◌, List, ◌∷◌, Option, None, Some, length, take, slice_get, sym, ap, subst, ◌∙◌, Bool, true, false, arith}
+use Rattle.std.specs.Prelude.{is_some}
 use Rattle.std.proofs.lemmas.Option.{slice_get_within}
 use Rattle.cls_base.specs.declared.rule.Rule.{Rule}
 use Rattle.cls_base.specs.Languages.{rules_at}
@@ -13,6 +14,11 @@ use Rattle.cls_rulebook.specs.Books.{HaveNodesBelow}
 
 rule-equal : (rs all : List (Rule ℕ)) (j : ℕ) (q r : Rule ℕ) → rs ≡ all → slice_get rs j ≡ Some q → slice_get all j ≡ Some r → q ≡ r
 rule-equal rs all j q r e f g = let h = subst (λ l. slice_get l j ≡ Some q) e f in cc
+
+-- whether the rank of a node is known
+pub rank-there : (ranks : List (Option ℕ)) (node : ℕ) (o : Option ℕ) (b : Bool) → slice_get ranks node ≡ Some o → b ≡ is_some o → (b ≡ true → (x : ℕ) × (slice_get ranks node ≡ Some (Some x))) × (((x : ℕ) × (slice_get ranks node ≡ Some (Some x))) → b ≡ true)
+rank-there ranks node (Some x) b e f = ((λ t. (x, e)), (λ u. f))
+rank-there ranks node None b e f = ((λ t. absurd (let h : false ≡ true = sym f ∙ t in cc)), (λ u. absurd (let h : ◌≡◌ {A = Option (Option ℕ)} (Some None) (Some (Some u.0)) = sym e ∙ u.1 in cc)))
 
 module _ (book : List (List (Rule ℕ))) (done height : ℕ) (w : Waiting) (todo : List Waiting) (s : State) (k : IsKept book done height (w ∷ todo) s) where
   abbrev ready : IsReady book s.ranks height w

@@ -4,7 +4,7 @@ use Rattle.std.specs.Prelude.{option_map}
 use Rattle.std.specs.List.{sum_by}
 use Rattle.std.proofs.lemmas.List.Sums.{sum_by-cons}
 use Rattle.std.proofs.lemmas.Option.{get_or_from_slice_get}
-use Rattle.cls_path.specs.Paths.{TypePath, listed, type_of_paths}
+use Rattle.cls_path.specs.Paths.{TypePath}
 use Rattle.cls_base.specs.declared.rule.Rule.{Rule}
 use Rattle.cls_core.specs.declared.answer.Answer.TheVariants.{Rules}
 use Rattle.cls_core.specs.Arguments.{rules_of, rule_count}

@@ -1,9 +1,9 @@
 -- The text of a grammar.
-use Rattle.std.specs.Prelude.{◌≡◌, ℕ, ◌+◌, ◌<◌, List, [], ◌∷◌, ◌++◌, length, codes, flat_map, slice_get, Option, Some, None}
+use Rattle.std.specs.Prelude.{◌≡◌, ℕ, ◌+◌, List, [], ◌∷◌, ◌++◌, length, codes, flat_map, Option, Some, None}
 use Rattle.std.specs.Fmt.{decimal}
 use Rattle.std.specs.List.{sum_by}
 use Rattle.cls_path.specs.Paths.{TypePath, listed, type_of_paths}
-use Rattle.cls_syntax.specs.TypePrinting.{HasNamesBelow, printed}
+use Rattle.cls_syntax.specs.TypePrinting.{printed}
 use Rattle.cls_core.specs.Arguments.{rules_of, rule_count}
 use Rattle.cls_core.specs.Rows.{Row}
 use Rattle.cls_base.specs.declared.rule.Rule.{Rule}

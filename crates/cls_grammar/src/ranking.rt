@@ -2,7 +2,7 @@
 //!
 //! A rule waits for the first of its arguments that isn't known yet. When a node becomes known, each rule that waits
 //! for it goes on to its next such argument, and one that has none gives its own node a rank. So each argument is passed
-//! once.
+//! once. A rule of a node whose rank is known is done: it would give the node no lower one.
 ghost use Rattle.std.specs.Prelude.{◌≡◌, ◌<◌, ◌≤◌, ◌+◌, ◌^◌, ◌↔◌, ℕ, List, [], ◌∷◌, ◌++◌, Option, Some, None, IsTrue, IfOk, OnOk, IfSome, IfNone, length, slice_get, take, map, is_some, option_copied};
 ghost use Rattle.cls_base.specs.Languages.{rules_at};
 ghost use Rattle.cls_base.specs.Lists.{AreBelow};
@@ -173,6 +173,14 @@ impl Climb {
         self.ranks[node as usize].unwrap()
     }
 
+    // Whether the rank of the node is known.
+    fn has_rank(&self, node: u32) -> bool
+        requires { node < length self.now.ranks }
+        ensures { IsTrue result ↔ ((rank : ℕ) × (slice_get self.now.ranks node ≡ Some (Some rank))) }
+    {
+        self.ranks[node as usize].is_some()
+    }
+
     // The rule waits for the node.
     fn wait(&mut self, node: u32, waiting: Waiting) -> Result<(), OutOfMemory>
         requires { node < length self.old.waiting }
@@ -219,6 +227,9 @@ impl Climb {
             → IsKept (B.book book.now) done height (waiting ∷ todo) self.old
             → IsKept (B.book book.now) done height todo self.new) }
     {
+        if self.has_rank(waiting.node) {
+            return Ok(());
+        }
         let rule = rule_at(book.rules(waiting.node), waiting.rule);
         let Some((argument, node)) = self.next_unknown(rule, waiting.argument, height) else {
             self.reach(waiting.node, height)?;

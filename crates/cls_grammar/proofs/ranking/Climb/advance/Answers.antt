@@ -1,7 +1,15 @@
 use Rattle.std.proofs.Common.{◌<◌, length, refl, arith}
 use Rattle.cls_grammar.proofs.Advances.{rule-less, next-nodes, next-within, next-front, argument-less, kept-reached, kept-waits}
 use Rattle.cls_grammar.proofs.ranking.Climb.advance.Goals as goal
-use Rattle.cls_grammar.proofs.Climbing.{node-less, rank-small}
+use Rattle.cls_grammar.proofs.Climbing.{node-less, rank-small, kept-known}
+
+pub has_rank-requires : goal.has_rank-requires
+has_rank-requires g c = let k = c.requires in omega (arith, k.2.sized, node-less (g.B.RuleBook.book c.args.book.now) k.0 c.args.height c.args.waiting k.1 c.args.self.now k.2)
+
+pub returns-then-has_rank : goal.returns-then-has_rank
+returns-then-has_rank g c = λ done todo k.
+    let u = c.has_rank.ensures.0 c.if-has_rank.true in
+    kept-known (g.B.RuleBook.book c.args.book.now) done c.args.height c.args.waiting todo c.args.self.now k u.0 u.1
 
 pub rules-requires : goal.rules-requires
 rules-requires g c = let k = c.requires in node-less (g.B.RuleBook.book c.args.book.now) k.0 c.args.height c.args.waiting k.1 c.args.self.now k.2
