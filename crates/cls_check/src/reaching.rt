@@ -72,7 +72,7 @@ pub(crate) fn asked_at<'a>(
     ensures only { IfOk result (λ asked. (n : Paths) → Contains (map paths_of_form asked.items) n
         → (i : ℕ) × Contains good.now i × (n ≡ source_of (arrow_of arrows.now i) place)) }
 {
-    let mut asked = Vec::new(alloc);
+    let mut asked = Vec::with_capacity(alloc, good.len())?;
     for i in good {
         match arrows.get(*i).source(place) {
             Some(source) => asked.push(source)?,
@@ -139,7 +139,7 @@ pub(crate) fn with_source(
     ensures { IfOk result (λ kept. (i : ℕ) → Contains kept.items i
         ↔ (Contains good.now i × PathsLeIn lib.now (paths_in had.now) (source_of (arrow_of arrows.now i) place))) }
 {
-    let mut kept = Vec::new(alloc);
+    let mut kept = Vec::with_capacity(alloc, good.len())?;
     for i in good {
         if has_source(lib, &arrows.get(*i), place, had) {
             kept.push(*i)?;
@@ -158,7 +158,7 @@ pub(crate) fn targets<'a>(
     ensures { IfOk result (λ paths. paths_in paths.items
         ≡ listed (map (λ i. (arrow_of arrows.now i).target) good.now)) }
 {
-    let mut paths = Vec::new(alloc);
+    let mut paths = Vec::with_capacity(alloc, good.len())?;
     for i in good {
         paths.push(arrows.get(*i).target())?;
     }
