@@ -6,11 +6,17 @@ use crate::path::{Form, Nf, Path};
 use std::hash::Hasher;
 
 const CON: u64 = 1 << 32;
+
 const UNIT: u64 = 2 << 32;
+
 const LEFT: u64 = 3 << 32;
+
 const RIGHT: u64 = 4 << 32;
+
 const ARROW: u64 = 5 << 32;
+
 const SEALED: u64 = 6 << 32;
+
 const END: u64 = 7 << 32;
 
 impl Path {
