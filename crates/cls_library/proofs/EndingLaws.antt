@@ -131,6 +131,10 @@ module _ (kinds : List Ending) where
     pub kind-within : get_or ks i 0 < length kinds
     kind-within = slice_get_within kinds (get_or ks i 0) _ (kind-at ks ps i h l).1
 
+    -- the number of arrows that is kept for a path
+    pub kind-arrows : (d : Ending) → (get_or kinds (get_or ks i 0) d).arrows ≡ min (max_arity + 1) (leading_arrows (slice_index_or ps i unit))
+    kind-arrows d = ap (λ (x : Ending). x.arrows) (get_or_from_slice_get kinds (get_or ks i 0) _ d (kind-at ks ps i h l).1)
+
     -- a path whose ending may not be below doesn't lead there
     pub not-below :
         (test : ℕ → ℕ → Bool) (n : ℕ) (q : TypePath) (variance : ℕ → Variance) (upper d : Ending) → upper ≡ ending_of q

@@ -1,7 +1,6 @@
 -- A head above which no other one is below: one ending alone may lead there.
-use Rattle.std.proofs.Common.{◌≡◌, ℕ, ◌+◌, ◌⊎◌, inl, inr, min, Bool, true, false, List, refl, sym, subst, ap, ◌∙◌, arith, IsTrue, eqb-true}
+use Rattle.std.proofs.Common.{◌≡◌, ℕ, ◌+◌, ◌⊎◌, inl, inr, min, Bool, true, false, refl, sym, subst, ap, ◌∙◌, arith, IsTrue, eqb-true}
 use Rattle.std.specs.Prelude.{if◌then◌else◌, ◌==◌, ◌&&◌, not}
-use Rattle.std.specs.List.{list_any}
 use Rattle.cls_base.specs.Limits.{max_arity}
 use Rattle.cls_taxon.specs.DecisionLaws.{is_below-reflexive, is_below-one_class}
 use Rattle.cls_taxon.specs.Decisions.{is_below}
@@ -83,6 +82,3 @@ module _ (d : Declared) (n : ℕ) (f : Ending) (h : is_alone (class_by d.pairs) 
       let same : e ≡ wanted = (λ j. record { arrows = a j; head = b j }) in
       subst (λ (x : Ending). eq-value.it wanted x ≡ true) (sym same) (same-endings wanted))
       (λ l. subst (λ (x : Ending). may_end_below (is_below d) n x f ≡ true) (same-ending wanted e l) leads-itself)
-
-  pub any-leads : (hs : List Ending) → list_any (eq-value.it wanted) hs ≡ list_any (λ lower. may_end_below (is_below d) n lower f) hs
-  any-leads hs = sym (λ i. list_any (λ e. one-leads e i) hs)

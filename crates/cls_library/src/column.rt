@@ -1,9 +1,10 @@
 //! The places of the arrows that take one number of arguments.
 ghost use Rattle.std.specs.Prelude.{◌≡◌, ◌≤◌, IfOk};
 ghost use Rattle.cls_base.specs.Limits.{max_arity};
+ghost use Rattle.cls_library.specs.Endings.{AreEndings};
 ghost use Rattle.cls_library.specs.Splits.{places_from};
 
-use crate::measure::leading_arrows;
+use crate::ending::Ending;
 use cls_base::OutOfMemory;
 use cls_path::Path;
 use std::alloc::Global;
@@ -24,14 +25,23 @@ impl Model for Column {
 }
 
 impl Column {
-    /// The places of the paths with at least `count` leading arrows.
-    pub fn new(alloc: Global, paths: &[Path], count: usize) -> Result<Column, OutOfMemory>
-        requires { count ≤ max_arity }
+    /// The places of the paths with at least `count` leading arrows. For each path `endings` has the place of its ending among
+    /// the kinds.
+    pub fn new(
+        alloc: Global,
+        paths: &[Path],
+        kinds: &[Ending],
+        endings: &[usize],
+        count: usize,
+    ) -> Result<Column, OutOfMemory>
+        requires few { count ≤ max_arity }
+        requires endings { AreEndings kinds.now endings.now paths.now }
         ensures { IfOk result (λ column. column ≡ places_from count 0 paths.now) }
     {
         let mut places = Vec::new(alloc);
-        for (i, path) in paths.iter().enumerate() {
-            if leading_arrows(path) >= count {
+        for i in 0..paths.len() {
+            let kind = kinds[endings[i]];
+            if kind.arrows >= count {
                 places.push(i)?;
             }
         }

@@ -61,13 +61,14 @@ impl Component {
         requires { arity_of (listed paths) ≤ max_arity }
         ensures { IfOk result (λ c. c ≡ record { paths = listed paths; weight = weight }) }
     {
+        let endings = Endings::new(alloc, paths.paths())?;
+        let kinds = endings.kinds.as_slice();
         let mut columns = Vec::new(alloc);
         for count in 0..arity(&paths) + 1 {
-            columns.push(Column::new(alloc, paths.paths(), count)?)?;
+            columns.push(Column::new(alloc, paths.paths(), kinds, &endings.places, count)?)?;
         }
-        let endings = Endings::new(alloc, paths.paths())?;
-        let marks = Marks::of(paths.paths());
-        let depths = Depths::of(paths.paths());
+        let marks = Marks::of(kinds);
+        let depths = Depths::of(kinds);
         Ok(Component {
             paths,
             columns,

@@ -1,9 +1,10 @@
 //! With how many arrows paths may begin: a word with one flag for each number.
-ghost use Rattle.std.specs.Prelude.{◌≡◌, ◌<◌};
-ghost use Rattle.cls_library.specs.Endings.{AreDeep, has_depth};
+ghost use Rattle.std.specs.Prelude.{◌≡◌, ◌<◌, ℕ, List};
+ghost use Rattle.cls_path.specs.Paths.{TypePath};
+ghost use Rattle.cls_library.specs.Endings.{AreDeep, AreEndings, has_depth};
 
-use crate::measure::leading_arrows;
-use cls_path::Path;
+use crate::ending::Ending;
+use crate::measure::TOO_MANY;
 
 /// The flags of the numbers from 0 to 33.
 #[derive(Clone, Copy, Debug, PartialEq, Eq)]
@@ -12,13 +13,13 @@ pub(crate) struct Depths {
 }
 
 impl Depths {
-    /// The flags of the numbers of arrows that the paths begin with.
-    pub fn of(paths: &[Path]) -> Depths
-        ensures { AreDeep result.word paths.now }
+    /// The flags of the numbers of arrows of the endings, and so of all paths with such endings.
+    pub fn of(kinds: &[Ending]) -> Depths
+        ensures { (ks : List ℕ) (ps : List TypePath) → AreEndings kinds.now ks ps → AreDeep result.word ps }
     {
         let mut word = 0;
-        for path in paths {
-            word |= 1 << leading_arrows(path);
+        for kind in kinds {
+            word |= 1 << kind.arrows.min(TOO_MANY);
         }
         Depths { word }
     }

@@ -1,9 +1,9 @@
 //! Which heads paths may have: a Bloom filter of one hash.
-ghost use Rattle.std.specs.Prelude.{◌≡◌};
-ghost use Rattle.cls_library.specs.Endings.{AreMarked, is_marked};
+ghost use Rattle.std.specs.Prelude.{◌≡◌, ℕ, List};
+ghost use Rattle.cls_path.specs.Paths.{TypePath};
+ghost use Rattle.cls_library.specs.Endings.{AreEndings, AreMarked, is_marked};
 
-use crate::ending::Head;
-use cls_path::Path;
+use crate::ending::{Ending, Head};
 
 /// The number of words of 64 flags.
 const WORDS: usize = 16;
@@ -15,13 +15,13 @@ pub(crate) struct Marks {
 }
 
 impl Marks {
-    /// The flags of the heads of the paths.
-    pub fn of(paths: &[Path]) -> Marks
-        ensures { AreMarked result.words paths.now }
+    /// The flags of the heads of the endings, and so of all paths with such endings.
+    pub fn of(kinds: &[Ending]) -> Marks
+        ensures { (ks : List ℕ) (ps : List TypePath) → AreEndings kinds.now ks ps → AreMarked result.words ps }
     {
         let mut words = [0; WORDS];
-        for path in paths {
-            let mark = Head::of(path).mark();
+        for kind in kinds {
+            let mark = kind.head.mark();
             words[(mark / 64) as usize] |= 1 << (mark % 64);
         }
         Marks { words }

@@ -1,17 +1,42 @@
-use Rattle.std.proofs.Common.{arith}
+use Rattle.std.proofs.Common.{◌≡◌, ◌+◌, min, get_or, arith}
+use Rattle.std.specs.Prelude.{slice_index_or}
+use Rattle.std.proofs.lemmas.List.{get_or_default}
+use Rattle.cls_base.specs.Limits.{max_arity}
+use Rattle.cls_path.specs.Paths.{unit}
+use Rattle.cls_library.specs.Arrows.{leading_arrows}
+use Rattle.cls_library.specs.declared.ending.Ending.{Ending}
+use Rattle.cls_library.specs.declared.ending.Head.TheVariants.{Covariant}
+use Rattle.cls_library.proofs.EndingLaws.{place-within, kind-within, kind-arrows}
 use Rattle.cls_library.proofs.Places.{places-more, places-skip, places-all}
 use Rattle.cls_library.proofs.column.Column.new.Goals as goal
-use Rattle.cls_library.proofs.column.Column.new.Goals.{then-leading_arrows-count+in_ok-push, else-leading_arrows-count}
+use Rattle.cls_library.proofs.column.Column.new.Goals.{then-kind-count+in_ok-push, else-kind-count}
+
+pub bounds-endings-i : goal.bounds-endings-i
+bounds-endings-i c = place-within c.args.kinds.now c.args.endings.now c.args.paths.now c.loop-i.i c.requires.endings c.loop-i-test.true
+
+pub bounds-kinds-endings : goal.bounds-kinds-endings
+bounds-kinds-endings c = kind-within c.args.kinds.now c.args.endings.now c.args.paths.now c.loop-i.i c.requires.endings c.loop-i-test.true
 
 pub loop-i-preserved : goal.loop-i-preserved
-loop-i-preserved c = elim c.if-leading_arrows-count.branch [
-  | then-leading_arrows-count+in_ok-push w ↦ (let capped = c.leading_arrows.ensures in let few = c.requires in let test = w.if-leading_arrows-count.true in
-      rw (w.places-is, w.in_ok-push.ensures.items)
-      (places-more c.args.count c.args.paths.now c.loop-i.i c.index-paths-i.result c.loop-i-test.true c.index-paths-i.is c.loop-i.places.items _ c.loop-i.invariant (omega arith)))
-  | else-leading_arrows-count w ↦ (let capped = c.leading_arrows.ensures in let few = c.requires in let test = w.if-leading_arrows-count.false in
-      rw w.places-is
-      (places-skip c.args.count c.args.paths.now c.loop-i.i c.index-paths-i.result c.loop-i-test.true c.index-paths-i.is c.loop-i.places.items _ c.loop-i.invariant (omega arith)))
-]
+loop-i-preserved c =
+    let ps = c.args.paths.now in
+    let i = c.loop-i.i in
+    let p = slice_index_or ps i unit in
+    let is : p ≡ get_or ps i p = get_or_default ps i unit p c.loop-i-test.true in
+    let few = c.requires.few in
+    let none : Ending = record { arrows = 0; head = Covariant (record { 0 = 0 }) } in
+    let arrows : (get_or c.args.kinds.now (get_or c.args.endings.now i 0) none).arrows ≡ min (max_arity + 1) (leading_arrows p) = kind-arrows c.args.kinds.now c.args.endings.now ps i c.requires.endings c.loop-i-test.true none in
+    elim c.if-kind-count.branch [
+      | then-kind-count+in_ok-push w ↦ (let test = w.if-kind-count.true in
+          rw (w.places-is, w.in_ok-push.ensures.items) (places-more c.args.count ps i p c.loop-i-test.true is c.loop-i.places.items _ c.loop-i.invariant (omega (arith, arrows, test, few))))
+      | else-kind-count w ↦ (let test = w.if-kind-count.false in
+          rw w.places-is (places-skip c.args.count ps i p c.loop-i-test.true is c.loop-i.places.items _ c.loop-i.invariant (omega (arith, arrows, test, few))))
+    ]
 
 pub returns : goal.returns
 returns c = places-all c.args.count c.args.paths.now c.loop-i.i c.loop-i.places.items _ c.loop-i-test.false c.loop-i.invariant
+
+pub offset_bounds-kinds-endings : goal.offset_bounds-kinds-endings
+offset_bounds-kinds-endings c =
+    let within = kind-within c.args.kinds.now c.args.endings.now c.args.paths.now c.loop-i.i c.requires.endings c.loop-i-test.true in
+    omega (arith, within)

@@ -1,10 +1,10 @@
 use Rattle.std.proofs.Common.{take, length, ◌≡◌}
-use Rattle.cls_library.specs.Endings.{AreMarked}
+use Rattle.cls_library.proofs.Marking.{EachMarked}
 use Rattle.cls_library.proofs.marks.Marks.of.Given as goal
 
-abbrev pub invariant-loop-path : goal.invariant-loop-path
-invariant-loop-path l =
+abbrev pub invariant-loop-kind : goal.invariant-loop-kind
+invariant-loop-kind l =
     record {
-      marked : AreMarked l.words (take l.path-index l.paths);
+      marked : EachMarked l.words (take l.kind-index l.kinds);
       count : length l.words ≡ 16;
     }
