@@ -3,7 +3,6 @@ ghost use Rattle.std.specs.Prelude.{◌≡◌, ℕ, ◌+◌, ◌<◌, ◌≤◌,
 ghost use Rattle.std.specs.List.{position_or_len};
 ghost use Rattle.indexmap.specs.IndexSet.{insert_key, insert_all};
 ghost use Rattle.cls_core.specs.declared.answer.Answer.{Answer as AnswerOf};
-ghost use Rattle.cls_core.specs.Adding.{AddsGoal};
 ghost use Rattle.cls_core.specs.Arguments.{map_answer};
 ghost use Rattle.cls_core.specs.Closure.{goals_of};
 ghost use Rattle.cls_core.specs.Numbers.{numbers_from};
@@ -30,7 +29,8 @@ fn number_goal<G: Key + Drop>(
     goal: &G,
 ) -> Result<u32, OutOfMemory>
     requires room { length (insert_key G.eq (goals.now.keys ++ added.old.keys) goal.now) < 2 ^ 32 }
-    ensures added { IfOk result (λ _. AddsGoal G.eq goals.now.keys added.old.keys goal.now added.new.keys) }
+    ensures added { IfOk result (λ _. goals.now.keys ++ added.new.keys
+        ≡ insert_key G.eq (goals.now.keys ++ added.old.keys) goal.now) }
     ensures number { IfOk result (λ n. n ≡ position_or_len (G.eq goal.now) (goals.now.keys ++ added.old.keys)) }
 {
     if let Some(number) = goals.get_index_of(goal) {

@@ -140,7 +140,7 @@ fn add_many(
         → MatchBool narrow (AreBegun lib.now (more q rest) from x n covers.now (map rule_of rules.new.items))
         (IsWideBy lib.now x (more q rest))) }
 {
-    let mut spines = IndexSet::new(alloc);
+    let mut spines = IndexSet::with_capacity(alloc, covers.len())?;
     for cover in covers {
         let args = arguments(alloc, lib, x, n, cover.as_slice())?;
         if !all_fit(alloc, args.as_slice())? {
