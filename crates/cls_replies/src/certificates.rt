@@ -4,7 +4,7 @@ ghost use Rattle.cls_replies.specs.LineKinds.{IsQed};
 ghost use Rattle.cls_replies.specs.Steps.{IsOfKind};
 
 use cls_base::OutOfMemory;
-use cls_lexer::{Line, tokens};
+use cls_lexer::{Line, first_token, tokens};
 use cls_syntax::word_at;
 use std::alloc::Global;
 
@@ -28,7 +28,10 @@ pub(crate) fn kind_of(alloc: Global, line: &Line) -> Result<LineKind, OutOfMemor
         Ok(Some(text)) => text,
         Err(_) => return Ok(LineKind::Single),
     };
-    match word_at(&tokens(alloc, text)?, "verify") {
+    let Some(first) = first_token(text) else {
+        return Ok(LineKind::Single);
+    };
+    match word_at(&[first], "verify") {
         Ok(_) => Ok(LineKind::Opening),
         Err(_) => Ok(LineKind::Single),
     }
@@ -41,6 +44,13 @@ pub(crate) fn is_qed(alloc: Global, line: &Line) -> Result<bool, OutOfMemory>
     let Ok(text) = line.text() else {
         return Ok(false);
     };
+    // Most lines begin with another word, and the tokens behind it needn't be known.
+    let Some(first) = first_token(text) else {
+        return Ok(false);
+    };
+    if word_at(&[first], "qed").is_err() {
+        return Ok(false);
+    }
     match word_at(&tokens(alloc, text)?, "qed") {
         Ok(rest) => Ok(rest.is_empty()),
         Err(_) => Ok(false),
