@@ -33,6 +33,17 @@ returns-in_err-answer_line-clause-answers g c =
     let p = err_from_is_err_and c.from_residual-in_err-answer_line.result c.from_residual-in_err-answer_line.ensures.1 in
     rw (p.1, p.2) (stops_more c.lines.invariant.answered cut _ _ _ c.take.new.self _ c.in_err-answer_line.ensures.answers)
 
+pub lines-preserved-in_ok-answer_line : goal.lines-preserved-in_ok-answer_line
+lines-preserved-in_ok-answer_line g c =
+    let cut = rw c.in-Some.is at c.in_ok-line.ensures.line in
+    let fresh = rw c.in-Some.is at c.in_ok-line.ensures.fresh in
+    record {
+      answered = answers_next fresh cut c.lines.invariant.answered c.in_ok-answer_line.ensures.answers;
+      room = fits_next fresh cut c.lines.invariant.room c.in_ok-answer_line.ensures.answers;
+      few_lines = (let less = shorter_next fresh cut in omega (arith, c.in_ok-answer_line.ensures.counted, c.lines.invariant.few_lines));
+      faults = c.in_ok-answer_line.ensures.faults ∙ c.lines.invariant.faults;
+    }
+
 pub lines-preserved : goal.lines-preserved
 lines-preserved g c =
     let cut = rw c.in-Some.is at c.in_ok-line.ensures.line in
