@@ -1,4 +1,4 @@
-ghost use Rattle.std.specs.Prelude.{◌≡◌};
+ghost use Rattle.std.specs.Prelude.{◌≡◌, ◌<◌};
 ghost use Rattle.cls_turn.specs.Seats.{id_of};
 ghost use Rattle.cls_workers.specs.Seats.{IsAfterWork, HasMeaning};
 
@@ -14,8 +14,9 @@ use std::thread::yield_now;
 /// so long, the caller goes on alone.
 const MOST_ASKS: u32 = 1_000;
 
-/// How many rows are free for each other worker when they are started: enough to be worth a thread each.
-const ROWS_EACH: u64 = 2;
+/// How many rows are free when one other worker is started. More workers start once there are as many times more as the square of
+/// their number: each costs a thread, and finds the less to do the more there are.
+const ROWS_FOR_ONE: u64 = 2;
 
 /// Claims a goal, and expands and files it. A worker that runs out of memory stops the table. The seat is given back,
 /// and whether there may be more to do: nothing is left if all is filed, the closure is too large or memory ran out.
@@ -85,6 +86,13 @@ pub(crate) fn work<E: Expand, L: Ledger, T: Gate, R: Wait>(
     seat
 }
 
+/// Whether so many free rows are enough for the other workers to start.
+fn are_worth(others: u64, free: u64) -> bool
+    requires { 0 < others }
+{
+    free / ROWS_FOR_ONE / others >= others
+}
+
 /// Works alone, until nothing is left to do or there are enough free rows for `others` more workers, which it says.
 pub(crate) fn work_alone<E: Expand, L: Ledger, T: Gate, R: Wait>(
     rt: &R,
@@ -106,7 +114,7 @@ pub(crate) fn work_alone<E: Expand, L: Ledger, T: Gate, R: Wait>(
             return (back, false);
         }
         seat = back;
-        if others > 0 && table.unclaimed(rt, &mut seat) / ROWS_EACH >= u64::from(others) {
+        if others > 0 && are_worth(u64::from(others), table.unclaimed(rt, &mut seat)) {
             return (seat, true);
         }
     }
