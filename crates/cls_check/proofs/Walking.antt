@@ -1,13 +1,13 @@
 -- Which places have to be walked.
-use Rattle.std.proofs.Common.{ℕ, ◌≡◌, inr, inl, refl, sym, subst, ap, ◌∙◌, Bool, true, false, cond, List, [], ◌∷◌, map, length, get_or, Some, ◌==◌, ◌&&◌, arith}
-use Rattle.std.specs.Prelude.{All, Contains, slice_get}
+use Rattle.std.proofs.Common.{ℕ, ◌≡◌, inr, inl, refl, sym, subst, ap, ◌∙◌, Bool, true, false, cond, List, [], ◌∷◌, map, length, get_or, ◌==◌, ◌&&◌, arith}
+use Rattle.std.specs.Prelude.{All, Contains}
 use Rattle.std.specs.List.{list_any}
 use Rattle.std.proofs.lemmas.List.{get_or_default}
 use Rattle.std.proofs.lemmas.List.Elements.{All-contains}
 use Rattle.cls_base.specs.Lists.{AreDistinct}
 use Rattle.cls_base.specs.Types.{ClosedType}
 use Rattle.cls_base.proofs.Lists.{Contains-here, Contains-later, Contains-cases, Contains-nil}
-use Rattle.cls_path.specs.Paths.{TypePath, Paths, none, more, listed}
+use Rattle.cls_path.specs.Paths.{TypePath, Paths, none, more}
 use Rattle.cls_library.specs.Arrows.{MultiArrow}
 use Rattle.cls_library.specs.Families.{IsFamilyIn, NoneBegins}
 use Rattle.cls_library.specs.Libraries.{Library, arrows_at}

@@ -8,7 +8,11 @@ ghost use Rattle.cls_check.specs.Deciding.{AreSuited, IsLeading, IsWanted, SomeB
 use cls_base::OutOfMemory;
 use cls_library::{Arrows, Library, MultiArrow};
 use cls_path::{Nf, Path};
+use smallvec::SmallVec;
 use std::alloc::Global;
+
+/// Positions of arrows, of which mostly few are left.
+pub(crate) type Positions = SmallVec<usize, 4>;
 
 /// Whether the path is below some path of the goal.
 fn leads_to(lib: &Library, target: &Path, goal: &Nf) -> bool
@@ -44,13 +48,13 @@ pub(crate) fn leading(
     lib: &Library,
     arrows: &Arrows<'_>,
     goals: &[&Nf],
-) -> Result<Vec<usize>, OutOfMemory>
+) -> Result<Positions, OutOfMemory>
     requires arrows { AreSuited lib.now arrows.now }
     requires goals { (n : Paths) → Contains (map paths_of_form goals.now) n → AllSuitIn lib.now n }
     ensures { IfOk result (λ good. (i : ℕ) → Contains good.items i
         ↔ ((i < length arrows.now) × IsLeading lib.now (map paths_of_form goals.now) (arrow_of arrows.now i))) }
 {
-    let mut good = Vec::new(alloc);
+    let mut good = SmallVec::new(alloc);
     for i in 0..arrows.len() {
         if leads_to_some(lib, &arrows.get(i), goals) {
             good.push(i)?;
@@ -132,14 +136,14 @@ pub(crate) fn with_source(
     good: &[usize],
     place: usize,
     had: &[&Path],
-) -> Result<Vec<usize>, OutOfMemory>
+) -> Result<Positions, OutOfMemory>
     requires below { (i : ℕ) → Contains good.now i → i < length arrows.now }
     requires arrows { AreSuited lib.now arrows.now }
     requires had { AllSuitIn lib.now (paths_in had.now) }
     ensures { IfOk result (λ kept. (i : ℕ) → Contains kept.items i
         ↔ (Contains good.now i × PathsLeIn lib.now (paths_in had.now) (source_of (arrow_of arrows.now i) place))) }
 {
-    let mut kept = Vec::with_capacity(alloc, good.len())?;
+    let mut kept = SmallVec::new(alloc);
     for i in good {
         if has_source(lib, &arrows.get(*i), place, had) {
             kept.push(*i)?;

@@ -12,7 +12,7 @@ pub loop-i-preserved : goal.loop-i-preserved
 loop-i-preserved c =
     let here : arrow_of c.args.arrows.now c.loop-i.i ≡ c.get.result = got c.args.arrows.now c.loop-i.i c.get.result no_arrow (sym c.get.ensures) in
     elim c.if-leads_to_some.branch [
-      | then-leads_to_some+in_ok-push w ↦ leading_yes (λ k. IsLeading c.args.lib.now (map paths_of_form c.args.goals.now) (arrow_of c.args.arrows.now k)) c.loop-i.good.items c.if-leads_to_some.good.items c.loop-i.i (ap (λ v. v.items) w.good-is ∙ w.in_ok-push.ensures.items)
+      | then-leads_to_some+in_ok-push w ↦ leading_yes (λ k. IsLeading c.args.lib.now (map paths_of_form c.args.goals.now) (arrow_of c.args.arrows.now k)) c.loop-i.good.items c.if-leads_to_some.good.items c.loop-i.i (ap (λ v. v.items) w.good-is ∙ w.in_ok-push.ensures.ok)
           (subst (λ (a : MultiArrow). IsLeading c.args.lib.now (map paths_of_form c.args.goals.now) a) (sym here) (c.leads_to_some.ensures.0 w.if-leads_to_some.true)) c.loop-i.invariant
       | else-leads_to_some w ↦ subst (λ (good : List ℕ). (k : ℕ) → Contains good k ↔ ((k < c.loop-i.i + 1) × IsLeading c.args.lib.now (map paths_of_form c.args.goals.now) (arrow_of c.args.arrows.now k))) (sym (ap (λ v. v.items) w.good-is))
           (leading_no (λ k. IsLeading c.args.lib.now (map paths_of_form c.args.goals.now) (arrow_of c.args.arrows.now k)) c.loop-i.good.items c.loop-i.i

@@ -21,7 +21,7 @@ loop-i-preserved c =
     let i = get_or c.args.good.now c.loop-i.i-index 0 in
     let here : arrow_of c.args.arrows.now i ≡ c.get.result = got c.args.arrows.now i c.get.result no_arrow (sym c.get.ensures) in
     elim c.if-has_source.branch [
-      | then-has_source+in_ok-push w ↦ kept_yes (λ k. PathsLeIn c.args.lib.now (paths_in c.args.had.now) (source_of (arrow_of c.args.arrows.now k) c.args.place)) c.args.good.now c.loop-i.i-index c.loop-i.kept.items c.if-has_source.kept.items c.loop-i-test.true (ap (λ v. v.items) w.kept-is ∙ w.in_ok-push.ensures.items)
+      | then-has_source+in_ok-push w ↦ kept_yes (λ k. PathsLeIn c.args.lib.now (paths_in c.args.had.now) (source_of (arrow_of c.args.arrows.now k) c.args.place)) c.args.good.now c.loop-i.i-index c.loop-i.kept.items c.if-has_source.kept.items c.loop-i-test.true (ap (λ v. v.items) w.kept-is ∙ w.in_ok-push.ensures.ok)
           (subst (λ (a : MultiArrow). PathsLeIn c.args.lib.now (paths_in c.args.had.now) (source_of a c.args.place)) (sym here) (c.has_source.ensures.0 w.if-has_source.true)) c.loop-i.invariant
       | else-has_source w ↦ subst (λ (kept : List ℕ). (k : ℕ) → Contains kept k ↔ (Contains (take (c.loop-i.i-index + 1) c.args.good.now) k × PathsLeIn c.args.lib.now (paths_in c.args.had.now) (source_of (arrow_of c.args.arrows.now k) c.args.place))) (sym (ap (λ v. v.items) w.kept-is))
           (kept_no (λ k. PathsLeIn c.args.lib.now (paths_in c.args.had.now) (source_of (arrow_of c.args.arrows.now k) c.args.place)) c.args.good.now c.loop-i.i-index c.loop-i.kept.items c.loop-i-test.true

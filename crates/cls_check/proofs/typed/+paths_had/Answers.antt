@@ -33,7 +33,7 @@ pub loop-place-init : goal.loop-place-init
 loop-place-init t c = kept_none c.args.lib.now c.count-components.ensures.library c.arrows-arrows.result (map paths_of_form c.args.goals.now) c.as_slice-arg-items.result.now c.in_ok-good.good.items c.in_ok-good.ensures
 
 pub asked_at-requires : goal.asked_at-requires
-asked_at-requires t c = λ i m. c.loop-place.invariant.below i (subst (λ (s : List ℕ). Contains s i) c.deref.ensures.value m)
+asked_at-requires t c = λ i m. c.loop-place.invariant.below i (subst (λ (s : List ℕ). Contains s i) c.deref.ensures m)
 
 pub paths_had-requires : goal.paths_had-requires
 paths_had-requires t c =
@@ -45,12 +45,12 @@ paths_had-requires t c =
         argument_over c.args.lib.now c.count-components.ensures.library (length c.args.lib.now.components) c.term.inside.head c.as_slice-arg-items.result.now c.args.term.now view c.requires.declared c.loop-place.place c.arg-item.result c.arg-item.is c.loop-place-test.true,
         (λ n m.
             let r = c.in_ok-asked.ensures.only n (subst (λ bs. Contains (map paths_of_form bs) n) c.deref-in-loop-place.ensures.value m) in
-            subst (λ (k : Paths). AllSuitIn c.args.lib.now k) (sym r.2) (suited.sources r.0 c.loop-place.place (c.loop-place.invariant.below r.0 (subst (λ (l : List ℕ). Contains l r.0) c.deref.ensures.value r.1)))),
+            subst (λ (k : Paths). AllSuitIn c.args.lib.now k) (sym r.2) (suited.sources r.0 c.loop-place.place (c.loop-place.invariant.below r.0 (subst (λ (l : List ℕ). Contains l r.0) c.deref.ensures r.1)))),
       ),
     )
 
 pub with_source-requires-clause-below : goal.with_source-requires-clause-below
-with_source-requires-clause-below t c = λ i m. c.loop-place.invariant.below i (subst (λ (s : List ℕ). Contains s i) c.deref-in-loop-place-2.ensures.value m)
+with_source-requires-clause-below t c = λ i m. c.loop-place.invariant.below i (subst (λ (s : List ℕ). Contains s i) c.deref-in-loop-place-2.ensures m)
 
 pub with_source-requires-clause-arrows : goal.with_source-requires-clause-arrows
 with_source-requires-clause-arrows t c = subst (λ (arrows : List MultiArrow). AreSuited c.args.lib.now arrows) (sym c.arrows-arrows.ensures.arrows) (are_suited c.args.lib.now c.count-components.ensures.library c.term.inside.head c.len-count.result)
@@ -64,14 +64,14 @@ loop-place-preserved t c =
     kept_more c.args.lib.now c.count-components.ensures.library c.arrows-arrows.result (map paths_of_form c.args.goals.now) c.as_slice-arg-items.result.now c.loop-place.place c.loop-place.good.items c.in_ok-good-2.good.items (map paths_of_form c.in_ok-asked.asked.items) (paths_in c.in_ok-had.had.items)
     (subst (λ (e : Applicative). IsTermOver (length c.args.lib.now.components) e) same over)
     suited c.loop-place.invariant
-    (λ i m q h. c.in_ok-asked.ensures.each i (subst (λ (s : List ℕ). Contains s i) (sym c.deref.ensures.value) m) q h)
+    (λ i m q h. c.in_ok-asked.ensures.each i (subst (λ (s : List ℕ). Contains s i) (sym c.deref.ensures) m) q h)
     (subst (λ (e : Applicative). KnowsPaths c.args.lib.now e (map paths_of_form c.in_ok-asked.asked.items) (paths_in c.in_ok-had.had.items)) same
     (subst (λ bs. KnowsPaths c.args.lib.now c.arg-item.result (map paths_of_form bs) (paths_in c.in_ok-had.had.items)) c.deref-in-loop-place.ensures.value c.in_ok-had.ensures))
     (subst (λ (ps : List (Bor TypePath)). (i : ℕ) → Contains c.in_ok-good-2.good.items i ↔ (Contains c.loop-place.good.items i × PathsLeIn c.args.lib.now (paths_in ps) (source_of (arrow_of c.arrows-arrows.result i) c.loop-place.place))) c.deref-in-loop-place-3.ensures.value
-    (subst (λ (s : List ℕ). (i : ℕ) → Contains c.in_ok-good-2.good.items i ↔ (Contains s i × PathsLeIn c.args.lib.now (paths_in c.deref-in-loop-place-3.result.now) (source_of (arrow_of c.arrows-arrows.result i) c.loop-place.place))) c.deref-in-loop-place-2.ensures.value c.in_ok-good-2.ensures))
+    (subst (λ (s : List ℕ). (i : ℕ) → Contains c.in_ok-good-2.good.items i ↔ (Contains s i × PathsLeIn c.args.lib.now (paths_in c.deref-in-loop-place-3.result.now) (source_of (arrow_of c.arrows-arrows.result i) c.loop-place.place))) c.deref-in-loop-place-2.ensures c.in_ok-good-2.ensures))
 
 pub targets-requires : goal.targets-requires
-targets-requires t c = λ i m. c.loop-place.invariant.below i (subst (λ (s : List ℕ). Contains s i) c.deref-2.ensures.value m)
+targets-requires t c = λ i m. c.loop-place.invariant.below i (subst (λ (s : List ℕ). Contains s i) c.deref-2.ensures m)
 
 pub with_source-requires-clause-had : goal.with_source-requires-clause-had
 with_source-requires-clause-had t c = subst (λ (ps : List (Bor TypePath)). AllSuitIn c.args.lib.now (paths_in ps)) (sym c.deref-in-loop-place-3.ensures.value) c.in_ok-had.ensures.suits
@@ -89,7 +89,7 @@ returns t c =
     (subst (λ (k : ℕ). AreKept c.args.lib.now c.arrows-arrows.result (map paths_of_form c.args.goals.now) c.as_slice-arg-items.result.now k c.loop-place.good.items) end c.loop-place.invariant) in
     let paths : paths_in c.in_ok-targets.field-0.items ≡ listed (map (λ (i : ℕ). (arrow_of (arrows_at c.args.lib.now c.term.inside.head (length c.as_slice-arg-items.result.now)) i).target) c.loop-place.good.items) = c.in_ok-targets.ensures
     ∙ ap listed (ap (λ (found : List MultiArrow). map (λ (i : ℕ). (arrow_of found i).target) c.deref-2.result.now) arrows
-    ∙ ap (λ (s : List ℕ). map (λ (i : ℕ). (arrow_of (arrows_at c.args.lib.now c.term.inside.head (length c.as_slice-arg-items.result.now)) i).target) s) c.deref-2.ensures.value) in
+    ∙ ap (λ (s : List ℕ). map (λ (i : ℕ). (arrow_of (arrows_at c.args.lib.now c.term.inside.head (length c.as_slice-arg-items.result.now)) i).target) s) c.deref-2.ensures) in
     subst (λ (e : Applicative). KnowsPaths c.args.lib.now e (map paths_of_form c.args.goals.now) (paths_in c.in_ok-targets.field-0.items)) view
     (subst (λ (n : Paths). KnowsPaths c.args.lib.now (spine (component c.term.inside.head) c.as_slice-arg-items.result.now) (map paths_of_form c.args.goals.now) n) (sym paths)
     (all_known c.args.lib.now c.count-components.ensures.library c.term.inside.head c.as_slice-arg-items.result.now (map paths_of_form c.args.goals.now) c.requires.suits c.loop-place.good.items (omega arith) kept))
