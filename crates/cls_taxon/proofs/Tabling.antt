@@ -2,6 +2,7 @@
 use Rattle.std.proofs.Common.{◌≡◌, ℕ, zero, suc, ◌<◌, ◌≤◌, ◌^◌, Bool, true, false, cond, ltb, List, [], ◌∷◌, ◌++◌, length, refl, sym, ap, ◌∙◌, subst, inl, inr, arith, Option, Some, None, set, get_or}
 use Rattle.std.specs.Prelude.{slice_index_or, slice_set, ◌==◌, ◌||◌, not}
 use Rattle.std.specs.List.{list_any}
+use Rattle.std.specs.Option.{is_some}
 use Rattle.std.proofs.lemmas.Bool.{cases_Bool, ltb-true, ltb-false, lt-ltb, le-ltb}
 use Rattle.cls_taxon.specs.Places.{place_of, place_in, with_name, IsTabled}
 use Rattle.cls_taxon.specs.DecisionLaws.{same_name, name_same}
@@ -44,6 +45,21 @@ next-if p n = elim (cases_Bool (ltb p n)) [
 place-next : (a b : ℕ) (names : List ℕ) → (a == b) ≡ false → place_in (b ∷ names) a ≡ next (place_in names a)
 place-next a b names e =
     ap (λ n. cond (ltb n (suc (length names))) (Some n) None) (place-later a b names e) ∙ next-if (place_of names a) (length names)
+
+some-next : (o : Option ℕ) → is_some (next o) ≡ is_some o
+some-next None = refl
+some-next (Some n) = refl
+
+is-there : (names : List ℕ) (a : ℕ) → is_some (place_in names a) ≡ list_any (λ b. a == b) names
+is-there [] a = ap is_some (none-if 0 0 (omega arith))
+is-there (x ∷ names) a = elim (cases_Bool (a == x)) [
+  | inl h ↦ ap is_some (place-first a x names h) ∙ sym (ap (λ t. t || list_any (λ b. a == b) names) h)
+  | inr h ↦ ap is_some (place-next a x names h) ∙ some-next (place_in names a) ∙ is-there names a ∙ sym (ap (λ t. t || list_any (λ b. a == b) names) h)
+]
+
+-- a name that is there changes nothing
+pub stays : (names : List ℕ) (a : ℕ) → is_some (place_in names a) ≡ true → names ≡ with_name names a
+stays names a e = sym (ap (λ t. cond t names (names ++ a ∷ [])) (sym (is-there names a) ∙ e))
 
 last : (names : List ℕ) (b : ℕ) → list_any (λ x. b == x) names ≡ false → place_in (names ++ b ∷ []) b ≡ Some (length names)
 last [] b e = place-first b b [] (name_same b b refl)

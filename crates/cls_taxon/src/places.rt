@@ -55,6 +55,9 @@ impl Places {
     pub fn insert(&mut self, name: u32) -> Result<(), OutOfMemory>
         ensures ok { OnOk result (self.new ≡ with_name self.old name) }
     {
+        if self.find(name).is_some() {
+            return Ok(());
+        }
         if name < TABLED {
             return self.insert_tabled(name);
         }
