@@ -3,20 +3,21 @@ ghost use Rattle.std.specs.Prelude.{◌≡◌, ℕ, ◌↔◌, All, IsTrue, IfOk
 ghost use Rattle.cls_taxon.specs.Spans.{InSpans, IsSpan, IsRising, start_of};
 
 use cls_base::OutOfMemory;
+use smallvec::SmallVec;
 use std::alloc::Global;
 use std::marker::Model;
 
 /// The numbers from `start` up to `end`, without `end` itself.
-#[derive(Clone, Copy, Debug, PartialEq, Eq)]
+#[derive(Clone, Copy, Debug, Default, PartialEq, Eq)]
 pub struct Span {
     pub start: usize,
     pub end: usize,
 }
 
-/// A set of numbers, seen as spans in order.
+/// A set of numbers, seen as spans in order. Mostly there is one.
 #[derive(Drop)]
 pub struct Spans {
-    items: Vec<Span>,
+    items: SmallVec<Span, 1>,
 }
 
 impl Model for Spans {
@@ -40,7 +41,7 @@ impl Spans {
         spans.sort_unstable_by_key(|span| span.start);
         let start = first_start(&spans);
         let mut last = Span { start, end: start };
-        let mut items = Vec::new(alloc);
+        let mut items = SmallVec::new(alloc);
         for span in spans.as_slice() {
             if span.start <= last.end {
                 last.end = last.end.max(span.end);
@@ -57,8 +58,7 @@ impl Spans {
     pub fn copy(&self, alloc: Global) -> Result<Spans, OutOfMemory>
         ensures { IfOk result (λ copy. copy ≡ self.now) }
     {
-        let mut items = Vec::new(alloc);
-        items.extend_from_slice(&self.items)?;
+        let items = SmallVec::from_slice(alloc, self.as_slice())?;
         Ok(Spans { items })
     }
 
