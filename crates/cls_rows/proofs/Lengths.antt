@@ -1,9 +1,8 @@
 -- How long what may stand written for an input without a byte is at most.
-use Rattle.std.proofs.Common.{◌≡◌, ℕ, ◌+◌, ◌<◌, ◌≤◌, List, [], ◌∷◌, ◌++◌, length, sym, ap, ◌∙◌, arith, length-append}
+use Rattle.std.proofs.Common.{◌≡◌, ℕ, ◌<◌, ◌≤◌, List, [], ◌∷◌, ◌++◌, length, sym, ap, ◌∙◌, arith, length-append}
 use Rattle.std.specs.Prelude.{codes}
 use Rattle.std.specs.Fmt.{decimal}
 use Rattle.std.proofs.lemmas.Fmt.{length-decimal-le_wide}
-use Rattle.cls_base.specs.Limits.{max_input_bytes}
 use Rattle.cls_lexer.specs.Lines.{lines_of}
 use Rattle.cls_engine.specs.declared.options.Options.{Options}
 use Rattle.cls_replies.specs.Serving.{Serving}

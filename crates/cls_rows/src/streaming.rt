@@ -1,16 +1,20 @@
-ghost use Rattle.std.specs.Prelude.{None};
+ghost use Rattle.std.specs.Prelude.{◌<◌, None};
 
 use cls_base::{Failed, MemorySink, MemorySource, Numbers, OpenGate, Sink, Source};
 use cls_session::{Status, run};
+use std::alloc::Global;
+use std::process::Abort;
+use std::sync::Wait;
 use std::sync::atomic::{AtomicU64, Ordering};
 use std::test::Fail;
+use std::thread::Threads;
 
 /// Two lines of 15 bytes in all, and two queries of 24 bytes each. The reply to a query has 12 bytes.
 const QUERIES: &[u8] = b"comp x : A\nend\nlist omega max 1 take 1\nlist omega max 1 take 1\n";
 
 const REPLIES: &str = "term x\ndone\nterm x\ndone\n";
 
-/// A source that gives one byte a read, and notes at each read how many bytes the sink has taken by then.
+/// A source that notes at each read how many bytes the sink has taken by then.
 #[derive(Drop)]
 struct Watcher<'a> {
     bytes: MemorySource,
@@ -50,11 +54,24 @@ impl<'a> Sink for Counter<'a> {
 
 #[test]
 fn each_reply_is_written_before_the_next_read(rt: HostRuntime) -> Result<(), Fail> {
-    let alloc = rt.alloc();
+    for chunk in [1, 5, 40, 63] {
+        assert_written(&rt, rt.alloc(), chunk)?;
+    }
+    Ok(())
+}
+
+/// Asserts that the replies to all lines that came are written at each read, if at most `chunk` bytes come at once.
+fn assert_written<R: Abort + Threads + Wait + Sync>(
+    rt: &R,
+    alloc: Global,
+    chunk: usize,
+) -> Result<(), Fail>
+    requires { 0 < chunk }
+{
     let written = AtomicU64::new(0);
     let none = Numbers::new(Vec::new(alloc));
     let mut source = Watcher {
-        bytes: MemorySource::new(QUERIES.to_vec(alloc)?, 1, none),
+        bytes: MemorySource::new(QUERIES.to_vec(alloc)?, chunk, none),
         written: &written,
         noted: [0; 64],
         reads: 0,
@@ -64,17 +81,21 @@ fn each_reply_is_written_before_the_next_read(rt: HostRuntime) -> Result<(), Fai
         bytes: MemorySink::new(alloc, 24, 5, none)?,
         written: &written,
     };
-    let status = run(&rt, alloc, &[], &mut source, &mut sink, &OpenGate);
+    let status = run(rt, alloc, &[], &mut source, &mut sink, &OpenGate);
     assert_eq!(rt; status, Status::Done);
     assert_eq!(rt; str::from_utf8(sink.bytes.held())?, REPLIES);
-    // Before read number `taken + 1` so many bytes were taken. The queries end at byte 39 and at byte 63.
-    for (taken, noted) in source.noted.iter().enumerate() {
-        let expected = match taken {
+    // The last read finds the end. The queries end at byte 39 and at byte 63.
+    assert_eq!(rt;
+        source.reads,
+        QUERIES.len().div_ceil(chunk).saturating_add(1)
+    );
+    for (read, noted) in source.noted.iter().take(source.reads).enumerate() {
+        let expected = match read.saturating_mul(chunk) {
             0..39 => 0,
             39..63 => 12,
             _ => 24,
         };
-        assert_eq!(rt; *noted, expected, "after {taken} bytes");
+        assert_eq!(rt; *noted, expected, "before read {read} of {chunk} bytes");
     }
     Ok(())
 }

@@ -1,18 +1,18 @@
--- If a run stops at a failed write or out of memory, what was written begins what may stand written for some first lines.
+-- If a run stops at a failed write or out of memory, what was written begins what may stand written for the last line.
 use Rattle.std.proofs.Common.{◌≡◌, ℕ, List, [], ◌∷◌, ◌++◌, subst, inl, inr, append_assoc}
 use Rattle.std.specs.Prelude.{Err}
 use Rattle.cls_base.specs.Outside.{SinkSeen}
-use Rattle.cls_lexer.specs.Lines.{CutsLine, lines_of}
+use Rattle.cls_lexer.specs.Lines.{lines_of}
 use Rattle.cls_engine.specs.declared.options.Options.{Options}
 use Rattle.cls_session.specs.declared.driver.Stop.{Stop}
 use Rattle.cls_session.specs.declared.status.Status.{Status}
-use Rattle.cls_session.specs.Driving.{Writes, WritesFront, IsWritten, AnswersLine, RefusesLine, BreaksLine, AnswersLines, RefusesLines, BreaksLines, IsEnded, AnswersLast, RefusesLast, BreaksLast, before_line, within_line, before_last, within_last, MatchStop}
+use Rattle.cls_session.specs.Driving.{WritesFront, AnswersLine, RefusesLine, BreaksLine, IsEnded, AnswersLast, RefusesLast, BreaksLast, before_line, within_line, before_last, within_last, MatchStop}
 use Rattle.cls_session.specs.Standings.{Standing, Stands}
 use Rattle.cls_session.specs.Transcripts.{IsRefused, Ending}
-use Rattle.cls_session.proofs.Driving.{CutsLines-push, match_stopped, refuses_more}
+use Rattle.cls_session.proofs.Driving.{match_stopped}
 use Rattle.cls_session.proofs.LastLines.{SaysLast, refuses_last}
 use Rattle.cls_session.proofs.Standings.{Stands-transcript}
-use Rattle.cls_session.proofs.Writing.{Writes-none, Writes-trans, written_front, whole_front, front_after}
+use Rattle.cls_session.proofs.Writing.{Writes-none, whole_front, front_after}
 
 -- the line wasn't read: nothing was written for it
 pub breaks_unread : (sink : SinkSeen) (old : Standing) (line : List ℕ) → BreaksLine sink sink old line
@@ -30,42 +30,6 @@ pub breaks_refusal : {sink sink' : SinkSeen} {old : Standing} {line reply : List
     → ((o : Options) (lines : List (List ℕ)) (written : List ℕ) → Stands o lines written old → IsRefused (lines ++ line ∷ []) (written ++ reply))
     → WritesFront sink sink' reply → BreaksLine sink sink' old line
 breaks_refusal {reply = reply} next f = within_line (λ o lines written s. (reply, inr (next o lines written s), f))
-
--- Some lines were answered.
-module _ {a b : SinkSeen} {first mid : Standing} {text between : List ℕ} (so_far : AnswersLines a b first mid text between) where
-  -- the run stops between two lines, and nothing more was written
-  pub breaks_between_then : {c : SinkSeen} → Writes b c [] → BreaksLines a c first text
-  breaks_between_then none = record {
-    reply = λ o lines written h.
-        let (more, reply, cuts, next, writes) = so_far.reply o lines written h in
-        (more, between, reply, cuts, inl (Stands-transcript o (lines ++ more) (written ++ reply) mid next), written_front (Writes-trans writes none));
-  }
-
-  pub breaks_between : BreaksLines a b first text
-  breaks_between = breaks_between_then (Writes-none b)
-
-  module _ {line after : List ℕ} (cut : CutsLine between line after) where
-    -- it stops at the next line
-    pub breaks_more : {c : SinkSeen} → BreaksLine b c mid line → BreaksLines a c first text
-    breaks_more (before_line none) = breaks_between_then none
-    breaks_more (within_line breaks) = record {
-      reply = λ o lines written h.
-          let (more, reply, cuts, next, writes) = so_far.reply o lines written h in
-          let (further, end, front) = breaks o (lines ++ more) (written ++ reply) next in (
-            more ++ line ∷ [],
-            after,
-            reply ++ further,
-            CutsLines-push text between after line more cuts cut,
-            subst (λ (x : List ℕ). IsWritten o (lines ++ (more ++ line ∷ [])) x) (append_assoc written reply further) (subst (λ (xs : List (List ℕ)). IsWritten o xs ((written ++ reply) ++ further)) (append_assoc lines more (line ∷ [])) end),
-            front_after writes front,
-          );
-    }
-
-    -- if the line was not answered, the lines were not either
-    pub stops_more : (A : Type 0) (c : SinkSeen) (last : Standing) (rest : List ℕ) (stop : Stop)
-        → MatchStop {A = A} (Err stop) (λ _. AnswersLine b c mid last line) (RefusesLine b c mid line) (BreaksLine b c mid line)
-        → MatchStop {A = A} (Err stop) (λ _. AnswersLines a c first last text rest) (RefusesLines a c first text) (BreaksLines a c first text)
-    stops_more A c last rest stop h = match_stopped A A stop (λ _. AnswersLine b c mid last line) (λ _. AnswersLines a c first last text rest) h (refuses_more so_far cut) breaks_more
 
 -- the run stops at the line that is left
 breaks_last : {line text : List ℕ} → line ∷ [] ≡ lines_of text → {sink sink' : SinkSeen} {old : Standing} → BreaksLine sink sink' old line → BreaksLast sink sink' old text

@@ -8,6 +8,7 @@ pub mod Opening
 pub mod Breaks
 pub mod Writing
 pub mod Driving
+pub mod Pending
 pub mod Outputs
 pub mod InputLoop
 pub mod Asked

@@ -1,9 +1,9 @@
 -- What is told of how large the terms of a type are is one thing.
-use Rattle.std.proofs.Common.{ℕ, ◌≡◌, ◌+◌, ◌<◌, ◌≤◌, refl, sym, ◌∙◌, ap, subst, inl, inr, List, [], ◌∷◌, arith}
+use Rattle.std.proofs.Common.{ℕ, ◌≡◌, ◌<◌, ◌≤◌, refl, sym, ◌∙◌, ap, subst, inl, inr, List, [], ◌∷◌, arith}
 use Rattle.std.specs.Prelude.{Some, slice_get, Contains}
 use Rattle.std.proofs.lemmas.Bool.{cases_order}
 use Rattle.cls_base.specs.Firsts.{IsDetermined}
-use Rattle.cls_base.specs.Terms.{Applicative, size_of}
+use Rattle.cls_base.specs.Terms.{size_of}
 use Rattle.cls_base.specs.Types.{ClosedType}
 use Rattle.cls_base.specs.declared.rule.Rule.{Rule}
 use Rattle.cls_core.specs.Arguments.{arguments_of_rule}
@@ -11,7 +11,6 @@ use Rattle.cls_core.specs.Rows.{Row}
 use Rattle.cls_grammar.specs.Grammars.{book_of}
 use Rattle.cls_library.specs.Libraries.{Library}
 use Rattle.cls_library.specs.Typing.{HasTypeIn}
-use Rattle.cls_finite.specs.declared.answer.FiniteAnswer.{FiniteAnswer}
 use Rattle.cls_finite.specs.declared.answer.FiniteAnswer.TheVariants.{Finite, Over, Infinite}
 use Rattle.cls_finite.specs.declared.walk.Step.{Step}
 use Rattle.cls_finite.specs.Finiteness as finiteness

@@ -1,17 +1,10 @@
 -- A text that is written in parts is written.
-use Rattle.std.proofs.Common.{◌≡◌, ℕ, ◌+◌, ◌≤◌, List, [], ◌∷◌, ◌++◌, length, take, drop, refl, sym, ap, ◌∙◌, subst, arith, append_assoc, append-nil, length-append, take-append-drop, length-drop, length-take}
+use Rattle.std.proofs.Common.{◌≡◌, ℕ, ◌+◌, ◌≤◌, List, [], ◌++◌, length, take, drop, sym, ap, ◌∙◌, subst, arith, append_assoc, append-nil, length-append, take-append-drop, length-drop, length-take}
 use Rattle.std.specs.Prelude.{Option, None, Some}
-use Rattle.std.specs.Io.KnownBytes.{Appends, Keeps}
-use Rattle.std.proofs.KnownBytes.{Appends-nil, Appends-trans, Appends-kept}
+use Rattle.std.specs.Io.KnownBytes.{Appends}
+use Rattle.std.proofs.KnownBytes.{Appends-nil, Appends-trans}
 use Rattle.cls_base.specs.Outside.{SinkSeen, Holds, Fills}
-use Rattle.cls_session.specs.Driving.{Writes, WritesFront}
-
--- So much of the text was written, with room for the rest.
-pub record IsPartWritten (sink sink' : SinkSeen) (text rest : List ℕ) : Type 0 where
-  pub front : List ℕ
-  pub split : text ≡ front ++ rest
-  pub writes : Writes sink sink' front
-  pub room_left : Holds sink'.room (length rest)
+use Rattle.cls_session.specs.Driving.{Writes, WritesFront, WritesAllBut}
 
 Fills-none : (room : Option ℕ) → Fills room room 0
 Fills-none None = tt
@@ -45,13 +38,9 @@ pub Holds-rest : {a b : SinkSeen} {text : List ℕ} (rest : List ℕ) → Writes
 Holds-rest {a = a} {b = b} {text = text} rest w h =
     Holds-after a.room b.room (length text) (length rest) (subst (λ n. Holds a.room n) (length-append text rest) h) w.room
 
--- at first nothing is written
-pub none_written : (sink : SinkSeen) (text : List ℕ) → Holds sink.room (length text) → IsPartWritten sink sink text text
-none_written sink text h = record { front = []; split = refl; writes = Writes-none sink; room_left = h }
-
 -- one write more
-pub part_written : {a b c : SinkSeen} {text rest : List ℕ} (after : List ℕ) (n : ℕ) → IsPartWritten a b text rest
-    → n ≤ length rest → Appends b.held c.held (take n rest) → Fills b.room c.room n → after ≡ drop n rest → IsPartWritten a c text after
+pub part_written : {a b c : SinkSeen} {text rest : List ℕ} (after : List ℕ) (n : ℕ) → WritesAllBut a b text rest
+    → n ≤ length rest → Appends b.held c.held (take n rest) → Fills b.room c.room n → after ≡ drop n rest → WritesAllBut a c text after
 part_written {a = a} {b = b} {c = c} {text = text} {rest = rest} after n p l q f e =
     let whole : take n rest ++ after ≡ rest = ap (λ (x : List ℕ). take n rest ++ x) e ∙ take-append-drop n rest in
     let count : length (take n rest) ≡ n = omega (arith, length-take n rest) in
@@ -63,22 +52,9 @@ part_written {a = a} {b = b} {c = c} {text = text} {rest = rest} after n p l q f
       room_left = Holds-after b.room c.room n (length after) (subst (λ k. Holds b.room k) (sym left) p.room_left) f;
     }
 
--- if nothing is left the text is written
-pub all_written : {a b : SinkSeen} {text : List ℕ} (rest : List ℕ) → length rest ≡ 0 → IsPartWritten a b text rest → Writes a b text
-all_written {a = a} {b = b} [] e p = subst (λ (x : List ℕ). Writes a b x) (sym (p.split ∙ append-nil p.front)) p.writes
-all_written (x ∷ rest) e p = absurd (omega arith)
-
--- a write failed after a part of the text
-pub part_stays : {a b c : SinkSeen} {text rest : List ℕ} → IsPartWritten a b text rest → Keeps b.held c.held → WritesFront a c text
-part_stays {a = a} {b = b} {c = c} {rest = rest} p k = record { front = p.front; rest = rest; split = p.split; held = Appends-kept a.held b.held c.held p.front p.writes.held k }
-
 -- all of the text was written
 pub whole_front : {a b : SinkSeen} {text : List ℕ} → Writes a b text → WritesFront a b text
 whole_front {text = text} w = record { front = text; rest = []; split = sym (append-nil text); held = w.held }
-
--- nothing more was written
-pub written_front : {a b : SinkSeen} {text : List ℕ} → Writes a b (text ++ []) → WritesFront a b text
-written_front {a = a} {b = b} {text = text} w = whole_front (subst (λ (x : List ℕ). Writes a b x) (append-nil text) w)
 
 -- a front was written after a text
 pub front_after : {a b c : SinkSeen} {text next : List ℕ} → Writes a b text → WritesFront b c next → WritesFront a c (text ++ next)
@@ -88,3 +64,48 @@ front_after {a = a} {b = b} {c = c} {text = text} w f = record {
   split = ap (λ (x : List ℕ). text ++ x) f.split ∙ sym (append_assoc text f.front f.rest);
   held = Appends-trans a.held b.held c.held text f.front w.held f.held;
 }
+
+-- there is room for nothing
+Holds-none : (room : Option ℕ) → Holds room 0
+Holds-none None = tt
+Holds-none (Some n) = omega arith
+
+-- all of the text was written, and nothing is left
+pub nothing_left : {a b : SinkSeen} {text rest : List ℕ} → rest ≡ [] → Writes a b text → WritesAllBut a b text rest
+nothing_left {a = a} {b = b} {text = text} {rest = rest} none w = record {
+  front = text;
+  split = sym (append-nil text) ∙ ap (λ (x : List ℕ). text ++ x) (sym none);
+  writes = w;
+  room_left = subst (λ (x : List ℕ). Holds b.room (length x)) (sym none) (Holds-none b.room);
+}
+
+-- A text was written but for its rest, and a further one follows it.
+module _ {a b : SinkSeen} {text rest : List ℕ} (p : WritesAllBut a b text rest) (more : List ℕ) where
+  split_more : text ++ more ≡ p.front ++ (rest ++ more)
+  split_more = ap (λ (x : List ℕ). x ++ more) p.split ∙ append_assoc p.front rest more
+
+  -- there is room for the rest and for what follows
+  pub room_more : Holds a.room (length (text ++ more)) → Holds b.room (length (rest ++ more))
+  room_more h = Holds-rest (rest ++ more) p.writes (subst (λ (x : List ℕ). Holds a.room (length x)) split_more h)
+
+  -- both are written but for what is left then
+  pub but_more : {c : SinkSeen} {left : List ℕ} → WritesAllBut b c (rest ++ more) left → WritesAllBut a c (text ++ more) left
+  but_more {left = left} q = record {
+    front = p.front ++ q.front;
+    split = split_more ∙ (ap (λ (x : List ℕ). p.front ++ x) q.split ∙ sym (append_assoc p.front q.front left));
+    writes = Writes-trans p.writes q.writes;
+    room_left = q.room_left;
+  }
+
+  -- a front of both is
+  pub front_more : {c : SinkSeen} → WritesFront b c (rest ++ more) → WritesFront a c (text ++ more)
+  front_more {c = c} f = subst (λ (x : List ℕ). WritesFront a c x) (sym split_more) (front_after p.writes f)
+
+-- The rest is written too.
+module _ {a b c : SinkSeen} {text rest : List ℕ} (p : WritesAllBut a b text rest) where
+  pub but_none : Writes b c rest → Writes a c text
+  but_none w = subst (λ (x : List ℕ). Writes a c x) (sym p.split) (Writes-trans p.writes w)
+
+  -- or a front of it
+  pub but_front : WritesFront b c rest → WritesFront a c text
+  but_front f = subst (λ (x : List ℕ). WritesFront a c x) (sym p.split) (front_after p.writes f)

@@ -20,6 +20,13 @@ pub record Writes (sink sink' : SinkSeen) (text : List ℕ) : Type 0 where
   pub held : Appends sink.held sink'.held text
   pub room : Fills sink.room sink'.room (length text)
 
+-- The text was written but for the rest, for which there is room.
+pub record WritesAllBut (sink sink' : SinkSeen) (text rest : List ℕ) : Type 0 where
+  pub front : List ℕ
+  pub split : text ≡ front ++ rest
+  pub writes : Writes sink sink' front
+  pub room_left : Holds sink'.room (length rest)
+
 -- A front of the text was written.
 pub record WritesFront (sink sink' : SinkSeen) (text : List ℕ) : Type 0 where
   pub front : List ℕ
@@ -94,6 +101,28 @@ pub record FitsLines (sink : SinkSeen) (session : Standing) (text : List ℕ) : 
   pub fits : (more : List (List ℕ)) (rest reply : List ℕ) → CutsLines text more rest
       → IsWritten options (lines ++ more) (written ++ reply) → Holds sink.room (length reply)
 
+-- THE SAME LINES WHILE REPLIES ARE PENDING. All that is to be written for them was written, but for what is pending.
+
+-- They were answered.
+pub record AnswersPending (sink sink' : SinkSeen) (session session' : Standing) (text rest pending : List ℕ)
+    : Type 0 where
+  pub reply : (o : Options) (lines : List (List ℕ)) (written : List ℕ) → Stands o lines written session
+      → (more : List (List ℕ)) × (reply : List ℕ) × CutsLines text more rest
+      × Stands o (lines ++ more) (written ++ reply) session' × WritesAllBut sink sink' reply pending
+
+-- One of them was refused.
+pub record RefusesPending (sink sink' : SinkSeen) (session : Standing) (text pending : List ℕ) : Type 0 where
+  pub reply : (o : Options) (lines : List (List ℕ)) (written : List ℕ) → Stands o lines written session
+      → (more : List (List ℕ)) × (rest reply : List ℕ) × CutsLines text more rest
+      × IsRefused (lines ++ more) (written ++ reply) × WritesAllBut sink sink' reply pending
+
+-- The run stopped at one of them, or between two: what may stand written for some first ones was written, but for what
+-- is pending.
+pub record LeavesPending (sink sink' : SinkSeen) (session : Standing) (text pending : List ℕ) : Type 0 where
+  pub reply : (o : Options) (lines : List (List ℕ)) (written : List ℕ) → Stands o lines written session
+      → (more : List (List ℕ)) × (rest reply : List ℕ) × CutsLines text more rest
+      × IsWritten o (lines ++ more) (written ++ reply) × WritesAllBut sink sink' reply pending
+
 -- THE LINES OF A TEXT THAT ENDS THE INPUT.
 
 -- They were answered.
@@ -135,6 +164,13 @@ MatchStop (Ok a) Well Refuses Breaks = Well a
 MatchStop (Err stops.Refused) Well Refuses Breaks = Refuses
 MatchStop (Err stops.WriteFault) Well Refuses Breaks = Breaks
 MatchStop (Err stops.NoMemory) Well Refuses Breaks = Breaks
+
+-- The same, with a fact for a failed write and another one for out of memory.
+abbrev pub MatchEachStop : {A : Type 0} → Result A Stop → (A → Type 0) → Type 0 → Type 0 → Type 0 → Type 0
+MatchEachStop (Ok a) Well Refuses Fails Leaves = Well a
+MatchEachStop (Err stops.Refused) Well Refuses Fails Leaves = Refuses
+MatchEachStop (Err stops.WriteFault) Well Refuses Fails Leaves = Fails
+MatchEachStop (Err stops.NoMemory) Well Refuses Fails Leaves = Leaves
 
 -- The count of the sink's faults rose if a write failed, and is the same otherwise.
 abbrev pub CountsFaults : {A : Type 0} → Result A Stop → SinkSeen → SinkSeen → Type 0

@@ -1,13 +1,14 @@
-ghost use Rattle.std.specs.Prelude.{◌≡◌, ℕ, ◌+◌, ◌^◌, ◌<◌, ◌≤◌, ◌++◌, length, OnOk, OnErr};
-ghost use Rattle.cls_base.specs.Outside.{HasRisen, Holds};
+ghost use Rattle.std.specs.Prelude.{◌≡◌, ℕ, ◌+◌, ◌^◌, ◌<◌, ◌≤◌, [], ◌++◌, length, OnOk};
 ghost use Rattle.cls_lexer.specs.Lines.{HasNoFeed};
 ghost use Rattle.cls_session.specs.Standings.{lines_of_session};
 ghost use Rattle.cls_session.specs.declared.driver.Stop.TheVariants.{WriteFault, NoMemory};
-ghost use Rattle.cls_session.specs.Driving.{Writes, WritesFront, MatchStop, CountsFaults};
+ghost use Rattle.cls_session.specs.Driving.{MatchStop, MatchEachStop, CountsFaults};
 ghost use Rattle.cls_session.specs.Driving.{FitsLine, AnswersLine, RefusesLine, BreaksLine};
 ghost use Rattle.cls_session.specs.Driving.{FitsLines, AnswersLines, RefusesLines, BreaksLines};
+ghost use Rattle.cls_session.specs.Driving.{AnswersPending, RefusesPending, LeavesPending};
 ghost use Rattle.cls_session.specs.Driving.{FitsLast, AnswersLast, RefusesLast, BreaksLast, EndsOutput};
 
+use crate::output::{PendingReplies, write_all};
 use crate::session::{Answer, Session};
 use crate::status::Status;
 use cls_base::{Failed, Gate, OutOfMemory, Sink};
@@ -43,24 +44,7 @@ impl From<Failed> for Stop {
     }
 }
 
-/// Writes the text, all of it.
-pub fn write_all<K: Sink>(sink: &mut K, text: &[u8]) -> Result<(), Failed>
-    requires { Holds (K.seen sink.old).room (length text.now) }
-    ensures written { OnOk result (Writes (K.seen sink.old) (K.seen sink.new) text.now) }
-    ensures no_fault { OnOk result ((K.seen sink.new).faults ≡ (K.seen sink.old).faults) }
-
-    ensures front { OnErr result (WritesFront (K.seen sink.old) (K.seen sink.new) text.now) }
-    ensures fault { OnErr result (HasRisen (K.seen sink.old).faults (K.seen sink.new).faults) }
-{
-    let mut rest = text;
-    while !rest.is_empty() {
-        let count = sink.write(rest)?;
-        rest = rest.split_at(count).1;
-    }
-    Ok(())
-}
-
-/// Answers one line, and writes the reply before anything else is done.
+/// Answers one line, and writes the reply.
 pub fn answer_line<R: Threads + Wait + Sync, K: Sink, G: Gate + Sync>(
     rt: &R,
     alloc: Global,
@@ -90,7 +74,8 @@ pub fn answer_line<R: Threads + Wait + Sync, K: Sink, G: Gate + Sync>(
     }
 }
 
-/// Answers the lines that end in the piece one after another, and holds back what comes after the last line feed.
+/// Answers the lines that end in the piece one after another, and holds back what comes after the last line feed. The
+/// replies are written together, and all of them before the answer is given, also if it is an error.
 pub fn answer_lines<R: Threads + Wait + Sync, K: Sink, G: Gate + Sync>(
     rt: &R,
     alloc: Global,
@@ -112,13 +97,58 @@ pub fn answer_lines<R: Threads + Wait + Sync, K: Sink, G: Gate + Sync>(
         ≤ lines_of_session session.old + length (reader.old ++ piece.now)) }
     ensures faults { CountsFaults result (K.seen sink.old) (K.seen sink.new) }
 {
+    let mut pending = PendingReplies::new(alloc);
+    let answered = collect_replies(rt, alloc, session, reader, piece, &mut pending, sink, gate);
+    // After a failed write nothing more is written.
+    if answered == Err(Stop::WriteFault) {
+        return answered;
+    }
+    pending.write(sink)?;
+    answered
+}
+
+/// Answers the lines that end in the piece, as `answer_lines` does, but for the last replies, which are left pending.
+/// After a failed write these are of no use.
+fn collect_replies<R: Threads + Wait + Sync, K: Sink, G: Gate + Sync>(
+    rt: &R,
+    alloc: Global,
+    session: &mut Session,
+    reader: &mut LineReader,
+    piece: &[u8],
+    pending: &mut PendingReplies,
+    sink: &mut K,
+    gate: &G,
+) -> Result<(), Stop>
+    requires none_pending { pending.old ≡ [] }
+    requires few_lines { lines_of_session session.old + length (reader.old ++ piece.now) < 2 ^ 32 }
+    requires room { FitsLines (K.seen sink.old) session.old (reader.old ++ piece.now) }
+    ensures answers { let text = reader.old ++ piece.now in MatchEachStop result
+        (λ _. AnswersPending (K.seen sink.old) (K.seen sink.new) session.old session.new text reader.new pending.new)
+        (RefusesPending (K.seen sink.old) (K.seen sink.new) session.old text pending.new)
+        (BreaksLines (K.seen sink.old) (K.seen sink.new) session.old text)
+        (LeavesPending (K.seen sink.old) (K.seen sink.new) session.old text pending.new) }
+    ensures no_feed { OnOk result (HasNoFeed reader.new) }
+    ensures counted { OnOk result
+        (lines_of_session session.new + length reader.new
+        ≤ lines_of_session session.old + length (reader.old ++ piece.now)) }
+    ensures faults { CountsFaults result (K.seen sink.old) (K.seen sink.new) }
+{
     let mut rest = piece;
     'lines: loop {
         let (line, after) = reader.take(alloc, rest)?;
         let Some(line) = line else {
             return Ok(());
         };
-        answer_line(rt, alloc, session, &line, sink, gate)?;
+        let answer = session.feed(rt, alloc, &line, gate)?;
+        // For the prover alone: so the end of the loop has one proof, and not one for each way to drop a line.
+        drop(line);
+        match answer {
+            Answer::Reply(text) => pending.put(text.as_str(), sink)?,
+            Answer::Refusal(text) => {
+                pending.put(text.as_str(), sink)?;
+                return Err(Stop::Refused);
+            }
+        }
         rest = after;
     }
 }

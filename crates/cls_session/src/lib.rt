@@ -8,13 +8,14 @@
 //! - [`laws`] holds what is true of every input.
 //!
 //! Inside, a `Session` takes one line after another and answers it; the driver feeds it the lines of the source while
-//! they come, and writes each answer before it reads on. The generator's text, if the words ask for it, is a source of
+//! they come, and writes the answers before it reads on. The generator's text, if the words ask for it, is a source of
 //! its own.
 #![tactic(auto)]
 
 mod driver;
 mod generator;
 pub mod laws;
+mod output;
 mod program;
 mod session;
 mod settings;

@@ -11,8 +11,9 @@ ghost use Rattle.cls_session.specs.Outputs.{SessionAnswers, SessionBegins, Sessi
 ghost use Rattle.cls_session.specs.Stops.{status_of};
 ghost use Rattle.cls_session.specs.declared.status.Status.TheVariants.{Done, Usage, ReadFault, WriteFault};
 
-use crate::driver::{Stop, answer_lines, finish, write_all};
+use crate::driver::{Stop, answer_lines, finish};
 use crate::generator::generated_text;
+use crate::output::write_all;
 use crate::session::Session;
 use crate::status::Status;
 use crate::words::{Command, read_words};

@@ -1,6 +1,6 @@
 use Rattle.std.proofs.Common.{◌∙◌}
 use Rattle.cls_session.proofs.Writing.{part_written}
-use Rattle.cls_session.proofs.driver.write_all.Goals as goal
+use Rattle.cls_session.proofs.output.write_all.Goals as goal
 
 pub loop-rest-preserved : goal.loop-rest-preserved
 loop-rest-preserved g c = record {
