@@ -42,7 +42,7 @@ module _ (front : Front) (c : Cover) (f : IsFront front) (k : IsKnownBefore fron
 pub AreTakeable-front : (front : Front) (c : Cover) (xs ys : List ℕ) → AreTakeable front c (xs ++ ys) → AreTakeable front c xs
 AreTakeable-front front c xs ys a = record { differ = differ_front xs ys a.differ; in_family = (λ x m. a.in_family x (member_append_left ys x m)); minimal = (λ x m. a.minimal x (member_append_left ys x m)) }
 
-pub last_fresh : (xs : List ℕ) (x : ℕ) → Differ (xs ++ x ∷ []) → Member xs x → ⊥
+pub last_fresh : {A : Type 0} (xs : List A) (x : A) → Differ (xs ++ x ∷ []) → Member xs x → ⊥
 last_fresh (x ∷ xs) _ d first = d.0 (member_append_right xs (x ∷ []) x first)
 last_fresh (y ∷ xs) x d (later m) = last_fresh xs x d.1 m
 last_fresh [] x d m = elim m [ ]

@@ -25,6 +25,11 @@ impl Flags {
     pub(crate) fn none(alloc: Global, count: usize) -> Result<Flags, OutOfMemory>
         ensures { IfOk result (λ flags. flags ≡ replicate (count / 64 + 1) 0) }
     {
+        if count < 64 {
+            return Ok(Flags {
+                words: SmallVec::from_buf(alloc, [0]),
+            });
+        }
         Ok(Flags {
             words: SmallVec::from_elem(alloc, 0, count / 64 + 1)?,
         })
@@ -34,8 +39,13 @@ impl Flags {
     pub(crate) fn copy(&self, alloc: Global) -> Result<Flags, OutOfMemory>
         ensures { IfOk result (λ flags. flags ≡ self.now) }
     {
+        if let [word] = self.as_slice() {
+            return Ok(Flags {
+                words: SmallVec::from_buf(alloc, [*word]),
+            });
+        }
         Ok(Flags {
-            words: SmallVec::from_slice(alloc, self.words.as_slice())?,
+            words: SmallVec::from_slice(alloc, self.as_slice())?,
         })
     }
 

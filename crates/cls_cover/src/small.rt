@@ -1,0 +1,177 @@
+//! The minimal covers of families whose positions are below 128.
+ghost use Rattle.std.specs.Prelude.{◌≡◌, ℕ, ◌+◌, ◌<◌, ◌↔◌, [], ◌∷◌};
+ghost use Rattle.std.specs.Prelude.{IfOk, IfErr, IfSome, OnOk, IsTrue, List, None, length, map, reverse, All};
+ghost use Rattle.cls_base.specs.Terms.{Precedes};
+ghost use Rattle.cls_cover.specs.Lists.{IsAscending};
+ghost use Rattle.cls_cover.specs.Covers.{AreCovers, AreWithinLimit};
+ghost use Rattle.cls_cover.specs.Faults.{HasCause};
+ghost use Rattle.cls_cover.specs.Members.{Member, Rises, Differ};
+ghost use Rattle.cls_cover.specs.MemberCovers.{Shares};
+ghost use Rattle.cls_cover.specs.Growing.{IsPut};
+ghost use Rattle.cls_cover.specs.Sets.{members, IsSetOf, AreSetsOf};
+ghost use Rattle.cls_cover.specs.Choosing.{IsBegun, next_of, IsCoverBefore, IsCoverAfter, Misses, IsFree};
+ghost use Rattle.cls_cover.specs.Choosing.{IsGiven, AreGiven, AreCoversOf, AreApart};
+
+use crate::list::Covers;
+use crate::minimal::CoverFault;
+use crate::sets::{alone, each_meets_alone, members_of};
+use cls_base::{Numbers, OutOfMemory};
+use std::alloc::Global;
+
+/// The families with their sets, and how many of them come before the next one: the positions of these are seen.
+#[derive(Clone, Copy)]
+pub(crate) struct Begun<'a> {
+    families: &'a [Numbers],
+    sets: &'a [u128],
+    seen: u128,
+    count: usize,
+}
+
+/// The cover with a position of the next family, if that is minimal.
+fn joined(begun: &Begun, cover: u128, x: u32) -> Option<u128>
+    requires begun { IsBegun begun.now }
+    requires minimal { IsCoverBefore begun.now cover }
+    requires missed { Misses begun.now cover }
+    requires here { Member (next_of begun.now) x }
+    ensures put { IfSome result (λ larger. IsPut x (members cover) (members larger)) }
+    ensures minimal { IfSome result (λ larger. IsCoverAfter begun.now (members larger)) }
+    ensures none { result ≡ None → (t : List ℕ) → IsPut x (members cover) t → IsCoverAfter begun.now t → ⊥ }
+{
+    let one = alone(x);
+    let larger = cover | one;
+    if begun.seen & one == 0 {
+        return Some(larger);
+    }
+    if each_meets_alone(&begun.sets[..begun.count + 1], larger) {
+        Some(larger)
+    } else {
+        None
+    }
+}
+
+/// Adds what the cover gives with the positions of the next family, which it misses.
+fn add_joined(begun: &Begun, cover: u128, list: &mut Vec<u128>) -> Result<(), OutOfMemory>
+    requires begun { IsBegun begun.now }
+    requires minimal { IsCoverBefore begun.now cover }
+    requires missed { Misses begun.now cover }
+    requires free { IsFree begun.now cover list.old.items }
+    requires differ { Differ (next_of begun.now) }
+    ensures { OnOk result (IsGiven begun.now cover list.old.items list.new.items) }
+{
+    for x in begun.families[begun.count].as_slice() {
+        if let Some(larger) = joined(begun, cover, *x) {
+            list.push(larger)?;
+        }
+    }
+    Ok(())
+}
+
+/// Whether the cover meets the next family.
+fn meets(begun: &Begun, cover: u128) -> bool
+    requires begun { IsBegun begun.now }
+    ensures { IsTrue result ↔ Shares (next_of begun.now) (members cover) }
+{
+    cover & begun.sets[begun.count] != 0
+}
+
+/// Adds what the cover gives with the next family.
+fn add(begun: &Begun, cover: u128, list: &mut Vec<u128>) -> Result<(), OutOfMemory>
+    requires begun { IsBegun begun.now }
+    requires minimal { IsCoverBefore begun.now cover }
+    requires free { IsFree begun.now cover list.old.items }
+    requires differ { Differ (next_of begun.now) }
+    ensures { OnOk result (IsGiven begun.now cover list.old.items list.new.items) }
+{
+    if meets(begun, cover) {
+        list.push(cover)?;
+        return Ok(());
+    }
+    add_joined(begun, cover, list)
+}
+
+/// What the covers give with the next family. The list may lack some where it is longer than the limit.
+fn grown(
+    alloc: Global,
+    begun: &Begun,
+    covers: &[u128],
+    limit: u32,
+) -> Result<Vec<u128>, OutOfMemory>
+    requires begun { IsBegun begun.now }
+    requires covers { AreCoversOf begun.now.families.now begun.now.count (map members covers.now) }
+    requires differ { Differ (next_of begun.now) }
+    ensures { IfOk result (λ list. AreGiven begun.now limit covers.now list.items) }
+{
+    let mut list = Vec::with_capacity(alloc, covers.len())?;
+    for cover in covers {
+        if list.len() <= limit as usize {
+            add(begun, *cover, &mut list)?;
+        }
+    }
+    Ok(list)
+}
+
+/// The list of the empty set.
+fn empty_set(alloc: Global) -> Result<Vec<u128>, OutOfMemory>
+    ensures { IfOk result (λ list. list.items ≡ 0 ∷ []) }
+{
+    let mut list = Vec::with_capacity(alloc, 1)?;
+    list.push(0)?;
+    Ok(list)
+}
+
+/// The sets as lists, the greatest one first.
+fn from_greatest(alloc: Global, mut sets: Vec<u128>) -> Result<Covers, OutOfMemory>
+    ensures { IfOk result (λ all. all ≡ map members (reverse sets.items)) }
+{
+    let mut items = Vec::with_capacity(alloc, sets.len())?;
+    while let Some(set) = sets.pop() {
+        items.push(Numbers::new(members_of(alloc, set)?))?;
+    }
+    Ok(Covers::new(items))
+}
+
+/// The sets as lists, in lexicographic order.
+fn in_order(alloc: Global, mut sets: Vec<u128>) -> Result<Covers, OutOfMemory>
+    requires differ { Differ (map members sets.items) }
+    requires apart { AreApart (map members sets.items) }
+    ensures rises { IfOk result (λ all. Rises Precedes all) }
+    ensures same { IfOk result (λ all. (s : List ℕ) → Member all s ↔ Member (map members sets.items) s) }
+{
+    sets.sort_unstable();
+    Ok(from_greatest(alloc, sets)?)
+}
+
+/// The minimal covers of the families, whose sets are given, in lexicographic order.
+///
+/// Covers are made family by family. One that meets the next family stays. Another one is extended by each position of the
+/// family by which it stays minimal. A position that stands in no family before is tried without a test.
+pub(crate) fn small_covers(
+    alloc: Global,
+    families: &[Numbers],
+    sets: &[u128],
+    limit: u32,
+) -> Result<Covers, CoverFault>
+    requires ascending { All IsAscending families.now }
+    requires sets { AreSetsOf families.now sets.now }
+    requires positive { 0 < limit }
+    ensures covers { IfOk result (λ list. AreCovers families.now list) }
+    ensures within { IfOk result (λ _. AreWithinLimit families.now limit) }
+    ensures fault { IfErr result (HasCause families.now limit) }
+{
+    let mut list = empty_set(alloc)?;
+    let mut seen = 0;
+    for count in 0..families.len() {
+        let begun = Begun {
+            families,
+            sets,
+            seen,
+            count,
+        };
+        list = grown(alloc, &begun, list.as_slice(), limit)?;
+        if list.len() > limit as usize {
+            return Err(CoverFault::TooManyCovers(count + 1));
+        }
+        seen |= sets[count];
+    }
+    Ok(in_order(alloc, list)?)
+}
