@@ -119,7 +119,7 @@ pub(crate) fn target_of(path: &Path, count: usize) -> &Path
         return path;
     }
     match path.form() {
-        Form::Arrow(_, rest) => target_of(rest, count - 1),
+        Form::Arrow(arrow) => target_of(&arrow.target, count - 1),
         _ => path,
     }
 }
@@ -129,11 +129,11 @@ fn source_of(path: &Path, i: usize) -> Option<&Nf>
     ensures { option_map paths_of_form result ≡ source_at i path.now }
 {
     match path.form() {
-        Form::Arrow(source, rest) => {
+        Form::Arrow(arrow) => {
             if i == 0 {
-                Some(source)
+                Some(&arrow.source)
             } else {
-                source_of(rest, i - 1)
+                source_of(&arrow.target, i - 1)
             }
         }
         _ => None,

@@ -36,7 +36,7 @@ impl Head {
         match path.form() {
             Form::Atom(name) | Form::Con(name, _) => Head::Covariant(*name),
             Form::Unit | Form::Left(_) | Form::Right(_) => Head::Product,
-            Form::Arrow(_, rest) => Head::of(rest),
+            Form::Arrow(arrow) => Head::of(&arrow.target),
             Form::Sealed(name, _) => Head::Sealed(*name),
         }
     }

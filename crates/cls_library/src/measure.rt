@@ -25,7 +25,7 @@ pub(crate) fn leading_arrows(path: &Path) -> usize
     ensures { result ≡ min TOO_MANY (leading_arrows path.now) }
 {
     match path.form() {
-        Form::Arrow(_, rest) => TOO_MANY.min(leading_arrows(rest) + 1),
+        Form::Arrow(arrow) => TOO_MANY.min(leading_arrows(&arrow.target) + 1),
         _ => 0,
     }
 }

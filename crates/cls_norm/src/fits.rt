@@ -71,7 +71,9 @@ fn path_nodes(path: &Path) -> u64
         Form::Con(_, rest) => TOO_MANY.min(1 + path_nodes(rest)),
         Form::Unit => 3,
         Form::Left(rest) | Form::Right(rest) => TOO_MANY.min(2 + path_nodes(rest)),
-        Form::Arrow(source, rest) => TOO_MANY.min(1 + list_nodes(source) + path_nodes(rest)),
+        Form::Arrow(arrow) => TOO_MANY.min(
+            1 + list_nodes(&arrow.source) + path_nodes(&arrow.target),
+        ),
         Form::Sealed(_, argument) => TOO_MANY.min(1 + list_nodes(argument)),
     }
 }

@@ -53,8 +53,8 @@ pub(crate) fn paths_of<T: Taxa>(alloc: Global, taxa: &T, ty: &Ty) -> Result<Vec<
 
 /// The path of a bare name, which is the name over the empty list unless it is covariant.
 fn alone<T: Taxa>(alloc: Global, taxa: &T, name: Name) -> Result<Vec<Path>, OutOfMemory>
-    ensures { IfOk result (λ paths.
-        ArePathsOf (Below (T.is_below taxa.now)) (T.variance_of_name taxa.now) (constructor name.0 omega) (listed paths.items)) }
+    ensures { IfOk result (λ paths. ArePathsOf (Below (T.is_below taxa.now)) (T.variance_of_name taxa.now)
+        (constructor name.0 omega) (listed paths.items)) }
 {
     match taxa.variance(name) {
         Variance::Co => Ok(under_name(alloc, name, Vec::new(alloc))?),
@@ -70,7 +70,7 @@ fn under_name(alloc: Global, name: Name, paths: Vec<Path>) -> Result<Vec<Path>, 
 {
     let mut named = Vec::with_capacity(alloc, paths.len().max(1))?;
     for path in paths {
-        named.push(Path::con(name, Box::new(alloc, path)?))?;
+        named.push(Path::con(alloc, name, path)?)?;
     }
     Ok(or_path(named, Path::atom(name))?)
 }
@@ -80,7 +80,7 @@ fn under_sealed_name(alloc: Global, name: Name, argument: Nf) -> Result<Vec<Path
     ensures { IfOk result (λ named. named.items ≡ sealed name.0 (listed argument) ∷ []) }
 {
     let mut named = Vec::with_capacity(alloc, 1)?;
-    named.push(Path::sealed(name, argument))?;
+    named.push(Path::sealed(alloc, name, argument)?)?;
     Ok(named)
 }
 
@@ -110,7 +110,7 @@ fn put_left(alloc: Global, paths: Vec<Path>, sides: &mut Vec<Path>) -> Result<()
     ensures { OnOk result (sides.new.items ≡ sides.old.items ++ map left paths.items) }
 {
     for path in paths {
-        sides.push(Path::left(Box::new(alloc, path)?))?;
+        sides.push(Path::left(alloc, path)?)?;
     }
     Ok(())
 }
@@ -120,7 +120,7 @@ fn put_right(alloc: Global, paths: Vec<Path>, sides: &mut Vec<Path>) -> Result<(
     ensures { OnOk result (sides.new.items ≡ sides.old.items ++ map right paths.items) }
 {
     for path in paths {
-        sides.push(Path::right(Box::new(alloc, path)?))?;
+        sides.push(Path::right(alloc, path)?)?;
     }
     Ok(())
 }
@@ -135,9 +135,9 @@ fn from_source(alloc: Global, source: Nf, mut paths: Vec<Path>) -> Result<Vec<Pa
     };
     for path in paths {
         let copy = source.copy(alloc)?;
-        arrows.push(Path::arrow(copy, Box::new(alloc, path)?))?;
+        arrows.push(Path::arrow(alloc, copy, path)?)?;
     }
-    arrows.push(Path::arrow(source, Box::new(alloc, last)?))?;
+    arrows.push(Path::arrow(alloc, source, last)?)?;
     Ok(arrows)
 }
 

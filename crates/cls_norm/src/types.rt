@@ -45,10 +45,10 @@ pub fn path_type(alloc: Global, path: &Path) -> Result<Ty, OutOfMemory>
             let rest = path_type(alloc, rest)?;
             Ok(Ty::Prod(Box::new(alloc, (Ty::Omega, rest))?))
         }
-        Form::Arrow(source, rest) => {
-            let source = type_of(alloc, source)?;
-            let rest = path_type(alloc, rest)?;
-            Ok(Ty::Arrow(Box::new(alloc, (source, rest))?))
+        Form::Arrow(arrow) => {
+            let source = type_of(alloc, &arrow.source)?;
+            let target = path_type(alloc, &arrow.target)?;
+            Ok(Ty::Arrow(Box::new(alloc, (source, target))?))
         }
         Form::Sealed(name, argument) => {
             let argument = type_of(alloc, argument)?;

@@ -35,9 +35,9 @@ fn path_weight(path: &Path) -> (u64, u64)
             let paths = p.max(1);
             (paths, CAP.min(s + paths))
         }
-        Form::Arrow(source, rest) => {
-            let (_, s) = list_weight(source);
-            let (q, t) = path_weight(rest);
+        Form::Arrow(arrow) => {
+            let (_, s) = list_weight(&arrow.source);
+            let (q, t) = path_weight(&arrow.target);
             (q, CAP.min(t + q * (1 + s)))
         }
         Form::Sealed(_, argument) => {

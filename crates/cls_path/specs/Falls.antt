@@ -19,8 +19,8 @@ path_falls (Con c p) = omega arith
 path_falls Unit = omega arith
 path_falls (Left p) = omega arith
 path_falls (Right p) = omega arith
-path_falls (Arrow n p) = omega (arith, sizes_of-listed n)
-path_falls (Sealed c n) = omega (arith, sizes_of-listed n)
+path_falls (Arrow a) = omega (arith, sizes_of-listed a.value.source)
+path_falls (Sealed c n) = omega (arith, sizes_of-listed n.value)
 
 most_falls : (ps : List TypePath) → most (λ p. size_of p + 1) ps ≤ list_size ps
 most_falls [] = omega arith

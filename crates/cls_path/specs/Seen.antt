@@ -9,5 +9,5 @@ path_of (Con c p) = inside c.0 p.value
 path_of Unit = unit
 path_of (Left p) = left p.value
 path_of (Right p) = right p.value
-path_of (Arrow n p) = function (listed n) p.value
-path_of (Sealed c n) = sealed c.0 (listed n)
+path_of (Arrow a) = function (listed a.value.source) a.value.target
+path_of (Sealed c n) = sealed c.0 (listed n.value)

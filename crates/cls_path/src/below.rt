@@ -35,8 +35,10 @@ impl Path {
             (Form::Unit | Form::Left(_) | Form::Right(_), Form::Unit) => true,
             (Form::Left(p), Form::Left(q)) => p.is_below(taxa, q),
             (Form::Right(p), Form::Right(q)) => p.is_below(taxa, q),
-            (Form::Arrow(n, p), Form::Arrow(m, q)) => {
-                m.may_be_below(taxa, n) && p.is_below(taxa, q) && m.is_below(taxa, n)
+            (Form::Arrow(a), Form::Arrow(b)) => {
+                b.source.may_be_below(taxa, &a.source)
+                    && a.target.is_below(taxa, &b.target)
+                    && b.source.is_below(taxa, &a.source)
             }
             (Form::Sealed(c, n), Form::Sealed(d, m)) => taxa.below(*c, *d)
                 && n.is_sealed_below(taxa, taxa.variance(*c), m),

@@ -39,10 +39,10 @@ impl Path {
                 state.write_u64(RIGHT);
                 rest.feed(state);
             }
-            Form::Arrow(source, rest) => {
+            Form::Arrow(arrow) => {
                 state.write_u64(ARROW);
-                source.feed(state);
-                rest.feed(state);
+                arrow.source.feed(state);
+                arrow.target.feed(state);
             }
             Form::Sealed(name, argument) => {
                 state.write_u64(u64::from(name.0) + SEALED);

@@ -185,7 +185,8 @@ fn names<T: Taxa>(taxa: &T, path: &Path) -> Span
         Form::Atom(name) | Form::Sealed(name, _) => Span::one(taxa.class(*name)),
         Form::Con(name, rest) => Span::one(taxa.class(*name)).join(names(taxa, rest)),
         Form::Unit => NONE,
-        Form::Left(rest) | Form::Right(rest) | Form::Arrow(_, rest) => names(taxa, rest),
+        Form::Left(rest) | Form::Right(rest) => names(taxa, rest),
+        Form::Arrow(arrow) => names(taxa, &arrow.target),
     }
 }
 
@@ -197,7 +198,7 @@ fn head<T: Taxa>(taxa: &T, path: &Path) -> Span
             Span::one(taxa.class(*name))
         }
         Form::Unit | Form::Left(_) | Form::Right(_) => NONE,
-        Form::Arrow(_, rest) => head(taxa, rest),
+        Form::Arrow(arrow) => head(taxa, &arrow.target),
     }
 }
 
@@ -207,7 +208,7 @@ fn inner<T: Taxa>(taxa: &T, path: &Path) -> Span
     match &path.form {
         Form::Atom(_) | Form::Sealed(..) | Form::Unit => NONE,
         Form::Con(_, rest) | Form::Left(rest) | Form::Right(rest) => names(taxa, rest),
-        Form::Arrow(_, rest) => inner(taxa, rest),
+        Form::Arrow(arrow) => inner(taxa, &arrow.target),
     }
 }
 
@@ -225,7 +226,7 @@ fn sources<T: Taxa>(taxa: &T, path: &Path) -> Span
     ensures { result ≡ sources_of (T.class taxa.now) path.now }
 {
     match &path.form {
-        Form::Arrow(source, rest) => all_names(taxa, source).plus(sources(taxa, rest)),
+        Form::Arrow(arrow) => all_names(taxa, &arrow.source).plus(sources(taxa, &arrow.target)),
         _ => ZERO,
     }
 }
@@ -234,7 +235,8 @@ fn first<T: Taxa>(taxa: &T, path: &Path) -> Span
     ensures { result ≡ first_of (T.class taxa.now) path.now }
 {
     match &path.form {
-        Form::Arrow(list, _) | Form::Sealed(_, list) => all_names(taxa, list),
+        Form::Arrow(arrow) => all_names(taxa, &arrow.source),
+        Form::Sealed(_, argument) => all_names(taxa, argument),
         _ => ZERO,
     }
 }
@@ -243,7 +245,7 @@ fn later<T: Taxa>(taxa: &T, path: &Path) -> Span
     ensures { result ≡ later_of (T.class taxa.now) path.now }
 {
     match &path.form {
-        Form::Arrow(_, rest) => sources(taxa, rest),
+        Form::Arrow(arrow) => sources(taxa, &arrow.target),
         _ => ZERO,
     }
 }

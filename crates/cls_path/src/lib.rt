@@ -18,4 +18,4 @@ mod meet;
 mod order;
 mod path;
 
-pub use path::{Form, Nf, Path};
+pub use path::{Arrow, Form, Nf, Path};

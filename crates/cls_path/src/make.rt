@@ -3,7 +3,7 @@ ghost use Rattle.std.specs.Prelude.{◌≡◌, [], IfOk};
 ghost use Rattle.cls_path.specs.Paths.{atom, inside, unit, left, right, function, sealed, listed};
 ghost use Rattle.cls_path.specs.Seen.{path_of};
 
-use crate::path::{Form, Nf, Path};
+use crate::path::{Arrow, Form, Nf, Path};
 use cls_base::{Name, OutOfMemory};
 use std::alloc::Global;
 
@@ -17,16 +17,16 @@ impl Path {
         }
     }
 
-    /// A name over a path.
-    pub fn con(name: Name, rest: Box<Path>) -> Path
-        ensures { result ≡ inside name.0 rest.value }
+    /// A name over a path. The only error is out of memory.
+    pub fn con(alloc: Global, name: Name, rest: Path) -> Result<Path, OutOfMemory>
+        ensures { IfOk result (λ path. path ≡ inside name.0 rest) }
     {
         // For the prover: opens the model of the inner path, whose lists are sorted.
-        let path: &Path = &rest;
-        let _ = &path.form;
-        Path {
+        let _ = &rest.form;
+        let rest = Box::new(alloc, rest)?;
+        Ok(Path {
             form: Form::Con(name, rest),
-        }
+        })
     }
 
     /// The product of omega and omega.
@@ -36,52 +36,53 @@ impl Path {
         Path { form: Form::Unit }
     }
 
-    /// The product of a path and omega.
-    pub fn left(rest: Box<Path>) -> Path
-        ensures { result ≡ left rest.value }
+    /// The product of a path and omega. The only error is out of memory.
+    pub fn left(alloc: Global, rest: Path) -> Result<Path, OutOfMemory>
+        ensures { IfOk result (λ path. path ≡ left rest) }
     {
         // For the prover: opens the model of the inner path, whose lists are sorted.
-        let path: &Path = &rest;
-        let _ = &path.form;
-        Path {
+        let _ = &rest.form;
+        let rest = Box::new(alloc, rest)?;
+        Ok(Path {
             form: Form::Left(rest),
-        }
+        })
     }
 
-    /// The product of omega and a path.
-    pub fn right(rest: Box<Path>) -> Path
-        ensures { result ≡ right rest.value }
+    /// The product of omega and a path. The only error is out of memory.
+    pub fn right(alloc: Global, rest: Path) -> Result<Path, OutOfMemory>
+        ensures { IfOk result (λ path. path ≡ right rest) }
     {
         // For the prover: opens the model of the inner path, whose lists are sorted.
-        let path: &Path = &rest;
-        let _ = &path.form;
-        Path {
+        let _ = &rest.form;
+        let rest = Box::new(alloc, rest)?;
+        Ok(Path {
             form: Form::Right(rest),
-        }
+        })
     }
 
-    /// The functions from an intersection of paths to a path.
-    pub fn arrow(source: Nf, rest: Box<Path>) -> Path
-        ensures { result ≡ function (listed source) rest.value }
+    /// The functions from an intersection of paths to a path. The only error is out of memory.
+    pub fn arrow(alloc: Global, source: Nf, target: Path) -> Result<Path, OutOfMemory>
+        ensures { IfOk result (λ path. path ≡ function (listed source) target) }
     {
         // For the prover: opens the models of the intersection and the inner path, whose lists are sorted.
         let _ = &source.paths;
-        let path: &Path = &rest;
-        let _ = &path.form;
-        Path {
-            form: Form::Arrow(source, rest),
-        }
+        let _ = &target.form;
+        let arrow = Box::new(alloc, Arrow { source, target })?;
+        Ok(Path {
+            form: Form::Arrow(arrow),
+        })
     }
 
-    /// A name over an intersection of paths.
-    pub fn sealed(name: Name, argument: Nf) -> Path
-        ensures { result ≡ sealed name.0 (listed argument) }
+    /// A name over an intersection of paths. The only error is out of memory.
+    pub fn sealed(alloc: Global, name: Name, argument: Nf) -> Result<Path, OutOfMemory>
+        ensures { IfOk result (λ path. path ≡ sealed name.0 (listed argument)) }
     {
         // For the prover: opens the model of the intersection, which is sorted.
         let _ = &argument.paths;
-        Path {
+        let argument = Box::new(alloc, argument)?;
+        Ok(Path {
             form: Form::Sealed(name, argument),
-        }
+        })
     }
 
     /// The kind of the path, with its parts.
@@ -102,11 +103,14 @@ impl Path {
             Form::Unit => Form::Unit,
             Form::Left(rest) => Form::Left(Box::new(alloc, rest.copy(alloc)?)?),
             Form::Right(rest) => Form::Right(Box::new(alloc, rest.copy(alloc)?)?),
-            Form::Arrow(source, rest) => {
-                let source = source.copy(alloc)?;
-                Form::Arrow(source, Box::new(alloc, rest.copy(alloc)?)?)
+            Form::Arrow(arrow) => {
+                let source = arrow.source.copy(alloc)?;
+                let target = arrow.target.copy(alloc)?;
+                Form::Arrow(Box::new(alloc, Arrow { source, target })?)
             }
-            Form::Sealed(name, argument) => Form::Sealed(*name, argument.copy(alloc)?),
+            Form::Sealed(name, argument) => {
+                Form::Sealed(*name, Box::new(alloc, argument.copy(alloc)?)?)
+            }
         };
         Ok(Path { form })
     }

@@ -51,12 +51,12 @@ impl Path {
             }
             (Form::Left(p), Form::Left(q)) => p.order_by_kind(q),
             (Form::Right(p), Form::Right(q)) => p.order_by_kind(q),
-            (Form::Arrow(n, p), Form::Arrow(m, q)) => {
-                let sources = n.order_by_path(m);
+            (Form::Arrow(a), Form::Arrow(b)) => {
+                let sources = a.source.order_by_path(&b.source);
                 if sources.is_ne() {
                     return sources;
                 }
-                p.order_by_kind(q)
+                a.target.order_by_kind(&b.target)
             }
             (Form::Sealed(c, n), Form::Sealed(d, m)) => {
                 let names = c.0.cmp(&d.0);

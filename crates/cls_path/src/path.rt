@@ -25,9 +25,19 @@ pub enum Form {
     /// The product of omega and a path.
     Right(Box<Path>),
     /// The functions from an intersection of paths to a path.
-    Arrow(Nf, Box<Path>),
+    Arrow(Box<Arrow>),
     /// A contravariant or invariant name over an intersection of paths.
-    Sealed(Name, Nf),
+    Sealed(Name, Box<Nf>),
+}
+
+/// Both parts of a path of functions. They share a box, so that a path itself is two words.
+#[cycle(path)]
+#[derive(Drop)]
+pub struct Arrow {
+    /// The intersection of paths that the functions take.
+    pub source: Nf,
+    /// The path that they give.
+    pub target: Path,
 }
 
 /// An intersection of paths, seen as the list of them: strictly sorted, as are all lists inside it.

@@ -17,12 +17,12 @@ list_nodes-path_nodes-requires t c =
 
 pub path_nodes-list_nodes-requires : goal.path_nodes-list_nodes-requires
 path_nodes-list_nodes-requires t c =
-    let s = sizes_of-listed c.in-Arrow.source in
+    let s = sizes_of-listed c.in-Arrow.arrow.value.source in
     let e = ap size_of c.form.ensures in
     search rules
 
 pub path_nodes-list_nodes-requires-in-Sealed : goal.path_nodes-list_nodes-requires-in-Sealed
 path_nodes-list_nodes-requires-in-Sealed t c =
-    let s = sizes_of-listed c.in-Sealed.argument in
+    let s = sizes_of-listed c.in-Sealed.argument.value in
     let e = ap size_of c.form.ensures in
     search rules

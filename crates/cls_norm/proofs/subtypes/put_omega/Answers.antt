@@ -1,8 +1,7 @@
-use Rattle.std.proofs.Common.{sym, ◌∙◌}
-use Rattle.std.proofs.lemmas.Bool.{false≢true}
+use Rattle.std.proofs.Common.{sym}
 use Rattle.cls_base.specs.Types.{omega}
 use Rattle.cls_base.specs.Taxa.{Below}
-use Rattle.cls_norm.proofs.Parts.{name_entered, name_passed}
+use Rattle.cls_norm.proofs.Parts.{name_entered}
 use Rattle.cls_norm.proofs.subtypes.put_omega.Goals as goal
 
 pub returns-in_ok-push : goal.returns-in_ok-push

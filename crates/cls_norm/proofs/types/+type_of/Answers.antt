@@ -11,12 +11,12 @@ type_of-path_type-requires-in-loop-path t c =
 
 pub path_type-type_of-requires : goal.path_type-type_of-requires
 path_type-type_of-requires t c =
-    let s = sizes_of-listed c.in-Arrow.source in
+    let s = sizes_of-listed c.in-Arrow.arrow.value.source in
     let e = ap size_of c.form.ensures in
     search rules
 
 pub path_type-type_of-requires-in-Sealed : goal.path_type-type_of-requires-in-Sealed
 path_type-type_of-requires-in-Sealed t c =
-    let s = sizes_of-listed c.in-Sealed.argument in
+    let s = sizes_of-listed c.in-Sealed.argument.value in
     let e = ap size_of c.form.ensures in
     search rules

@@ -22,12 +22,12 @@ list_weight-path_weight-p-requires t c =
 
 pub path_weight-list_weight-s-requires : goal.path_weight-list_weight-s-requires
 path_weight-list_weight-s-requires t c =
-    let s = sizes_of-listed c.in-Arrow.source in
+    let s = sizes_of-listed c.in-Arrow.arrow.value.source in
     let e = ap size_of c.form.ensures in
     search rules
 
 pub path_weight-list_weight-p-requires : goal.path_weight-list_weight-p-requires
 path_weight-list_weight-p-requires t c =
-    let s = sizes_of-listed c.in-Sealed.argument in
+    let s = sizes_of-listed c.in-Sealed.argument.value in
     let e = ap size_of c.form.ensures in
     search rules

@@ -18,15 +18,15 @@ Nf::order_by_path-returns t c =
 
 pub Path::order_by_kind-returns-then-is_ne-2 : goal.Path::order_by_kind-returns-then-is_ne-2
 Path::order_by_kind-returns-then-is_ne-2 t c =
-    let e = paths_order-listed c.in-Arrow-Arrow.n c.in-Arrow-Arrow.m in
+    let e = paths_order-listed c.in-Arrow-Arrow.a.value.source c.in-Arrow-Arrow.b.value.source in
     search rules
 
 pub Path::order_by_kind-returns-else-is_ne-2 : goal.Path::order_by_kind-returns-else-is_ne-2
 Path::order_by_kind-returns-else-is_ne-2 t c =
-    let e = paths_order-listed c.in-Arrow-Arrow.n c.in-Arrow-Arrow.m in
+    let e = paths_order-listed c.in-Arrow-Arrow.a.value.source c.in-Arrow-Arrow.b.value.source in
     search rules
 
 pub Path::order_by_kind-returns-else-is_ne-3 : goal.Path::order_by_kind-returns-else-is_ne-3
 Path::order_by_kind-returns-else-is_ne-3 t c =
-    let e = paths_order-listed c.in-Sealed-Sealed.n c.in-Sealed-Sealed.m in
+    let e = paths_order-listed c.in-Sealed-Sealed.n.value c.in-Sealed-Sealed.m.value in
     search rules
