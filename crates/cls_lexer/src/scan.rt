@@ -12,6 +12,9 @@ use cls_base::OutOfMemory;
 use cls_base::limits::MAX_NAME_BYTES;
 use std::alloc::Global;
 
+/// How many tokens take up to a KiB, which most allocators hand out at once.
+const QUICK_TOKENS: usize = 42;
+
 /// The tokens of the line, which has fewer than 2^32 bytes, in one pass.
 ///
 /// From the left: a blank (space, tab or carriage return) is skipped, otherwise the longest token is taken. So each byte that
@@ -22,7 +25,7 @@ pub fn tokens<'a>(alloc: Global, line: &'a str) -> Result<Vec<Token<'a>>, OutOfM
     ensures words { IfOk result (λ v. words v.items ≡ words_of line.now) }
 {
     let bytes = line.as_bytes();
-    let mut out = Vec::with_capacity(alloc, bytes.len() / 2)?;
+    let mut out = Vec::with_capacity(alloc, room(bytes.len()))?;
     let mut at = 0;
     while at < bytes.len() {
         let first = bytes[at];
@@ -39,6 +42,17 @@ pub fn tokens<'a>(alloc: Global, line: &'a str) -> Result<Vec<Token<'a>>, OutOfM
         }
     }
     Ok(out)
+}
+
+/// How many tokens a line of so many bytes gets room for at once.
+fn room(bytes: usize) -> usize
+    requires { bytes < 2 ^ 32 }
+{
+    if bytes <= 64 {
+        bytes.min(QUICK_TOKENS)
+    } else {
+        bytes.min(bytes / 2 + 128)
+    }
 }
 
 /// The first token of the line, which has fewer than 2^32 bytes, or None if it has only blanks. It takes no memory.

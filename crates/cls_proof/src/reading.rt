@@ -17,10 +17,10 @@ ghost use Rattle.cls_proof.specs.Said.{statement_of, written, written_row, writt
 use crate::row::ProofRow;
 use crate::statement::Statement;
 use crate::statement_form::{BlockForm, RowForm, StatementForm, statement_form};
-use cls_base::limits::{MAX_TYPE_DEPTH, MAX_TYPE_SPREAD};
+use cls_base::limits::MAX_TYPE_SPREAD;
 use cls_base::{Numbers, OutOfMemory, Ty};
 use cls_lexer::{Line, Names, tokens};
-use cls_syntax::{NumeralList, SpelledType, deepest, first_variable};
+use cls_syntax::{NumeralList, SpelledType, first_variable, is_too_deep};
 use std::alloc::Global;
 
 /// What a line is read as.
@@ -50,7 +50,7 @@ pub(crate) fn read_line(
         Err(_) => return Ok(ReadLine::Bad),
     };
     let tokens = tokens(alloc, text)?;
-    if deepest(&tokens) as u64 > MAX_TYPE_DEPTH {
+    if is_too_deep(&tokens) {
         return Ok(ReadLine::Bad);
     }
     if first_variable(&tokens).is_some() {

@@ -4,9 +4,8 @@ ghost use Rattle.cls_lexer.specs.Words.{words, words_of};
 
 use crate::fault::LineFault;
 use crate::form::{QueryForm, query_form};
-use cls_base::limits::MAX_TYPE_DEPTH;
 use cls_lexer::{Token, byte_at};
-use cls_syntax::{Stop, deepest};
+use cls_syntax::{Stop, is_too_deep};
 
 /// A line with its tokens.
 #[derive(Clone, Copy, Debug)]
@@ -45,7 +44,7 @@ impl<'t, 'a> CutLine<'t, 'a> {
         ensures says { IfOk result (λ form. Says (row_words query_rows) (RowStands query_rows) (form_says form)
             (words_of self.now.text.now)) }
     {
-        if deepest(self.tokens) as u64 > MAX_TYPE_DEPTH {
+        if is_too_deep(self.tokens) {
             return Err(LineFault::TooDeep);
         }
         match query_form(self.tokens) {

@@ -14,9 +14,8 @@ ghost use Rattle.cls_repo.specs.Written.{directive_of, spelling_faults};
 
 use crate::directive::{Directive, directive_at};
 use crate::fault::FaultKind;
-use cls_base::limits::MAX_TYPE_DEPTH;
 use cls_lexer::Token;
-use cls_syntax::{Stop, deepest, is_name};
+use cls_syntax::{Stop, is_name};
 
 /// What the tokens of the line say.
 ///
@@ -51,7 +50,7 @@ fn is_too_deep(tokens: &[Token]) -> bool
     ensures { IsTrue result ↔ (begins_word (codes "text") (words tokens.now) ≡ false)
         × (max_type_depth < most_open 0 0 (words tokens.now)) }
 {
-    !begins_word(tokens, "text") && deepest(tokens) as u64 > MAX_TYPE_DEPTH
+    !begins_word(tokens, "text") && cls_syntax::is_too_deep(tokens)
 }
 
 /// The fault of a line that leaves the table here.

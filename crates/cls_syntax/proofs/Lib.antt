@@ -35,4 +35,5 @@ pub mod TypeSpans
 pub mod TypeStates
 pub mod WordFronts
 pub mod OmegaTexts
+pub mod Openings
 pub mod WordLists

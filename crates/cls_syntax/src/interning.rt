@@ -5,13 +5,13 @@ ghost use Rattle.cls_lexer.specs.Names.{number_of, with_text};
 ghost use Rattle.cls_syntax.specs.Numberings.{constructors_after, variables_after, number_in};
 ghost use Rattle.cls_syntax.specs.Sorts.{sort_of};
 
-use crate::sort::{Sort, sort_of};
+use crate::sort::Sort;
 use cls_base::{Name, OutOfMemory};
 use cls_lexer::{Names, Token};
 use std::alloc::Global;
 
 /// Numbers the name that the token is: behind a `$` it is a variable, otherwise a constructor. A token that is no name
-/// has the number 0 and changes nothing. After an error the tables are as before.
+/// has the number 0 and changes nothing. The sort is that of the token. After an error the tables are as before.
 #[tactic(auto, using(crate::proofs::GrowingTables::kept))]
 pub(crate) fn intern_token(
     alloc: Global,
@@ -19,7 +19,9 @@ pub(crate) fn intern_token(
     variables: &mut Names,
     behind: bool,
     token: &Token,
+    sort: Sort,
 ) -> Result<Name, OutOfMemory>
+    requires { sort ≡ sort_of (word_of token.now) }
     ensures constructors { OnOk result
         (constructors.new ≡ constructors_after constructors.old behind (word_of token.now)) }
     ensures variables { OnOk result (variables.new ≡ variables_after variables.old behind (word_of token.now)) }
@@ -28,7 +30,7 @@ pub(crate) fn intern_token(
     ensures constructors_stay { OnErr result (constructors.new ≡ constructors.old) }
     ensures variables_stay { OnErr result (variables.new ≡ variables.old) }
 {
-    match sort_of(token) {
+    match sort {
         Sort::Name if behind => put(alloc, variables, token.text),
         Sort::Name => put(alloc, constructors, token.text),
         _ => Ok(Name(0)),

@@ -31,7 +31,7 @@ mod type_shape;
 mod word_list;
 
 pub use cursor::{end_at, name_at, number_at, sign_at, term_at, type_at, types_at, word_at};
-pub use depth::deepest;
+pub use depth::is_too_deep;
 pub use numeral_list::NumeralList;
 pub use print::{print_type, write_type};
 pub use read::{first_variable, read_schema, read_type};

@@ -14,12 +14,11 @@ ghost use Rattle.cls_syntax.specs.TypePrinting.{HasNamesBelow};
 ghost use Rattle.cls_syntax.specs.TypeSchemas.{is_dollar, with_constructors, with_variables};
 
 use crate::cursor::{end_at, type_at};
-use crate::depth::deepest;
+use crate::depth::is_too_deep;
 use crate::sort::is_dollar;
 use crate::spelled_type::SpelledType;
 use crate::stop::Stop;
 use crate::syntax_fault::SyntaxFault;
-use cls_base::limits::MAX_TYPE_DEPTH;
 use cls_base::{Schema, Ty};
 use cls_lexer::{Names, Token, byte_at, tokens};
 use std::alloc::Global;
@@ -96,7 +95,7 @@ fn whole_type<'t, 'a>(
     requires words { words tokens.now ≡ words_of text.now }
     ensures { MatchResult result (λ spelled. IsWholeType text.now (type_text spelled)) (IsNoType text.now) }
 {
-    if deepest(tokens) as u64 > MAX_TYPE_DEPTH {
+    if is_too_deep(tokens) {
         return Err(SyntaxFault::TooDeep);
     }
     match type_line(tokens) {

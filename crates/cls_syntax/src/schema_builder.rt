@@ -4,8 +4,9 @@ ghost use Rattle.std.specs.Option.{option_map};
 ghost use Rattle.cls_base.specs.Schemas.{OpenType};
 ghost use Rattle.cls_base.specs.Schemas as schema;
 ghost use Rattle.cls_lexer.specs.Words.{words};
+ghost use Rattle.cls_syntax.specs.declared.sort.Sort.TheVariants as sort;
 ghost use Rattle.cls_syntax.specs.Numberings.{numbered_step, numbered_reading};
-ghost use Rattle.cls_syntax.specs.SchemaReading.{Outer, whole, within, empty_level, operand, applied, with_left, with_sources, closed, atom_read, step_after, ended, level_of, outer_of, state_of, next_of};
+ghost use Rattle.cls_syntax.specs.SchemaReading.{Outer, whole, within, empty_level, operand, after_dollar, applied, with_left, with_sources, closed, atom_read, step_after, ended, level_of, outer_of, state_of, next_of};
 ghost use Rattle.cls_syntax.specs.TypeSchemas.{with_constructors, with_variables};
 
 use crate::interning::intern_token;
@@ -62,8 +63,9 @@ pub(crate) fn build<T: Tree>(
     let mut place = Place::Operand;
     let mut behind = false;
     for token in tokens {
-        let name = intern_token(alloc, constructors, variables, behind, token)?;
-        match step(alloc, &mut frames, &mut level, place, sort_of(token), name)? {
+        let sort = sort_of(token);
+        let name = intern_token(alloc, constructors, variables, behind, token, sort)?;
+        match step(alloc, &mut frames, &mut level, place, sort, name)? {
             Some(next) => place = next,
             None => return Ok(None),
         }
@@ -84,40 +86,63 @@ fn step<T: Tree>(
     ensures { IfOk result (λ p. next_of T.tree (outer_of T.tree frames.new.items) (level_of T.tree level.new) p
         ≡ numbered_step T.leaf name.0 (state_of T.tree (outer_of T.tree frames.old.items) (level_of T.tree level.old) place) sort) }
 {
-    match place {
-        Place::Operand => match sort {
-            Sort::Omega => Ok(Some(atom(alloc, level, T::omega())?)),
-            Sort::Name => Ok(Some(Place::AfterName(name))),
-            Sort::Dollar => Ok(Some(Place::AfterDollar)),
-            Sort::Open => {
-                open(alloc, frames, level, None)?;
-                Ok(Some(Place::Operand))
-            }
-            _ => Ok(None),
+    let read = match place {
+        Place::Operand => return at_operand(alloc, frames, level, sort, name),
+        Place::AfterDollar => return behind_dollar(alloc, level, sort, name),
+        Place::AfterName(head) if matches!(sort, Sort::Open) => {
+            open(alloc, frames, level, Some(head))?;
+            return Ok(Some(Place::Operand));
+        }
+        Place::AfterName(head) => product_of(alloc, level.product.take(), T::bare(head))?,
+        Place::After(read) => read,
+    };
+    after(alloc, frames, level, read, sort)
+}
+
+/// Where an atom may stand.
+fn at_operand<T: Tree>(
+    alloc: Global,
+    frames: &mut Vec<Frame<T>>,
+    level: &mut Level<T>,
+    sort: Sort,
+    name: Name,
+) -> Result<Option<Place<T>>, OutOfMemory>
+    ensures { IfOk result (λ p. next_of T.tree (outer_of T.tree frames.new.items) (level_of T.tree level.new) p
+        ≡ numbered_step T.leaf name.0 (operand (outer_of T.tree frames.old.items) (level_of T.tree level.old)) sort) }
+{
+    match sort {
+        Sort::Omega => Ok(Some(atom(alloc, level, T::omega())?)),
+        Sort::Name => Ok(Some(Place::AfterName(name))),
+        Sort::Dollar => Ok(Some(Place::AfterDollar)),
+        Sort::Open => {
+            open(alloc, frames, level, None)?;
+            Ok(Some(Place::Operand))
+        }
+        _ => Ok(None),
+    }
+}
+
+/// Behind a `$`.
+fn behind_dollar<T: Tree>(
+    alloc: Global,
+    level: &mut Level<T>,
+    sort: Sort,
+    name: Name,
+) -> Result<Option<Place<T>>, OutOfMemory>
+    ensures { IfOk result (λ p. (o : Outer) → next_of T.tree o (level_of T.tree level.new) p
+        ≡ numbered_step T.leaf name.0 (after_dollar o (level_of T.tree level.old)) sort) }
+{
+    match sort {
+        Sort::Name => match T::variable(name) {
+            Some(variable) => Ok(Some(atom(alloc, level, variable)?)),
+            None => Ok(None),
         },
-        Place::AfterDollar => match sort {
-            Sort::Name => match T::variable(name) {
-                Some(variable) => Ok(Some(atom(alloc, level, variable)?)),
-                None => Ok(None),
-            },
-            _ => Ok(None),
-        },
-        Place::AfterName(head) => match sort {
-            Sort::Open => {
-                open(alloc, frames, level, Some(head))?;
-                Ok(Some(Place::Operand))
-            }
-            _ => {
-                let product = product_of(alloc, level.product.take(), T::bare(head))?;
-                after(alloc, frames, level, product, sort)
-            }
-        },
-        Place::After(read) => after(alloc, frames, level, read, sort),
+        _ => Ok(None),
     }
 }
 
 /// After an atom.
-#[tactic(auto, using(crate::proofs::Building::last_frame, crate::proofs::Building::pushed_source))]
+#[tactic(auto, using(crate::proofs::Building::pushed_source))]
 fn after<T: Tree>(
     alloc: Global,
     frames: &mut Vec<Frame<T>>,
@@ -143,19 +168,29 @@ fn after<T: Tree>(
             level.sources.push(source)?;
             Ok(Some(Place::Operand))
         }
-        Sort::Close => match frames.pop() {
-            None => Ok(None),
-            Some(frame) => {
-                let Frame { name, level: outer } = frame;
-                let inner = std::mem::replace(level, outer);
-                let whole = close(alloc, inner, read)?;
-                let operand = named(alloc, name, whole)?;
-                let place = atom(alloc, level, operand)?;
-                Ok(Some(place))
-            }
-        },
+        Sort::Close => after_close(alloc, frames, level, read),
         _ => Ok(None),
     }
+}
+
+/// After an atom and the end of a parenthesis.
+#[tactic(auto, using(crate::proofs::Building::last_frame))]
+fn after_close<T: Tree>(
+    alloc: Global,
+    frames: &mut Vec<Frame<T>>,
+    level: &mut Level<T>,
+    last: T,
+) -> Result<Option<Place<T>>, OutOfMemory>
+    ensures { IfOk result (λ p. next_of T.tree (outer_of T.tree frames.new.items) (level_of T.tree level.new) p
+        ≡ step_after (outer_of T.tree frames.old.items) (level_of T.tree level.old) (T.tree last) sort.Close) }
+{
+    let Some(Frame { name, level: outer }) = frames.pop() else {
+        return Ok(None);
+    };
+    let inner = std::mem::replace(level, outer);
+    let whole = close(alloc, inner, last)?;
+    let operand = named(alloc, name, whole)?;
+    Ok(Some(atom(alloc, level, operand)?))
 }
 
 /// Where no token is left.

@@ -16,9 +16,8 @@ use crate::term::Term;
 use crate::term_builder::build;
 use crate::token_fault::TokenFault;
 use cls_base::OutOfMemory;
-use cls_base::limits::MAX_TYPE_DEPTH;
 use cls_lexer::{Names, Token, byte_at, tokens};
-use cls_syntax::{SpelledTerm, Stop, deepest, end_at, is_name, term_at};
+use cls_syntax::{SpelledTerm, Stop, end_at, is_name, is_too_deep, term_at};
 use std::alloc::Global;
 
 /// The term that the whole text spells, over the components of the table.
@@ -61,7 +60,7 @@ fn whole_term<'t, 'a>(
     ensures { MatchResult result (λ spelled. IsWholeTerm text.now (term_text spelled))
         (λ fault. (table : _) → IsNoTerm table text.now fault) }
 {
-    if deepest(tokens) as u64 > MAX_TYPE_DEPTH {
+    if is_too_deep(tokens) {
         return Err(TokenFault::TooDeep);
     }
     match term_line(tokens) {

@@ -4,6 +4,7 @@ use Rattle.cls_lexer.specs.Words.{Word, words, words_of}
 use Rattle.cls_syntax.specs.ClosedTypes.{HasNoDollar}
 use Rattle.cls_syntax.specs.Depths.{most_open}
 use Rattle.cls_syntax.specs.SyntaxFaults.{IsFlat}
+use Rattle.cls_syntax.proofs.Openings.{is_flat}
 use Rattle.cls_proof.specs.Said.{statement_of, written, IsMeant, IsMeaningless}
 use Rattle.cls_proof.proofs.LineMeanings.{dollar_absent, dollar_found}
 use Rattle.cls_proof.proofs.LineReadings.{some_there, read_of, stopped, says}
@@ -14,14 +15,14 @@ pub returns-in-Err-clause-read : goal.returns-in-Err-clause-read
 returns-in-Err-clause-read c =
     text_nothing c.args.components.now c.args.line.now (λ t. let e = c.in-Err.ensures.ok.1 t in absurd (cc))
 
-pub returns-then-deepest-gt-MAX_TYPE_DEPTH-clause-read : goal.returns-then-deepest-gt-MAX_TYPE_DEPTH-clause-read
-returns-then-deepest-gt-MAX_TYPE_DEPTH-clause-read c =
+pub returns-then-is_too_deep-clause-read : goal.returns-then-is_too_deep-clause-read
+returns-then-is_too_deep-clause-read c =
     let line = c.args.line.now in
     let ok = c.in-Ok-Some.ensures in
     let same = MatchOption-at_some _ (λ t. t.now ≡ line) c.in-Ok-Some.text c.in-Ok-Some.field-0-is ok.same in
     let said = c.in_ok-tokens.ensures.words ∙ ap words_of same in
-    let most = c.deepest.ensures ∙ ap (most_open 0 0) (ap words c.deref.ensures.value ∙ said) in
-    let many = c.if-deepest-gt-MAX_TYPE_DEPTH.true in
+    let most = ap (most_open 0 0) (ap words c.deref.ensures.value ∙ said) in
+    let many = c.is_too_deep.ensures.0 c.if-is_too_deep.true in
     deep_nothing c.args.components.now line (λ s. some_there c.in-Ok-Some.field-0 c.in-Ok-Some.text c.in-Ok-Some.field-0-is (ok.skipped.1 s)) (λ (flat : IsFlat line). omega (arith, most, many, flat))
 
 pub returns-then-is_some-clause-read : goal.returns-then-is_some-clause-read
@@ -62,9 +63,7 @@ returns-in-Some-clause-read c =
     let ok = c.in-Ok-Some.ensures in
     let same = MatchOption-at_some _ (λ t. t.now ≡ line) c.in-Ok-Some.text c.in-Ok-Some.field-0-is ok.same in
     let said = c.in_ok-tokens.ensures.words ∙ ap words_of same in
-    let most = c.deepest.ensures ∙ ap (most_open 0 0) (ap words c.deref.ensures.value ∙ said) in
-    let few = c.if-deepest-gt-MAX_TYPE_DEPTH.false in
-    let flat : IsFlat line = omega (arith, most, few) in
+    let flat : IsFlat line = is_flat c.is_too_deep.result (words c.deref.result.now) (words_of line) c.is_too_deep.ensures (ap words c.deref.ensures.value ∙ said) c.if-is_too_deep.false in
     let said2 : words c.deref-2.result.now ≡ words_of line = ap words c.deref-2.ensures.value ∙ said in
     let closed : HasNoDollar (words_of line) = subst (λ (ws : List Word). HasNoDollar ws) said2 (dollar_absent c.first_variable.result (words c.deref-2.result.now) c.first_variable.ensures (sym c.is_some.ensures ∙ c.if-is_some.false)) in
     let said3 : words c.deref-3.result.now ≡ words_of line = ap words c.deref-3.ensures.value ∙ said in

@@ -34,7 +34,7 @@ loop-token-preserved g c =
     let s = state_of tree (outer_of tree c.loop-token.frames.items) (level_of tree c.loop-token.level) c.loop-token.place in
     let o = outer_of tree c.step.new.frames.items in
     let k = level_of tree c.step.new.level in
-    let next = sym (ap (next_of tree o k) c.in-Some.is) ∙ (c.in_ok-next.ensures ∙ ap (λ (q : Sort). numbered_step g.T.Tree.leaf c.in_ok-name.name.0 s q) c.sort_of.ensures) in
+    let next = sym (ap (next_of tree o k) c.in-Some.is) ∙ (c.in_ok-next.ensures ∙ ap (λ (q : Sort). numbered_step g.T.Tree.leaf c.in_ok-name.name.0 s q) c.sort_of-sort.ensures) in
     let read = read_on g.T.Tree.leaf c.loop-token.constructors c.loop-token.variables c.intern_token.new.constructors c.intern_token.new.variables b s (Some (state_of tree o k c.in-Some.next)) c.in_ok-name.name.0 ls i _ l c.loop-token-test.true c.token-item.is con var c.in_ok-name.ensures.number next in
     let behind = sym c.is_dollar-behind.ensures in
     record {

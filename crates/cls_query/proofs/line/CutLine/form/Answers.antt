@@ -5,10 +5,10 @@ use Rattle.cls_base.specs.Firsts.{First}
 use Rattle.cls_lexer.specs.declared.token.Token.{Token}
 use Rattle.cls_lexer.specs.Tokens.{located, tokens_of, byte_at}
 use Rattle.cls_lexer.specs.Words.{words, word_of, words_of}
-use Rattle.cls_syntax.specs.Depths.{most_open}
 use Rattle.cls_syntax.specs.LineGrammars.{grammar_read}
 use Rattle.cls_syntax.specs.Sorts.{begins_reserved}
 use Rattle.cls_syntax.specs.SyntaxFaults.{IsFlat}
+use Rattle.cls_syntax.proofs.Openings.{is_flat}
 use Rattle.cls_query.specs.FormAnswers.{form_says}
 use Rattle.cls_query.specs.QueryErrors.{place_words}
 use Rattle.cls_query.specs.QueryForms.{query_rows}
@@ -23,9 +23,7 @@ many ls = length-map ls word_of
 pub returns-in-Ok-clause-tested : goal.returns-in-Ok-clause-tested
 returns-in-Ok-clause-tested c =
     let line = c.args.self.now.text.now in
-    let most = c.deepest.ensures ∙ ap (most_open 0 0) c.args.self.now.spoken in
-    let few = c.if-deepest-gt-MAX_TYPE_DEPTH.false in
-    let flat : IsFlat line = omega (arith, most, few) in
+    let flat : IsFlat line = is_flat c.is_too_deep.result (words c.args.self.now.tokens.now) (words_of line) c.is_too_deep.ensures c.args.self.now.spoken c.if-is_too_deep.false in
     let says = read_says (words_of line) (form_says c.in-Ok.form) (ap (grammar_read query_rows) (sym c.args.self.now.spoken) ∙ c.in-Ok.ensures) in
     form_silent line (form_says c.in-Ok.form) flat says
 
@@ -39,9 +37,7 @@ returns-in-Err-clause-tested c =
     let ls = c.args.self.now.tokens.now in
     let rest = c.in-Err.stop.rest.now in
     let wants = c.in-Err.stop.wants_name in
-    let most = c.deepest.ensures ∙ ap (most_open 0 0) c.args.self.now.spoken in
-    let few = c.if-deepest-gt-MAX_TYPE_DEPTH.false in
-    let flat : IsFlat line = omega (arith, most, few) in
+    let flat : IsFlat line = is_flat c.is_too_deep.result (words c.args.self.now.tokens.now) (words_of line) c.is_too_deep.ensures c.args.self.now.spoken c.if-is_too_deep.false in
     let said = place_said line (words rest) wants flat (ap (grammar_read query_rows) (sym c.args.self.now.spoken) ∙ c.in-Err.ensures) in
     let count : length (tokens_of line) ≡ length ls = sym (sym (length-map ls located) ∙ ap length c.args.self.now.cut) in
     let place : length (tokens_of line) - length (words rest) ≡ length ls - length rest = λ i. count i - many rest i in
