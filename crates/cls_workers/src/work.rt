@@ -10,16 +10,30 @@ use std::sync::Wait;
 use std::sync::ledger::Ledger;
 use std::thread::yield_now;
 
-/// How often a worker beside others asks for a goal before it gives its seat back. Where there is nothing to claim for
-/// so long, the caller goes on alone.
+/// How often a worker beside others asks for a goal before it gives its seat back.
 const MOST_ASKS: u32 = 1_000;
 
-/// How many rows are free when one other worker is started. More workers start once there are as many times more as the square of
-/// their number: each costs a thread, and finds the less to do the more there are.
+/// How often in a row a worker beside others finds no goal to claim before it gives its seat back. Once all have done so
+/// the caller goes on alone.
+const MOST_WAITS: u32 = 30;
+
+/// So many free rows are enough to start one other worker. Several are started at as many times the square of their number, since
+/// each costs a thread and finds the less to do the more there are.
 const ROWS_FOR_ONE: u64 = 2;
 
+/// What a worker's asking for a goal came to.
+#[derive(Clone, Copy)]
+enum StepOutcome {
+    /// It got a goal, and did it.
+    DidGoal,
+    /// No row was free, but others are at work, which may bring more.
+    NoGoal,
+    /// Nothing is left to do: all is filed, the closure is too large or memory ran out.
+    NothingLeft,
+}
+
 /// Claims a goal, and expands and files it. A worker that runs out of memory stops the table. The seat is given back,
-/// and whether there may be more to do: nothing is left if all is filed, the closure is too large or memory ran out.
+/// and what the asking came to.
 fn step<E: Expand, L: Ledger, T: Gate, R: Wait>(
     rt: &R,
     alloc: Global,
@@ -27,14 +41,14 @@ fn step<E: Expand, L: Ledger, T: Gate, R: Wait>(
     by: &E,
     gate: &T,
     seat: TableSeat<E, L>,
-) -> (TableSeat<E, L>, bool)
+) -> (TableSeat<E, L>, StepOutcome)
     requires seat_of_table { seat.turn ≡ id_of table.now.turn }
     requires meaning { HasMeaning seat (E.tag by.now) }
     ensures { IsAfterWork seat result.0 }
 {
     let mut seat = seat;
     let Ok(answer) = table.claim(rt, alloc, &mut seat) else {
-        return (seat, false);
+        return (seat, StepOutcome::NothingLeft);
     };
     match answer {
         ClaimAnswer::Job(claim) => {
@@ -43,26 +57,26 @@ fn step<E: Expand, L: Ledger, T: Gate, R: Wait>(
                 Ok(filed) => filed,
                 Err(claim) => {
                     table.stop(rt, &mut seat, claim);
-                    return (seat, false);
+                    return (seat, StepOutcome::NothingLeft);
                 }
             };
             if let Err(filed) = table.file(rt, alloc, &mut seat, filed) {
                 table.stop(rt, &mut seat, filed.claim());
-                return (seat, false);
+                return (seat, StepOutcome::NothingLeft);
             }
-            (seat, true)
+            (seat, StepOutcome::DidGoal)
         }
         ClaimAnswer::Again => {
             yield_now();
-            (seat, true)
+            (seat, StepOutcome::NoGoal)
         }
-        ClaimAnswer::Finished => (seat, false),
-        ClaimAnswer::TooLarge => (seat, false),
+        ClaimAnswer::Finished => (seat, StepOutcome::NothingLeft),
+        ClaimAnswer::TooLarge => (seat, StepOutcome::NothingLeft),
     }
 }
 
-/// Works beside others: asks for a goal at most so often, and ends sooner if nothing is left to do. The seat is given
-/// back, with the claims that the worker made.
+/// Works beside others: asks for a goal at most so often, and ends sooner if nothing is left to do or there was no goal
+/// too often in a row. The seat is given back, with the claims that the worker made.
 pub(crate) fn work<E: Expand, L: Ledger, T: Gate, R: Wait>(
     rt: &R,
     alloc: Global,
@@ -76,12 +90,18 @@ pub(crate) fn work<E: Expand, L: Ledger, T: Gate, R: Wait>(
     ensures { IsAfterWork seat result }
 {
     let mut seat = seat;
+    let mut waits = 0;
     for _ in 0..MOST_ASKS {
-        let (back, more) = step(rt, alloc, table, by, gate, seat);
-        if !more {
-            return back;
-        }
+        let (back, outcome) = step(rt, alloc, table, by, gate, seat);
         seat = back;
+        match outcome {
+            StepOutcome::DidGoal => waits = 0,
+            StepOutcome::NoGoal => waits += 1,
+            StepOutcome::NothingLeft => return seat,
+        }
+        if waits == MOST_WAITS {
+            return seat;
+        }
     }
     seat
 }
@@ -109,8 +129,8 @@ pub(crate) fn work_alone<E: Expand, L: Ledger, T: Gate, R: Wait>(
 {
     let mut seat = seat;
     for _ in rt.forever() {
-        let (back, more) = step(rt, alloc, table, by, gate, seat);
-        if !more {
+        let (back, outcome) = step(rt, alloc, table, by, gate, seat);
+        if matches!(outcome, StepOutcome::NothingLeft) {
             return (back, false);
         }
         seat = back;
