@@ -2,6 +2,7 @@ pub mod BlockLaws
 pub mod BucketLaws
 pub mod ChoiceLaws
 pub mod Empty
+pub mod Forcing
 pub mod Inhabited
 pub mod Lists
 pub mod MemberLaws

@@ -1,7 +1,8 @@
 //! The blocks of a member: for each component and number of arguments the minimal covers of the first paths of its goal.
-ghost use Rattle.std.specs.Prelude.{◌≡◌, ◌+◌, ◌<◌, ◌≤◌, ◌↔◌, All, IfOk, OnOk, IsTrue, length, map};
+ghost use Rattle.std.specs.Prelude.{◌≡◌, ◌+◌, ◌<◌, ◌≤◌, ◌↔◌, All, IfOk, IfSome, OnOk, IsTrue, length, map};
 ghost use Rattle.cls_cover.specs.Lists.{IsAscending};
 ghost use Rattle.cls_cover.specs.Covers.{AreCovers, AreWithinLimit};
+ghost use Rattle.cls_cover.specs.Forced.{IsForced};
 ghost use Rattle.cls_path.specs.Paths.{listed};
 ghost use Rattle.cls_library.specs.Arrows.{arity_of};
 ghost use Rattle.cls_library.specs.Libraries.{paths_at, IsLibrary};
@@ -10,6 +11,7 @@ ghost use Rattle.cls_expand.specs.Answers.{IsReady};
 ghost use Rattle.cls_proof.specs.Blocks.{block_of};
 ghost use Rattle.cls_cert.specs.Building.{AreCoversOfFronts, HasFirstFamily, AddsBlock, AreBlocks};
 
+use crate::forced::forced_with;
 use cls_base::{Numbers, OutOfMemory};
 use cls_cover::{CoverFault, covers};
 use cls_expand::families_of;
@@ -34,16 +36,40 @@ pub(crate) fn few_covers(alloc: Global, families: &[Numbers]) -> Result<Vec<Numb
     }
 }
 
-/// The minimal covers of the first family, of the first two, and so on.
+/// The minimal covers of the families at the front. Where these have a single position each, their only cover is given.
+fn covers_of_front(
+    alloc: Global,
+    front: &[Numbers],
+    forced: &Option<Vec<u32>>,
+) -> Result<Vec<Numbers>, OutOfMemory>
+    requires ascending { All IsAscending front.now }
+    requires few { AreWithinLimit front.now max_covers }
+    requires forced { IfSome forced.now (λ cover. IsForced front.now cover.items) }
+    ensures { IfOk result (λ list. AreCovers front.now list.items) }
+{
+    match forced {
+        Some(cover) => {
+            let mut list = Vec::with_capacity(alloc, 1)?;
+            list.push(Numbers::new(Vec::from_slice(alloc, cover.as_slice())?))?;
+            Ok(list)
+        }
+        None => few_covers(alloc, front),
+    }
+}
+
+/// The minimal covers of the first family, of the first two, and so on. As long as each family has a single position there is
+/// one cover, which grows by that position.
 fn front_covers(alloc: Global, families: &[Numbers]) -> Result<Layers, OutOfMemory>
     requires ascending { All IsAscending families.now }
     requires few { AreWithinLimit families.now max_covers }
     ensures { IfOk result (AreCoversOfFronts families.now) }
 {
     let mut layers = Vec::with_capacity(alloc, families.len())?;
+    let mut forced = Some(Vec::new(alloc));
     for j in 0..families.len() {
+        forced = forced_with(forced, families[j].as_slice())?;
         let (front, _) = families.split_at(j + 1);
-        layers.push(Layer::new(few_covers(alloc, front)?))?;
+        layers.push(Layer::new(covers_of_front(alloc, front, &forced)?))?;
     }
     Ok(Layers::new(layers))
 }

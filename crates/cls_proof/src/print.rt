@@ -76,11 +76,11 @@ fn write_row(
     write_type(text, names, &row.goal)?;
     text.push_str(" by ")?;
     text.push_str(components.text(Name(row.component)))?;
-    text.push_str(" ")?;
+    text.push(' ')?;
     write_number(text, row.n)?;
     text.push_str(" :")?;
     write_numbers(text, row.cover.as_slice())?;
-    text.push_str("\n")?;
+    text.push('\n')?;
     Ok(())
 }
 
@@ -98,7 +98,7 @@ fn write_members(
     for member in members {
         text.push_str("member ")?;
         write_type(text, names, &member.goal)?;
-        text.push_str("\n")?;
+        text.push('\n')?;
         write_blocks(components, member.blocks.as_slice(), text)?;
     }
     Ok(())
@@ -113,9 +113,9 @@ fn write_blocks(components: &Names, blocks: &[Block], text: &mut String) -> Resu
     for block in blocks {
         text.push_str("block ")?;
         text.push_str(components.text(Name(block.component)))?;
-        text.push_str(" ")?;
+        text.push(' ')?;
         write_number(text, block.n)?;
-        text.push_str("\n")?;
+        text.push('\n')?;
         write_layers(block.layers.as_slice(), text)?;
     }
     Ok(())
@@ -141,7 +141,7 @@ fn write_sets(sets: &[Numbers], text: &mut String) -> Result<(), OutOfMemory>
     for set in sets {
         text.push_str("set")?;
         write_numbers(text, set.as_slice())?;
-        text.push_str("\n")?;
+        text.push('\n')?;
     }
     Ok(())
 }
@@ -152,16 +152,20 @@ fn write_numbers(text: &mut String, numbers: &[u32]) -> Result<(), OutOfMemory>
     ensures { OnOk result (string_bytes text.new ≡ string_bytes text.old ++ numbers_text numbers.now) }
 {
     for number in numbers {
-        text.push_str(" ")?;
+        text.push(' ')?;
         write_number(text, *number)?;
     }
     Ok(())
 }
 
-/// Writes the number at the end.
+/// Writes the number at the end. Most have one digit.
 fn write_number(text: &mut String, number: u32) -> Result<(), OutOfMemory>
     ensures { OnOk result (string_bytes text.new ≡ string_bytes text.old ++ decimal number) }
 {
+    if number < 10 {
+        text.push(char::from(b'0' + number as u8))?;
+        return Ok(());
+    }
     let mut buffer = Buffer::new();
     text.push_str(buffer.format(number))?;
     Ok(())
