@@ -12,7 +12,7 @@ in_single : (x i : ℕ) → Member (single x) i → i ≡ x
 in_single x _ first = refl
 in_single x i (later m) = elim m [ ]
 
-same_single : (x y : ℕ) → single x ≡ single y → x ≡ y
+pub same_single : (x y : ℕ) → single x ≡ single y → x ≡ y
 same_single x y e = cc
 
 less_not : (x y : ℕ) → x < y → y < x → ⊥

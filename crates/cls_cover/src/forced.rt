@@ -33,7 +33,7 @@ fn only_of(family: &[u32]) -> Option<u32>
 }
 
 /// Puts a position among ascending ones, unless it is there.
-fn put(positions: &mut Vec<u32>, x: u32) -> Result<(), OutOfMemory>
+pub(crate) fn put(positions: &mut Vec<u32>, x: u32) -> Result<(), OutOfMemory>
     requires { Ascending positions.old.items }
     ensures ascending { OnOk result (Ascending positions.new.items) }
     ensures members { OnOk result

@@ -18,7 +18,7 @@ pub(crate) fn alone(x: u32) -> u128
 }
 
 /// The set of the positions, if each is below 128.
-fn set_of(positions: &[u32]) -> Option<u128>
+pub(crate) fn set_of(positions: &[u32]) -> Option<u128>
     ensures { IfSome result (IsSetOf positions.now) }
 {
     let mut set = 0;
