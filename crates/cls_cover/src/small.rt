@@ -35,7 +35,8 @@ fn joined(begun: &Begun, cover: u128, x: u32) -> Option<u128>
     requires here { Member (next_of begun.now) x }
     ensures put { IfSome result (λ larger. IsPut x (members cover) (members larger)) }
     ensures minimal { IfSome result (λ larger. IsCoverAfter begun.now (members larger)) }
-    ensures none { result ≡ None → (t : List ℕ) → IsPut x (members cover) t → IsCoverAfter begun.now t → ⊥ }
+    ensures none { result ≡ None
+        → (t : List ℕ) → IsPut x (members cover) t → IsCoverAfter begun.now t → ⊥ }
 {
     let one = alone(x);
     let larger = cover | one;

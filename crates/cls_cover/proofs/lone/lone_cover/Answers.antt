@@ -38,7 +38,7 @@ returns-clause-covers c =
     let xs = c.args.positions.now in
     let cover = c.loop-position.cover.items in
     let h : IsForced (map single xs) cover =
-        subst (λ (ys : List ℕ). IsForced (map single ys) cover) (take_whole xs c.loop-position.position-index c.loop-position-test.false) c.loop-position.invariant in
+    subst (λ (ys : List ℕ). IsForced (map single ys) cover) (take_whole xs c.loop-position.position-index c.loop-position-test.false) c.loop-position.invariant in
     subst (λ (s : List ℕ). AreCovers (map single xs) (s ∷ [])) (sym c.new-2.ensures) (lone_covers xs cover h)
 
 pub returns-clause-within : goal.returns-clause-within
@@ -46,5 +46,5 @@ returns-clause-within c =
     let xs = c.args.positions.now in
     let cover = c.loop-position.cover.items in
     let h : IsForced (map single xs) cover =
-        subst (λ (ys : List ℕ). IsForced (map single ys) cover) (take_whole xs c.loop-position.position-index c.loop-position-test.false) c.loop-position.invariant in
+    subst (λ (ys : List ℕ). IsForced (map single ys) cover) (take_whole xs c.loop-position.position-index c.loop-position-test.false) c.loop-position.invariant in
     lone_within xs cover h
