@@ -17,8 +17,8 @@ const MOST_ASKS: u32 = 1_000;
 /// the caller goes on alone.
 const MOST_WAITS: u32 = 30;
 
-/// So many free rows are enough to start one other worker. Several are started at as many times the square of their number, since
-/// each costs a thread and finds the less to do the more there are.
+/// So many free rows are enough to start one other worker. Several are started at this many times the square of their
+/// number, since each costs a thread and finds the less to do the more there are.
 const ROWS_FOR_ONE: u64 = 2;
 
 /// What a worker's asking for a goal came to.
