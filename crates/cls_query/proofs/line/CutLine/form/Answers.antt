@@ -1,4 +1,4 @@
-use Rattle.std.proofs.Common.{◌≡◌, ℕ, ◌-◌, List, sym, ap, ◌∙◌, subst, arith, length}
+use Rattle.std.proofs.Common.{◌≡◌, ℕ, ◌-◌, List, sym, ap, ◌∙◌, subst, length}
 use Rattle.std.specs.Prelude.{Option, IfSome, ◌&&◌}
 use Rattle.std.proofs.lemmas.List.{length-map}
 use Rattle.cls_base.specs.Firsts.{First}
