@@ -1,5 +1,5 @@
 //! Libraries: components over an order of names.
-ghost use Rattle.std.specs.Prelude.{◌≡◌, ℕ, ◌+◌, ◌≤◌, ◌<◌, [], false, length, map, remove, IfOk, IfErr, OnOk, OnErr};
+ghost use Rattle.std.specs.Prelude.{◌≡◌, ℕ, ◌+◌, ◌≤◌, ◌<◌, [], false, length, map, remove, IfOk, IfErr, IfSome, OnOk, OnErr};
 ghost use Rattle.cls_base.specs.Limits.{max_library_weight};
 ghost use Rattle.cls_base.specs.Schemas.{schema_of};
 ghost use Rattle.cls_path.specs.Paths.{TypePath, listed, Suits};
@@ -7,6 +7,7 @@ ghost use Rattle.cls_taxon.specs.Orders.{class_by};
 ghost use Rattle.cls_library.specs.Arrows.{arity_of};
 ghost use Rattle.cls_library.specs.Endings.{IsSought, is_alone};
 ghost use Rattle.cls_library.specs.Families.{IsFamilyIn};
+ghost use Rattle.cls_library.specs.Index.{IsIndex};
 ghost use Rattle.cls_library.specs.Libraries.{variances_in, paths_at, arrows_at, total_of, IsLibrary, IsComponentOf, IsWithinLimits};
 ghost use Rattle.cls_library.specs.Refusals.{Adds, Accepts, Refuses, IsLibraryOf, RefusesAt};
 
@@ -14,6 +15,7 @@ use crate::arrow::Arrows;
 use crate::component::Component;
 use crate::fault::{LibraryFault, LibraryKind};
 use crate::gather::gather;
+use crate::index::Index;
 use crate::sought::Sought;
 use cls_base::limits::MAX_COMPONENTS;
 use cls_base::{Numbers, OutOfMemory, Schema};
@@ -28,6 +30,7 @@ use std::marker::Model;
 pub struct Library {
     taxonomy: Taxonomy,
     components: Vec<Component>,
+    index: Option<Index>,
 }
 
 // Not derived, for the prover: so a caller's proof has one step where a value is dropped, and not one for each part of it.
@@ -36,6 +39,7 @@ impl Drop for Library {
         let Library {
             taxonomy: _,
             components: _,
+            index: _,
         } = self;
     }
 }
@@ -49,9 +53,12 @@ impl Model for Library {
 
     ghost coded = { coded_library };
 
+    ghost use Rattle.cls_library.specs.Index.{IsIndexOf};
+
     ghost view = { λ l. record { taxonomy = l.taxonomy; components = l.components.items } };
 
-    ghost invariant = { λ l. IsLibrary (record { taxonomy = l.taxonomy; components = l.components.items }) };
+    ghost invariant = { λ l. IsLibrary (record { taxonomy = l.taxonomy; components = l.components.items })
+        × IsIndexOf l.components.items l.index };
 }
 
 impl Library {
@@ -68,6 +75,7 @@ impl Library {
         let mut library = Library {
             taxonomy,
             components: Vec::new(alloc),
+            index: None,
         };
         for schema in components {
             library.add(alloc, schema, kinds)?;
@@ -82,6 +90,7 @@ impl Library {
         ensures refused { IfErr result (λ fault. Refuses self.old kinds.now (schema_of schema.now) fault.kind) }
         ensures unchanged { OnErr result (self.new ≡ self.old) }
     {
+        self.index = None;
         let number = self.count();
         match self.component(alloc, schema, kinds) {
             Ok(component) => match self.components.push(component) {
@@ -103,6 +112,7 @@ impl Library {
         requires { x < length self.old.components }
         ensures { self.new ≡ record self.old { components = remove self.old.components x } }
     {
+        self.index = None; // The later components get other numbers.
         self.components.remove(x as usize);
     }
 
@@ -149,7 +159,26 @@ impl Library {
         Ok(Library {
             taxonomy,
             components,
+            index: None,
         })
+    }
+
+    /// Keeps the arrows by what their targets end in, for searches, until a component is added or removed. The only error is out of
+    /// memory.
+    pub fn index(&mut self, alloc: Global) -> Result<(), OutOfMemory>
+        ensures { self.new ≡ self.old }
+    {
+        if self.index.is_none() {
+            self.index = Some(Index::new(alloc, &self.components)?);
+        }
+        Ok(())
+    }
+
+    /// The arrows by what their targets end in, if they are kept.
+    pub(crate) fn index_of(&self) -> Option<&Index>
+        ensures { IfSome result (λ index. IsIndex self.now.components index.now) }
+    {
+        self.index.as_ref()
     }
 
     /// The order of names.

@@ -1,0 +1,235 @@
+-- The arrows of one ending that lead to a path, and where they stand.
+use Rattle.std.proofs.Common.{◌≡◌, ℕ, zero, suc, ◌+◌, ◌-◌, ◌<◌, ◌≤◌, min, ◌⊎◌, inl, inr, true, List, [], ◌∷◌, ◌++◌, length, drop, get_or, Option, None, Some, refl, sym, subst, ap, ◌∙◌, arith, IsTrue}
+use Rattle.std.specs.Prelude.{Contains, slice_get, slice_index_or, IsSomeAnd}
+use Rattle.std.specs.List.Sorted.{IsStrictlyIncreasing}
+use Rattle.std.proofs.lemmas.List.{get_or_append_left, get_or_push, length-append, get_or_default}
+use Rattle.std.proofs.lemmas.List.Elements.{Contains-push, Contains-push_cases, Contains-append_left}
+use Rattle.std.proofs.lemmas.Option.{slice_get_within, slice_get-get_or}
+use Rattle.cls_base.specs.Limits.{max_arity}
+use Rattle.cls_base.proofs.Lists.{Contains-at, Contains-nil, Contains-place}
+use Rattle.cls_path.specs.Paths.{TypePath, Paths, none, more, PathLe}
+use Rattle.cls_taxon.specs.Decisions.{is_below}
+use Rattle.cls_taxon.specs.Orders.{Declared, class_by}
+use Rattle.cls_library.specs.declared.ending.Ending.{Ending}
+use Rattle.cls_library.specs.declared.index.Entry.{Entry}
+use Rattle.cls_library.specs.declared.place.Place.{Place}
+use Rattle.cls_library.specs.declared.sought.Sought.{Sought}
+use Rattle.cls_library.specs.Arrows.{MultiArrow, leading_arrows, arity_of, arrows_of, onto}
+use Rattle.cls_library.specs.Endings.{IsSought, ending_behind, ending_of, head_of, is_alone}
+use Rattle.cls_library.specs.Families.{IsBefore, IsFamilyIn, IsNext, IsPlace}
+use Rattle.cls_library.specs.Index.{AreEntries, EndsIn, paths_in}
+use Rattle.cls_library.specs.Leads.{AreOnward, IsFirstFrom, Leads}
+use Rattle.cls_library.specs.Libraries.{Component, Library, below_in, variances_in, no_component, arrows_at}
+use Rattle.cls_library.proofs.EndingLaws.{may-end, same-ending}
+use Rattle.cls_library.proofs.Lone.{one-leads}
+use Rattle.cls_library.proofs.Orders.{less-or-not, before_itself, before_cases, not_later, earlier_before, drop-at}
+use Rattle.cls_library.proofs.Places.{split-few}
+
+some-map : {A : Type 0} (o : Option A) (P Q : A → Type 0) → ((a : A) → P a → Q a) → IsSomeAnd o P → IsSomeAnd o Q
+some-map None P Q f h = h
+some-map (Some a) P Q f h = f a h
+
+pub some-within : {A : Type 0} (xs : List A) (i : ℕ) (P : A → Type 0) → IsSomeAnd (slice_get xs i) P → i < length xs
+some-within [] i P h = absurd h
+some-within (x ∷ xs) zero P h = omega arith
+some-within (x ∷ xs) (suc i) P h = let r = some-within xs i P h in omega arith
+
+-- an arrow stands at a place of its component
+pub within-arity : (n : ℕ) (ps : Paths) (i : ℕ) (P : MultiArrow → Type 0) → IsSomeAnd (slice_get (arrows_of n ps) i) P → n ≤ arity_of ps
+within-arity n none i P h = absurd h
+within-arity n (more p rest) i P h = elim (less-or-not (leading_arrows p) n) [
+  | inl l ↦ (let r = within-arity n rest i P (subst (λ o. IsSomeAnd (slice_get (onto o (arrows_of n rest)) i) P) (split-few n p l) h) in omega arith)
+  | inr l ↦ omega arith
+]
+
+in-or-none : (cs : List Component) (x : ℕ) → (x < length cs) ⊎ (slice_index_or cs x no_component ≡ no_component)
+in-or-none [] x = inr refl
+in-or-none (c ∷ cs) zero = inl (omega arith)
+in-or-none (c ∷ cs) (suc x) = elim (in-or-none cs x) [ inl l ↦ inl (omega arith) | inr e ↦ inr e ]
+
+pub within-library : (cs : List Component) (x n i : ℕ) (P : MultiArrow → Type 0) → IsSomeAnd (slice_get (arrows_of n (paths_in cs x)) i) P → x < length cs
+within-library cs x n i P h = elim (in-or-none cs x) [
+  | inl l ↦ l
+  | inr e ↦ absurd (let k = subst (λ (c : Component). IsSomeAnd (slice_get (arrows_of n c.paths) i) P) e h in k)
+]
+
+-- a path that is below one whose head is alone has the same ending
+same-end : (d : Declared) (p q : TypePath) → PathLe (below_in d) (variances_in d) p q → is_alone (class_by d.pairs) (head_of q) ≡ true → ending_of p ≡ ending_of q
+same-end d p q le alone =
+    let m = may-end (is_below d) (variances_in d) 0 p q (omega arith) le in
+    let w : ending_behind 0 (ending_of q) ≡ ending_of p = same-ending (ending_behind 0 (ending_of q)) (ending_of p) (sym (one-leads d 0 (ending_of q) alone (ending_of p)) ∙ m) in
+    let a : min (max_arity + 1) (0 + min (max_arity + 1) (leading_arrows q)) ≡ min (max_arity + 1) (leading_arrows q) = omega arith in
+    let b : ending_behind 0 (ending_of q) ≡ ending_of q = (λ i. record { arrows = a i; head = head_of q }) in
+    sym w ∙ b
+
+module _ (l : Library) (q : TypePath) (s : Sought) (sought : IsSought l.taxonomy q s) (alone : IsTrue s.alone) (entries : List Entry) (h : AreEntries l.components s.ending entries) where
+  lone : is_alone (class_by l.taxonomy.pairs) (head_of q) ≡ true
+  lone = ap (λ (e : Ending). is_alone (class_by l.taxonomy.pairs) e.head) (sym sought.ending) ∙ (sym sought.alone ∙ alone)
+
+  -- an arrow that leads stands among the entries
+  pub stands : (t : Entry) → Leads l q t → Contains entries t
+  stands t leads =
+      (h.exactly t).1
+      (some-map (slice_get (arrows_at l t.place.component t.place.count) t.position) (λ a. PathLe (below_in l.taxonomy) (variances_in l.taxonomy) a.target q) (λ a. ending_of a.target ≡ s.ending)
+      (λ a le. same-end l.taxonomy a.target q le lone ∙ sym sought.ending) leads)
+
+  is-place : (t : Entry) → Contains entries t → IsPlace l t.place
+  is-place t c =
+      let e : EndsIn l.components s.ending t = (h.exactly t).0 c in
+      record {
+        declared = within-library l.components t.place.component t.place.count t.position (λ a. ending_of a.target ≡ s.ending) e;
+        within = within-arity t.place.count (paths_in l.components t.place.component) t.position (λ a. ending_of a.target ≡ s.ending) e;
+      }
+
+  none-at : (p : Place) → ((t : Entry) → Contains entries t → t.place ≡ p → ⊥) → IsFamilyIn l.taxonomy (arrows_at l p.component p.count) q []
+  none-at p n = record {
+    ascends = λ k m. absurd (omega arith);
+    exactly = λ i. ((λ c. absurd (Contains-nil i c)), (λ leads. absurd (let t : Entry = record { place = p; position = i } in n t (stands t leads) refl)));
+  }
+
+  module _ (from : Place) (i : ℕ) (f : IsFirstFrom entries from i) where
+    pub next-none : (rest : Paths) → length entries ≤ i → IsNext l (more q rest) from None
+    next-none rest k = λ p w later. none-at p (λ t c g.
+        let r = Contains-place entries t c in
+        let m = slice_get_within entries r.0 t r.1 in
+        later (subst (λ (x : Place). IsBefore x from) g (f.before r.0 t (omega arith) r.1)))
+
+    pub next-some : (rest : Paths) (t : Entry) → slice_get entries i ≡ Some t → IsNext l (more q rest) from (Some t.place)
+    next-some rest t e = record {
+      place = is-place t (Contains-at entries i t e);
+      later = f.from t e;
+      passed = λ p w later before. none-at p (λ u c g.
+          let r = Contains-place entries u c in
+          elim (less-or-not r.0 i) [
+            | inl m ↦ later (subst (λ (x : Place). IsBefore x from) g (f.before r.0 u m r.1))
+            | inr m ↦ between r.0 u r.1 m (subst (λ (x : Place). IsBefore x t.place) (sym g) before)
+          ]);
+    }
+      where
+        between : (k : ℕ) (u : Entry) → slice_get entries k ≡ Some u → i ≤ k → IsBefore u.place t.place → ⊥
+        between k u g m before = elim (less-or-not i k) [
+          | inl n ↦ not_later t u (h.in_order i k t u n e g) before
+          | inr n ↦ (let same : k ≡ i = omega arith in
+              let both : Some u ≡ Some t = sym g ∙ (ap (slice_get entries) same ∙ e) in
+              let one : u ≡ t = cc in
+              before_itself t.place (subst (λ (x : Entry). IsBefore x.place t.place) one before))
+        ]
+
+    pub onward : AreOnward l q from (drop i entries)
+    onward = record {
+      in_order = λ a b s t m e g. h.in_order (i + a) (i + b) s t (omega arith) (sym (drop-at entries i a) ∙ e) (sym (drop-at entries i b) ∙ g);
+      from = λ k t e before. first k t (sym (drop-at entries i k) ∙ e) before;
+      stand = λ k t e. some-within (arrows_at l t.place.component t.place.count) t.position (λ a. ending_of a.target ≡ s.ending) ((h.exactly t).0 (Contains-at entries (i + k) t (sym (drop-at entries i k) ∙ e)));
+      whole = λ t same leads. there t same (Contains-place entries t (stands t leads));
+    }
+      where
+        first : (k : ℕ) (t : Entry) → slice_get entries (i + k) ≡ Some t → IsBefore t.place from → ⊥
+        first zero t e before = f.from t (let z : i ≡ i + 0 = omega arith in ap (slice_get entries) z ∙ e) before
+        first (suc k) t e before =
+            let m = slice_get_within entries (i + suc k) t e in
+            let here : slice_get entries i ≡ Some (get_or entries i t) = slice_get-get_or entries i t (omega arith) in
+            f.from (get_or entries i t) here (earlier_before entries h.in_order from i (i + suc k) (get_or entries i t) t (omega arith) here e before)
+
+        there : (t : Entry) → t.place ≡ from → (k : ℕ) × (slice_get entries k ≡ Some t) → Contains (drop i entries) t
+        there t same (k, e) = elim (less-or-not k i) [
+          | inl m ↦ absurd (before_itself from (subst (λ (x : Place). IsBefore x from) same (f.before k t m e)))
+          | inr m ↦ (let z : i + (k - i) ≡ k = omega arith in Contains-at (drop i entries) (k - i) t (drop-at entries i (k - i) ∙ (ap (slice_get entries) z ∙ e)))
+        ]
+
+-- numbers that rise, with a greater one behind them
+ascends-push : (xs : List ℕ) (x : ℕ) → ((y : ℕ) → Contains xs y → y < x) → IsStrictlyIncreasing xs → IsStrictlyIncreasing (xs ++ x ∷ [])
+ascends-push xs x above h k l =
+    let n = length-append xs (x ∷ []) in
+    elim (less-or-not (k + 1) (length xs)) [
+      | inl m ↦ (let a = get_or_append_left xs (x ∷ []) 0 k (omega arith) in let b = get_or_append_left xs (x ∷ []) 0 (k + 1) m in let r = h k m in omega arith)
+      | inr m ↦ (let w : k < length xs = omega arith in
+          let end : length xs ≡ k + 1 = omega arith in
+          let a = get_or_append_left xs (x ∷ []) 0 k w in
+          let b : get_or (xs ++ x ∷ []) (k + 1) 0 ≡ x = get_or_push xs x 0 (k + 1) end in
+          let c : get_or xs k 0 < x = above (get_or xs k 0) (k, w, get_or_default xs k (get_or xs k 0) 0 w) in omega arith)
+    ]
+
+-- the family of the path by the first k of the entries, which are all of the place
+pub record IsFamilyUpTo (l : Library) (q : TypePath) (p : Place) (entries : List Entry) (k : ℕ) (family : List ℕ) : Type 0 where
+  pub here : (i : ℕ) (t : Entry) → i < k → slice_get entries i ≡ Some t → t.place ≡ p
+  pub ascends : IsStrictlyIncreasing family
+  pub some : (x : ℕ) → Contains family x → (i : ℕ) × (t : Entry) × (i < k) × (slice_get entries i ≡ Some t) × (t.position ≡ x) × Leads l q t
+  pub all : (i : ℕ) (t : Entry) → i < k → slice_get entries i ≡ Some t → Leads l q t → Contains family t.position
+
+module _ (l : Library) (q : TypePath) (p : Place) (entries : List Entry) (o : AreOnward l q p entries) where
+  module _ (k : ℕ) (family : List ℕ) (h : IsFamilyUpTo l q p entries k family) where
+    module _ (t : Entry) (at : slice_get entries k ≡ Some t) (here : t.place ≡ p) where
+      one : (i : ℕ) (u : Entry) → i < k + 1 → slice_get entries i ≡ Some u → (i < k) ⊎ (u ≡ t)
+      one i u m e = elim (less-or-not i k) [
+        | inl n ↦ inl n
+        | inr n ↦ inr (let same : i ≡ k = omega arith in let both : Some u ≡ Some t = sym e ∙ (ap (slice_get entries) same ∙ at) in cc)
+      ]
+
+      here-more : (i : ℕ) (u : Entry) → i < k + 1 → slice_get entries i ≡ Some u → u.place ≡ p
+      here-more i u m e = elim (one i u m e) [ inl n ↦ h.here i u n e | inr s ↦ ap (λ (x : Entry). x.place) s ∙ here ]
+
+      pub family-passes : (Leads l q t → ⊥) → IsFamilyUpTo l q p entries (k + 1) family
+      family-passes silent = record {
+        here = here-more;
+        ascends = h.ascends;
+        some = λ x c. (let r = h.some x c in let m = r.2 in (r.0, r.1, omega arith, r.3, r.4, r.5));
+        all = λ i u m e leads. elim (one i u m e) [ inl n ↦ h.all i u n e leads | inr s ↦ absurd (silent (subst (λ (x : Entry). Leads l q x) s leads)) ];
+      }
+
+      earlier : (y : ℕ) → Contains family y → y < t.position
+      earlier y c = below (h.some y c)
+        where
+          below : (i : ℕ) × (u : Entry) × (i < k) × (slice_get entries i ≡ Some u) × (u.position ≡ y) × Leads l q u → y < t.position
+          below (i, u, m, e, is, leads) = elim (o.in_order i k u t m e at) [
+            | inl b ↦ absurd (before_itself p (subst (λ (x : Place). IsBefore p x) here (subst (λ (x : Place). IsBefore x t.place) (h.here i u m e) b)))
+            | inr b ↦ (let r = b.1 in omega arith)
+          ]
+
+      pub family-takes : Leads l q t → IsFamilyUpTo l q p entries (k + 1) (family ++ t.position ∷ [])
+      family-takes leads = record {
+        here = here-more;
+        ascends = ascends-push family t.position earlier h.ascends;
+        some = λ x c. elim (Contains-push_cases family t.position x c) [
+          | inl b ↦ (let r = h.some x b in let m = r.2 in (r.0, r.1, omega arith, r.3, r.4, r.5))
+          | inr e ↦ (k, t, omega arith, at, e, leads)
+        ];
+        all = λ i u m e leads'. elim (one i u m e) [
+          | inl n ↦ Contains-append_left family (t.position ∷ []) u.position (h.all i u n e leads')
+          | inr s ↦ subst (λ (x : Entry). Contains (family ++ t.position ∷ []) x.position) (sym s) (Contains-push family t.position)
+        ];
+      }
+
+    whole-family : ((i : ℕ) (t : Entry) → k ≤ i → slice_get entries i ≡ Some t → t.place ≡ p → ⊥) → IsFamilyIn l.taxonomy (arrows_at l p.component p.count) q family
+    whole-family ends = record {
+      ascends = h.ascends;
+      exactly = λ x. (
+        (λ c. leads x (h.some x c)),
+        (λ y. let t : Entry = record { place = p; position = x } in found t refl y (Contains-place entries t (o.whole t refl y))),
+      );
+    }
+      where
+        leads : (x : ℕ) → (i : ℕ) × (u : Entry) × (i < k) × (slice_get entries i ≡ Some u) × (u.position ≡ x) × Leads l q u → Leads l q (record { place = p; position = x })
+        leads x (i, u, m, e, is, le) =
+            let at = h.here i u m e in
+            let same : u ≡ record { place = p; position = x } = (λ j. record { place = at j; position = is j }) in
+            subst (λ (t : Entry). Leads l q t) same le
+
+        found : (t : Entry) → t.place ≡ p → Leads l q t → (i : ℕ) × (slice_get entries i ≡ Some t) → Contains family t.position
+        found t at le (i, e) = elim (less-or-not i k) [ inl m ↦ h.all i t m e le | inr m ↦ absurd (ends i t m e at) ]
+
+    -- all entries are seen
+    pub family-whole : length entries ≤ k → IsFamilyIn l.taxonomy (arrows_at l p.component p.count) q family
+    family-whole m = whole-family (λ i t n e at. let w = slice_get_within entries i t e in omega arith)
+
+    -- the next entry is of another place
+    pub family-ends : (t : Entry) → slice_get entries k ≡ Some t → (t.place ≡ p → ⊥) → IsFamilyIn l.taxonomy (arrows_at l p.component p.count) q family
+    family-ends t e other = whole-family (λ i u m g at. elim (before_cases t.place p) [
+      | inl b ↦ o.from k t e b
+      | inr r ↦ elim r [
+        | inl s ↦ other s
+        | inr b ↦ elim (less-or-not k i) [
+          | inl n ↦ not_later t u (o.in_order k i t u n e g) (subst (λ (x : Place). IsBefore x t.place) (sym at) b)
+          | inr n ↦ (let same : i ≡ k = omega arith in let both : Some u ≡ Some t = sym g ∙ (ap (slice_get entries) same ∙ e) in let one : u ≡ t = cc in other (subst (λ (x : Entry). x.place ≡ p) one at))
+        ]
+      ]
+    ])

@@ -1,0 +1,96 @@
+-- internal: a goal whose rules are looked for, path by path
+use Rattle.std.specs.Prelude.{ℕ, ◌≡◌, ◌+◌, ◌<◌, ◌≤◌, List, [], ◌∷◌, ◌++◌, length, All, Contains, Option, None, Some, IsTrue, slice_get, IsSomeAnd}
+use Rattle.std.specs.Borrow.{Bor}
+use Rattle.cls_path.specs.Paths.{TypePath, Paths, more, PathLe}
+use Rattle.cls_library.specs.declared.lead.Lead.{Lead}
+use Rattle.cls_library.specs.declared.index.Entry.{Entry}
+use Rattle.cls_library.specs.declared.place.Place.{Place}
+use Rattle.cls_library.specs.declared.sought.Sought.{Sought}
+use Rattle.cls_library.specs.Arrows.{arity_of}
+use Rattle.cls_library.specs.Endings.{IsSought}
+use Rattle.cls_library.specs.Families.{IsBefore, IsFamilyIn, IsNext}
+use Rattle.cls_library.specs.Index.{AreEntries, AreInOrder}
+use Rattle.cls_library.specs.Libraries.{Library, arrows_at, below_in, paths_at, variances_in}
+
+-- the arrows that are kept, if any, are those of the ending that is sought, and its head is alone
+abbrev pub AreSoughtEntries : Library → Sought → Option (Bor (List Entry)) → Type 0
+AreSoughtEntries l s None = Unit {0}
+AreSoughtEntries l s (Some entries) = IsTrue s.alone × AreEntries l.components s.ending entries.now
+
+-- what is sought for the path in the library
+pub record IsLead (l : Library) (lead : Lead) : Type 0 where
+  pub sought : IsSought l.taxonomy lead.path.now lead.sought
+  pub entries : AreSoughtEntries l lead.sought lead.entries
+
+abbrev pub path_of : Lead → TypePath
+path_of lead = lead.path.now
+
+-- what is sought for each path, with one number for each
+pub record AreLeads (l : Library) (leads : List Lead) (hints : List ℕ) : Type 0 where
+  pub each : All (IsLead l) leads
+  pub count : length hints ≡ length leads
+
+-- the entries before the number i are before the place
+abbrev pub AreBefore : List Entry → Place → ℕ → Type 0
+AreBefore entries p i = (k : ℕ) (t : Entry) → k < i → slice_get entries k ≡ Some t → IsBefore t.place p
+
+-- the number of the first entry that isn't before the place, or that of all if there is none
+pub record IsFirstFrom (entries : List Entry) (p : Place) (i : ℕ) : Type 0 where
+  pub within : i ≤ length entries
+  pub before : AreBefore entries p i
+  pub from : (t : Entry) → slice_get entries i ≡ Some t → IsBefore t.place p → ⊥
+
+-- the arrow leads to the path
+abbrev pub Leads : Library → TypePath → Entry → Type 0
+Leads l q t = IsSomeAnd (slice_get (arrows_at l t.place.component t.place.count) t.position) (λ a. PathLe (below_in l.taxonomy) (variances_in l.taxonomy) a.target q)
+
+-- arrows of the library, in order and none before the place, among which are those of the place that lead to the path
+pub record AreOnward (l : Library) (q : TypePath) (p : Place) (entries : List Entry) : Type 0 where
+  pub in_order : AreInOrder entries
+  pub from : (i : ℕ) (t : Entry) → slice_get entries i ≡ Some t → IsBefore t.place p → ⊥
+  pub stand : (i : ℕ) (t : Entry) → slice_get entries i ≡ Some t → t.position < length (arrows_at l t.place.component t.place.count)
+  pub whole : (t : Entry) → t.place ≡ p → Leads l q t → Contains entries t
+
+-- no arrow of the place leads to a path for which this is sought
+abbrev pub NoneLeads : Library → Sought → Place → Type 0
+NoneLeads l s p = (q : TypePath) → IsSought l.taxonomy q s → IsFamilyIn l.taxonomy (arrows_at l p.component p.count) q []
+
+-- the next place where an arrow may lead to a path for which this is sought
+abbrev pub IsNextFor : Library → Sought → Place → Option Place → Type 0
+IsNextFor l s from next = (q : TypePath) (rest : Paths) → IsSought l.taxonomy q s → IsNext l (more q rest) from next
+
+abbrev pub place_at : ℕ → ℕ → Place
+place_at x n = record { component = x; count = n }
+
+-- a place of the same component from the first one on, so that at none between them an arrow leads
+pub record IsNextCount (l : Library) (s : Sought) (from p : Place) : Type 0 where
+  pub component : p.component ≡ from.component
+  pub later : from.count ≤ p.count
+  pub within : p.count ≤ arity_of (paths_at l from.component)
+  pub passed : (k : ℕ) → from.count ≤ k → k < p.count → NoneLeads l s (place_at from.component k)
+
+abbrev pub IsNextWithin : Library → Sought → Place → Option Place → Type 0
+IsNextWithin l s from None = (k : ℕ) → from.count ≤ k → k ≤ arity_of (paths_at l from.component) → NoneLeads l s (place_at from.component k)
+IsNextWithin l s from (Some p) = IsNextCount l s from p
+
+-- the family of the path at the place, put behind other positions
+abbrev pub PutsFamily : Library → TypePath → Place → List ℕ → List ℕ → Type 0
+PutsFamily l q p old new = (family : List ℕ) × (new ≡ old ++ family) × IsFamilyIn l.taxonomy (arrows_at l p.component p.count) q family
+
+-- one list after another
+abbrev pub joined : List (List ℕ) → List ℕ
+joined [] = []
+joined (f ∷ fs) = f ++ joined fs
+
+-- where each list ends, if the first one begins at n
+abbrev pub ends_of : ℕ → List (List ℕ) → List ℕ
+ends_of n [] = []
+ends_of n (f ∷ fs) = (n + length f) ∷ ends_of (n + length f) fs
+
+-- the positions are those of the families, one after another, and each family is up to its end
+pub record IsCut (families : List (List ℕ)) (positions ends : List ℕ) : Type 0 where
+  pub whole : positions ≡ joined families
+  pub parts : ends ≡ ends_of 0 families
+
+abbrev pub AreCut : List ℕ → List ℕ → Type 0
+AreCut positions ends = (families : List (List ℕ)) × IsCut families positions ends

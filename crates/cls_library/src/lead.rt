@@ -1,0 +1,197 @@
+//! A path of a goal, and the arrows that lead to it: its next place, and its family there. If arrows of one ending alone may lead to
+//! it, they are looked up in the index of the library and gone over from the place where the last search ended; else the flags of
+//! components say which places are passed over.
+ghost use Rattle.std.specs.Prelude.{◌≡◌, ◌<◌, ◌≤◌, OnOk, drop, length};
+ghost use Rattle.cls_path.specs.Paths.{Suits};
+ghost use Rattle.cls_taxon.specs.Orders.{class_by};
+ghost use Rattle.cls_library.specs.Endings.{is_alone};
+ghost use Rattle.cls_library.specs.Families.{IsPlace};
+ghost use Rattle.cls_library.specs.Index.{AreInOrder};
+ghost use Rattle.cls_library.specs.Leads.{AreBefore, AreSoughtEntries, AreOnward, IsFirstFrom, IsLead, IsNextFor, IsNextWithin, PutsFamily};
+ghost use Rattle.cls_library.specs.Libraries.{IsLibrary, variances_in};
+
+use crate::index::Entry;
+use crate::library::Library;
+use crate::place::Place;
+use crate::sought::Sought;
+use cls_base::OutOfMemory;
+use cls_path::Path;
+use smallvec::SmallVec;
+use std::alloc::Global;
+
+/// The positions of families of one position each.
+pub type Positions = SmallVec<u32, 8>;
+
+/// A path of a goal and what is sought for it. If arrows of one ending alone may lead to it, and the library has an index, these
+/// arrows.
+#[derive(Drop)]
+pub(crate) struct Lead<'a> {
+    pub path: &'a Path,
+    pub sought: Sought,
+    pub entries: Option<&'a [Entry]>,
+}
+
+impl<'a> Lead<'a> {
+    /// What is sought for the path.
+    pub fn new(lib: &'a Library, path: &'a Path) -> Lead<'a>
+        ensures path { result.path.now ≡ path.entry.now }
+        ensures lead { IsLead lib.entry.now result }
+    {
+        let sought = Sought::of(lib.taxonomy(), path);
+        Lead {
+            path,
+            sought,
+            entries: entries_of(lib, sought),
+        }
+    }
+
+    /// The first place from this one on where an arrow may lead to the path.
+    pub fn next(&self, lib: &Library, from: Place, hint: &mut usize) -> Option<Place>
+        requires { IsLead lib.now self.now }
+        ensures { IsNextFor lib.now self.now.sought from result }
+    {
+        match self.entries {
+            Some(entries) => {
+                *hint = first_from(entries, *hint, from);
+                Some(entries.get(*hint)?.place)
+            }
+            None => next_by_flags(lib, self.sought, from),
+        }
+    }
+
+    /// Puts the positions of the arrows at the place that lead to the path behind the others.
+    pub fn put_family(
+        &self,
+        alloc: Global,
+        lib: &Library,
+        place: Place,
+        hint: &mut usize,
+        positions: &mut Positions,
+    ) -> Result<(), OutOfMemory>
+        requires lead { IsLead lib.now self.now }
+        requires place { IsPlace lib.now place }
+        requires suits { Suits (variances_in lib.now.taxonomy) self.now.path.now }
+        ensures { OnOk result (PutsFamily lib.now self.now.path.now place positions.old.items positions.new.items) }
+    {
+        match self.entries {
+            Some(entries) => {
+                let onward = entries_from(entries, hint, place);
+                put_leading(lib, self.path, onward, place, positions)
+            }
+            None => {
+                let family = lib.family(alloc, place.component, place.count, self.path)?;
+                positions.extend_from_slice(family.as_slice())?;
+                Ok(())
+            }
+        }
+    }
+}
+
+/// The arrows that may lead to what is sought, if these are of one ending alone and the library has an index.
+fn entries_of<'a>(lib: &'a Library, sought: Sought) -> Option<&'a [Entry]>
+    ensures { AreSoughtEntries lib.entry.now sought result }
+{
+    if !sought.alone {
+        return None;
+    }
+    match lib.index_of() {
+        Some(index) => Some(index.find(sought.ending)),
+        None => None,
+    }
+}
+
+/// Where the search for the first entry that isn't before the place begins: at the hint, if the entry in front of it is before
+/// the place.
+fn start_of(entries: &[Entry], hint: usize, place: Place) -> usize
+    requires { AreInOrder entries.now }
+    ensures before { AreBefore entries.now place result }
+    ensures within { result ≤ length entries.now }
+{
+    if hint > 0 && hint <= entries.len() && entries[hint - 1].place.is_before(place) {
+        return hint;
+    }
+    0
+}
+
+/// The first entry that isn't before the place.
+fn first_from(entries: &[Entry], hint: usize, place: Place) -> usize
+    requires { AreInOrder entries.now }
+    ensures { IsFirstFrom entries.now place result }
+{
+    let mut at = start_of(entries, hint, place);
+    while at < entries.len() && entries[at].place.is_before(place) {
+        at += 1;
+    }
+    at
+}
+
+/// The entries that aren't before the place. The hint is then the number of the first one.
+fn entries_from<'a>(entries: &'a [Entry], hint: &mut usize, place: Place) -> &'a [Entry]
+    requires { AreInOrder entries.now }
+    ensures first { IsFirstFrom entries.now place hint.new }
+    ensures rest { result.now ≡ drop hint.new entries.now }
+{
+    *hint = first_from(entries, *hint, place);
+    &entries[*hint..]
+}
+
+/// Puts the positions of those arrows of the place that lead to the path behind the others. No entry is before the place.
+fn put_leading(
+    lib: &Library,
+    path: &Path,
+    entries: &[Entry],
+    place: Place,
+    positions: &mut Positions,
+) -> Result<(), OutOfMemory>
+    requires place { IsPlace lib.now place }
+    requires suits { Suits (variances_in lib.now.taxonomy) path.now }
+    requires entries { AreOnward lib.now path.now place entries.now }
+    ensures { OnOk result (PutsFamily lib.now path.now place positions.old.items positions.new.items) }
+{
+    let arrows = lib.arrows(place.component, place.count);
+    for entry in entries {
+        if entry.place != place {
+            return Ok(());
+        }
+        let arrow = arrows.get(entry.position as usize);
+        if arrow.target().le(lib.taxonomy(), path) {
+            positions.push(entry.position)?;
+        }
+    }
+    Ok(())
+}
+
+/// The first place from this one on where by the flags of heads and of numbers of arrows an arrow may lead to what is sought.
+fn next_by_flags(lib: &Library, sought: Sought, from: Place) -> Option<Place>
+    requires { sought.alone ≡ is_alone (class_by lib.now.taxonomy.pairs) sought.ending.head }
+    ensures { IsNextFor lib.now sought from result }
+{
+    let mut count = from.count;
+    for component in from.component..lib.count() {
+        if lib.may_lead(component, sought) {
+            if let Some(place) = next_count(lib, sought, Place { component, count }) {
+                return Some(place);
+            }
+        }
+        count = 0;
+    }
+    None
+}
+
+/// The same within the place's component.
+fn next_count(lib: &Library, sought: Sought, from: Place) -> Option<Place>
+    requires declared { from.component < length lib.now.components }
+    requires library { IsLibrary lib.now }
+    requires alone { sought.alone ≡ is_alone (class_by lib.now.taxonomy.pairs) sought.ending.head }
+    ensures { IsNextWithin lib.now sought from result }
+{
+    for count in from.count..lib.arity(from.component) + 1 {
+        if lib.may_lead_by(from.component, count, sought) {
+            return Some(Place {
+                component: from.component,
+                count,
+            });
+        }
+    }
+    None
+}
