@@ -10,6 +10,7 @@ use Rattle.cls_path.specs.Paths.{TypePath, Paths, listed}
 use Rattle.cls_cover.specs.Members.{Member}
 use Rattle.cls_cover.proofs.Lists.{contains_member, member_contains}
 use Rattle.cls_library.specs.Arrows.{MultiArrow}
+use Rattle.cls_library.specs.Families.{IsEarlier}
 use Rattle.cls_library.specs.Libraries.{Library, IsLibrary, arrows_at}
 use Rattle.cls_library.specs.Reaching.{columns}
 use Rattle.cls_library.specs.Rules.{Choice, IsRuleFor}
@@ -17,7 +18,7 @@ use Rattle.cls_library.proofs.ByCases.{all_zip, at_member, got_at, zip_length, z
 use Rattle.cls_library.proofs.FirstOnes.{first_ones_from}
 use Rattle.cls_expand.specs.Answers.{rule_of}
 use Rattle.cls_expand.specs.declared.spine.Spine.{Spine}
-use Rattle.cls_expand.specs.Making.{IsEarlier, AreBegun, PutsNew, rules_of_spines, choice_at}
+use Rattle.cls_expand.specs.Making.{AreBegun, PutsNew, rules_of_spines, choice_at}
 use Rattle.cls_expand.specs.Listing.{rule_component, rule_args, rule_given, append_nothing, append_last}
 use Rattle.cls_expand.proofs.Sources.{columns_length, library_arrows}
 

@@ -10,10 +10,11 @@ use Rattle.cls_path.specs.Paths.{TypePath, Paths, more}
 use Rattle.cls_cover.specs.Lists.{Rises}
 use Rattle.cls_cover.specs.Covers.{IsMinimal, AreMinimal}
 use Rattle.cls_library.specs.Arrows.{arity_of}
+use Rattle.cls_library.specs.Families.{IsEarlier}
 use Rattle.cls_library.specs.Libraries.{Library, paths_at, arrows_at}
 use Rattle.cls_library.specs.Reaching.{CoversGoal}
 use Rattle.cls_library.specs.Rules.{Choice, ComesBefore, IsRuleFor, IsTooLarge, HasManyCovers, IsWideBy, by_covers, by_size, IsWide, IsRules, IsRulesBy, FirstOnes, no_more}
-use Rattle.cls_expand.specs.Making.{IsEarlier, IsChosen, choice_at, AreBegun, PutsNew}
+use Rattle.cls_expand.specs.Making.{IsChosen, choice_at, AreBegun, PutsNew}
 use Rattle.cls_expand.specs.Listing.{first_ones_old, first_ones_new, all_last, append_last, append_nothing}
 
 pub in_mapped : {A B : Type 0} (f : A → B) (xs : List A) (y : B) → Contains (map f xs) y → (x : A) × Contains xs x × (f x ≡ y)
@@ -134,32 +135,6 @@ module _ (l : Library) (goal : Paths) (from : ℕ) where
             let same : choice_at x n c.cover ≡ c = (λ i. record { component = sym e.0 i; places = sym e.1 i; cover = c.cover }) in
             let m = (a.exactly c.cover).1 (subst (λ z. IsMinimal (CoversGoal l (arrows_at l x z) goal) c.cover) e.1 (subst (λ z. IsMinimal (CoversGoal l (arrows_at l z c.places) goal) c.cover) e.0 k.0.minimal)) in
             Contains-append_right b.choices (map (choice_at x n) covers) c (subst (λ (z : Choice). Contains (map (choice_at x n) covers) z) same (Contains-map (choice_at x n) covers c.cover m))
-
-  -- one component more
-  pub begun_component : (x n : ℕ) (rules : List (Rule Paths)) → arity_of (paths_at l x) < n → AreBegun l goal from x n [] rules → AreBegun l goal from (x + 1) 0 [] rules
-  begun_component x n rules h b = record {
-    choices = b.choices;
-    chosen = record { in_order = b.chosen.in_order; exactly = (λ c. ((λ m. let r = (b.chosen.exactly c).0 m in (r.0, r.1, widen c.component c.places r.2)), (λ k. (b.chosen.exactly c).1 (k.0, k.1, narrowed c.component c.places k.0.within k.2)))) };
-    candidates = b.candidates;
-    made = b.made;
-    first_ones = b.first_ones;
-    fit = b.fit;
-    narrow = (λ y k i e m. b.narrow y k i (narrowed y k m.within e) m);
-  }
-    where
-      widen : (y k : ℕ) → IsEarlier x n y k → IsEarlier (x + 1) 0 y k
-      widen y k (inl i) = inl (omega arith)
-      widen y k (inr i) = let e : y ≡ x = i.0 in inl (omega arith)
-
-      cases : (y : ℕ) → y < x + 1 → (y < x) ⊎ (y ≡ x)
-      cases y i = grind arith
-
-      narrowed : (y k : ℕ) → k ≤ arity_of (paths_at l y) → IsEarlier (x + 1) 0 y k → IsEarlier x n y k
-      narrowed y k w (inr i) = let j : k < 0 = i.1 in absurd (omega arith)
-      narrowed y k w (inl i) = elim (cases y i) [
-        | inl j ↦ inl j
-        | inr e ↦ inr (e, (let v : k ≤ arity_of (paths_at l x) = subst (λ z. k ≤ arity_of (paths_at l z)) e w in omega arith))
-      ]
 
 module _ (l : Library) (q : TypePath) (rest : Paths) where
   abbrev goal : Paths

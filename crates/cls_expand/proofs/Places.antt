@@ -2,6 +2,7 @@
 use Rattle.std.proofs.Common.{ℕ, zero, suc, ◌≡◌, ◌+◌, ◌<◌, ◌≤◌, refl, sym, ◌∙◌, subst, ap, List, [], ◌∷◌, ◌++◌, length, get_or, take, arith, rules, Bool, true, false, Result, Ok, Err, All, Contains}
 use Rattle.std.specs.Prelude.{map, MatchBool, IfOk, OnOk, slice_get, IsSomeAnd}
 use Rattle.std.specs.Bool.{◌==◌}
+use Rattle.std.proofs.lemmas.List.Elements.{All-get_or}
 use Rattle.cls_base.proofs.Lists.{map_last}
 use Rattle.cls_base.specs.declared.rule.Rule.{Rule}
 use Rattle.cls_base.specs.declared.rule.Rule.TheVariants.{Head, Any}
@@ -13,17 +14,22 @@ use Rattle.cls_cover.proofs.Ascending.{ascending}
 use Rattle.cls_cover.proofs.Growth.{own}
 use Rattle.cls_cover.proofs.Lists.{contains_member, member_contains}
 use Rattle.cls_cover.proofs.Public.{ascending_members}
+use Rattle.cls_core.specs.declared.answer.Answer.{Answer}
+use Rattle.cls_core.specs.declared.answer.Answer.TheVariants.{Rules, Wide}
 use Rattle.cls_library.specs.Arrows.{MultiArrow, arity_of}
-use Rattle.cls_library.specs.Libraries.{Library, paths_at, arrows_at}
+use Rattle.cls_library.specs.Families.{AreFamilies, AreFamiliesAt, IsPlace, IsNextPlace}
+use Rattle.cls_library.specs.declared.place.Place.{Place}
+use Rattle.cls_library.specs.Libraries.{Library, IsLibrary, IsWithinLimits, no_component, paths_at, arrows_at}
 use Rattle.cls_library.specs.Reaching.{CoversGoal}
 use Rattle.cls_library.specs.Rules.{IsChoice, IsWide, IsWideBy, IsRules, IsRulesBy, heads, numbers_from, omega_rules}
-use Rattle.cls_expand.specs.Answers.{rule_of}
+use Rattle.cls_expand.specs.Answers.{IsAnswer, IsAnswerBy, rule_of}
 use Rattle.cls_expand.specs.declared.spine.Spine.{Spine}
 use Rattle.cls_expand.specs.contracts.spine.SpinePartialEq.TheImpl.{eq-value}
-use Rattle.cls_expand.specs.Making.{AreFamilies, AreBegun, choice_at, rule_of_spine}
+use Rattle.cls_expand.specs.Making.{AddsPlace, AreBegun, AreRulesBetween, choice_at, rule_of_spine}
 use Rattle.cls_expand.specs.Listing.{append_nothing}
 use Rattle.cls_expand.proofs.Making.{begun_place, begun_rules, begun_by}
 use Rattle.cls_expand.proofs.FamilyCovers.{covers_goal, many_to}
+use Rattle.cls_expand.proofs.Unreached.{reached, reached_at_most, begun_next}
 
 pub if_ok_map : {T E : Type 0} (r : Result T E) (P Q : T → Type 0) → ((t : T) → P t → Q t) → IfOk r P → IfOk r Q
 if_ok_map (Ok t) P Q f h = f t h
@@ -153,6 +159,57 @@ rules_all l goal q rest x rs e f b =
 pub rules_by_all : (l : Library) (goal : Paths) (q : TypePath) (rest : Paths) (x : ℕ) (rs : List (Rule Paths)) → goal ≡ more q rest → AreBegun l goal x (x + 1) 0 [] rs → (IsWideBy l x goal → ⊥) × IsRulesBy l x goal rs
 rules_by_all l goal q rest x rs e b =
     subst (λ (p : Paths). (IsWideBy l x p → ⊥) × IsRulesBy l x p rs) (sym e) (begun_by l q rest x rs (subst (λ (p : Paths). AreBegun l p x (x + 1) 0 [] rs) e b))
+
+-- the answer by the components from one on that come before another one
+pub all_between : (l : Library) (goal : List TypePath) (n : ℕ) (a : Answer (List TypePath)) (q : TypePath) (rest : Paths) → listed goal ≡ more q rest → n ≡ length l.components → AreRulesBetween l goal 0 n a → IsAnswer l goal a
+all_between l goal n (Rules rs) q rest e f b = rules_all l (listed goal) q rest n (map rule_of rs) e f b
+all_between l goal n Wide q rest e f b = record { component = b.0; declared = (let i : b.0 < n = b.2 in omega arith); wide = b.3 }
+
+pub by_between : (l : Library) (goal : List TypePath) (x : ℕ) (a : Answer (List TypePath)) (q : TypePath) (rest : Paths) → listed goal ≡ more q rest → AreRulesBetween l goal x (x + 1) a → IsAnswerBy l x goal a
+by_between l goal x (Rules rs) q rest e b = rules_by_all l (listed goal) q rest x (map rule_of rs) e b
+by_between l goal x Wide q rest e b =
+    let i : x ≤ b.0 = b.1 in
+    let j : b.0 < x + 1 = b.2 in
+    let same : b.0 ≡ x = omega arith in
+    subst (λ (y : ℕ). IsWideBy l y (listed goal)) same b.3
+
+pub some_parts : (goal : List TypePath) → 0 < length goal → (q : TypePath) × (rest : Paths) × (listed goal ≡ more q rest)
+some_parts [] h = absurd (let k : 0 < 0 = h in omega arith)
+some_parts (q ∷ goal) h = (q, listed goal, refl)
+
+pub families_at :
+    (k l : Library) (goal : List TypePath) (p : Place) (all fs : List (List ℕ)) → k ≡ l → all ≡ fs → AreFamiliesAt k goal p all
+    → AreFamilies l (arrows_at l p.component p.count) goal fs
+families_at k l goal p all fs e f h =
+    subst (λ (gs : List (List ℕ)). AreFamilies l (arrows_at l p.component p.count) goal gs) f (subst (λ (m : Library). AreFamiliesAt m goal p all) e h)
+
+-- the rules of the covers of a place
+pub covers_added :
+    (l : Library) (goal : List TypePath) (p : Place) (fs list : List (List ℕ)) (old new : List (Rule (List TypePath))) (narrow : Bool)
+    → 0 < length goal → IsPlace l p → AreFamilies l (arrows_at l p.component p.count) goal fs → AreMinimal (MeetsEach fs) list
+    → ((j : ℕ) → j ≤ length fs → HasMore (MeetsEach (take j fs)) 1024 → ⊥)
+    → ((q : TypePath) (rest : Paths) (begin : ℕ) → begin ≤ p.component
+    → ((s : List ℕ) → Contains list s → IsChoice l (more q rest) (choice_at p.component p.count s))
+    → AreBegun l (more q rest) begin p.component p.count [] (map rule_of old)
+    → MatchBool narrow (AreBegun l (more q rest) begin p.component p.count list (map rule_of new)) (IsWideBy l p.component (more q rest)))
+    → AddsPlace l goal p old new narrow
+covers_added l goal p fs list old new narrow path h families m t f = λ begin le b.
+    let q = some_parts goal path in
+    place_done l p.component p.count goal fs list h.declared h.within families m t narrow (map rule_of old) (map rule_of new) q.0 q.1 begin q.2 le b (λ choice k. f q.0 q.1 begin le choice k)
+
+-- the rules of the next place
+pub next_added :
+    (l : Library) (goal : List TypePath) (begin : ℕ) (from p : Place) (old new : List (Rule (List TypePath))) (narrow : Bool) → 0 < length goal
+    → begin ≤ from.component → AreBegun l (listed goal) begin from.component from.count [] (map rule_of old) → IsNextPlace l (listed goal) from p
+    → AddsPlace l goal p old new narrow
+    → MatchBool narrow (AreBegun l (listed goal) begin p.component (p.count + 1) [] (map rule_of new)) (IsWideBy l p.component (listed goal))
+next_added l goal begin from p old new narrow path after b h a =
+    let q = some_parts goal path in
+    let later : from.component ≤ p.component = reached_at_most from.component from.count p.component p.count (reached from.component from.count p.component p.count h.later) in
+    a begin (omega arith) (begun_next l (listed goal) q.0 q.1 q.2 begin from (map rule_of old) b p h)
+
+pub arity_within : (l : Library) (x : ℕ) → IsLibrary l → x < length l.components → arity_of (paths_at l x) ≤ 32
+arity_within l x h d = (All-get_or (IsWithinLimits l.taxonomy) l.components x no_component d h.each).arity
 
 pub rules_by_none : (l : Library) (x : ℕ) (goal : Paths) (rs : List (Rule Paths)) → goal ≡ none → rs ≡ Head x [] ∷ [] → (IsWideBy l x goal → ⊥) × IsRulesBy l x goal rs
 rules_by_none l x goal rs e f =

@@ -12,7 +12,7 @@ use Rattle.cls_path.proofs.RoundTrip.{append_none, append_assoc, paths_back}
 use Rattle.cls_cover.specs.Members.{Member, first, later}
 use Rattle.cls_cover.proofs.Lists.{member_contains}
 use Rattle.cls_library.specs.Arrows.{MultiArrow}
-use Rattle.cls_library.specs.Families.{IsFamilyIn}
+use Rattle.cls_library.specs.Families.{IsFamilyIn, AreFamilies}
 use Rattle.cls_library.specs.Libraries.{Library, IsLibrary, below_in, variances_in, paths_at, arrows_at, no_component}
 use Rattle.cls_library.specs.Reaching.{IsReduced, no_sources, zip_append, columns}
 use Rattle.cls_library.specs.Rules.{IsRuleFor}
@@ -20,7 +20,7 @@ use Rattle.cls_library.proofs.ByCases.{At, at_first, at_later, member_at, at_got
 use Rattle.cls_library.proofs.PathLemma.{from_sources, arrow_from}
 use Rattle.cls_library.proofs.LibraryTyping.{arrow_sources, declared, reflexive, transitive}
 use Rattle.cls_path.proofs.Completeness.{covers_refl}
-use Rattle.cls_expand.specs.Making.{no_arrow, picked_of, gathered, AreFamilies, choice_at}
+use Rattle.cls_expand.specs.Making.{no_arrow, picked_of, gathered, choice_at}
 use Rattle.cls_expand.specs.Listing.{all_last}
 
 -- the arrows take n arguments, and their sources are normal

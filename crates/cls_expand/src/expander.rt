@@ -1,18 +1,20 @@
 //! The rules of a goal: for each component and each number of arguments the minimal covers of the goal by its arrows,
 //! and for each cover one rule.
-ghost use Rattle.std.specs.Prelude.{◌≡◌, ℕ, ◌+◌, ◌<◌, ◌≤◌, IfOk, MatchBool, [], length, map};
-ghost use Rattle.cls_path.specs.Paths.{TypePath, Paths, more, listed};
+ghost use Rattle.std.specs.Prelude.{◌≡◌, ◌<◌, ◌≤◌, ◌∷◌, IfOk, [], length, map};
+ghost use Rattle.cls_base.specs.declared.rule.Rule.TheVariants.{Head};
+ghost use Rattle.cls_path.specs.Paths.{listed};
 ghost use Rattle.cls_library.specs.Arrows.{arity_of};
+ghost use Rattle.cls_library.specs.Families.{AreFamilies, IsPlace};
 ghost use Rattle.cls_library.specs.Libraries.{paths_at, arrows_at};
-ghost use Rattle.cls_library.specs.Rules.{IsWideBy, omega_rules};
+ghost use Rattle.cls_library.specs.Rules.{omega_rules};
 ghost use Rattle.cls_expand.specs.Answers.{IsAnswer, IsAnswerBy, IsReady, rule_of};
-ghost use Rattle.cls_expand.specs.Making.{AreBegun, AreFamilies};
+ghost use Rattle.cls_expand.specs.Making.{AddsPlace, AreRulesBetween, IsNextBefore};
 
 use crate::cover_rules::add_covers;
 use cls_base::{Goals, Numbers, OutOfMemory, Rule, Rules};
 use cls_core::{Answer, Expand, TypedExpand};
-use cls_cover::{CoverFault, covers};
-use cls_library::{Library, Search};
+use cls_cover::{CoverFault, covers, lone_cover};
+use cls_library::{Families, Finder, Library, Place};
 use cls_path::Nf;
 use std::alloc::Global;
 use std::marker::Model;
@@ -105,14 +107,7 @@ fn all_rules(alloc: Global, lib: &Library, goal: &Nf) -> Result<Answer<Nf>, OutO
     if goal.paths().is_empty() {
         return Ok(Answer::Rules(omega(alloc, lib.count())?));
     }
-    let search = Search::new(lib, goal);
-    let mut rules = Vec::new(alloc);
-    for x in 0..lib.count() {
-        if !add_component(alloc, lib, goal, &search, x, &mut rules)? {
-            return Ok(Answer::Wide);
-        }
-    }
-    Ok(Answer::Rules(Rules::new(rules)))
+    rules_between(alloc, lib, goal, 0, lib.count())
 }
 
 /// The rules of the goal by one component.
@@ -126,15 +121,93 @@ fn component_rules(
     requires declared { x < length lib.now.components }
     ensures { IfOk result (IsAnswerBy lib.now x goal.now) }
 {
-    let search = Search::new(lib, goal);
-    let mut rules = Vec::new(alloc);
     if goal.paths().is_empty() {
-        let args = Goals::new(Vec::new(alloc));
-        rules.push(Rule::Head { component: x, args })?;
-    } else if !add_component(alloc, lib, goal, &search, x, &mut rules)? {
-        return Ok(Answer::Wide);
+        return Ok(Answer::Rules(head_alone(alloc, x)?));
+    }
+    rules_between(alloc, lib, goal, x, x + 1)
+}
+
+/// The rules of the goal by the components from one on that come before another one. The goal has a path.
+fn rules_between(
+    alloc: Global,
+    lib: &Library,
+    goal: &Nf,
+    begin: u32,
+    end: u32,
+) -> Result<Answer<Nf>, OutOfMemory>
+    requires ready { IsReady lib.now goal.now }
+    requires path { 0 < length goal.now }
+    requires order { begin ≤ end }
+    requires within { end ≤ length lib.now.components }
+    ensures { IfOk result (AreRulesBetween lib.now goal.now begin end) }
+{
+    let mut finder = Finder::new(alloc, lib, goal)?;
+    let mut rules = Vec::new(alloc);
+    let mut from = Place {
+        component: begin,
+        count: 0,
+    };
+    while let Some(place) = next_before(&mut finder, from, end) {
+        if !add_place(alloc, lib, &mut finder, place, &mut rules)? {
+            return Ok(Answer::Wide);
+        }
+        from = Place {
+            component: place.component,
+            count: place.count + 1,
+        };
     }
     Ok(Answer::Rules(Rules::new(rules)))
+}
+
+/// The next place from this one on, before a component, where an arrow may lead to the goal's first path.
+fn next_before(finder: &mut Finder<'_>, from: Place, end: u32) -> Option<Place>
+    requires { 0 < length finder.old.goal }
+    ensures next { IsNextBefore finder.old.library (listed finder.old.goal) from end result }
+    ensures same { finder.new ≡ finder.old }
+{
+    match finder.next(from) {
+        Some(place) if place.component < end => Some(place),
+        _ => None,
+    }
+}
+
+/// Adds the rules of one place, and answers whether the goal isn't wide by them.
+fn add_place(
+    alloc: Global,
+    lib: &Library,
+    finder: &mut Finder<'_>,
+    place: Place,
+    rules: &mut Vec<Rule<Nf>>,
+) -> Result<bool, OutOfMemory>
+    requires library { finder.old.library ≡ lib.now }
+    requires ready { IsReady lib.now finder.old.goal }
+    requires path { 0 < length finder.old.goal }
+    requires place { IsPlace lib.now place }
+    ensures same { finder.new ≡ finder.old }
+    ensures rules { IfOk result (AddsPlace lib.now finder.old.goal place rules.old.items rules.new.items) }
+{
+    let Place { component, count } = place;
+    match finder.families(alloc, place)? {
+        Families::Single(positions) => {
+            let cover = lone_cover(alloc, positions.as_slice())?;
+            add_covers(alloc, lib, component, count, &[cover], rules)
+        }
+        Families::Several(families) => match covers(alloc, families.as_slice(), MAX_COVERS) {
+            Ok(list) => add_covers(alloc, lib, component, count, list.as_slice(), rules),
+            Err(CoverFault::TooManyCovers(_)) => Ok(false),
+            Err(CoverFault::OutOfMemory) => Err(OutOfMemory),
+        },
+    }
+}
+
+/// The rule of the component alone.
+fn head_alone(alloc: Global, x: u32) -> Result<Rules<Nf>, OutOfMemory>
+    ensures { IfOk result (λ rules. map rule_of rules ≡ Head x [] ∷ []) }
+{
+    let mut rules = Vec::new(alloc);
+    let args = Goals::new(Vec::new(alloc));
+    rules.push(Rule::Head { component: x, args })?;
+    Ok(Rules::new(rules))
 }
 
 /// The rules of omega: each component alone, and any term applied to any.
@@ -169,63 +242,4 @@ pub fn families_of(
         families.push(lib.family(alloc, x, n, path)?)?;
     }
     Ok(families)
-}
-
-/// Adds the rules of one number of arguments, and answers whether the goal isn't wide by them.
-fn add_places(
-    alloc: Global,
-    lib: &Library,
-    goal: &Nf,
-    search: &Search<'_>,
-    x: u32,
-    n: u32,
-    rules: &mut Vec<Rule<Nf>>,
-) -> Result<bool, OutOfMemory>
-    requires search { search.now ≡ record { library = lib.now; goal = listed goal.now } }
-    requires declared { x < length lib.now.components }
-    requires within { n ≤ arity_of (paths_at lib.now x) }
-    requires ready { IsReady lib.now goal.now }
-    ensures { IfOk result (λ narrow. (q : TypePath) (rest : Paths) (from : ℕ) → listed goal.now ≡ more q rest → from ≤ x
-        → AreBegun lib.now (listed goal.now) from x n [] (map rule_of rules.old.items)
-        → MatchBool narrow (AreBegun lib.now (listed goal.now) from x (n + 1) [] (map rule_of rules.new.items))
-        (IsWideBy lib.now x (listed goal.now))) }
-{
-    if !search.may_begin_by(x, n) {
-        return Ok(true);
-    }
-    let families = families_of(alloc, lib, goal, x, n)?;
-    match covers(alloc, families.as_slice(), MAX_COVERS) {
-        Ok(list) => add_covers(alloc, lib, x, n, list.as_slice(), rules),
-        Err(CoverFault::TooManyCovers(_)) => Ok(false),
-        Err(CoverFault::OutOfMemory) => Err(OutOfMemory),
-    }
-}
-
-/// Adds the rules of one component, and answers whether the goal isn't wide by it.
-fn add_component(
-    alloc: Global,
-    lib: &Library,
-    goal: &Nf,
-    search: &Search<'_>,
-    x: u32,
-    rules: &mut Vec<Rule<Nf>>,
-) -> Result<bool, OutOfMemory>
-    requires search { search.now ≡ record { library = lib.now; goal = listed goal.now } }
-    requires declared { x < length lib.now.components }
-    requires ready { IsReady lib.now goal.now }
-    ensures { IfOk result (λ narrow. (q : TypePath) (rest : Paths) (from : ℕ) → listed goal.now ≡ more q rest → from ≤ x
-        → AreBegun lib.now (listed goal.now) from x 0 [] (map rule_of rules.old.items)
-        → MatchBool narrow (AreBegun lib.now (listed goal.now) from (x + 1) 0 [] (map rule_of rules.new.items))
-        (IsWideBy lib.now x (listed goal.now))) }
-{
-    if !search.may_begin(x) {
-        return Ok(true);
-    }
-    let arity = lib.arity(x);
-    for n in 0..arity {
-        if !add_places(alloc, lib, goal, search, x, n, rules)? {
-            return Ok(false);
-        }
-    }
-    add_places(alloc, lib, goal, search, x, arity, rules)
 }

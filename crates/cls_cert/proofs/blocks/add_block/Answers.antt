@@ -1,8 +1,7 @@
 use Rattle.std.proofs.Common.{List, ℕ, ◌<◌, length, refl, sym, ◌∙◌, subst}
 use Rattle.cls_path.specs.Paths.{listed}
-use Rattle.cls_library.specs.Families.{NoneBegins, Search}
+use Rattle.cls_library.specs.Families.{NoneBegins, Search, AreFamilies}
 use Rattle.cls_library.specs.Libraries.{arrows_at}
-use Rattle.cls_expand.specs.Making.{AreFamilies}
 use Rattle.cls_expand.proofs.Places.{families_ascend}
 use Rattle.cls_cert.specs.Building.{without_block}
 use Rattle.cls_cert.proofs.BlockLaws.{begins_nowhere, few_covers, has_first, has_no_first, layers_are, block_added}

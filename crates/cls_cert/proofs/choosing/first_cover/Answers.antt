@@ -1,8 +1,8 @@
 use Rattle.std.proofs.Common.{ℕ, List, length, sym, subst, Contains, arith}
 use Rattle.std.proofs.lemmas.Option.{slice_get_within}
 use Rattle.cls_path.specs.Paths.{listed}
+use Rattle.cls_library.specs.Families.{AreFamilies}
 use Rattle.cls_library.specs.Libraries.{arrows_at}
-use Rattle.cls_expand.specs.Making.{AreFamilies}
 use Rattle.cls_expand.proofs.Places.{families_ascend, cover_below}
 use Rattle.cls_expand.proofs.FamilyCovers.{covers_goal}
 use Rattle.cls_cert.specs.Building.{IsFirstAt, GivesRule}

@@ -1,8 +1,8 @@
 use Rattle.std.proofs.Common.{ℕ, ◌≡◌, ◌≤◌, length, [], List, sym, ap, subst, arith}
 use Rattle.cls_base.proofs.Lists.{take_whole}
 use Rattle.cls_path.specs.Paths.{TypePath}
+use Rattle.cls_library.specs.Families.{AreFamilies}
 use Rattle.cls_library.specs.Libraries.{arrows_at}
-use Rattle.cls_expand.specs.Making.{AreFamilies}
 use Rattle.cls_expand.proofs.Sources.{suits_at, families_step}
 use Rattle.cls_expand.proofs.expander.families_of.Goals as goal
 

@@ -1,0 +1,83 @@
+use Rattle.std.proofs.Common.{ℕ, ◌∙◌, ◌∷◌, [], List, ap, sym, subst, Contains, arith}
+use Rattle.std.specs.Prelude.{map}
+use Rattle.cls_path.specs.Paths.{Paths}
+use Rattle.cls_cover.specs.declared.minimal.CoverFault.{CoverFault}
+use Rattle.cls_cover.specs.Faults.{AreTooMany, HasCause}
+use Rattle.cls_cover.specs.Covers.{MeetsEach, AreMinimal}
+use Rattle.cls_library.specs.Families.{alone, families_in}
+use Rattle.cls_library.specs.Libraries.{arrows_at}
+use Rattle.cls_library.specs.Rules.{HasManyCovers, IsWideBy, by_covers}
+use Rattle.cls_expand.proofs.FamilyCovers.{many_from}
+use Rattle.cls_expand.proofs.Places.{if_ok_map, families_ascend, cover_below, families_at, covers_added, some_parts}
+use Rattle.cls_expand.proofs.expander.add_place.Goals as goal
+
+pub add_covers-requires-clause-below : goal.add_covers-requires-clause-below
+add_covers-requires-clause-below c = λ s m i k.
+    let l = c.args.lib.now in
+    let goal = c.args.finder.now.goal in
+    let p = c.args.place in
+    let fs = map alone c.as_slice.result.now in
+    let h = families_at c.args.finder.now.library l goal p (families_in c.in_ok-positions.field-0) fs c.requires.library
+    (ap families_in c.in-Single.is ∙ sym (ap (map alone) c.as_slice.ensures)) c.in_ok-positions.ensures.families in
+    cover_below l (arrows_at l p.component p.count) goal fs h s ((c.in_ok-cover-in-Single.ensures.covers.exactly s).0 m) i k
+
+pub returns-in-Single-clause-rules : goal.returns-in-Single-clause-rules
+returns-in-Single-clause-rules c =
+    let l = c.args.lib.now in
+    let goal = c.args.finder.now.goal in
+    let p = c.args.place in
+    let fs = map alone c.as_slice.result.now in
+    let cover = c.in_ok-cover-in-Single.cover in
+    let h = families_at c.args.finder.now.library l goal p (families_in c.in_ok-positions.field-0) fs c.requires.library
+    (ap families_in c.in-Single.is ∙ sym (ap (map alone) c.as_slice.ensures)) c.in_ok-positions.ensures.families in
+    if_ok_map c.add_covers.result _ _
+    (λ narrow f. covers_added l goal p fs (cover ∷ []) c.args.rules.now.items c.add_covers.new.rules.items narrow c.requires.path c.requires.place h
+    c.in_ok-cover-in-Single.ensures.covers (c.in_ok-cover-in-Single.ensures.within 1024 (omega arith)) f) c.add_covers.ensures
+
+pub covers-requires : goal.covers-requires
+covers-requires c =
+    let l = c.args.lib.now in
+    let goal = c.args.finder.now.goal in
+    let p = c.args.place in
+    let fs = c.as_slice-in-Several.result.now in
+    let h = families_at c.args.finder.now.library l goal p (families_in c.in_ok-positions.field-0) fs c.requires.library
+    (ap families_in c.in-Several.is ∙ sym c.as_slice-in-Several.ensures.value) c.in_ok-positions.ensures.families in
+    record { ascending = families_ascend l (arrows_at l p.component p.count) goal fs h }
+
+pub add_covers-requires-in-Ok-clause-below : goal.add_covers-requires-in-Ok-clause-below
+add_covers-requires-in-Ok-clause-below c = λ s m i k.
+    let l = c.args.lib.now in
+    let goal = c.args.finder.now.goal in
+    let p = c.args.place in
+    let fs = c.as_slice-in-Several.result.now in
+    let h = families_at c.args.finder.now.library l goal p (families_in c.in_ok-positions.field-0) fs c.requires.library
+    (ap families_in c.in-Several.is ∙ sym c.as_slice-in-Several.ensures.value) c.in_ok-positions.ensures.families in
+    cover_below l (arrows_at l p.component p.count) goal fs h s
+    ((c.in-Ok.ensures.covers.exactly s).0 (subst (λ (list : List (List ℕ)). Contains list s) c.as_slice-in-Ok.ensures m)) i k
+
+pub returns-in-Ok-clause-rules : goal.returns-in-Ok-clause-rules
+returns-in-Ok-clause-rules c =
+    let l = c.args.lib.now in
+    let goal = c.args.finder.now.goal in
+    let p = c.args.place in
+    let fs = c.as_slice-in-Several.result.now in
+    let h = families_at c.args.finder.now.library l goal p (families_in c.in_ok-positions.field-0) fs c.requires.library
+    (ap families_in c.in-Several.is ∙ sym c.as_slice-in-Several.ensures.value) c.in_ok-positions.ensures.families in
+    let m = subst (λ (list : List (List ℕ)). AreMinimal (MeetsEach fs) list) (sym c.as_slice-in-Ok.ensures) c.in-Ok.ensures.covers in
+    if_ok_map c.add_covers-in-Ok.result _ _
+    (λ narrow f. covers_added l goal p fs c.as_slice-in-Ok.result.now c.args.rules.now.items c.add_covers-in-Ok.new.rules.items narrow c.requires.path
+    c.requires.place h m c.in-Ok.ensures.within f) c.add_covers-in-Ok.ensures
+
+pub returns-in-Err-TooManyCovers-clause-rules : goal.returns-in-Err-TooManyCovers-clause-rules
+returns-in-Err-TooManyCovers-clause-rules c = λ begin le b.
+    let l = c.args.lib.now in
+    let goal = c.args.finder.now.goal in
+    let p = c.args.place in
+    let fs = c.as_slice-in-Several.result.now in
+    let h = families_at c.args.finder.now.library l goal p (families_in c.in_ok-positions.field-0) fs c.requires.library
+    (ap families_in c.in-Several.is ∙ sym c.as_slice-in-Several.ensures.value) c.in_ok-positions.ensures.families in
+    let f : HasCause fs 1024 c.in-Err-TooManyCovers.field-0 = c.in-Err-TooManyCovers.ensures.fault in
+    let g : AreTooMany fs 1024 c.in-Err-TooManyCovers.field-0-0 = subst (λ (z : CoverFault). HasCause fs 1024 z) c.in-Err-TooManyCovers.field-0-is f in
+    let m = many_from l p.component p.count goal fs h c.requires.place.within c.in-Err-TooManyCovers.field-0-0 g.over in
+    let q = some_parts goal c.requires.path in
+    subst (λ (g : Paths). IsWideBy l p.component g) (sym q.2) (by_covers p.count (subst (λ (g : Paths). HasManyCovers l g p.component p.count) q.2 m))
