@@ -3,6 +3,7 @@ pub mod Arrows
 pub mod BlockLaws
 pub mod Deciding
 pub mod DecidingSteps
+pub mod Finding
 pub mod GoalLaws
 pub mod Indexing
 pub mod Keys

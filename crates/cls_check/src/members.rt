@@ -1,8 +1,7 @@
 //! The members of a certificate.
-ghost use Rattle.std.specs.Prelude.{ℕ, ◌<◌, ◌≤◌, ◌≡◌, ◌↔◌, ◌^◌, All, length, map, IfOk, OnOk, IfErr, IsTrue};
+ghost use Rattle.std.specs.Prelude.{ℕ, ◌<◌, ◌≡◌, ◌↔◌, ◌^◌, All, length, map, IfOk, OnOk, IfErr, IsTrue};
 ghost use Rattle.cls_path.specs.Paths.{listed, type_of_paths, SuitsAll};
-ghost use Rattle.cls_library.specs.Arrows.{arity_of};
-ghost use Rattle.cls_library.specs.Libraries.{variances_in, paths_at, IsLibrary};
+ghost use Rattle.cls_library.specs.Libraries.{variances_in, IsLibrary};
 ghost use Rattle.cls_proof.specs.Blocks.{block_of};
 ghost use Rattle.cls_proof.specs.Certificates.{empty};
 ghost use Rattle.cls_proof.specs.Members.{member_of};
@@ -18,7 +17,7 @@ use crate::layers::{block_places, place_of};
 use crate::place::Place;
 use crate::steps::is_walked;
 use cls_base::OutOfMemory;
-use cls_library::{Library, Search};
+use cls_library::{Finder, Library};
 use cls_norm::normal;
 use cls_path::Nf;
 use cls_proof::{Block, Layer, Member};
@@ -123,17 +122,15 @@ fn is_unblocked(
     ensures { IfOk result (λ answer. IsTrue answer ↔ ((x n : ℕ) → IsPlace lib.now x n
         → IsWalkedAt lib.now goals.now (map block_of blocks.now) (listed form.now) x n)) }
 {
+    let count = lib.count();
+    if form.paths().is_empty() {
+        // A component without an argument has omega: there the empty set isn't blocked.
+        return Ok(count == 0);
+    }
     if !are_blocks_walked(alloc, lib, goals, form, blocks)? {
         return Ok(false);
     }
-    let search = Search::new(lib, form);
-    let none = no_layers(alloc, form.paths().len())?;
-    for component in 0..lib.count() {
-        if !are_others_walked(alloc, lib, goals, form, &search, places, &none, component)? {
-            return Ok(false);
-        }
-    }
-    Ok(true)
+    are_others_walked(alloc, lib, goals, form, places)
 }
 
 /// Whether the layers of each block do so.
@@ -160,35 +157,39 @@ fn are_blocks_walked(
     Ok(true)
 }
 
-/// Whether these layers without a set do so wherever the component has no block.
+/// Whether layers without a set do so wherever there is no block. Where no arrow leads to the first path, they do.
 fn are_others_walked(
     alloc: Global,
     lib: &Library,
     goals: &Goals,
     form: &Nf,
-    search: &Search<'_>,
     places: &IndexSet<Place>,
-    none: &[Layer],
-    component: u32,
 ) -> Result<bool, OutOfMemory>
-    requires search { search.now ≡ record { library = lib.now; goal = listed form.now } }
     requires library { IsLibrary lib.now }
     requires goals { AllSuit lib.now goals.now }
     requires suits { SuitsAll (variances_in lib.now.taxonomy) (listed form.now) }
-    requires none { none.now ≡ empty_layers (path_total (listed form.now)) }
-    requires component { component < length lib.now.components }
-    ensures { IfOk result (λ answer. IsTrue answer ↔ ((n : ℕ) → n ≤ arity_of (paths_at lib.now component)
-        → IsOtherWalked lib.now goals.now places.now.keys (listed form.now)
-        (record { component = component; n = n }))) }
+    requires path { 0 < length form.now }
+    ensures { IfOk result (λ answer. IsTrue answer ↔ ((x n : ℕ) → IsPlace lib.now x n
+        → IsOtherWalked lib.now goals.now places.now.keys (listed form.now) (record { component = x; n = n }))) }
 {
-    if !search.may_begin(component) {
-        return Ok(true);
-    }
-    for n in 0..lib.arity(component) + 1 {
-        let place = Place { component, n };
-        if !is_other_walked(alloc, lib, goals, form, search, places, none, place)? {
+    let none = no_layers(alloc, form.paths().len())?;
+    let mut finder = Finder::new(alloc, lib, form)?;
+    let mut from = cls_library::Place {
+        component: 0,
+        count: 0,
+    };
+    while let Some(found) = finder.next(from) {
+        let place = Place {
+            component: found.component,
+            n: found.count,
+        };
+        if !is_other_walked(alloc, lib, goals, form, places, &none, place)? {
             return Ok(false);
         }
+        from = cls_library::Place {
+            component: found.component,
+            count: found.count + 1,
+        };
     }
     Ok(true)
 }
@@ -199,12 +200,10 @@ fn is_other_walked(
     lib: &Library,
     goals: &Goals,
     form: &Nf,
-    search: &Search<'_>,
     places: &IndexSet<Place>,
     none: &[Layer],
     place: Place,
 ) -> Result<bool, OutOfMemory>
-    requires search { search.now ≡ record { library = lib.now; goal = listed form.now } }
     requires place { Stands lib.now place }
     requires goals { AllSuit lib.now goals.now }
     requires suits { SuitsAll (variances_in lib.now.taxonomy) (listed form.now) }
@@ -212,9 +211,6 @@ fn is_other_walked(
     ensures { IfOk result (λ answer. IsTrue answer
         ↔ IsOtherWalked lib.now goals.now places.now.keys (listed form.now) place) }
 {
-    if !search.may_begin_by(place.component, place.n) {
-        return Ok(true);
-    }
     if places.contains(&place) {
         return Ok(true);
     }

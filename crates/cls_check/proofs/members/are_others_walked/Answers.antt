@@ -1,37 +1,81 @@
-use Rattle.std.proofs.Common.{◌≤◌, ◌<◌, length, subst, sym, ◌∙◌, arith, below_more}
-use Rattle.std.proofs.lemmas.List.Elements.{All-get_or}
-use Rattle.cls_base.specs.Limits.{max_arity}
-use Rattle.cls_path.specs.Paths.{listed}
+use Rattle.std.proofs.Common.{◌∙◌, ◌<◌, ◌≤◌, List, length, sym, subst, ap, arith}
+use Rattle.std.specs.Prelude.{None, Some}
+use Rattle.cls_path.specs.Paths.{TypePath, listed}
 use Rattle.cls_library.specs.Arrows.{arity_of}
-use Rattle.cls_library.specs.Families.{NoneBegins, Search}
-use Rattle.cls_library.specs.Libraries.{no_component, paths_at, IsWithinLimits}
+use Rattle.cls_library.specs.Families.{Finder, IsNext}
+use Rattle.cls_library.specs.Libraries.{paths_at}
+use Rattle.cls_check.specs.Checking.{empty_layers}
+use Rattle.cls_check.proofs.Finding.{walked_start, walked_next, walked_all, arity_within, fewer_left}
 use Rattle.cls_check.proofs.Loops.{not-false, is-true, differs}
-use Rattle.cls_check.proofs.Walking.{begins_nowhere}
+use Rattle.cls_check.proofs.Stepping.{total_length}
 use Rattle.cls_check.proofs.members.are_others_walked.Goals as goal
 
-pub overflow_add-n-end : goal.overflow_add-n-end
-overflow_add-n-end c =
-    let a : arity_of (paths_at c.args.lib.now c.args.component) ≤ max_arity = (All-get_or (IsWithinLimits c.args.lib.now.taxonomy) c.args.lib.now.components c.args.component no_component c.requires.component c.requires.library.each).arity in
-    let e = c.arity-n-end.ensures in omega arith
+pub loop-found-init : goal.loop-found-init
+loop-found-init c = record {
+  finder = c.in_ok-finder.ensures;
+  walked = walked_start c.args.lib.now c.args.goals.now c.args.places.now.keys (listed c.args.form.now);
+  size = omega arith;
+  count = omega arith;
+}
 
-pub may_begin-requires : goal.may_begin-requires
-may_begin-requires c = subst (λ (s : Search). c.args.component < length s.library.components) (sym c.requires.search) c.requires.component
+pub next-requires : goal.next-requires
+next-requires c = subst (λ (f : Finder). 0 < length f.goal) (sym c.loop-found.invariant.finder) c.requires.path
 
-pub returns-then-not-may_begin : goal.returns-then-not-may_begin
-returns-then-not-may_begin c = (
-  (λ t n within absent. begins_nowhere c.args.lib.now c.args.goals.now (record { component = c.args.component; n = n }) (listed c.args.form.now)
-      (subst (λ (s : Search). NoneBegins s.library s.goal c.args.component n) c.requires.search (c.may_begin.ensures c.if-not-may_begin.true n))),
-  (λ h. is-true),
-)
+pub is_other_walked-requires-clause-place : goal.is_other_walked-requires-clause-place
+is_other_walked-requires-clause-place c =
+    let h = subst (λ (f : Finder). IsNext f.library (listed f.goal) c.loop-found.from (Some c.in-Some.found)) c.loop-found.invariant.finder c.in-Some.ensures.next in
+    record { declared = h.place.declared; within = h.place.within }
+
+pub is_other_walked-requires-clause-none : goal.is_other_walked-requires-clause-none
+is_other_walked-requires-clause-none c =
+    c.deref.ensures.value ∙ (c.in_ok-none.ensures ∙ ap empty_layers (ap (λ (q : List TypePath). length q) c.paths.ensures ∙ sym (total_length c.args.form.now)))
+
+pub overflow_add-from : goal.overflow_add-from
+overflow_add-from c =
+    let h = subst (λ (f : Finder). IsNext f.library (listed f.goal) c.loop-found.from (Some c.in-Some.found)) c.loop-found.invariant.finder c.in-Some.ensures.next in
+    let arity : arity_of (paths_at c.args.lib.now c.in-Some.found.component) ≤ 32 = arity_within c.args.lib.now c.in-Some.found.component c.requires.library h.place.declared in
+    let within : c.in-Some.found.count ≤ arity_of (paths_at c.args.lib.now c.in-Some.found.component) = h.place.within in
+    omega arith
 
 pub returns-then-not-branch : goal.returns-then-not-branch
-returns-then-not-branch c = (
-  (λ t. absurd (not-false t)),
-  (λ h. absurd (differs (sym c.if-not-branch.true ∙ c.in_ok-is_other_walked.ensures.1 (h c.loop-n.n (let m = c.loop-n-test.true in let e = c.arity-n-end.ensures in omega arith))))),
-)
+returns-then-not-branch c =
+    let h = subst (λ (f : Finder). IsNext f.library (listed f.goal) c.loop-found.from (Some c.in-Some.found)) c.loop-found.invariant.finder c.in-Some.ensures.next in (
+      (λ t. absurd (not-false t)),
+      (λ all. absurd (differs (sym c.if-not-branch.true ∙ c.in_ok-is_other_walked.ensures.1
+          (all c.in-Some.found.component c.in-Some.found.count (record { declared = h.place.declared; within = h.place.within }))))),
+    )
 
-pub loop-n-preserved : goal.loop-n-preserved
-loop-n-preserved c = below_more _ _ c.loop-n.invariant (c.in_ok-is_other_walked.ensures.0 c.if-not-branch.false)
+pub loop-found-preserved : goal.loop-found-preserved
+loop-found-preserved c =
+    let l = c.args.lib.now in
+    let from = c.loop-found.from in
+    let p = c.in-Some.found in
+    let inv = c.loop-found.invariant in
+    let h = subst (λ (f : Finder). IsNext f.library (listed f.goal) from (Some p)) inv.finder c.in-Some.ensures.next in
+    let arity : arity_of (paths_at l p.component) ≤ 32 = arity_within l p.component c.requires.library h.place.declared in
+    let within : p.count ≤ arity_of (paths_at l p.component) = h.place.within in
+    let declared : p.component < length l.components = h.place.declared in
+    record {
+      finder = c.in-Some.ensures.same ∙ inv.finder;
+      walked = walked_next l c.args.goals.now c.args.places.now.keys (listed c.args.form.now) from inv.walked p h (c.in_ok-is_other_walked.ensures.0 c.if-not-branch.false);
+      size = omega arith;
+      count = omega arith;
+    }
+
+pub loop-found-smaller : goal.loop-found-smaller
+loop-found-smaller c =
+    let l = c.args.lib.now in
+    let from = c.loop-found.from in
+    let p = c.in-Some.found in
+    let inv = c.loop-found.invariant in
+    let h = subst (λ (f : Finder). IsNext f.library (listed f.goal) from (Some p)) inv.finder c.in-Some.ensures.next in
+    let arity : arity_of (paths_at l p.component) ≤ 32 = arity_within l p.component c.requires.library h.place.declared in
+    let within : p.count ≤ arity_of (paths_at l p.component) = h.place.within in
+    fewer_left (length l.components) from.component from.count p.component p.count h.later inv.size inv.count h.place.declared (omega arith)
 
 pub returns : goal.returns
-returns c = ((λ t n l. c.loop-n.invariant n (let m = c.loop-n-test.false in let e = c.arity-n-end.ensures in omega arith)), (λ h. is-true))
+returns c =
+    let h = subst (λ (f : Finder). IsNext f.library (listed f.goal) c.loop-found.from None) c.loop-found.invariant.finder c.in_default.ensures.next in (
+      (λ t. walked_all c.args.lib.now c.args.goals.now c.args.places.now.keys (listed c.args.form.now) c.loop-found.from c.loop-found.invariant.walked h),
+      (λ all. is-true),
+    )

@@ -1,25 +1,13 @@
-use Rattle.std.proofs.Common.{◌<◌, length, sym, subst, ap, ◌∙◌, List, ℕ}
+use Rattle.std.proofs.Common.{length, sym, subst, ap, ◌∙◌, List, ℕ}
 use Rattle.std.specs.Prelude.{All}
 use Rattle.cls_path.specs.Paths.{listed}
-use Rattle.cls_library.specs.Families.{NoneBegins, Search}
 use Rattle.cls_check.specs.Checking.{path_total}
 use Rattle.cls_check.specs.Layers.{AllBelow}
 use Rattle.cls_check.specs.Places.{arrows_in}
 use Rattle.cls_check.proofs.BlockLaws.{empty_length, empty_below}
 use Rattle.cls_check.proofs.Keys.{place_found}
 use Rattle.cls_check.proofs.Loops.{is-true}
-use Rattle.cls_check.proofs.Walking.{begins_nowhere}
 use Rattle.cls_check.proofs.members.is_other_walked.Goals as goal
-
-pub may_begin_by-requires : goal.may_begin_by-requires
-may_begin_by-requires c = subst (λ (s : Search). c.args.place.component < length s.library.components) (sym c.requires.search) c.requires.place.declared
-
-pub returns-then-not-may_begin_by : goal.returns-then-not-may_begin_by
-returns-then-not-may_begin_by c = (
-  (λ t absent. begins_nowhere c.args.lib.now c.args.goals.now c.args.place (listed c.args.form.now)
-      (subst (λ (s : Search). NoneBegins s.library s.goal c.args.place.component c.args.place.n) c.requires.search (c.may_begin_by.ensures c.if-not-may_begin_by.true))),
-  (λ h. is-true),
-)
 
 pub returns-then-contains : goal.returns-then-contains
 returns-then-contains c = ((λ t absent. absurd (absent (place_found c.args.places.now.keys c.args.place (sym c.contains.ensures ∙ c.if-contains.true)))), (λ h. is-true))
