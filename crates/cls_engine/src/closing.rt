@@ -81,6 +81,7 @@ impl Engine {
         complete_histories_make_grammars::<LibraryExpander>();
         renumbered_rows_are_canonical::<LibraryExpander>();
         self.facts();
+        self.expander.library.index(alloc)?;
         let finished = self.expand(rt, alloc, goal, gate)?;
         let Finished { rows, history } = finished;
         let made = Grammar::of(alloc, &rows);
