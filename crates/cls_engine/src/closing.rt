@@ -54,6 +54,13 @@ impl Engine {
         expand_all(rt, alloc, &by, goal, self.options.workers, limits, gate)
     }
 
+    /// Has the library keep its arrows by what their targets end in, for the workers.
+    fn index(&mut self, alloc: Global) -> Result<(), OutOfMemory>
+        ensures { self.new ≡ self.old }
+    {
+        self.expander.library.index(alloc)
+    }
+
     /// Keeps the answers of the rows for later queries.
     fn keep(&mut self, alloc: Global, rows: Rows<Nf>) -> Result<(), OutOfMemory>
         requires complete { AreComplete same (IsAnswer self.old.library) rows }
@@ -81,7 +88,7 @@ impl Engine {
         complete_histories_make_grammars::<LibraryExpander>();
         renumbered_rows_are_canonical::<LibraryExpander>();
         self.facts();
-        self.expander.library.index(alloc)?;
+        self.index(alloc)?;
         let finished = self.expand(rt, alloc, goal, gate)?;
         let Finished { rows, history } = finished;
         let made = Grammar::of(alloc, &rows);
