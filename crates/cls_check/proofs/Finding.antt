@@ -1,16 +1,15 @@
 -- The places that a finder gives, one after another.
-use Rattle.std.proofs.Common.{ℕ, zero, suc, refl, ◌≡◌, ◌+◌, ◌-◌, ◌*◌, ◌<◌, ◌≤◌, ◌⊎◌, ◌↔◌, ◌==◌, inl, inr, sym, subst, ◌∙◌, Bool, true, false, IsTrue, List, [], ◌∷◌, length, Result, Ok, Err, arith}
-use Rattle.std.specs.Prelude.{None, IfOk}
+use Rattle.std.proofs.Common.{ℕ, ◌≡◌, ◌+◌, ◌-◌, ◌*◌, ◌<◌, ◌≤◌, ◌⊎◌, inl, inr, sym, subst, List, [], ◌∷◌, length, arith}
+use Rattle.std.specs.Prelude.{None}
 use Rattle.std.proofs.lemmas.List.Elements.{All-get_or}
-use Rattle.cls_path.specs.Paths.{TypePath, Paths, listed}
+use Rattle.cls_path.specs.Paths.{TypePath, Paths}
 use Rattle.cls_library.specs.Arrows.{arity_of}
 use Rattle.cls_library.specs.Families.{IsEarlier, IsNext, IsNextPlace}
 use Rattle.cls_library.specs.Libraries.{Library, IsLibrary, IsWithinLimits, no_component, paths_at}
 use Rattle.cls_library.specs.declared.place.Place as library
-use Rattle.cls_proof.specs.Certificates.{Block}
 use Rattle.cls_check.specs.declared.place.Place.{Place}
 use Rattle.cls_check.specs.Checking.{IsPlace}
-use Rattle.cls_check.specs.Tests.{IsOtherWalked, IsWalkedAt}
+use Rattle.cls_check.specs.Tests.{IsOtherWalked}
 use Rattle.cls_check.proofs.Walking.{begins_nowhere}
 
 -- the place as the checks have it
@@ -86,42 +85,3 @@ fewer_left size x n y k later a b c d = by (compare y x) (compare k n)
     by (inr (inl e)) (inl m) = absurd (later (inr (e, m)))
     by (inr (inl e)) (inr (inl m)) = omega arith
     by (inr (inl e)) (inr (inr m)) = omega arith
-
-pub if_ok_map : {T E : Type 0} (r : Result T E) {P Q : T → Type 0} → ((t : T) → P t → Q t) → IfOk r P → IfOk r Q
-if_ok_map (Ok t) f h = f t h
-if_ok_map (Err e) f h = tt
-
-pub none_from : (form : List TypePath) (b : Bool) → b ≡ (length form == 0) → b ≡ true → form ≡ []
-none_from [] b e t = refl
-none_from (p ∷ form) b e t = absurd (no_zero (length form) (sym e ∙ t))
-  where
-    no_zero : (n : ℕ) → (suc n == 0) ≡ true → ⊥
-    no_zero n h = grind arith
-
-pub some_from : (form : List TypePath) (b : Bool) → b ≡ (length form == 0) → b ≡ false → 0 < length form
-some_from [] b e f = absurd (let h : true ≡ false = sym e ∙ f in absurd cc)
-some_from (p ∷ form) b e f = omega arith
-
--- Where a component takes no argument the empty set isn't blocked. So a goal without a path is walked at all places only
--- if there is none.
-pub omega_walked :
-    (l : Library) (goals : List (List TypePath)) (blocks : List Block) (form : List TypePath) → form ≡ [] → (count : ℕ) → count ≡ length l.components
-    → IsTrue (count == 0) ↔ ((x n : ℕ) → IsPlace l x n → IsWalkedAt l goals blocks (listed form) x n)
-omega_walked l goals blocks form e count f = (
-  (λ t x n place. absurd (let d : x < length l.components = place.declared in let z : count ≡ 0 = zero_from count t in omega arith)),
-  (λ h. by (zero_or_more count) h),
-)
-  where
-    zero_from : (n : ℕ) → (n == 0) ≡ true → n ≡ 0
-    zero_from n h = grind arith
-
-    zero_or_more : (n : ℕ) → ((n == 0) ≡ true) ⊎ (0 < n)
-    zero_or_more zero = inl refl
-    zero_or_more (suc n) = inr (omega arith)
-
-    by : ((count == 0) ≡ true) ⊎ (0 < count) → ((x n : ℕ) → IsPlace l x n → IsWalkedAt l goals blocks (listed form) x n) → IsTrue (count == 0)
-    by (inl z) h = z
-    by (inr m) h =
-        let w = subst (λ (ps : List TypePath). IsWalkedAt l goals blocks (listed ps) 0 0) e (h 0 0 (record { declared = omega arith; within = omega arith })) in
-        let b = w 0 [] (omega arith) in
-        absurd (let k : b.0 < 0 = b.1 in omega arith)

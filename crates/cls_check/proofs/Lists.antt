@@ -1,5 +1,5 @@
 -- Lists of paths and of pairs, by positions.
-use Rattle.std.proofs.Common.{ℕ, zero, suc, ◌≡◌, ◌<◌, ◌↔◌, refl, sym, subst, ◌⊎◌, inl, inr, List, [], ◌∷◌, ◌++◌, length, get_or, arith, Contains, Bool, true, false, Option, None, Some}
+use Rattle.std.proofs.Common.{ℕ, zero, suc, ◌≡◌, ◌∙◌, ◌<◌, ◌==◌, ◌↔◌, refl, sym, subst, ◌⊎◌, inl, inr, List, [], ◌∷◌, ◌++◌, length, get_or, arith, Contains, Bool, true, false, Option, None, Some}
 use Rattle.std.specs.Prelude.{map, slice_get}
 use Rattle.std.specs.List.{AllZip}
 use Rattle.std.proofs.lemmas.List.Elements.{Contains-append_left, Contains-append_right, Contains-append_cases}
@@ -68,3 +68,15 @@ not_got (y ∷ xs) (suc k) d e = not_got xs k d e
 pub yes_no : (b : Bool) (P : Type 0) → (b ≡ true → P) → (b ≡ false → P → ⊥) → (b ≡ true) ↔ P
 yes_no true P f g = ((λ _. f refl), (λ _. refl))
 yes_no false P f g = ((λ e. absurd (let h : false ≡ true = e in cc)), (λ p. absurd (g refl p)))
+
+-- whether a list is empty, by a test of its length
+pub none_from : (form : List TypePath) (b : Bool) → b ≡ (length form == 0) → b ≡ true → form ≡ []
+none_from [] b e t = refl
+none_from (p ∷ form) b e t = absurd (no_zero (length form) (sym e ∙ t))
+  where
+    no_zero : (n : ℕ) → (suc n == 0) ≡ true → ⊥
+    no_zero n h = grind arith
+
+pub some_from : (form : List TypePath) (b : Bool) → b ≡ (length form == 0) → b ≡ false → 0 < length form
+some_from [] b e f = absurd (let h : true ≡ false = sym e ∙ f in absurd cc)
+some_from (p ∷ form) b e f = omega arith

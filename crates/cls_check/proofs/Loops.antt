@@ -1,6 +1,6 @@
 -- What loops over a list have looked at.
-use Rattle.std.proofs.Common.{ℕ, zero, suc, ◌≡◌, ◌+◌, ◌<◌, ◌≤◌, refl, sym, ap, ◌∙◌, List, [], ◌∷◌, ◌++◌, length, map, get_or, drop, take, true, false, IsTrue, arith, rules, add-one}
-use Rattle.std.specs.Prelude.{Contains, All}
+use Rattle.std.proofs.Common.{ℕ, zero, suc, ◌≡◌, ◌+◌, ◌<◌, ◌≤◌, refl, sym, ap, ◌∙◌, List, [], ◌∷◌, ◌++◌, length, map, get_or, drop, take, true, false, IsTrue, Result, Ok, Err, arith, rules, add-one}
+use Rattle.std.specs.Prelude.{Contains, All, IfOk}
 use Rattle.std.proofs.Math.Seq.{drop-cons}
 use Rattle.std.proofs.lemmas.List.{take_more}
 use Rattle.std.proofs.lemmas.List.Elements.{All-from_get_or}
@@ -36,3 +36,8 @@ get_map f (x ∷ xs) (suc k) d e l = get_map f xs k d e (let m : suc k < suc (le
 -- the image of the element that a loop looks at
 pub image_is : {A B : Type 0} (f : A → B) (xs : List A) (k : ℕ) (x : A) → x ≡ get_or xs k x → k < length xs → f x ≡ get_or (map f xs) k (f x)
 image_is f xs k x e l = ap f e ∙ sym (get_map f xs k (f x) x l)
+
+-- what an answer says, by what a call says of it
+pub if_ok_map : {T E : Type 0} (r : Result T E) {P Q : T → Type 0} → ((t : T) → P t → Q t) → IfOk r P → IfOk r Q
+if_ok_map (Ok t) f h = f t h
+if_ok_map (Err e) f h = tt

@@ -1,5 +1,5 @@
 -- Which places have to be walked.
-use Rattle.std.proofs.Common.{ℕ, ◌≡◌, inr, inl, refl, sym, subst, ap, ◌∙◌, Bool, true, false, cond, List, [], ◌∷◌, map, length, get_or, ◌==◌, ◌&&◌, arith}
+use Rattle.std.proofs.Common.{ℕ, ◌≡◌, zero, suc, ◌<◌, ◌⊎◌, ◌↔◌, inr, inl, refl, sym, subst, ap, ◌∙◌, Bool, true, false, cond, IsTrue, List, [], ◌∷◌, map, length, get_or, ◌==◌, ◌&&◌, arith}
 use Rattle.std.specs.Prelude.{All, Contains}
 use Rattle.std.specs.List.{list_any}
 use Rattle.std.proofs.lemmas.List.{get_or_default}
@@ -7,7 +7,7 @@ use Rattle.std.proofs.lemmas.List.Elements.{All-contains}
 use Rattle.cls_base.specs.Lists.{AreDistinct}
 use Rattle.cls_base.specs.Types.{ClosedType}
 use Rattle.cls_base.proofs.Lists.{Contains-here, Contains-later, Contains-cases, Contains-nil}
-use Rattle.cls_path.specs.Paths.{TypePath, Paths, none, more}
+use Rattle.cls_path.specs.Paths.{TypePath, Paths, none, more, listed}
 use Rattle.cls_library.specs.Arrows.{MultiArrow}
 use Rattle.cls_library.specs.Families.{IsFamilyIn, NoneBegins}
 use Rattle.cls_library.specs.Libraries.{Library, arrows_at}
@@ -122,3 +122,27 @@ module _ (l : Library) (goals : List (List TypePath)) (blocks : List Block) (for
       by : (t : Bool) → list_any (same p) (map block_place blocks) ≡ t → IsWalked l goals p form (empty_layers (path_total form))
       by true f = absurd (absent (subst (λ (ks : List Place). Contains ks p) (sym e) (place_found (map block_place blocks) p f)))
       by false f = subst (λ (layers : List (List (List ℕ))). IsWalked l goals p form layers) (none_there blocks (path_total form) p f) h
+
+-- Where a component takes no argument the empty set isn't blocked. So a goal without a path is walked at all places only
+-- if there is none.
+pub omega_walked :
+    (l : Library) (goals : List (List TypePath)) (blocks : List Block) (form : List TypePath) → form ≡ [] → (count : ℕ) → count ≡ length l.components
+    → IsTrue (count == 0) ↔ ((x n : ℕ) → IsPlace l x n → IsWalkedAt l goals blocks (listed form) x n)
+omega_walked l goals blocks form e count f = (
+  (λ t x n place. absurd (let d : x < length l.components = place.declared in let z : count ≡ 0 = zero_from count t in omega arith)),
+  (λ h. by (zero_or_more count) h),
+)
+  where
+    zero_from : (n : ℕ) → (n == 0) ≡ true → n ≡ 0
+    zero_from n h = grind arith
+
+    zero_or_more : (n : ℕ) → ((n == 0) ≡ true) ⊎ (0 < n)
+    zero_or_more zero = inl refl
+    zero_or_more (suc n) = inr (omega arith)
+
+    by : ((count == 0) ≡ true) ⊎ (0 < count) → ((x n : ℕ) → IsPlace l x n → IsWalkedAt l goals blocks (listed form) x n) → IsTrue (count == 0)
+    by (inl z) h = z
+    by (inr m) h =
+        let w = subst (λ (ps : List TypePath). IsWalkedAt l goals blocks (listed ps) 0 0) e (h 0 0 (record { declared = omega arith; within = omega arith })) in
+        let b = w 0 [] (omega arith) in
+        absurd (let k : b.0 < 0 = b.1 in omega arith)
