@@ -1,4 +1,6 @@
+pub mod Cutting
 pub mod Depths
 pub mod Firsts
 pub mod Lists
+pub mod Refilling
 pub mod TypeOrders

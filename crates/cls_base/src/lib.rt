@@ -8,7 +8,7 @@
 //!   alone, and [`Key`] what serves as a key of a table.
 //! - [`Rule`] is one way in which a goal can be met, with goals for arguments. [`Goals`] and [`Rules`] are lists.
 //! - [`limits`] has the numbers that the language fixes.
-//! - [`Numbers`] is a list of numbers, and [`OutOfMemory`] what a call answers that found no memory.
+//! - [`Numbers`] is a list of numbers, [`NumberLists`] a list of such lists, and [`OutOfMemory`] what a call answers that found no memory.
 #![tactic(auto)]
 
 mod gate;
@@ -17,6 +17,7 @@ pub mod limits;
 mod measures;
 mod memory_sink;
 mod memory_source;
+mod number_lists;
 mod numbers;
 mod out_of_memory;
 mod rule;
@@ -31,6 +32,7 @@ pub use gate::{Gate, OpenGate};
 pub use key::Key;
 pub use memory_sink::MemorySink;
 pub use memory_source::MemorySource;
+pub use number_lists::NumberLists;
 pub use numbers::Numbers;
 pub use out_of_memory::OutOfMemory;
 pub use rule::{Goals, Rule, Rules};

@@ -3,10 +3,10 @@ ghost use Rattle.cls_base.specs.Terms.{Applicative, code_of};
 ghost use Rattle.cls_term.specs.Banks.{at};
 ghost use Rattle.cls_term.specs.Texts.{name_at, text_of};
 
+use crate::Term;
 use crate::code_text::write_term;
 use crate::decode::decode;
-use crate::{NumberLists, Term};
-use cls_base::OutOfMemory;
+use cls_base::{NumberLists, OutOfMemory};
 use cls_lexer::Names;
 use std::alloc::Global;
 use std::marker::Model;

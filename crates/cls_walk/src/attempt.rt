@@ -25,10 +25,10 @@ use crate::listing::list_size;
 use crate::plan::Plan;
 use crate::totals::size_of_cursor;
 use crate::walk::Walk;
-use cls_base::{Numbers, OutOfMemory};
+use cls_base::{NumberLists, Numbers, OutOfMemory};
 use cls_enum::Page;
 use cls_rulebook::RuleBook;
-use cls_term::{CodedTerms, NumberLists, Term};
+use cls_term::{CodedTerms, Term};
 use std::alloc::Global;
 
 /// What is left of the cursor where codes of this size are written, None where terms of this size come before it.

@@ -14,8 +14,7 @@ use crate::plan::Plan;
 use crate::scratch::Scratch;
 use crate::stack_set::has_empty;
 use crate::walk::Walk;
-use cls_base::OutOfMemory;
-use cls_term::NumberLists;
+use cls_base::{NumberLists, OutOfMemory};
 use std::alloc::Global;
 
 /// Lists the code so far, if no more is awaited by one of the stacks and it comes after the cursor. Nothing is left.

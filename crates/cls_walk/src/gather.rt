@@ -8,7 +8,7 @@ use crate::opening::{Opening, opening_of};
 use crate::plan::Plan;
 use crate::scratch::Scratch;
 use crate::stack_set::keep;
-use cls_term::NumberLists;
+use cls_base::NumberLists;
 
 /// Adds to the set from `first` on what is awaited behind a form, where these nodes are awaited behind the term.
 fn add_form(

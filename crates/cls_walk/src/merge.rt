@@ -10,7 +10,7 @@ use crate::numbers::number_in;
 use crate::opening::{Opening, opening_of};
 use crate::plan::Plan;
 use crate::stack_set::need_of;
-use cls_term::NumberLists;
+use cls_base::NumberLists;
 
 /// Whether codes that begin with the first opening come before those that begin with the second.
 fn is_before(first: Opening, second: Opening) -> bool

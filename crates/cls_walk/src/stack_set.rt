@@ -9,8 +9,7 @@ use crate::fault::WalkFault;
 use crate::least::number_of;
 use crate::numbers::plus;
 use crate::plan::Plan;
-use cls_base::Numbers;
-use cls_term::NumberLists;
+use cls_base::{NumberLists, Numbers};
 
 /// The most stacks of a set.
 const MOST_STACKS: usize = 64;

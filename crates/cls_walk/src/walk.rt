@@ -11,8 +11,7 @@ use crate::form::Form;
 use crate::least::{left_behind, number_of};
 use crate::numbers::number_in;
 use crate::plan::Plan;
-use cls_base::OutOfMemory;
-use cls_term::NumberLists;
+use cls_base::{NumberLists, OutOfMemory};
 use std::alloc::Global;
 
 /// The nodes of which terms are awaited, from the last to the next, the code so far, and the codes that are listed.

@@ -1,6 +1,7 @@
-ghost use Rattle.std.specs.Prelude.{◌≡◌, ◌<◌, ◌≤◌, [], ◌∷◌, ◌++◌, length, take, slice_index, slice_index_or, OnOk, OnErr};
+ghost use Rattle.std.specs.List.{concat};
+ghost use Rattle.std.specs.Prelude.{◌≡◌, ℕ, ◌<◌, ◌≤◌, [], ◌∷◌, ◌++◌, length, map, take, slice_index, slice_index_or, IfOk, OnOk, OnErr};
 
-use cls_base::OutOfMemory;
+use crate::OutOfMemory;
 use std::alloc::Global;
 use std::marker::Model;
 
@@ -9,12 +10,12 @@ use std::marker::Model;
 #[derive(Drop)]
 pub struct NumberLists {
     numbers: Vec<u32>,
-    ends: Vec<usize>,
+    ends: Vec<u32>,
 }
 
 impl Model for NumberLists {
     ghost use Rattle.std.specs.Prelude.{ℕ, List, length};
-    ghost use Rattle.cls_term.specs.Cuts.{cut, AreEnds};
+    ghost use Rattle.cls_base.specs.Cuts.{cut, AreEnds};
 
     ghost Value = { List (List ℕ) };
 
@@ -34,6 +35,36 @@ impl NumberLists {
         }
     }
 
+    /// The same lists once more. The only error is out of memory.
+    pub fn copy(&self, alloc: Global) -> Result<NumberLists, OutOfMemory>
+        ensures { IfOk result (λ l. l ≡ self.now) }
+    {
+        Ok(NumberLists {
+            numbers: Vec::from_slice(alloc, self.numbers.as_slice())?,
+            ends: Vec::from_slice(alloc, self.ends.as_slice())?,
+        })
+    }
+
+    /// Lists of the same lengths, which have these numbers in place of their own. The only error is out of memory.
+    #[tactic(auto, using(crate::proofs::Cutting::cuts))]
+    pub fn with_numbers(&self, alloc: Global, numbers: Vec<u32>) -> Result<NumberLists, OutOfMemory>
+        requires { length numbers.items ≡ length (concat self.now) }
+        ensures lengths { IfOk result (λ lists. map length lists ≡ map length self.now) }
+        ensures mapped { IfOk result (λ lists.
+            (f : ℕ → ℕ) → numbers.items ≡ map f (concat self.now) → lists ≡ map (map f) self.now) }
+    {
+        let ends = Vec::from_slice(alloc, self.ends.as_slice())?;
+        Ok(NumberLists { numbers, ends })
+    }
+
+    /// All numbers, list after list.
+    #[tactic(auto, using(crate::proofs::Cutting::cuts))]
+    pub fn numbers(&self) -> &[u32]
+        ensures { result.now ≡ concat self.now }
+    {
+        self.numbers.as_slice()
+    }
+
     /// The number of lists.
     #[tactic(auto, using(crate::proofs::Cutting::cuts))]
     pub fn len(&self) -> usize
@@ -42,15 +73,19 @@ impl NumberLists {
         self.ends.len()
     }
 
-    /// Adds a list at the end. The only error is out of memory, and then the lists are as before.
+    /// Adds a list at the end. The only error is out of memory, and then the lists are as before. Where they would hold
+    /// more numbers than a `u32` counts, that is out of memory too.
     #[tactic(auto, using(crate::proofs::Cutting::cuts))]
     pub fn push(&mut self, list: &[u32]) -> Result<(), OutOfMemory>
         ensures ok { OnOk result (self.new ≡ self.old ++ list.now ∷ []) }
         ensures err { OnErr result (self.new ≡ self.old) }
     {
+        let Ok(end) = u32::try_from(self.numbers.len() + list.len()) else {
+            return Err(OutOfMemory);
+        };
         self.ends.reserve(1)?;
         self.numbers.extend_from_slice(list)?;
-        self.ends.push(self.numbers.len())?;
+        self.ends.push(end)?;
         Ok(())
     }
 
@@ -61,7 +96,7 @@ impl NumberLists {
         ensures { result.now ≡ slice_index_or self.now place [] }
     {
         let start = start_of(self.ends.as_slice(), place);
-        &self.numbers[start..self.ends[place]]
+        &self.numbers[start..self.ends[place] as usize]
     }
 
     /// Keeps the first lists, no more than so many.
@@ -78,9 +113,13 @@ impl NumberLists {
 }
 
 /// Where the list at the place begins, which is where the one before it ends.
-fn start_of(ends: &[usize], place: usize) -> usize
+fn start_of(ends: &[u32], place: usize) -> usize
     requires { place ≤ length ends.now }
     ensures { result ≡ slice_index (0 ∷ ends.now) place }
 {
-    if place == 0 { 0 } else { ends[place - 1] }
+    if place == 0 {
+        0
+    } else {
+        ends[place - 1] as usize
+    }
 }

@@ -1,7 +1,7 @@
 -- Lists that are cut from one column of numbers.
 use Rattle.std.proofs.Common.{◌≡◌, ℕ, zero, suc, ◌+◌, ◌-◌, ◌<◌, ◌≤◌, List, [], ◌∷◌, ◌++◌, length, length-append, take, drop, get_or, refl, sym, ap, ◌∙◌, subst, arith}
 use Rattle.std.specs.Prelude.{slice_index, slice_index_or}
-use Rattle.cls_term.specs.Cuts.{cut, AreEnds}
+use Rattle.cls_base.specs.Cuts.{cut, AreEnds}
 
 pub length-cut : (ns : List ℕ) (start : ℕ) (ends : List ℕ) → length (cut ns start ends) ≡ length ends
 length-cut ns start [] = refl

@@ -1,7 +1,7 @@
 use Rattle.std.proofs.Common.{◌<◌, ℕ, List, ap, arith, length, ◌∷◌}
 use Rattle.std.specs.Prelude.{slice_index}
-use Rattle.cls_term.proofs.Cutting.{ends-at, length-cut, place-at}
-use Rattle.cls_term.proofs.number_lists.NumberLists.get.Goals as goal
+use Rattle.cls_base.proofs.Cutting.{ends-at, length-cut, place-at}
+use Rattle.cls_base.proofs.number_lists.NumberLists.get.Goals as goal
 
 pub slice_bounds-result-count : goal.slice_bounds-result-count
 slice_bounds-result-count c =
