@@ -8,7 +8,8 @@ use Rattle.std.proofs.lemmas.List.Sums.{position_or_len_is}
 use Rattle.indexmap.specs.IndexSet.{insert_key, insert_all}
 use Rattle.cls_core.specs.Adding.{GoesOn}
 use Rattle.cls_core.specs.Numbers.{numbers_from, rule_from, rules_from, answer_from}
-use Rattle.cls_core.specs.Arguments.{arguments_of_rule, arguments_in, arguments_of, map_rule, map_answer, rule_count}
+use Rattle.cls_core.specs.Arguments.{arguments_of, map_answer, rule_count}
+use Rattle.cls_rulebook.specs.Arguments.{arguments_of_rule, arguments_in, map_rule}
 use Rattle.cls_base.specs.declared.rule.Rule.{Rule}
 use Rattle.cls_base.specs.declared.rule.Rule.TheVariants.{Head, Any}
 use Rattle.cls_core.specs.declared.answer.Answer.{Answer}

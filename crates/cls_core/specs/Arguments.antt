@@ -1,21 +1,11 @@
--- The goals that rules and answers have for arguments.
-use Rattle.std.specs.Prelude.{◌≡◌, ℕ, All, List, [], ◌∷◌, ◌++◌, length, map}
+-- The goals that answers have for arguments.
+use Rattle.std.specs.Prelude.{◌≡◌, ℕ, All, List, [], length, map}
 use Rattle.cls_base.specs.declared.rule.Rule.{Rule}
-use Rattle.cls_base.specs.declared.rule.Rule.TheVariants.{Head, Any}
+use Rattle.cls_rulebook.specs.Arguments.{arguments_in, map_rule}
 use Rattle.cls_core.specs.declared.answer.Answer.{Answer}
 use Rattle.cls_core.specs.declared.answer.Answer.TheVariants.{Rules, Wide}
 
 module _ {G : Type 0} where
-  -- the arguments of a rule, in their order
-  abbrev pub arguments_of_rule : Rule G → List G
-  arguments_of_rule (Head component args) = args
-  arguments_of_rule (Any left right) = left ∷ right ∷ []
-
-  -- the arguments of rules, in the order of rules and of arguments within a rule
-  abbrev pub arguments_in : List (Rule G) → List G
-  arguments_in [] = []
-  arguments_in (r ∷ rs) = arguments_of_rule r ++ arguments_in rs
-
   -- the rules of an answer: a wide one has none
   abbrev pub rules_of : Answer G → List (Rule G)
   rules_of (Rules rs) = rs
@@ -40,12 +30,7 @@ ArgumentsAreReady {G} IsReady IsAnswer =
     (g : G) (a : Answer G) → IsReady g → IsAnswer g a → All IsReady (arguments_of a)
 
 module _ {G H : Type 0} (f : G → H) where
-  -- the rule with f of each goal in the goal's place
-  abbrev pub map_rule : Rule G → Rule H
-  map_rule (Head component args) = Head component (map f args)
-  map_rule (Any left right) = Any (f left) (f right)
-
   -- the answer with f of each goal in the goal's place
   abbrev pub map_answer : Answer G → Answer H
-  map_answer (Rules rs) = Rules (map map_rule rs)
+  map_answer (Rules rs) = Rules (map (map_rule f) rs)
   map_answer Wide = Wide

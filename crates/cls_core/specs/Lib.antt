@@ -2,6 +2,7 @@ pub mod Adding
 pub mod Arguments
 pub mod Canonical
 pub mod Closure
+pub mod Columns
 pub mod Consistency
 pub mod Finishing
 pub mod Grammar

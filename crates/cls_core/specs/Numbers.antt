@@ -3,7 +3,7 @@
 use Rattle.std.specs.Prelude.{ℕ, Bool, List, [], ◌∷◌}
 use Rattle.std.specs.List.{position_or_len}
 use Rattle.indexmap.specs.IndexSet.{insert_key, insert_all}
-use Rattle.cls_core.specs.Arguments.{arguments_of_rule}
+use Rattle.cls_rulebook.specs.Arguments.{arguments_of_rule}
 use Rattle.cls_base.specs.declared.rule.Rule.{Rule}
 use Rattle.cls_base.specs.declared.rule.Rule.TheVariants.{Head, Any}
 use Rattle.cls_core.specs.declared.answer.Answer.{Answer}

@@ -3,8 +3,8 @@ ghost use Rattle.cls_core.specs.Closure.{goals_of};
 ghost use Rattle.cls_core.specs.Machine.{EachFiled};
 ghost use Rattle.cls_core.specs.Rows.{answers_in};
 
-use crate::answer::Answer;
 use crate::entry::History;
+use crate::node_answer::NodeAnswer;
 use crate::state::RowState;
 use cls_base::{Key, OutOfMemory};
 use indexmap::IndexSet;
@@ -61,7 +61,7 @@ impl<G: Key + Drop> Rows<G> {
     }
 
     /// The row's answer, whose goals are numbers of rows.
-    pub fn answer(&self, row: u32) -> &Answer<u32>
+    pub fn answer(&self, row: u32) -> &NodeAnswer
         requires { row < length self.now }
         ensures { option_map (λ (r : Row G). r.answer) (slice_get self.now row) ≡ Some result.now }
     {
@@ -72,7 +72,7 @@ impl<G: Key + Drop> Rows<G> {
     }
 
     /// The goals of the rows, and their answers beside them. The only error is out of memory.
-    pub fn into_parts(self, alloc: Global) -> Result<(IndexSet<G>, Vec<Answer<u32>>), OutOfMemory>
+    pub fn into_parts(self, alloc: Global) -> Result<(IndexSet<G>, Vec<NodeAnswer>), OutOfMemory>
         ensures goals { IfOk result (λ parts. parts.0.keys ≡ goals_of self) }
         ensures answers { IfOk result (λ parts. parts.1.items ≡ map (λ (r : Row G). r.answer) self) }
     {
@@ -83,7 +83,7 @@ impl<G: Key + Drop> Rows<G> {
 }
 
 /// The answers of the states that are filed.
-fn answers_of(alloc: Global, states: Vec<RowState>) -> Result<Vec<Answer<u32>>, OutOfMemory>
+fn answers_of(alloc: Global, states: Vec<RowState>) -> Result<Vec<NodeAnswer>, OutOfMemory>
     ensures { IfOk result (λ answers. answers.items ≡ answers_in states.items) }
 {
     let mut answers = Vec::with_capacity(alloc, states.len())?;

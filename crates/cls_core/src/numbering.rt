@@ -1,15 +1,17 @@
 //! An answer's goals as numbers of rows. Each goal that has no row yet is put behind those that have one, as long as there
 //! are no more rows than there may be. A row that is there stays.
-ghost use Rattle.std.specs.Prelude.{◌≡◌, ◌<◌, ◌≤◌, IfOk, OnErr, IfNone, IfSome, length};
+ghost use Rattle.std.specs.Prelude.{◌≡◌, ◌<◌, ◌≤◌, [], ◌∷◌, ◌++◌, IfOk, OnErr, IfNone, IfSome, length};
 ghost use Rattle.std.specs.List.{position_or_len};
 ghost use Rattle.indexmap.specs.IndexSet.{insert_key, insert_all};
 ghost use Rattle.cls_core.specs.Adding.{GoesOn};
-ghost use Rattle.cls_core.specs.Arguments.{arguments_of_rule, arguments_in};
+ghost use Rattle.cls_rulebook.specs.Arguments.{arguments_of_rule, arguments_in};
 ghost use Rattle.cls_core.specs.Machine.{grown};
 ghost use Rattle.cls_core.specs.Numbers.{numbers_from, rule_from, rules_from, answer_from};
 
 use crate::answer::Answer;
-use cls_base::{Goals, Key, OutOfMemory, Rule, Rules};
+use crate::node_answer::NodeAnswer;
+use cls_base::{Key, OutOfMemory, Rule};
+use cls_rulebook::{NodeRules, RuleRef};
 use indexmap::IndexSet;
 use std::alloc::Global;
 
@@ -41,46 +43,56 @@ fn number_goal<G: Key + Drop>(
     Ok(Some(row as u32))
 }
 
-// The numbers of goals, one after the other. None comes if and only if there would be too many rows.
+// The numbers of goals, one after the other, in place of those that the list had. None comes if and only if there would
+// be too many rows.
 #[tactic(auto, using(crate::proofs::Insertion::goes_same, crate::proofs::Insertion::goes_on))]
 fn number_goals<G: Key + Drop>(
     alloc: Global,
     rows: &mut IndexSet<G>,
     most: u32,
     goals: &[G],
-) -> Result<Option<Goals<u32>>, OutOfMemory>
+    numbers: &mut Vec<u32>,
+) -> Result<Option<()>, OutOfMemory>
     requires { length rows.old.keys ≤ most }
     ensures added { IfOk result (λ r. IfSome r (λ _. rows.new.keys ≡ insert_all G.eq rows.old.keys goals.now)) }
-    ensures numbers { IfOk result (λ r. IfSome r (λ n.
-        n ≡ numbers_from G.eq rows.old.keys goals.now)) }
+    ensures numbers { IfOk result (λ r. IfSome r (λ _.
+        numbers.new.items ≡ numbers_from G.eq rows.old.keys goals.now)) }
     ensures few { IfOk result (λ r. IfSome r (λ _. length rows.new.keys ≤ most)) }
     ensures many { IfOk result (λ r. IfNone r
         (most < length (insert_all G.eq rows.old.keys goals.now))) }
     ensures front { GoesOn rows.old.keys rows.new.keys }
 {
-    let mut numbers = Vec::with_capacity(alloc, goals.len())?;
+    numbers.clear();
     for goal in goals {
         let Some(number) = number_goal(alloc, rows, most, goal)? else {
             return Ok(None);
         };
         numbers.push(number)?;
     }
-    Ok(Some(Goals::new(numbers)))
+    Ok(Some(()))
 }
 
-// A rule in numbers. None comes if and only if there would be too many rows.
+/// Rules in numbers, and a list to put the arguments of one rule together in.
+#[derive(Drop)]
+struct Numbered {
+    rules: NodeRules,
+    arguments: Vec<u32>,
+}
+
+// Puts a rule in numbers behind the others. None comes if and only if there would be too many rows.
 #[tactic(auto, using(crate::proofs::Insertion::goes_same, crate::proofs::Insertion::goes_on))]
 fn number_rule<G: Key + Drop>(
     alloc: Global,
     rows: &mut IndexSet<G>,
     most: u32,
     rule: &Rule<G>,
-) -> Result<Option<Rule<u32>>, OutOfMemory>
+    numbered: &mut Numbered,
+) -> Result<Option<()>, OutOfMemory>
     requires { length rows.old.keys ≤ most }
     ensures added { IfOk result (λ r. IfSome r (λ _.
         rows.new.keys ≡ insert_all G.eq rows.old.keys (arguments_of_rule rule.now))) }
-    ensures numbers { IfOk result (λ r. IfSome r (λ n.
-        n ≡ rule_from G.eq rows.old.keys rule.now)) }
+    ensures numbers { IfOk result (λ r. IfSome r (λ _.
+        numbered.new.rules ≡ numbered.old.rules ++ rule_from G.eq rows.old.keys rule.now ∷ [])) }
     ensures few { IfOk result (λ r. IfSome r (λ _. length rows.new.keys ≤ most)) }
     ensures many { IfOk result (λ r. IfNone r
         (most
@@ -89,11 +101,20 @@ fn number_rule<G: Key + Drop>(
 {
     match rule {
         Rule::Head { component, args } => {
-            let Some(args) = number_goals(alloc, rows, most, args.as_slice())? else {
+            let Some(()) = number_goals(
+                alloc,
+                rows,
+                most,
+                args.as_slice(),
+                &mut numbered.arguments,
+            )?
+            else {
                 return Ok(None);
             };
-            let component = *component;
-            Ok(Some(Rule::Head { component, args }))
+            numbered.rules.push(RuleRef::Head {
+                component: *component,
+                args: numbered.arguments.as_slice(),
+            })?;
         }
         Rule::Any { left, right } => {
             let Some(left) = number_goal(alloc, rows, most, left)? else {
@@ -102,9 +123,10 @@ fn number_rule<G: Key + Drop>(
             let Some(right) = number_goal(alloc, rows, most, right)? else {
                 return Ok(None);
             };
-            Ok(Some(Rule::Any { left, right }))
+            numbered.rules.push(RuleRef::Any { left, right })?;
         }
     }
+    Ok(Some(()))
 }
 
 // Rules in numbers, one after the other. None comes if and only if there would be too many rows.
@@ -114,7 +136,7 @@ fn number_rules<G: Key + Drop>(
     rows: &mut IndexSet<G>,
     most: u32,
     rules: &[Rule<G>],
-) -> Result<Option<Rules<u32>>, OutOfMemory>
+) -> Result<Option<NodeRules>, OutOfMemory>
     requires { length rows.old.keys ≤ most }
     ensures added { IfOk result (λ r. IfSome r (λ _.
         rows.new.keys ≡ insert_all G.eq rows.old.keys (arguments_in rules.now))) }
@@ -125,14 +147,16 @@ fn number_rules<G: Key + Drop>(
     ensures few { IfOk result (λ r. IfSome r (λ _. length rows.new.keys ≤ most)) }
     ensures front { GoesOn rows.old.keys rows.new.keys }
 {
-    let mut numbered = Vec::with_capacity(alloc, rules.len())?;
+    let mut numbered = Numbered {
+        rules: NodeRules::new(alloc),
+        arguments: Vec::new(alloc),
+    };
     for rule in rules {
-        let Some(number) = number_rule(alloc, rows, most, rule)? else {
+        let Some(()) = number_rule(alloc, rows, most, rule, &mut numbered)? else {
             return Ok(None);
         };
-        numbered.push(number)?;
     }
-    Ok(Some(Rules::new(numbered)))
+    Ok(Some(numbered.rules))
 }
 
 // An answer in numbers. None comes if and only if there would be too many rows.
@@ -142,7 +166,7 @@ fn number_answer<G: Key + Drop>(
     rows: &mut IndexSet<G>,
     most: u32,
     answer: &Answer<G>,
-) -> Result<Option<Answer<u32>>, OutOfMemory>
+) -> Result<Option<NodeAnswer>, OutOfMemory>
     requires { length rows.old.keys ≤ most }
     ensures added { IfOk result (λ r. IfSome r (λ _.
         rows.new.keys ≡ grown G.eq rows.old.keys answer.now)) }
@@ -159,9 +183,9 @@ fn number_answer<G: Key + Drop>(
             let Some(rules) = number_rules(alloc, rows, most, rules.as_slice())? else {
                 return Ok(None);
             };
-            Ok(Some(Answer::Rules(rules)))
+            Ok(Some(NodeAnswer::new(rules)))
         }
-        Answer::Wide => Ok(Some(Answer::Wide)),
+        Answer::Wide => Ok(Some(NodeAnswer::wide())),
     }
 }
 
@@ -173,7 +197,7 @@ pub(crate) fn number_whole<G: Key + Drop>(
     rows: &mut IndexSet<G>,
     most: u32,
     answer: &Answer<G>,
-) -> Result<Option<Answer<u32>>, OutOfMemory>
+) -> Result<Option<NodeAnswer>, OutOfMemory>
     requires { length rows.old.keys ≤ most }
     ensures added { IfOk result (λ r. IfSome r (λ _. rows.new.keys ≡ grown G.eq rows.old.keys answer.now)) }
     ensures numbers { IfOk result (λ r. IfSome r (λ n. n ≡ answer_from G.eq rows.old.keys answer.now)) }

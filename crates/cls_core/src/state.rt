@@ -1,4 +1,4 @@
-use crate::answer::Answer;
+use crate::node_answer::NodeAnswer;
 
 /// How far the work on a row has come.
 #[derive(Drop)]
@@ -8,5 +8,5 @@ pub enum RowState {
     /// This worker does.
     Held(u32),
     /// The work is done. The goals of the answer are numbers of rows.
-    Filed(Answer<u32>),
+    Filed(NodeAnswer),
 }

@@ -10,7 +10,7 @@ ghost use Rattle.cls_expand.specs.Memos.{placed, newcomers, rules_together};
 
 use crate::renumbering::renumber_answer;
 use cls_base::{Key, OutOfMemory};
-use cls_core::{Answer, Rows};
+use cls_core::{NodeAnswer, Rows};
 use indexmap::IndexSet;
 use std::alloc::Global;
 
@@ -18,7 +18,7 @@ use std::alloc::Global;
 #[derive(Drop)]
 pub(crate) struct Additions<G: Key + Drop> {
     pub(crate) goals: IndexSet<G>,
-    pub(crate) answers: Vec<Answer<u32>>,
+    pub(crate) answers: Vec<NodeAnswer>,
 }
 
 /// The number of a goal. It is added unless it is among the goals or those that were added before.
@@ -64,7 +64,7 @@ fn new_answers<G: Key + Drop>(
     goals: &IndexSet<G>,
     rows: &Rows<G>,
     numbers: &[u32],
-) -> Result<Vec<Answer<u32>>, OutOfMemory>
+) -> Result<Vec<NodeAnswer>, OutOfMemory>
     requires numbers { numbers.now ≡ numbers_from G.eq goals.now.keys (goals_of rows.now) }
     requires room { length (insert_all G.eq goals.now.keys (goals_of rows.now)) < 2 ^ 32 }
     ensures { IfOk result (λ answers. answers.items

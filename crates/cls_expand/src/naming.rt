@@ -1,9 +1,12 @@
 //! Goals in place of the numbers of an answer.
 ghost use Rattle.std.specs.Prelude.{◌≡◌, IfOk, map, slice_index_or};
-ghost use Rattle.cls_core.specs.Arguments.{map_rule, map_answer};
+ghost use Rattle.cls_core.specs.Arguments.{map_answer};
+ghost use Rattle.cls_rulebook.specs.Arguments.{map_rule};
+ghost use Rattle.cls_rulebook.specs.Columns.{rule_of};
 
 use cls_base::{Goals, Key, OutOfMemory, Rule, Rules};
-use cls_core::Answer;
+use cls_core::{Answer, NodeAnswer};
+use cls_rulebook::{NodeRules, RuleRef};
 use std::alloc::Global;
 
 /// A copy of the goal with this number, or of the other goal if there is none.
@@ -32,18 +35,18 @@ fn name_rule<G: Key + Drop>(
     alloc: Global,
     goals: &[G],
     other: &G,
-    rule: &Rule<u32>,
+    rule: RuleRef<'_>,
 ) -> Result<Rule<G>, OutOfMemory>
-    ensures { IfOk result (λ named. named ≡ map_rule (λ i. slice_index_or goals.now i other.now) rule.now) }
+    ensures { IfOk result (λ named. named ≡ map_rule (λ i. slice_index_or goals.now i other.now) (rule_of rule.entry)) }
 {
     match rule {
-        Rule::Head { component, args } => Ok(Rule::Head {
-            component: *component,
-            args: name_goals(alloc, goals, other, args.as_slice())?,
+        RuleRef::Head { component, args } => Ok(Rule::Head {
+            component,
+            args: name_goals(alloc, goals, other, args)?,
         }),
-        Rule::Any { left, right } => Ok(Rule::Any {
-            left: name(alloc, goals, other, *left)?,
-            right: name(alloc, goals, other, *right)?,
+        RuleRef::Any { left, right } => Ok(Rule::Any {
+            left: name(alloc, goals, other, left)?,
+            right: name(alloc, goals, other, right)?,
         }),
     }
 }
@@ -52,13 +55,13 @@ fn name_rules<G: Key + Drop>(
     alloc: Global,
     goals: &[G],
     other: &G,
-    rules: &[Rule<u32>],
+    rules: &NodeRules,
 ) -> Result<Rules<G>, OutOfMemory>
     ensures { IfOk result (λ named. named ≡ map (map_rule (λ i. slice_index_or goals.now i other.now)) rules.now) }
 {
     let mut named = Vec::with_capacity(alloc, rules.len())?;
-    for rule in rules {
-        named.push(name_rule(alloc, goals, other, rule)?)?;
+    for place in 0..rules.len() {
+        named.push(name_rule(alloc, goals, other, rules.get(place))?)?;
     }
     Ok(Rules::new(named))
 }
@@ -69,17 +72,12 @@ pub(crate) fn name_answer<G: Key + Drop>(
     alloc: Global,
     goals: &[G],
     other: &G,
-    answer: &Answer<u32>,
+    answer: &NodeAnswer,
 ) -> Result<Answer<G>, OutOfMemory>
     ensures { IfOk result (λ named. named ≡ map_answer (λ i. slice_index_or goals.now i other.now) answer.now) }
 {
-    match answer {
-        Answer::Rules(rules) => Ok(Answer::Rules(name_rules(
-            alloc,
-            goals,
-            other,
-            rules.as_slice(),
-        )?)),
-        Answer::Wide => Ok(Answer::Wide),
+    match answer.rules() {
+        Some(rules) => Ok(Answer::Rules(name_rules(alloc, goals, other, rules)?)),
+        None => Ok(Answer::Wide),
     }
 }

@@ -5,7 +5,7 @@ use crate::additions::Additions;
 use crate::memo::Memo;
 use crate::naming::name_answer;
 use cls_base::OutOfMemory;
-use cls_core::{Answer, Expand, Rows};
+use cls_core::{Answer, Expand, NodeAnswer, Rows};
 use indexmap::IndexSet;
 use std::alloc::Global;
 use std::marker::Model;
@@ -23,7 +23,7 @@ pub struct Store<E: Expand> {
     by: Snapshot<E>,
     goals: IndexSet<E::Goal>,
     // The answer of each goal.
-    answers: Vec<Answer<u32>>,
+    answers: Vec<NodeAnswer>,
 }
 
 impl<E: Expand> Model for Store<E> {
@@ -38,7 +38,7 @@ impl<E: Expand> Model for Store<E> {
 }
 
 /// The number of rules of the answers together.
-fn count_rules(answers: &[Answer<u32>]) -> u64
+fn count_rules(answers: &[NodeAnswer]) -> u64
     requires { rules_together answers.now < 2 ^ 64 }
     ensures { result ≡ rules_together answers.now }
 {

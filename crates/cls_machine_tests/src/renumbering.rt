@@ -3,7 +3,8 @@ ghost use Rattle.std.specs.Prelude.{◌<◌};
 
 use crate::heap::Node;
 use cls_base::OutOfMemory;
-use cls_core::{Answer, Rows, Rule};
+use cls_core::Rows;
+use cls_rulebook::RuleRef;
 use indexmap::IndexSet;
 use std::alloc::Global;
 
@@ -12,20 +13,20 @@ use std::alloc::Global;
 fn add_rule(
     seen: &mut IndexSet<u32>,
     code: &mut Vec<usize>,
-    rule: &Rule<u32>,
+    rule: RuleRef<'_>,
 ) -> Result<(), OutOfMemory> {
     match rule {
-        Rule::Head { component, args } => {
-            code.push(*component as usize)?;
-            for row in args.as_slice() {
+        RuleRef::Head { component, args } => {
+            code.push(component as usize)?;
+            for row in args {
                 let (number, _) = seen.insert_full(*row)?;
                 code.push(number)?;
             }
         }
-        Rule::Any { left, right } => {
-            let (left, _) = seen.insert_full(*left)?;
+        RuleRef::Any { left, right } => {
+            let (left, _) = seen.insert_full(left)?;
             code.push(left)?;
-            let (right, _) = seen.insert_full(*right)?;
+            let (right, _) = seen.insert_full(right)?;
             code.push(right)?;
         }
     }
@@ -43,9 +44,9 @@ fn add_row(
         return Ok(());
     }
     code.push(rows.goal(row).id as usize)?;
-    if let Answer::Rules(rules) = rows.answer(row) {
-        for rule in rules.as_slice() {
-            add_rule(seen, code, rule)?;
+    if let Some(rules) = rows.answer(row).rules() {
+        for place in 0..rules.len() {
+            add_rule(seen, code, rules.get(place))?;
         }
     }
     Ok(())

@@ -2,8 +2,8 @@ ghost use Rattle.std.specs.Prelude.{◌≡◌, ℕ, IfOk, map, ◌++◌, ◌∷�
 ghost use Rattle.cls_base.specs.declared.rule.Rule.{Rule};
 ghost use Rattle.cls_rulebook.specs.Books.{omega_book, omega_rules, heads};
 
-use crate::RuleBook;
-use cls_base::{Goals, OutOfMemory, Rule};
+use crate::{NodeRules, RuleBook, RuleRef};
+use cls_base::OutOfMemory;
 use std::alloc::Global;
 use std::marker::Model;
 
@@ -12,7 +12,7 @@ use std::marker::Model;
 #[derive(Drop)]
 pub struct OmegaBook {
     components: u32,
-    rules: Vec<Rule<u32>>,
+    rules: NodeRules,
 }
 
 impl Model for OmegaBook {
@@ -23,7 +23,7 @@ impl Model for OmegaBook {
 
     ghost view = { λ b. b.components };
 
-    ghost invariant = { λ b. b.rules.items ≡ omega_rules b.components };
+    ghost invariant = { λ b. b.rules ≡ omega_rules b.components };
 }
 
 impl OmegaBook {
@@ -32,7 +32,7 @@ impl OmegaBook {
         ensures { IfOk result (λ book. book ≡ components) }
     {
         let mut rules = head_rules(alloc, components)?;
-        rules.push(Rule::Any { left: 0, right: 0 })?;
+        rules.push(RuleRef::Any { left: 0, right: 0 })?;
         Ok(OmegaBook { components, rules })
     }
 }
@@ -44,21 +44,21 @@ impl RuleBook for OmegaBook {
         1
     }
 
-    fn rules(&self, i: u32) -> &[Rule<u32>] {
-        self.rules.as_slice()
+    fn rules(&self, i: u32) -> &NodeRules {
+        &self.rules
     }
 }
 
 /// A rule for each component alone.
 #[tactic(auto, using(crate::proofs::Books::rule_lists))]
-fn head_rules(alloc: Global, components: u32) -> Result<Vec<Rule<u32>>, OutOfMemory>
-    ensures { IfOk result (λ rules. rules.items ≡ heads components) }
+fn head_rules(alloc: Global, components: u32) -> Result<NodeRules, OutOfMemory>
+    ensures { IfOk result (λ rules. rules ≡ heads components) }
 {
-    let mut rules = Vec::new(alloc);
+    let mut rules = NodeRules::new(alloc);
     for component in 0..components {
-        rules.push(Rule::Head {
+        rules.push(RuleRef::Head {
             component,
-            args: Goals::new(Vec::new(alloc)),
+            args: &[],
         })?;
     }
     Ok(rules)

@@ -3,7 +3,7 @@ ghost use Rattle.cls_base.specs.declared.rule.Rule.{Rule};
 ghost use Rattle.cls_base.specs.Languages.{rules_at};
 ghost use Rattle.cls_rulebook.specs.Books.{HaveNodesBelow};
 
-use cls_base::Rule;
+use crate::NodeRules;
 
 /// The rules of the nodes 0, 1 and so on, of which node 0 is the start. The arguments of a rule are nodes.
 pub trait RuleBook {
@@ -16,7 +16,7 @@ pub trait RuleBook {
         ensures some { 1 ≤ result };
 
     /// The rules of a node. Each argument of a rule is a node of the book.
-    fn rules(&self, i: u32) -> &[Rule<u32>]
+    fn rules(&self, i: u32) -> &NodeRules
         requires { i < length (book self.now) }
         ensures rules { result.now ≡ rules_at (book self.now) i }
         ensures within { HaveNodesBelow (length (book self.now)) (rules_at (book self.now) i) };

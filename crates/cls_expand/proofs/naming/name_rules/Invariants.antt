@@ -1,7 +1,7 @@
 use Rattle.std.proofs.Common.{◌≡◌, map, take, slice_index_or}
-use Rattle.cls_core.specs.Arguments.{map_rule}
+use Rattle.cls_rulebook.specs.Arguments.{map_rule}
 use Rattle.cls_expand.proofs.naming.name_rules.Given as goal
 
-abbrev pub invariant-loop-rule : goal.invariant-loop-rule
-invariant-loop-rule g l =
-    l.named.items ≡ map (map_rule (λ i. slice_index_or l.goals i l.other)) (take l.rule-index l.rules)
+abbrev pub invariant-loop-place : goal.invariant-loop-place
+invariant-loop-place g l =
+    l.named.items ≡ map (map_rule (λ i. slice_index_or l.goals i l.other)) (take l.place l.rules)

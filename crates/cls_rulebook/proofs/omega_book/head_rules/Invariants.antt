@@ -3,4 +3,4 @@ use Rattle.cls_rulebook.specs.Books.{heads}
 use Rattle.cls_rulebook.proofs.omega_book.head_rules.Given as goal
 
 abbrev pub invariant-loop-component : goal.invariant-loop-component
-invariant-loop-component l = l.rules.items ≡ heads l.component
+invariant-loop-component l = l.rules ≡ heads l.component

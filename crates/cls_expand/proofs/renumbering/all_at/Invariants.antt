@@ -1,5 +1,5 @@
 use Rattle.std.proofs.Common.{◌≡◌, map, take, slice_index_or}
-use Rattle.cls_expand.proofs.renumbering.renumber_goals.Given as goal
+use Rattle.cls_expand.proofs.renumbering.all_at.Given as goal
 
 abbrev pub invariant-loop-place : goal.invariant-loop-place
 invariant-loop-place l = l.found.items ≡ map (λ i. slice_index_or l.numbers i 0) (take l.place-index l.places)

@@ -1,0 +1,16 @@
+use Rattle.std.proofs.Common.{ℕ, [], ◌∷◌, ◌++◌, slice_index_or, ap, sym, ◌∙◌}
+use Rattle.std.proofs.lemmas.List.{map_more}
+use Rattle.std.proofs.lemmas.Option.{get_or_from_slice_get, slice_get_within}
+use Rattle.cls_rulebook.specs.Arguments.{map_rule}
+use Rattle.cls_rulebook.specs.Columns.{rule_of}
+use Rattle.cls_expand.proofs.naming.name_rules.Goals as goal
+
+pub loop-place-preserved : goal.loop-place-preserved
+loop-place-preserved g c =
+    let rs = c.args.rules.now in
+    let i = c.loop-place.place in
+    let q = rule_of c.get.result in
+    let f = λ (n : ℕ). slice_index_or c.args.goals.now n c.args.other.now in
+    let next = map_more (map_rule f) rs i q (slice_get_within rs i q c.get.ensures) in
+    let named = c.in_ok-name_rule.ensures ∙ ap (map_rule f) (sym (get_or_from_slice_get rs i q q c.get.ensures)) in
+    c.in_ok-push.ensures.items ∙ ((λ j. c.loop-place.invariant j ++ named j ∷ []) ∙ sym next)

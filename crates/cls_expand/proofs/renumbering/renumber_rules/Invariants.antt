@@ -1,7 +1,0 @@
-use Rattle.std.proofs.Common.{◌≡◌, map, take, slice_index_or}
-use Rattle.cls_core.specs.Arguments.{map_rule}
-use Rattle.cls_expand.proofs.renumbering.renumber_rules.Given as goal
-
-abbrev pub invariant-loop-rule : goal.invariant-loop-rule
-invariant-loop-rule l =
-    l.found.items ≡ map (map_rule (λ i. slice_index_or l.numbers i 0)) (take l.rule-index l.rules)
