@@ -1,8 +1,9 @@
 -- Plans as they are first made, and their rules.
 use Rattle.std.proofs.Common.{◌≡◌, ℕ, zero, suc, ◌+◌, ◌<◌, List, [], ◌∷◌, ◌++◌, length, map, take, get_or, refl, sym, ap, ◌∙◌, inl, inr, arith, min}
-use Rattle.std.specs.Prelude.{slice_index}
+use Rattle.std.specs.Prelude.{Some, slice_get, slice_index}
 use Rattle.std.proofs.lemmas.List.{take_more, map-append, length-map}
 use Rattle.std.proofs.lemmas.Bool.{cases_lt}
+use Rattle.std.proofs.lemmas.Option.{get_or_from_slice_get, slice_get_within}
 use Rattle.cls_base.specs.declared.rule.Rule.{Rule}
 use Rattle.cls_base.specs.Languages.{rules_at}
 use Rattle.cls_enum.specs.Plans.{nodes_of, AreFree, AreBounds, IsReady, AreReady, AllReady, rules_of, book_of}
@@ -54,8 +55,9 @@ map-next f g xs x ys i y l e p q =
     map-append f xs (x ∷ []) ∙ (λ j. p j ++ q j ∷ []) ∙ ap (λ z. map g (take i ys) ++ g z ∷ []) e
     ∙ sym (ap (map g) (take_more ys i y l) ∙ map-append g (take i ys) (get_or ys i y ∷ []))
 
-pub map-taken : {A B : Type 0} (f : A → B) (xs : List A) (x : A) (ys : List B) (i : ℕ) (y : B) → i < length ys → y ≡ get_or ys i y → map f xs ≡ take i ys → f x ≡ y → map f (xs ++ x ∷ []) ≡ take (i + 1) ys
-map-taken f xs x ys i y l e p q = map-append f xs (x ∷ []) ∙ (λ j. p j ++ (q ∙ e) j ∷ []) ∙ sym (take_more ys i y l)
+pub map-taken : {A B : Type 0} (f : A → B) (xs : List A) (x : A) (ys : List B) (i : ℕ) (y : B) → slice_get ys i ≡ Some y → map f xs ≡ take i ys → f x ≡ y → map f (xs ++ x ∷ []) ≡ take (i + 1) ys
+map-taken f xs x ys i y e p q =
+    map-append f xs (x ∷ []) ∙ (λ j. p j ++ (q ∙ sym (get_or_from_slice_get ys i y y e)) j ∷ []) ∙ sym (take_more ys i y (slice_get_within ys i y e))
 
 pub book_of-push : (plans : List (List Plan)) (ps : List Plan) (book : List (List (Rule ℕ))) (i : ℕ) → i < length book → book_of plans ≡ take i book → rules_of ps ≡ rules_at book i → book_of (plans ++ ps ∷ []) ≡ take (i + 1) book
 book_of-push plans ps book i l p q = map-append rules_of plans (ps ∷ []) ∙ (λ j. p j ++ q j ∷ []) ∙ sym (take_more book i [] l)

@@ -1,12 +1,13 @@
 ghost use Rattle.std.specs.Prelude.{◌≡◌, ℕ, List, ◌<◌, ◌^◌, ◌↔◌, IfOk, IsTrue, length, slice_index};
 ghost use Rattle.cls_base.specs.declared.rule.Rule.{Rule};
+ghost use Rattle.cls_rulebook.specs.Columns.{rule_of as referred_rule};
 ghost use Rattle.cls_term.specs.Costs.{cost_of};
 ghost use Rattle.cls_enum.specs.Plans.{IsBarren, AllReady, AreReady, AreFree, IsReady, book_of, nodes_of, rule_of};
 ghost use Rattle.cls_enum.specs.Plans.{rules_of};
 
 use cls_base::limits::MAX_TERM_LENGTH;
-use cls_base::{Numbers, OutOfMemory, Rule};
-use cls_rulebook::RuleBook;
+use cls_base::{Numbers, OutOfMemory};
+use cls_rulebook::{NodeRules, RuleBook, RuleRef};
 use std::alloc::Global;
 use std::marker::Model;
 
@@ -105,33 +106,34 @@ pub(crate) fn plans<B: RuleBook>(
 }
 
 /// The plans of rules.
-fn node_plans(alloc: Global, rules: &[Rule<u32>], costs: &Numbers) -> Result<Vec<Plan>, OutOfMemory>
+fn node_plans(alloc: Global, rules: &NodeRules, costs: &Numbers) -> Result<Vec<Plan>, OutOfMemory>
     ensures rules { IfOk result (λ plans. rules_of plans.items ≡ rules.now) }
     ensures ready { IfOk result (λ plans. (b : List (List (Rule ℕ))) (s : ℕ)
         → AreReady b (cost_of costs.now) s plans.items) }
 {
     let mut plans = Vec::new(alloc);
-    for rule in rules {
+    for place in 0..rules.len() {
+        let rule = rules.get(place);
         plans.push(rule_plan(alloc, rule, costs)?)?;
     }
     Ok(plans)
 }
 
 /// The plan of a rule.
-fn rule_plan(alloc: Global, rule: &Rule<u32>, costs: &Numbers) -> Result<Plan, OutOfMemory>
-    ensures rule { IfOk result (λ plan. rule_of plan ≡ rule.now) }
+fn rule_plan(alloc: Global, rule: RuleRef<'_>, costs: &Numbers) -> Result<Plan, OutOfMemory>
+    ensures rule { IfOk result (λ plan. rule_of plan ≡ referred_rule rule.entry) }
     ensures ready { IfOk result (λ plan. (b : List (List (Rule ℕ))) (s : ℕ)
         → IsReady b (cost_of costs.now) s plan) }
 {
     match rule {
-        Rule::Head { component, args } => {
-            let cost = cost_at(costs, *component);
-            let places = places(alloc, args.as_slice())?;
-            Ok(Plan::Head(*component, cost, places))
+        RuleRef::Head { component, args } => {
+            let cost = cost_at(costs, component);
+            let places = places(alloc, args)?;
+            Ok(Plan::Head(component, cost, places))
         }
-        Rule::Any { left, right } => {
-            let places = places(alloc, &[*right])?;
-            Ok(Plan::Any(*left, places))
+        RuleRef::Any { left, right } => {
+            let places = places(alloc, &[right])?;
+            Ok(Plan::Any(left, places))
         }
     }
 }

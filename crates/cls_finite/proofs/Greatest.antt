@@ -4,12 +4,13 @@ use Rattle.std.specs.Prelude.{Contains, IsTrue}
 use Rattle.std.specs.List.{sum_by}
 use Rattle.std.proofs.lemmas.List.Sums.{sum_by-cons, sum_by_more}
 use Rattle.std.proofs.lemmas.List.{take_more}
+use Rattle.std.proofs.lemmas.Option.{slice_get_within, get_or_from_slice_get}
 use Rattle.cls_base.specs.Terms.{Applicative, component, apply, size_of}
 use Rattle.cls_base.specs.declared.rule.Rule.{Rule}
 use Rattle.cls_base.specs.declared.rule.Rule.TheVariants.{Head, Any}
 use Rattle.cls_base.specs.Languages.{Applies, by_head, by_any, done, next, NodeRule, IsGenerated, rules_at}
 use Rattle.cls_base.proofs.Lists.{Contains-nil, Contains-here, Contains-later, Contains-cases}
-use Rattle.cls_core.specs.Arguments.{arguments_of_rule}
+use Rattle.cls_rulebook.specs.Arguments.{arguments_of_rule}
 use Rattle.cls_grammar.specs.Ranks.{IsProductiveIn, AreProductive}
 use Rattle.cls_grammar.specs.Trimming.{is_useful}
 use Rattle.cls_grammar.proofs.Trees.{productive_exactly}
@@ -35,9 +36,9 @@ module _ (cap : ℕ) (cost : ℕ → ℕ) (marks : List Mark) (flags : List Bool
       turned a b m n e = omega arith
 
   -- the greatest size with one rule more
-  pub greatest-next : (rs : List (Rule ℕ)) (i : ℕ) (r : Rule ℕ) → i < length rs → r ≡ get_or rs i r → (b : Bool) → is_useful flags r ≡ b → greatest_by cap cost marks flags (take (i + 1) rs) ≡ max (size_if b r) (greatest_by cap cost marks flags (take i rs))
-  greatest-next rs i r l e b f =
-      ap (greatest_by cap cost marks flags) (take_more rs i r l ∙ ap (λ x. take i rs ++ x ∷ []) (sym e))
+  pub greatest-next : (rs : List (Rule ℕ)) (i : ℕ) (r : Rule ℕ) → slice_get rs i ≡ Some r → (b : Bool) → is_useful flags r ≡ b → greatest_by cap cost marks flags (take (i + 1) rs) ≡ max (size_if b r) (greatest_by cap cost marks flags (take i rs))
+  greatest-next rs i r e b f =
+      ap (greatest_by cap cost marks flags) (take_more rs i r (slice_get_within rs i r e) ∙ ap (λ x. take i rs ++ x ∷ []) (get_or_from_slice_get rs i r r e))
       ∙ (greatest-push (take i rs) r ∙ ap (λ x. max (size_if x r) (greatest_by cap cost marks flags (take i rs))) f)
 
 module _ (cost : ℕ → ℕ) where

@@ -16,9 +16,9 @@ use crate::answer::{FiniteAnswer, MAX_FINITE_SIZE};
 use crate::sizes::{SIZE_CAP, greatest_by};
 use crate::steps::next_step;
 use crate::walk::{Step, Walk};
-use cls_base::{Numbers, OutOfMemory, Rule};
+use cls_base::{Numbers, OutOfMemory};
 use cls_grammar::{Flags, productive};
-use cls_rulebook::RuleBook;
+use cls_rulebook::{NodeRules, RuleBook};
 use std::alloc::Global;
 use std::marker::Model;
 
@@ -104,7 +104,7 @@ impl Descent {
     }
 
     // The next step, and the node that it leads to.
-    fn next(&self, flags: &Flags, rules: &[Rule<u32>]) -> Option<(Step, u32)>
+    fn next(&self, flags: &Flags, rules: &NodeRules) -> Option<(Step, u32)>
         requires { IsPassed self.now.marks flags.now rules.now self.now.top.rule self.now.top.argument }
         ensures none { IfNone result (AllAreDone self.now.marks flags.now rules.now) }
         ensures goal { IfSome result (λ m. m.0.goal ≡ self.now.top.goal) }
@@ -157,7 +157,7 @@ impl Descent {
     }
 
     // The greatest size of a term that these rules of the node of the top make.
-    fn greatest(&self, flags: &Flags, costs: &[u32], rules: &[Rule<u32>]) -> u64
+    fn greatest(&self, flags: &Flags, costs: &[u32], rules: &NodeRules) -> u64
         ensures { result ≡ greatest_by SIZE_CAP (cost_of costs.now) self.now.marks flags.now rules.now }
     {
         greatest_by(self.marks.as_slice(), flags, costs, rules)

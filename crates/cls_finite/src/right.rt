@@ -1,22 +1,27 @@
 //! Whether a walk comes round.
-ghost use Rattle.std.specs.Prelude.{◌≡◌, ◌==◌, ◌↔◌, ℕ, IsTrue, IfOk, IfSome, IfNone, option_copied, slice_get};
+ghost use Rattle.std.specs.Prelude.{◌≡◌, ◌==◌, ◌↔◌, ℕ, IsTrue, IfOk, IfSome, IfNone, option_map, slice_get};
 ghost use Rattle.std.specs.List.{list_any};
+ghost use Rattle.cls_rulebook.specs.Columns.{rule_of};
 ghost use Rattle.cls_grammar.specs.Ranks.{AreProductive};
 ghost use Rattle.cls_finite.specs.declared.walk.Step as step_type;
 ghost use Rattle.cls_finite.specs.Walks.{LeadsTo, Leads, IsRightWalk};
 
 use crate::steps::argument;
 use crate::walk::{Step, Walk};
-use cls_base::{OutOfMemory, Rule};
+use cls_base::OutOfMemory;
 use cls_grammar::{Flags, productive};
-use cls_rulebook::RuleBook;
+use cls_rulebook::{NodeRules, RuleBook, RuleRef};
 use std::alloc::Global;
 
 // The rule at the place.
-fn rule_at(rules: &[Rule<u32>], place: usize) -> Option<&Rule<u32>>
-    ensures { option_copied result ≡ slice_get rules.now place }
+fn rule_at(rules: &NodeRules, place: usize) -> Option<RuleRef<'_>>
+    ensures { option_map rule_of result ≡ slice_get rules.now place }
 {
-    rules.get(place)
+    if place < rules.len() {
+        Some(rules.get(place))
+    } else {
+        None
+    }
 }
 
 // Where the step leads to, None if there is no such step or its rule has an unproductive argument.

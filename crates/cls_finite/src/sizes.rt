@@ -1,13 +1,14 @@
 //! The greatest sizes of terms, counted up to one more than what is told.
 ghost use Rattle.std.specs.Prelude.{◌≡◌, ◌+◌, ◌^◌, ℕ, List, [], min, length};
 ghost use Rattle.std.specs.List.{sum_by};
+ghost use Rattle.cls_rulebook.specs.Columns.{rule_of};
 ghost use Rattle.cls_term.specs.Costs.{cost_of};
 ghost use Rattle.cls_finite.specs.Descents.{size_at, size_by, greatest_by};
 
 use crate::MAX_FINITE_SIZE;
 use crate::descent::Mark;
-use cls_base::Rule;
 use cls_grammar::Flags;
+use cls_rulebook::{NodeRules, RuleRef};
 
 /// The first size that isn't told. Sizes are counted up to it.
 pub(crate) const SIZE_CAP: u64 = MAX_FINITE_SIZE + 1;
@@ -48,24 +49,25 @@ fn cost_at(costs: &[u32], component: u32) -> u64
 }
 
 // The greatest size of a term that the rule makes, if its arguments are done.
-fn size_by(marks: &[Mark], costs: &[u32], rule: &Rule<u32>) -> u64
-    ensures { result ≡ size_by SIZE_CAP (cost_of costs.now) marks.now rule.now }
+fn size_by(marks: &[Mark], costs: &[u32], rule: RuleRef<'_>) -> u64
+    ensures { result ≡ size_by SIZE_CAP (cost_of costs.now) marks.now (rule_of rule.entry) }
 {
     match rule {
-        Rule::Head { component, args } => {
-            sum(sizes_at(marks, args.as_slice()), cost_at(costs, *component))
+        RuleRef::Head { component, args } => {
+            sum(sizes_at(marks, args), cost_at(costs, component))
         }
-        Rule::Any { left, right } => sizes_at(marks, &[*left, *right]),
+        RuleRef::Any { left, right } => sizes_at(marks, &[left, right]),
     }
 }
 
 /// The greatest size of a term that the rules make, if the arguments of those that may be used are done. It is 0 if
 /// there is no such rule.
-pub(crate) fn greatest_by(marks: &[Mark], flags: &Flags, costs: &[u32], rules: &[Rule<u32>]) -> u64
+pub(crate) fn greatest_by(marks: &[Mark], flags: &Flags, costs: &[u32], rules: &NodeRules) -> u64
     ensures { result ≡ greatest_by SIZE_CAP (cost_of costs.now) marks.now flags.now rules.now }
 {
     let mut greatest = 0;
-    for rule in rules {
+    for place in 0..rules.len() {
+        let rule = rules.get(place);
         if flags.is_useful(rule) {
             greatest = size_by(marks, costs, rule).max(greatest);
         }

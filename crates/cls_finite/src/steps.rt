@@ -1,21 +1,22 @@
 //! Where the next step of a descent leads.
 ghost use Rattle.std.specs.Prelude.{◌≡◌, ◌<◌, ◌↔◌, ℕ, IsTrue, IfSome, IfNone, Some, slice_get, take};
-ghost use Rattle.cls_core.specs.Arguments.{arguments_of_rule};
+ghost use Rattle.cls_rulebook.specs.Arguments.{arguments_of_rule};
+ghost use Rattle.cls_rulebook.specs.Columns.{rule_of};
 ghost use Rattle.cls_grammar.specs.Trimming.{is_useful};
 ghost use Rattle.cls_finite.specs.Descents.{IsDone, AreDone, AllAreDone, IsPassed, IsNext};
 
 use crate::descent::Mark;
 use crate::walk::Step;
-use cls_base::Rule;
 use cls_grammar::Flags;
+use cls_rulebook::{NodeRules, RuleRef};
 
 /// The argument of the rule at the place.
-pub(crate) fn argument(rule: &Rule<u32>, place: usize) -> Option<u32>
-    ensures { result ≡ slice_get (arguments_of_rule rule.now) place }
+pub(crate) fn argument(rule: RuleRef<'_>, place: usize) -> Option<u32>
+    ensures { result ≡ slice_get (arguments_of_rule (rule_of rule.entry)) place }
 {
     match rule {
-        Rule::Head { component: _, args } => args.as_slice().get(place).copied(),
-        Rule::Any { left, right } => [*left, *right].get(place).copied(),
+        RuleRef::Head { component: _, args } => args.get(place).copied(),
+        RuleRef::Any { left, right } => [left, right].get(place).copied(),
     }
 }
 
@@ -44,16 +45,16 @@ fn first_undone(marks: &[Mark], nodes: &[u32], from: usize) -> Option<(usize, u3
 }
 
 // The first argument of the rule that isn't done, and its place. Those before the given place are done.
-fn undone_argument(marks: &[Mark], rule: &Rule<u32>, from: usize) -> Option<(usize, u32)>
-    requires { AreDone marks.now (take from (arguments_of_rule rule.now)) }
-    ensures none { IfNone result (AreDone marks.now (arguments_of_rule rule.now)) }
-    ensures place { IfSome result (λ m. slice_get (arguments_of_rule rule.now) m.0 ≡ Some m.1) }
-    ensures before { IfSome result (λ m. AreDone marks.now (take m.0 (arguments_of_rule rule.now))) }
+fn undone_argument(marks: &[Mark], rule: RuleRef<'_>, from: usize) -> Option<(usize, u32)>
+    requires { AreDone marks.now (take from (arguments_of_rule (rule_of rule))) }
+    ensures none { IfNone result (AreDone marks.now (arguments_of_rule (rule_of rule.entry))) }
+    ensures place { IfSome result (λ m. slice_get (arguments_of_rule (rule_of rule.entry)) m.0 ≡ Some m.1) }
+    ensures before { IfSome result (λ m. AreDone marks.now (take m.0 (arguments_of_rule (rule_of rule.entry)))) }
     ensures undone { IfSome result (λ m. IsDone marks.now m.1 → ⊥) }
 {
     match rule {
-        Rule::Head { component: _, args } => first_undone(marks, args.as_slice(), from),
-        Rule::Any { left, right } => first_undone(marks, &[*left, *right], from),
+        RuleRef::Head { component: _, args } => first_undone(marks, args, from),
+        RuleRef::Any { left, right } => first_undone(marks, &[left, right], from),
     }
 }
 
@@ -61,15 +62,17 @@ fn undone_argument(marks: &[Mark], rule: &Rule<u32>, from: usize) -> Option<(usi
 fn undone_useful(
     marks: &[Mark],
     flags: &Flags,
-    rule: &Rule<u32>,
+    rule: RuleRef<'_>,
     from: usize,
 ) -> Option<(usize, u32)>
-    requires { IsTrue (is_useful flags.now rule.now) → AreDone marks.now (take from (arguments_of_rule rule.now)) }
+    requires { IsTrue (is_useful flags.now (rule_of rule))
+        → AreDone marks.now (take from (arguments_of_rule (rule_of rule))) }
     ensures none { IfNone result
-        (IsTrue (is_useful flags.now rule.now) → AreDone marks.now (arguments_of_rule rule.now)) }
-    ensures useful { IfSome result (λ _. IsTrue (is_useful flags.now rule.now)) }
-    ensures place { IfSome result (λ m. slice_get (arguments_of_rule rule.now) m.0 ≡ Some m.1) }
-    ensures before { IfSome result (λ m. AreDone marks.now (take m.0 (arguments_of_rule rule.now))) }
+        (IsTrue (is_useful flags.now (rule_of rule.entry))
+        → AreDone marks.now (arguments_of_rule (rule_of rule.entry))) }
+    ensures useful { IfSome result (λ _. IsTrue (is_useful flags.now (rule_of rule.entry))) }
+    ensures place { IfSome result (λ m. slice_get (arguments_of_rule (rule_of rule.entry)) m.0 ≡ Some m.1) }
+    ensures before { IfSome result (λ m. AreDone marks.now (take m.0 (arguments_of_rule (rule_of rule.entry)))) }
     ensures undone { IfSome result (λ m. IsDone marks.now m.1 → ⊥) }
 {
     if flags.is_useful(rule) {
@@ -84,7 +87,7 @@ fn undone_useful(
 pub(crate) fn next_step(
     marks: &[Mark],
     flags: &Flags,
-    rules: &[Rule<u32>],
+    rules: &NodeRules,
     top: Step,
 ) -> Option<(Step, u32)>
     requires { IsPassed marks.now flags.now rules.now top.rule top.argument }
@@ -94,7 +97,7 @@ pub(crate) fn next_step(
 {
     let mut from = top.argument;
     for rule in top.rule..rules.len() {
-        if let Some((argument, next)) = undone_useful(marks, flags, &rules[rule], from) {
+        if let Some((argument, next)) = undone_useful(marks, flags, rules.get(rule), from) {
             let step = Step {
                 goal: top.goal,
                 rule,

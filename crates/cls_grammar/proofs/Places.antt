@@ -13,7 +13,8 @@ use Rattle.cls_base.specs.Lists.{AreDistinct, AreBelow}
 use Rattle.cls_base.proofs.Lists.{Contains-nil, Contains-here, Contains-later, Contains-cases, Contains-head, Contains-at, length-within}
 use Rattle.cls_core.specs.declared.answer.Answer.{Answer}
 use Rattle.cls_core.specs.declared.answer.Answer.TheVariants.{Rules, Wide}
-use Rattle.cls_core.specs.Arguments.{HasUniqueAnswers, arguments_of_rule, arguments_in, arguments_of, rules_of, map_rule}
+use Rattle.cls_core.specs.Arguments.{HasUniqueAnswers, arguments_of, rules_of}
+use Rattle.cls_rulebook.specs.Arguments.{arguments_of_rule, arguments_in, map_rule}
 use Rattle.cls_core.specs.Machine.{numbered}
 use Rattle.cls_core.specs.Rows.{Row}
 use Rattle.cls_core.specs.Canonical.{FirstOnes, no_more, fresh, again, IsNumbering}
@@ -59,12 +60,6 @@ first-ones-differ : {seen xs ys : List ℕ} → FirstOnes seen xs ys → AreDist
 first-ones-differ no_more = tt
 first-ones-differ (fresh {seen = seen} {x = x} n h) = (λ m. not-seen x h m (Contains-here x seen), first-ones-differ h)
 first-ones-differ (again s h) = first-ones-differ h
-
--- the arguments of one rule are arguments of the rules
-pub rule-arguments : (rs : List (Rule ℕ)) (i : ℕ) (r : Rule ℕ) (n : ℕ) → slice_get rs i ≡ Some r → Contains (arguments_of_rule r) n → Contains (arguments_in rs) n
-rule-arguments [] i r n e h = cc
-rule-arguments (q ∷ rs) zero r n e h = Contains-append_left (arguments_of_rule q) (arguments_in rs) n (subst (λ x. Contains (arguments_of_rule x) n) (let f : r ≡ q = cc in f) h)
-rule-arguments (q ∷ rs) (suc i) r n e h = Contains-append_right (arguments_of_rule q) (arguments_in rs) n (rule-arguments rs i r n e h)
 
 module _ {G : Type 0} (rows : List (Row G)) where
   -- a row by its goal and its answer

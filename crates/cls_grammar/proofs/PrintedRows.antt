@@ -3,14 +3,15 @@ use Rattle.std.proofs.Common.{◌≡◌, ℕ, zero, suc, ◌+◌, ◌<◌, List,
 use Rattle.std.specs.Prelude.{option_map}
 use Rattle.std.specs.List.{sum_by}
 use Rattle.std.proofs.lemmas.List.Sums.{sum_by-cons}
-use Rattle.std.proofs.lemmas.Option.{get_or_from_slice_get}
+use Rattle.std.proofs.lemmas.List.{take_more, flat_map_more}
+use Rattle.std.proofs.lemmas.Option.{slice_get_within, get_or_from_slice_get}
 use Rattle.cls_path.specs.Paths.{TypePath}
 use Rattle.cls_base.specs.declared.rule.Rule.{Rule}
 use Rattle.cls_core.specs.declared.answer.Answer.TheVariants.{Rules}
 use Rattle.cls_core.specs.Arguments.{rules_of, rule_count}
 use Rattle.cls_core.specs.Rows.{Row}
 use Rattle.cls_core.proofs.Columns.{get-some}
-use Rattle.cls_grammar.specs.GrammarTexts.{rules_text, goal_text, row_text, rows_text}
+use Rattle.cls_grammar.specs.GrammarTexts.{line, rule_text, rules_text, goal_text, row_text, rows_text}
 
 pub read-at : {A : Type 0} (xs : List A) (i : ℕ) (d : A) → i < length xs → slice_get xs i ≡ Some (get_or xs i d)
 read-at xs i d l = let u = get-some xs i l in subst (λ x. slice_get xs i ≡ Some x) (sym (get_or_from_slice_get xs i u.0 d u.1)) u.1
@@ -48,6 +49,14 @@ rows-next name component k (x ∷ rows) (y ∷ ranks) (suc i) r rank e f =
     ap (λ t. row_text name component k x y ++ t) (rows-next name component (k + 1) rows ranks i r rank e f)
     ∙ (sym (append_assoc (row_text name component k x y) (rows_text name component (k + 1) (take i rows) (take i ranks)) (row_text name component (k + 1 + i) r rank))
     ∙ ap (λ n. (row_text name component k x y ++ rows_text name component (k + 1) (take i rows) (take i ranks)) ++ row_text name component n r rank) z)
+
+-- one rule more is written
+pub rules-written : (component : ℕ → List ℕ) (rs : List (Rule ℕ)) (i : ℕ) (r : Rule ℕ) (t u v : List ℕ) → slice_get rs i ≡ Some r
+    → u ≡ t ++ rules_text component (take i rs) → v ≡ u ++ line (rule_text component r) → v ≡ t ++ rules_text component (take (i + 1) rs)
+rules-written component rs i r t u v e f g =
+    let text = λ (q : Rule ℕ). line (rule_text component q) in
+    let next : take (i + 1) rs ≡ take i rs ++ r ∷ [] = take_more rs i r (slice_get_within rs i r e) ∙ ap (λ x. take i rs ++ x ∷ []) (get_or_from_slice_get rs i r r e) in
+    g ∙ (ap (λ x. x ++ text r) f ∙ (flat_map_more text t (take i rs) r ∙ ap (λ l. t ++ rules_text component l) (sym next)))
 
 -- one row more is written
 pub rows-written : (name component : ℕ → List ℕ) (rows : List Shown) (ranks : List (Option ℕ)) (i : ℕ) (r : Shown) (rank : Option ℕ) (t u v : List ℕ) → slice_get rows i ≡ Some r → slice_get ranks i ≡ Some rank

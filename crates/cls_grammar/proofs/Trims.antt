@@ -3,6 +3,7 @@ use Rattle.std.proofs.Common.{◌≡◌, ℕ, zero, suc, ◌+◌, ◌<◌, ◌�
 use Rattle.std.specs.Prelude.{option_map, filter, Contains}
 use Rattle.std.specs.List.{list_all}
 use Rattle.std.proofs.lemmas.List.{map-append, take_more, take_all}
+use Rattle.std.proofs.lemmas.List.Elements.{filter_more}
 use Rattle.std.proofs.lemmas.Option.{slice_get_within, get_or_from_slice_get}
 use Rattle.cls_base.specs.Terms.{Applicative}
 use Rattle.cls_base.specs.declared.rule.Rule.{Rule}
@@ -11,7 +12,8 @@ use Rattle.cls_base.specs.Languages.{Generates, Applies, by_head, by_any, done, 
 use Rattle.cls_base.proofs.Lists.{Contains-nil, Contains-here, Contains-later, Contains-cases, Contains-head}
 use Rattle.cls_core.specs.declared.answer.Answer.{Answer}
 use Rattle.cls_core.specs.declared.answer.Answer.TheVariants.{Rules, Wide}
-use Rattle.cls_core.specs.Arguments.{arguments_of_rule, rules_of}
+use Rattle.cls_core.specs.Arguments.{rules_of}
+use Rattle.cls_rulebook.specs.Arguments.{arguments_of_rule}
 use Rattle.cls_core.specs.Rows.{Row}
 use Rattle.cls_core.proofs.Columns.{get-some}
 use Rattle.cls_grammar.specs.Grammars.{ruled_rows, book_of, BookHasNodesBelow}
@@ -97,18 +99,14 @@ module _ (p : Rule ℕ → Bool) where
       by rest true = (h.0, rest)
       by rest false = rest
 
-  filter-last : (xs : List (Rule ℕ)) (q : Rule ℕ) → filter p (xs ++ q ∷ []) ≡ filter p xs ++ cond (p q) (q ∷ []) []
-  filter-last [] q = refl
-  filter-last (x ∷ xs) q = elim (p x) as (λ b. cond b (x ∷ filter p (xs ++ q ∷ [])) (filter p (xs ++ q ∷ [])) ≡ cond b (x ∷ filter p xs) (filter p xs) ++ cond (p q) (q ∷ []) []) [ true ↦ ap (λ l. x ∷ l) (filter-last xs q) | false ↦ filter-last xs q ]
+  filter-next : (rs : List (Rule ℕ)) (i : ℕ) (q : Rule ℕ) → slice_get rs i ≡ Some q → filter p (take (i + 1) rs) ≡ filter p (take i rs) ++ cond (p q) (q ∷ []) []
+  filter-next rs i q e = filter_more p rs i q (slice_get_within rs i q e) ∙ ap (λ x. filter p (take i rs) ++ cond (p x) (x ∷ []) []) (get_or_from_slice_get rs i q q e)
 
-  filter-next : (rs : List (Rule ℕ)) (i : ℕ) (q : Rule ℕ) → i < length rs → q ≡ get_or rs i q → filter p (take (i + 1) rs) ≡ filter p (take i rs) ++ cond (p q) (q ∷ []) []
-  filter-next rs i q l e = ap (filter p) (take_more rs i q l ∙ ap (λ x. take i rs ++ x ∷ []) (sym e)) ∙ filter-last (take i rs) q
+  pub filter-taken : (rs us vs : List (Rule ℕ)) (i : ℕ) (q : Rule ℕ) → slice_get rs i ≡ Some q → us ≡ filter p (take i rs) → p q ≡ true → vs ≡ us ++ q ∷ [] → vs ≡ filter p (take (i + 1) rs)
+  filter-taken rs us vs i q e f t g = g ∙ (ap (λ x. x ++ q ∷ []) f ∙ sym (filter-next rs i q e ∙ ap (λ b. filter p (take i rs) ++ cond b (q ∷ []) []) t))
 
-  pub filter-taken : (rs us vs : List (Rule ℕ)) (i : ℕ) (q : Rule ℕ) → i < length rs → q ≡ get_or rs i q → us ≡ filter p (take i rs) → p q ≡ true → vs ≡ us ++ q ∷ [] → vs ≡ filter p (take (i + 1) rs)
-  filter-taken rs us vs i q l e f t g = g ∙ (ap (λ x. x ++ q ∷ []) f ∙ sym (filter-next rs i q l e ∙ ap (λ b. filter p (take i rs) ++ cond b (q ∷ []) []) t))
-
-  pub filter-left : (rs us vs : List (Rule ℕ)) (i : ℕ) (q : Rule ℕ) → i < length rs → q ≡ get_or rs i q → us ≡ filter p (take i rs) → p q ≡ false → vs ≡ us → vs ≡ filter p (take (i + 1) rs)
-  filter-left rs us vs i q l e f t g = g ∙ (f ∙ sym (filter-next rs i q l e ∙ (ap (λ b. filter p (take i rs) ++ cond b (q ∷ []) []) t ∙ append-nil (filter p (take i rs)))))
+  pub filter-left : (rs us vs : List (Rule ℕ)) (i : ℕ) (q : Rule ℕ) → slice_get rs i ≡ Some q → us ≡ filter p (take i rs) → p q ≡ false → vs ≡ us → vs ≡ filter p (take (i + 1) rs)
+  filter-left rs us vs i q e f t g = g ∙ (f ∙ sym (filter-next rs i q e ∙ (ap (λ b. filter p (take i rs) ++ cond b (q ∷ []) []) t ∙ append-nil (filter p (take i rs)))))
 
 -- a productive node is a node
 pub productive-less : (book : List (List (Rule ℕ))) (n : ℕ) → IsProductiveIn book n → n < length book

@@ -1,9 +1,10 @@
 //! What is known of each goal of a grammar, by its number.
 ghost use Rattle.std.specs.Prelude.{◌≡◌};
 ghost use Rattle.std.specs.List.{list_all};
+ghost use Rattle.cls_rulebook.specs.Columns.{rule_of};
 ghost use Rattle.cls_grammar.specs.Trimming.{is_flagged as flag_at};
 
-use cls_base::Rule;
+use cls_rulebook::RuleRef;
 use std::marker::Model;
 
 /// A yes or no for each goal, seen as that list. It is made from a `Vec` and gives it back, neither of which takes
@@ -40,12 +41,12 @@ impl Flags {
 
     /// Whether each argument of the rule has its flag. If the flags are those of productive goals, the rule then makes
     /// terms.
-    pub fn is_useful(&self, rule: &Rule<u32>) -> bool
-        ensures { result ≡ is_useful self.now rule.now }
+    pub fn is_useful(&self, rule: RuleRef<'_>) -> bool
+        ensures { result ≡ is_useful self.now (rule_of rule.entry) }
     {
         match rule {
-            Rule::Head { component: _, args } => self.are_up(args.as_slice()),
-            Rule::Any { left, right } => self.are_up(&[*left, *right]),
+            RuleRef::Head { component: _, args } => self.are_up(args),
+            RuleRef::Any { left, right } => self.are_up(&[left, right]),
         }
     }
 

@@ -15,11 +15,11 @@ use crate::numbering::{breadth_first, placed_rows};
 use crate::printing::{Tables, write_grammar};
 use crate::ranking::{productive, ranks_of};
 use crate::trimming::useful_rows;
-use cls_base::{OutOfMemory, Rule, Rules};
+use cls_base::OutOfMemory;
 use cls_core::Rows;
 use cls_lexer::Names;
 use cls_path::Nf;
-use cls_rulebook::RuleBook;
+use cls_rulebook::{NodeRules, RuleBook};
 use std::alloc::Global;
 use std::marker::Model;
 
@@ -28,7 +28,7 @@ use std::marker::Model;
 pub struct Grammar {
     pub(crate) goals: Vec<Nf>,
     // The rules of each goal.
-    pub(crate) rules: Vec<Rules<u32>>,
+    pub(crate) rules: Vec<NodeRules>,
 }
 
 // Not derived, for the prover: so a caller's proof has one step where a value is dropped, and not one for each part of it.
@@ -132,13 +132,13 @@ impl Grammar {
     }
 
     /// The rules of the goal with this number.
-    pub fn rules(&self, i: u32) -> &[Rule<u32>]
+    pub fn rules(&self, i: u32) -> &NodeRules
         requires { i < length self.now }
         ensures rules { option_map (λ (r : Row (List TypePath)). r.answer) (slice_get self.now i)
             ≡ Some (answers.Rules result.now) }
-        ensures within { HaveNodesBelow (length self.now) (result.now) }
+        ensures within { HaveNodesBelow (length self.now) result.now }
     {
-        self.rules[i as usize].as_slice()
+        &self.rules[i as usize]
     }
 }
 
@@ -149,7 +149,7 @@ impl RuleBook for Grammar {
         self.goals.len() as u32
     }
 
-    fn rules(&self, i: u32) -> &[Rule<u32>] {
-        self.rules[i as usize].as_slice()
+    fn rules(&self, i: u32) -> &NodeRules {
+        &self.rules[i as usize]
     }
 }

@@ -2,16 +2,18 @@
 ghost use Rattle.std.specs.Prelude.{◌≡◌, ◌<◌, ◌^◌, ℕ, [], Some, None, IfOk, IfErr, OnOk, IsTrue, ◌↔◌, length, map, nat_eq, Contains, slice_get};
 ghost use Rattle.std.specs.List.{position_or_len};
 ghost use Rattle.indexmap.specs.IndexSet.{insert_key, insert_all};
-ghost use Rattle.cls_core.specs.Arguments.{arguments_of_rule, arguments_in, arguments_of, map_rule};
+ghost use Rattle.cls_core.specs.Arguments.{arguments_of};
+ghost use Rattle.cls_rulebook.specs.Arguments.{arguments_in, map_rule};
 ghost use Rattle.cls_core.specs.Renumbering.{order, renumbered};
 ghost use Rattle.cls_grammar.specs.Faults.{IfWide};
 ghost use Rattle.cls_grammar.specs.Grammars.{MakeGrammar, first_wide};
 
 use crate::fault::GrammarFault;
 use crate::grammar::Grammar;
-use cls_base::{Goals, OutOfMemory, Rule, Rules};
-use cls_core::{Answer, Rows};
+use cls_base::OutOfMemory;
+use cls_core::{NodeAnswer, Rows};
 use cls_path::Nf;
+use cls_rulebook::NodeRules;
 use std::alloc::Global;
 use std::marker::Model;
 
@@ -92,39 +94,15 @@ impl Numbering {
         Ok(())
     }
 
-    // Does so with the arguments of a rule.
-    fn add_rule(&mut self, rule: &Rule<u32>) -> Result<(), OutOfMemory>
-        requires { (n : ℕ) → Contains (arguments_of_rule rule.now) n → n < self.old.bound }
-        ensures order { OnOk result (self.new.order ≡ insert_all nat_eq self.old.order (arguments_of_rule rule.now)) }
-        ensures bound { OnOk result (self.new.bound ≡ self.old.bound) }
-    {
-        match rule {
-            Rule::Head { component: _, args } => Ok(self.add_all(args.as_slice())?),
-            Rule::Any { left, right } => Ok(self.add_all(&[*left, *right])?),
-        }
-    }
-
-    // Does so with the arguments of rules.
-    fn add_rules(&mut self, rules: &[Rule<u32>]) -> Result<(), OutOfMemory>
-        requires { (n : ℕ) → Contains (arguments_in rules.now) n → n < self.old.bound }
-        ensures order { OnOk result (self.new.order ≡ insert_all nat_eq self.old.order (arguments_in rules.now)) }
-        ensures bound { OnOk result (self.new.bound ≡ self.old.bound) }
-    {
-        for rule in rules {
-            self.add_rule(rule)?;
-        }
-        Ok(())
-    }
-
     // Does so with the arguments of an answer.
-    fn add_answer(&mut self, answer: &Answer<u32>) -> Result<(), OutOfMemory>
+    fn add_answer(&mut self, answer: &NodeAnswer) -> Result<(), OutOfMemory>
         requires { (n : ℕ) → Contains (arguments_of answer.now) n → n < self.old.bound }
         ensures order { OnOk result (self.new.order ≡ insert_all nat_eq self.old.order (arguments_of answer.now)) }
         ensures bound { OnOk result (self.new.bound ≡ self.old.bound) }
     {
-        match answer {
-            Answer::Rules(rules) => Ok(self.add_rules(rules.as_slice())?),
-            Answer::Wide => Ok(()),
+        match answer.rules() {
+            Some(rules) => self.add_all(rules.arguments()),
+            None => Ok(()),
         }
     }
 
@@ -151,47 +129,25 @@ impl Numbering {
     }
 
     // The places of numbers.
-    fn places_of(&self, alloc: Global, numbers: &[u32]) -> Result<Goals<u32>, OutOfMemory>
+    fn places_of(&self, alloc: Global, numbers: &[u32]) -> Result<Vec<u32>, OutOfMemory>
         requires { (n : ℕ) → Contains numbers.now n → Contains self.now.order n }
-        ensures { IfOk result (λ places. places ≡ map (λ n. position_or_len (nat_eq n) self.now.order) numbers.now) }
+        ensures { IfOk result (λ places.
+            places.items ≡ map (λ n. position_or_len (nat_eq n) self.now.order) numbers.now) }
     {
         let mut places = Vec::with_capacity(alloc, numbers.len())?;
         for number in numbers {
             places.push(self.place_of(*number))?;
         }
-        Ok(Goals::new(places))
-    }
-
-    // The rule with places in place of numbers.
-    fn place_rule(&self, alloc: Global, rule: &Rule<u32>) -> Result<Rule<u32>, OutOfMemory>
-        requires { (n : ℕ) → Contains (arguments_of_rule rule.now) n → Contains self.now.order n }
-        ensures { IfOk result (λ r. r ≡ map_rule (λ n. position_or_len (nat_eq n) self.now.order) rule.now) }
-    {
-        match rule {
-            Rule::Head { component, args } => {
-                let args = self.places_of(alloc, args.as_slice())?;
-                Ok(Rule::Head {
-                    component: *component,
-                    args,
-                })
-            }
-            Rule::Any { left, right } => Ok(Rule::Any {
-                left: self.place_of(*left),
-                right: self.place_of(*right),
-            }),
-        }
+        Ok(places)
     }
 
     // The rules with places in place of numbers.
-    fn place_rules(&self, alloc: Global, rules: &[Rule<u32>]) -> Result<Rules<u32>, OutOfMemory>
+    fn place_rules(&self, alloc: Global, rules: &NodeRules) -> Result<NodeRules, OutOfMemory>
         requires { (n : ℕ) → Contains (arguments_in rules.now) n → Contains self.now.order n }
         ensures { IfOk result (λ rs. rs ≡ map (map_rule (λ n. position_or_len (nat_eq n) self.now.order)) rules.now) }
     {
-        let mut placed = Vec::with_capacity(alloc, rules.len())?;
-        for rule in rules {
-            placed.push(self.place_rule(alloc, rule)?)?;
-        }
-        Ok(Rules::new(placed))
+        let places = self.places_of(alloc, rules.arguments())?;
+        rules.with_arguments(alloc, places)
     }
 }
 
@@ -227,10 +183,10 @@ pub(crate) fn placed_rows(
     let mut rules = Vec::with_capacity(alloc, count)?;
     for row in found.as_slice() {
         let goal = rows.goal(*row).copy(alloc)?;
-        let Answer::Rules(old) = rows.answer(*row) else {
+        let Some(old) = rows.answer(*row).rules() else {
             return Err(GrammarFault::Wide(goal));
         };
-        let new = found.place_rules(alloc, old.as_slice())?;
+        let new = found.place_rules(alloc, old)?;
         rules.push(new)?;
         goals.push(goal)?;
     }

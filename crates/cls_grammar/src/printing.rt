@@ -3,16 +3,18 @@ ghost use Rattle.std.specs.Prelude.{◌≡◌, ◌<◌, ◌++◌, Some, OnOk, Op
 ghost use Rattle.std.specs.Fmt.{decimal};
 ghost use Rattle.std.specs.List.{sum_by};
 ghost use Rattle.cls_path.specs.Paths.{TypePath, listed, type_of_paths};
+ghost use Rattle.cls_rulebook.specs.Columns.{rule_of};
 ghost use Rattle.cls_core.specs.Arguments.{rule_count};
 ghost use Rattle.cls_core.specs.Rows.{Row};
 ghost use Rattle.cls_syntax.specs.TypePrinting.{name_in};
 ghost use Rattle.cls_grammar.specs.GrammarTexts.{counts_text, numbers_text, line, rank_text, rule_text, rules_text, goal_text, row_text, rows_text, grammar_text};
 
 use crate::grammar::Grammar;
-use cls_base::{Name, OutOfMemory, Rule};
+use cls_base::{Name, OutOfMemory};
 use cls_lexer::Names;
 use cls_norm::type_of;
 use cls_path::Nf;
+use cls_rulebook::{NodeRules, RuleRef};
 use cls_syntax::write_type;
 use itoa::{Buffer, Integer};
 use std::alloc::Global;
@@ -45,23 +47,23 @@ fn write_numbers(numbers: &[u32], text: &mut String) -> Result<(), OutOfMemory>
 }
 
 // Writes the line of a rule.
-fn write_rule(components: &Names, rule: &Rule<u32>, text: &mut String) -> Result<(), OutOfMemory>
+fn write_rule(components: &Names, rule: RuleRef<'_>, text: &mut String) -> Result<(), OutOfMemory>
     ensures { OnOk result (string_bytes text.new ≡ string_bytes text.old ++
-        line (rule_text (name_in components.now) rule.now)) }
+        line (rule_text (name_in components.now) (rule_of rule.entry))) }
 {
     match rule {
-        Rule::Head { component, args } => {
+        RuleRef::Head { component, args } => {
             text.push_str("rule ")?;
-            text.push_str(components.text(Name(*component)))?;
-            write_numbers(args.as_slice(), text)?;
+            text.push_str(components.text(Name(component)))?;
+            write_numbers(args, text)?;
             text.push('\n')?;
             Ok(())
         }
-        Rule::Any { left, right } => {
+        RuleRef::Any { left, right } => {
             text.push_str("any ")?;
-            write_number(*left, text)?;
+            write_number(left, text)?;
             text.push(' ')?;
-            write_number(*right, text)?;
+            write_number(right, text)?;
             text.push('\n')?;
             Ok(())
         }
@@ -69,16 +71,12 @@ fn write_rule(components: &Names, rule: &Rule<u32>, text: &mut String) -> Result
 }
 
 // Writes the lines of rules.
-fn write_rules(
-    components: &Names,
-    rules: &[Rule<u32>],
-    text: &mut String,
-) -> Result<(), OutOfMemory>
+fn write_rules(components: &Names, rules: &NodeRules, text: &mut String) -> Result<(), OutOfMemory>
     ensures { OnOk result (string_bytes text.new ≡ string_bytes text.old ++
         rules_text (name_in components.now) rules.now) }
 {
-    for rule in rules {
-        write_rule(components, rule, text)?;
+    for place in 0..rules.len() {
+        write_rule(components, rules.get(place), text)?;
     }
     Ok(())
 }

@@ -6,13 +6,14 @@
 ghost use Rattle.std.specs.Prelude.{◌≡◌, ◌<◌, ◌≤◌, ◌+◌, ◌^◌, ◌↔◌, ℕ, List, [], ◌∷◌, ◌++◌, Option, Some, None, IsTrue, IfOk, OnOk, IfSome, IfNone, length, slice_get, take, map, is_some, option_copied};
 ghost use Rattle.cls_base.specs.Languages.{rules_at};
 ghost use Rattle.cls_base.specs.Lists.{AreBelow};
-ghost use Rattle.cls_core.specs.Arguments.{arguments_of_rule};
+ghost use Rattle.cls_rulebook.specs.Arguments.{arguments_of_rule};
+ghost use Rattle.cls_rulebook.specs.Columns.{rule_of};
 ghost use Rattle.cls_grammar.specs.Ranks.{AreRanks, AreProductive};
 ghost use Rattle.cls_grammar.specs.Climbs.{IsKnown, AllKnown};
 
 use crate::columns::Flags;
-use cls_base::{OutOfMemory, Rule};
-use cls_rulebook::RuleBook;
+use cls_base::OutOfMemory;
+use cls_rulebook::{RuleBook, RuleRef};
 use std::alloc::Global;
 use std::marker::Model;
 use std::mem;
@@ -21,8 +22,8 @@ use std::mem;
 #[derive(Clone, Copy, Drop)]
 pub(crate) struct Waiting {
     pub(crate) node: u32,
-    pub(crate) rule: usize,
-    pub(crate) argument: usize,
+    pub(crate) rule: u32,
+    pub(crate) argument: u32,
 }
 
 /// Rules that wait, seen as the list of them.
@@ -117,14 +118,6 @@ fn first_unknown(
     None
 }
 
-// The rule at the place.
-fn rule_at(rules: &[Rule<u32>], place: usize) -> &Rule<u32>
-    requires { place < length rules.now }
-    ensures { slice_get rules.now place ≡ Some result.now }
-{
-    &rules[place]
-}
-
 impl Climb {
     ghost use Rattle.cls_grammar.specs.declared.ranking.Waiting.{Waiting};
     ghost use Rattle.cls_grammar.specs.Climbs.{State, IsKept, begun, with_rank, with_waiting, without_waiting, waits_at, node_waits, all_waits};
@@ -147,21 +140,20 @@ impl Climb {
     }
 
     // The first argument of the rule that isn't known, and its place. Those before the given place are known.
-    fn next_unknown(&self, rule: &Rule<u32>, from: usize, height: u32) -> Option<(usize, u32)>
-        requires nodes { AreBelow (length self.now.ranks) (arguments_of_rule rule.now) }
-        requires within { from ≤ length (arguments_of_rule rule.now) }
-        requires front { AllKnown self.now.ranks height (take from (arguments_of_rule rule.now)) }
-        ensures none { IfNone result (AllKnown self.now.ranks height (arguments_of_rule rule.now)) }
-        ensures place { IfSome result (λ m. slice_get (arguments_of_rule rule.now) m.0 ≡ Some m.1) }
-        ensures before { IfSome result (λ m. AllKnown self.now.ranks height (take m.0 (arguments_of_rule rule.now))) }
+    fn next_unknown(&self, rule: RuleRef<'_>, from: usize, height: u32) -> Option<(usize, u32)>
+        requires nodes { AreBelow (length self.now.ranks) (arguments_of_rule (rule_of rule)) }
+        requires within { from ≤ length (arguments_of_rule (rule_of rule)) }
+        requires front { AllKnown self.now.ranks height (take from (arguments_of_rule (rule_of rule))) }
+        ensures none { IfNone result (AllKnown self.now.ranks height (arguments_of_rule (rule_of rule.entry))) }
+        ensures place { IfSome result (λ m. slice_get (arguments_of_rule (rule_of rule.entry)) m.0 ≡ Some m.1) }
+        ensures before { IfSome result (λ m.
+            AllKnown self.now.ranks height (take m.0 (arguments_of_rule (rule_of rule.entry)))) }
         ensures unknown { IfSome result (λ m. IsKnown self.now.ranks height m.1 → ⊥) }
     {
         let ranks = self.ranks.as_slice();
         match rule {
-            Rule::Head { component: _, args } => {
-                first_unknown(ranks, args.as_slice(), from, height)
-            }
-            Rule::Any { left, right } => first_unknown(ranks, &[*left, *right], from, height),
+            RuleRef::Head { component: _, args } => first_unknown(ranks, args, from, height),
+            RuleRef::Any { left, right } => first_unknown(ranks, &[left, right], from, height),
         }
     }
 
@@ -230,10 +222,15 @@ impl Climb {
         if self.has_rank(waiting.node) {
             return Ok(());
         }
-        let rule = rule_at(book.rules(waiting.node), waiting.rule);
-        let Some((argument, node)) = self.next_unknown(rule, waiting.argument, height) else {
+        let rule = book.rules(waiting.node).get(waiting.rule as usize);
+        let from = waiting.argument as usize;
+        let Some((argument, node)) = self.next_unknown(rule, from, height) else {
             self.reach(waiting.node, height)?;
             return Ok(());
+        };
+        // More arguments than a number counts take more memory than there is.
+        let Ok(argument) = u32::try_from(argument) else {
+            return Err(OutOfMemory);
         };
         let next = Waiting {
             node: waiting.node,
@@ -271,7 +268,11 @@ impl Climb {
             → IsKept (B.book book.now) 0 0 (node_waits node 0 (rules_at (B.book book.now) node) ++ todo) self.old
             → IsKept (B.book book.now) 0 0 todo self.new) }
     {
-        for rule in 0..book.rules(node).len() {
+        // More rules than a number counts take more memory than there is.
+        let Ok(count) = u32::try_from(book.rules(node).len()) else {
+            return Err(OutOfMemory);
+        };
+        for rule in 0..count {
             let waiting = Waiting {
                 node,
                 rule,

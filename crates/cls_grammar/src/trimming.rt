@@ -4,43 +4,22 @@ ghost use Rattle.cls_grammar.specs.Trimming.{is_useful, useful_row};
 
 use crate::columns::Flags;
 use crate::grammar::Grammar;
-use cls_base::{Goals, OutOfMemory, Rule, Rules};
+use cls_base::OutOfMemory;
+use cls_rulebook::NodeRules;
 use std::alloc::Global;
 
-// A rule equal to this one.
-fn copy_rule(alloc: Global, rule: &Rule<u32>) -> Result<Rule<u32>, OutOfMemory>
-    ensures { IfOk result (λ r. r ≡ rule.now) }
-{
-    match rule {
-        Rule::Head { component, args } => {
-            let args = Vec::from_slice(alloc, args.as_slice())?;
-            Ok(Rule::Head {
-                component: *component,
-                args: Goals::new(args),
-            })
-        }
-        Rule::Any { left, right } => Ok(Rule::Any {
-            left: *left,
-            right: *right,
-        }),
-    }
-}
-
 // The rules each argument of which has the flag.
-fn useful_rules(
-    alloc: Global,
-    flags: &Flags,
-    rules: &[Rule<u32>],
-) -> Result<Rules<u32>, OutOfMemory>
+fn useful_rules(alloc: Global, flags: &Flags, rules: &NodeRules) -> Result<NodeRules, OutOfMemory>
     ensures { IfOk result (λ rs. rs ≡ filter (is_useful flags.now) rules.now) }
 {
-    let mut useful = Vec::new(alloc);
-    for rule in rules {
+    let mut useful = NodeRules::new(alloc);
+    for place in 0..rules.len() {
+        let rule = rules.get(place);
         if flags.is_useful(rule) {
-            useful.push(copy_rule(alloc, rule)?)?;
+            useful.push(rule)?;
         }
     }
-    Ok(Rules::new(useful))
+    Ok(useful)
 }
 
 /// The grammar without the rules that have an argument without the flag. The only error is out of memory.

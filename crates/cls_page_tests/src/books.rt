@@ -1,10 +1,10 @@
 use crate::hand_book::{HandBook, node};
-use cls_base::Rules;
+use cls_rulebook::NodeRules;
 use std::alloc::Global;
 use std::test::Fail;
 
 /// The book of these rules.
-pub(crate) fn made(nodes: Vec<Rules<u32>>) -> Result<HandBook, Fail> {
+pub(crate) fn made(nodes: Vec<NodeRules>) -> Result<HandBook, Fail> {
     match HandBook::new(nodes) {
         Some(book) => Ok(book),
         None => Err(Fail::new("an argument is no node of the book")),

@@ -3,7 +3,8 @@ ghost use Rattle.std.specs.Prelude.{◌≤◌, ◌<◌};
 
 use crate::books::made;
 use crate::hand_book::HandBook;
-use cls_base::{Goals, OutOfMemory, Rule, Rules};
+use cls_base::OutOfMemory;
+use cls_rulebook::{NodeRules, RuleRef};
 use std::alloc::Global;
 use std::test::Fail;
 
@@ -31,8 +32,13 @@ impl Random {
     }
 }
 
-/// One of four components, over at most two terms of nodes.
-fn head(alloc: Global, random: &mut Random, count: u32) -> Result<Rule<u32>, OutOfMemory>
+/// Adds a rule of one of four components, over at most two terms of nodes.
+fn add_head(
+    alloc: Global,
+    random: &mut Random,
+    count: u32,
+    rules: &mut NodeRules,
+) -> Result<(), OutOfMemory>
     requires { 1 ≤ count }
 {
     let component = random.below(4);
@@ -40,9 +46,9 @@ fn head(alloc: Global, random: &mut Random, count: u32) -> Result<Rule<u32>, Out
     for _arg in 0..random.below(3) {
         args.push(random.below(count))?;
     }
-    Ok(Rule::Head {
+    rules.push(RuleRef::Head {
         component,
-        args: Goals::new(args),
+        args: args.as_slice(),
     })
 }
 
@@ -52,20 +58,20 @@ fn rules(
     random: &mut Random,
     node: u32,
     count: u32,
-) -> Result<Rules<u32>, OutOfMemory>
+) -> Result<NodeRules, OutOfMemory>
     requires { 1 ≤ count }
 {
-    let mut rules = Vec::new(alloc);
+    let mut rules = NodeRules::new(alloc);
     for _rule in 0..1 + random.below(4) {
-        rules.push(head(alloc, random, count)?)?;
+        add_head(alloc, random, count, &mut rules)?;
     }
     if random.below(4) == 0 {
-        rules.push(Rule::Any {
+        rules.push(RuleRef::Any {
             left: node,
             right: random.below(count),
         })?;
     }
-    Ok(Rules::new(rules))
+    Ok(rules)
 }
 
 /// A book of at most three nodes.

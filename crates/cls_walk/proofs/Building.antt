@@ -1,6 +1,6 @@
 -- Steps of making the forms of a node, and of testing their order.
 use Rattle.std.proofs.Common.{◌≡◌, ℕ, zero, suc, ◌+◌, ◌-◌, ◌<◌, ◌≤◌, List, [], ◌∷◌, ◌++◌, length, map, take, get_or, refl, sym, ap, ◌∙◌, subst, inl, inr, arith, append-nil, append_assoc, false}
-use Rattle.std.specs.Prelude.{Option, None, Some, slice_index_or, is_some, Contains}
+use Rattle.std.specs.Prelude.{Option, None, Some, slice_get, slice_index_or, is_some, Contains}
 use Rattle.std.specs.List.{flat_map}
 use Rattle.std.proofs.lemmas.Bool.{cases_lt}
 use Rattle.std.proofs.lemmas.List.{get_or_past, take_more}
@@ -41,18 +41,18 @@ repeat-head n x ns (Some m) rs h = pairs_of-push rs (Head x ns) ∙ append-nil (
 pub repeat-pair : (n m : ℕ) (rs : List (Rule ℕ)) → IsRepeat n rs None → IsRepeat n (rs ++ Any n m ∷ []) (Some m)
 repeat-pair n m rs h = pairs_of-push rs (Any n m) ∙ ap (λ (ps : List (ℕ × ℕ)). ps ++ (n, m) ∷ []) h
 
-pub repeat-next : (n : ℕ) (old new : Option ℕ) (rs : List (Rule ℕ)) (i : ℕ) (r : Rule ℕ) → i < length rs → r ≡ get_or rs i r → IsRepeat n (take i rs) old → ((qs : List (Rule ℕ)) → IsRepeat n qs old → IsRepeat n (qs ++ r ∷ []) new) → IsRepeat n (take (i + 1) rs) new
-repeat-next n old new rs i r l p h f =
+pub repeat-next : (n : ℕ) (old new : Option ℕ) (rs : List (Rule ℕ)) (i : ℕ) (r : Rule ℕ) → slice_get rs i ≡ Some r → IsRepeat n (take i rs) old → ((qs : List (Rule ℕ)) → IsRepeat n qs old → IsRepeat n (qs ++ r ∷ []) new) → IsRepeat n (take (i + 1) rs) new
+repeat-next n old new rs i r p h f =
     let P : List (Rule ℕ) → Type 0 = λ qs. IsRepeat n qs new in
-    subst P (sym (rules-next rs i r l p)) (f (take i rs) h)
+    subst P (sym (rules-next rs i r p)) (f (take i rs) h)
 
 forms_by-push : (repeat : Option ℕ) (size : ℕ) (rs : List (Rule ℕ)) (r : Rule ℕ) → forms_by repeat size (rs ++ r ∷ []) ≡ forms_by repeat size rs ++ forms_by repeat size (r ∷ [])
 forms_by-push repeat size rs r = ap (flat_map (repeated repeat size)) (heads_of-push rs r) ∙ flat_map-push (repeated repeat size) (heads_of rs) (heads_of (r ∷ []))
 
 -- the forms by one rule more
-pub forms-next : (repeat : Option ℕ) (size : ℕ) (rs : List (Rule ℕ)) (i : ℕ) (r : Rule ℕ) (old new : List HeadRule) → i < length rs → r ≡ get_or rs i r → old ≡ forms_by repeat size (take i rs) → new ≡ old ++ forms_by repeat size (r ∷ []) → new ≡ forms_by repeat size (take (i + 1) rs)
-forms-next repeat size rs i r old new l p h q =
-    q ∙ ap (λ (fs : List HeadRule). fs ++ forms_by repeat size (r ∷ [])) h ∙ sym (forms_by-push repeat size (take i rs) r) ∙ ap (forms_by repeat size) (sym (rules-next rs i r l p))
+pub forms-next : (repeat : Option ℕ) (size : ℕ) (rs : List (Rule ℕ)) (i : ℕ) (r : Rule ℕ) (old new : List HeadRule) → slice_get rs i ≡ Some r → old ≡ forms_by repeat size (take i rs) → new ≡ old ++ forms_by repeat size (r ∷ []) → new ≡ forms_by repeat size (take (i + 1) rs)
+forms-next repeat size rs i r old new p h q =
+    q ∙ ap (λ (fs : List HeadRule). fs ++ forms_by repeat size (r ∷ [])) h ∙ sym (forms_by-push repeat size (take i rs) r) ∙ ap (forms_by repeat size) (sym (rules-next rs i r p))
 
 earlier-trans : (f g h : HeadRule) → IsEarlier f g → IsEarlier g h → IsEarlier f h
 earlier-trans f g h (inl a) (inl b) = inl (omega arith)

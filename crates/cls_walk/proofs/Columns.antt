@@ -1,8 +1,9 @@
 -- Steps of making the column of one size.
-use Rattle.std.proofs.Common.{◌≡◌, ℕ, ◌+◌, ◌<◌, List, [], ◌∷◌, ◌++◌, length, take, get_or, sym, ap, ◌∙◌, subst, inl, inr, arith}
-use Rattle.std.specs.Prelude.{slice_index}
+use Rattle.std.proofs.Common.{◌≡◌, ℕ, ◌+◌, ◌<◌, List, [], ◌∷◌, ◌++◌, length, take, sym, ap, ◌∙◌, subst, inl, inr, arith}
+use Rattle.std.specs.Prelude.{Some, slice_get, slice_index}
 use Rattle.std.proofs.lemmas.Bool.{cases_lt}
 use Rattle.std.proofs.lemmas.List.{take_more, get_or_past}
+use Rattle.std.proofs.lemmas.Option.{get_or_from_slice_get, slice_get_within}
 use Rattle.cls_base.specs.declared.rule.Rule.{Rule}
 use Rattle.cls_base.specs.Languages.{rules_at}
 use Rattle.cls_walk.specs.Counts.{rule_ways, all_ways}
@@ -14,16 +15,16 @@ all_ways-push count cost s [] r = omega arith
 all_ways-push count cost s (q ∷ rs) r = omega (arith, all_ways-push count cost s rs r)
 
 -- the rules up to the next one
-pub rules-next : (rs : List (Rule ℕ)) (i : ℕ) (r : Rule ℕ) → i < length rs → r ≡ get_or rs i r → take (i + 1) rs ≡ take i rs ++ r ∷ []
-rules-next rs i r l p = take_more rs i r l ∙ ap (λ (q : Rule ℕ). take i rs ++ q ∷ []) (sym p)
+pub rules-next : (rs : List (Rule ℕ)) (i : ℕ) (r : Rule ℕ) → slice_get rs i ≡ Some r → take (i + 1) rs ≡ take i rs ++ r ∷ []
+rules-next rs i r p = take_more rs i r (slice_get_within rs i r p) ∙ ap (λ (q : Rule ℕ). take i rs ++ q ∷ []) (get_or_from_slice_get rs i r r p)
 
-pub all_ways-step : (count : ℕ → ℕ → ℕ) (cost : ℕ → ℕ) (s : ℕ) (rs : List (Rule ℕ)) (i : ℕ) (r : Rule ℕ) (total x new : ℕ) → i < length rs → r ≡ get_or rs i r → total ≡ capped (all_ways count cost s ((take i rs))) → x ≡ capped (rule_ways count cost s (r)) → new ≡ capped (total + x) → new ≡ capped (all_ways count cost s ((take (i + 1) rs)))
-all_ways-step count cost s rs i r total x new l p h k q =
+pub all_ways-step : (count : ℕ → ℕ → ℕ) (cost : ℕ → ℕ) (s : ℕ) (rs : List (Rule ℕ)) (i : ℕ) (r : Rule ℕ) (total x new : ℕ) → slice_get rs i ≡ Some r → total ≡ capped (all_ways count cost s ((take i rs))) → x ≡ capped (rule_ways count cost s (r)) → new ≡ capped (total + x) → new ≡ capped (all_ways count cost s ((take (i + 1) rs)))
+all_ways-step count cost s rs i r total x new p h k q =
     q
     ∙ (λ j. capped (h j + k j))
     ∙ capped-plus (all_ways count cost s ((take i rs))) (rule_ways count cost s (r))
     ∙ ap capped (sym (all_ways-push count cost s ((take i rs)) (r)))
-    ∙ ap (λ (qs : List (Rule ℕ)). capped (all_ways count cost s qs)) (sym (rules-next rs i r l p))
+    ∙ ap (λ (qs : List (Rule ℕ)). capped (all_ways count cost s qs)) (sym (rules-next rs i r p))
 
 -- one more number in a column
 pub column-push : (f : ℕ → ℕ) (column new : List ℕ) (x i : ℕ) → new ≡ column ++ x ∷ [] → length column ≡ i → ((n : ℕ) → n < i → slice_index column n ≡ f n) → x ≡ f i → (n : ℕ) → n < i + 1 → slice_index new n ≡ f n

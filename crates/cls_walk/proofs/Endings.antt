@@ -1,6 +1,6 @@
 -- Beyond the size at which the terms end, a greater size that is asked for changes nothing.
-use Rattle.std.proofs.Common.{◌≡◌, ℕ, ◌+◌, ◌*◌, ◌<◌, ◌≤◌, List, [], length, take, get_or, min, refl, sym, subst, inl, inr, arith}
-use Rattle.std.specs.Prelude.{Contains, Bool, Option, Result, Ok, Err, IfErr}
+use Rattle.std.proofs.Common.{◌≡◌, ℕ, ◌+◌, ◌*◌, ◌<◌, ◌≤◌, List, [], length, take, min, refl, sym, subst, inl, inr, arith}
+use Rattle.std.specs.Prelude.{Contains, Bool, Option, Some, slice_get, Result, Ok, Err, IfErr}
 use Rattle.std.proofs.lemmas.Bool.{cases_lt}
 use Rattle.std.proofs.lemmas.Nat.{mul-le}
 use Rattle.std.proofs.lemmas.List.{get_or_past}
@@ -118,10 +118,10 @@ module _ (book : List (List (Rule ℕ))) (cost : ℕ → ℕ) where
     exceeds-up pool f d n h q = let x = decided d n h q in f x.0 n x.1 x.2
 
 -- one more rule
-pub costs-next : (cost : ℕ → ℕ) (rs : List (Rule ℕ)) (i old x new : ℕ) (r : Rule ℕ) → i < length rs → r ≡ get_or rs i r → CostAtMost cost old (take i rs) → ((y : ℕ) (ns : List ℕ) → r ≡ Head y ns → cost y ≤ x) → old ≤ new → x ≤ new → CostAtMost cost new (take (i + 1) rs)
-costs-next cost rs i old x new r l p h k a b y ns c =
+pub costs-next : (cost : ℕ → ℕ) (rs : List (Rule ℕ)) (i old x new : ℕ) (r : Rule ℕ) → slice_get rs i ≡ Some r → CostAtMost cost old (take i rs) → ((y : ℕ) (ns : List ℕ) → r ≡ Head y ns → cost y ≤ x) → old ≤ new → x ≤ new → CostAtMost cost new (take (i + 1) rs)
+costs-next cost rs i old x new r p h k a b y ns c =
     let P : List (Rule ℕ) → Type 0 = λ qs. Contains qs (Head y ns) in
-    elim (Contains-push_cases (take i rs) r (Head y ns) (subst P (rules-next rs i r l p) c)) [
+    elim (Contains-push_cases (take i rs) r (Head y ns) (subst P (rules-next rs i r p) c)) [
       | inl d ↦ (let z = h y ns d in omega (arith, z, a))
       | inr e ↦ (let z = k y ns e in omega (arith, z, b))
     ]

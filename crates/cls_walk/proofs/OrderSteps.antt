@@ -1,6 +1,6 @@
 -- Steps of testing whether heads are in order.
-use Rattle.std.proofs.Common.{◌≡◌, ℕ, ◌+◌, ◌<◌, ◌≤◌, List, [], ◌∷◌, ◌++◌, length, take, get_or, refl, sym, ap, ◌∙◌, subst, inl, inr, arith}
-use Rattle.std.specs.Prelude.{◌⊎◌}
+use Rattle.std.proofs.Common.{◌≡◌, ℕ, ◌+◌, ◌<◌, ◌≤◌, List, [], ◌∷◌, ◌++◌, length, take, refl, sym, ap, ◌∙◌, subst, inl, inr, arith}
+use Rattle.std.specs.Prelude.{◌⊎◌, Some, slice_get}
 use Rattle.std.proofs.lemmas.Bool.{cases_lt}
 use Rattle.std.proofs.lemmas.List.{get_or_past}
 use Rattle.cls_base.specs.declared.rule.Rule.{Rule}
@@ -66,8 +66,8 @@ none-more P hs h = subst P (sym (plain hs)) h
     plain (x ∷ hs) = ap (λ (gs : List HeadRule). x ∷ gs) (plain hs)
 
 -- the heads up to the next rule
-pub heads-next : (rs : List (Rule ℕ)) (i : ℕ) (r : Rule ℕ) → i < length rs → r ≡ get_or rs i r → heads_of ((take i rs)) ++ heads_of (r ∷ []) ≡ heads_of ((take (i + 1) rs))
-heads-next rs i r l p = sym (heads_of-push ((take i rs)) (r)) ∙ ap heads_of (sym (rules-next rs i r l p))
+pub heads-next : (rs : List (Rule ℕ)) (i : ℕ) (r : Rule ℕ) → slice_get rs i ≡ Some r → heads_of (take i rs) ++ heads_of (r ∷ []) ≡ heads_of (take (i + 1) rs)
+heads-next rs i r p = sym (heads_of-push (take i rs) r) ∙ ap heads_of (sym (rules-next rs i r p))
 
 pub ordered-whole : (book : List (List (Rule ℕ))) (i : ℕ) → length book ≤ i → ((n : ℕ) → n < i → InOrder (heads_of (rules_at book n))) → IsOrdered book
 ordered-whole book i l h n = elim (cases_lt n i) [

@@ -1,8 +1,9 @@
 -- Steps of counting the heads of a node by runs.
-use Rattle.std.proofs.Common.{◌≡◌, ℕ, suc, ◌+◌, ◌-◌, ◌^◌, ◌<◌, min, max, List, [], ◌∷◌, length, drop, get_or, sym, ap, ◌∙◌, subst, arith, add-one, Bool, true, false}
-use Rattle.std.specs.Prelude.{nat_eq, ◌&&◌, if◌then◌else◌}
+use Rattle.std.proofs.Common.{◌≡◌, ℕ, suc, ◌+◌, ◌-◌, ◌^◌, min, max, List, [], ◌∷◌, length, drop, get_or, sym, ap, ◌∙◌, subst, arith, add-one, Bool, true, false}
+use Rattle.std.specs.Prelude.{Some, slice_get, nat_eq, ◌&&◌, if◌then◌else◌}
 use Rattle.std.proofs.Math.Seq.{drop-cons}
 use Rattle.std.proofs.lemmas.Bool.Decides.{nat_tests}
+use Rattle.std.proofs.lemmas.Option.{get_or_from_slice_get, slice_get_within}
 use Rattle.cls_base.specs.declared.rule.Rule.{Rule}
 use Rattle.cls_walk.specs.Counts.{HeadRule, run}
 use Rattle.cls_walk.specs.Tables.{capped}
@@ -58,10 +59,10 @@ run-next f x k best total y a ways new sum ns hs t l w n h =
     ∙ subst P test h
 
 -- the rules from this one on
-pub rules-from : (rs : List (Rule ℕ)) (i : ℕ) (r : Rule ℕ) → i < length rs → r ≡ get_or rs i r → (drop i rs) ≡ r ∷ (drop (i + 1) rs)
-rules-from rs i r l p =
-    let e : drop i rs ≡ get_or rs i r ∷ drop (suc i) rs = drop-cons rs i r l in
-    let d : get_or rs i r ∷ drop (suc i) rs ≡ r ∷ drop (i + 1) rs = λ j. sym p j ∷ drop (sym (add-one i) j) rs in
+pub rules-from : (rs : List (Rule ℕ)) (i : ℕ) (r : Rule ℕ) → slice_get rs i ≡ Some r → drop i rs ≡ r ∷ drop (i + 1) rs
+rules-from rs i r p =
+    let e : drop i rs ≡ get_or rs i r ∷ drop (suc i) rs = drop-cons rs i r (slice_get_within rs i r p) in
+    let d : get_or rs i r ∷ drop (suc i) rs ≡ r ∷ drop (i + 1) rs = λ j. get_or_from_slice_get rs i r r p j ∷ drop (sym (add-one i) j) rs in
     e ∙ d
 
 pub differ_by : (x y k a : ℕ) → (x ≡ y → k ≡ a → ⊥) → (nat_eq x y && nat_eq k a) ≡ false

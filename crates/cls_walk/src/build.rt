@@ -2,6 +2,7 @@
 //! of itself and another node.
 ghost use Rattle.std.specs.Prelude.{◌≡◌, ℕ, ◌++◌, ◌∷◌, [], true, IfOk, IfSome, OnOk, List};
 ghost use Rattle.cls_base.specs.declared.rule.Rule.{Rule};
+ghost use Rattle.cls_rulebook.specs.Columns.{rule_of};
 ghost use Rattle.cls_walk.specs.Counts.{HeadRule};
 ghost use Rattle.cls_walk.specs.Attempts.{AreFormsUpTo};
 ghost use Rattle.cls_walk.specs.Filled.{EachRise};
@@ -9,36 +10,37 @@ ghost use Rattle.cls_walk.specs.Forms.{AreRising, IsEarlier};
 ghost use Rattle.cls_walk.specs.Repeats.{copies, forms_by, repeated, IsRepeat};
 
 use crate::form::{Form, Forms};
-use cls_base::{OutOfMemory, Rule};
-use cls_rulebook::RuleBook;
+use cls_base::OutOfMemory;
+use cls_rulebook::{NodeRules, RuleBook, RuleRef};
 use std::alloc::Global;
 
 /// What the node may be applied to again and again, with one rule more. None, if it isn't as the head of this file
 /// says.
-fn repeat_with(node: u32, repeat: Option<u32>, rule: &Rule<u32>) -> Option<Option<u32>>
+fn repeat_with(node: u32, repeat: Option<u32>, rule: RuleRef<'_>) -> Option<Option<u32>>
     ensures { IfSome result (λ new. (rules : List (Rule ℕ))
-        → IsRepeat node rules repeat → IsRepeat node (rules ++ rule.now ∷ []) new) }
+        → IsRepeat node rules repeat → IsRepeat node (rules ++ rule_of rule.entry ∷ []) new) }
 {
     match rule {
-        Rule::Head {
+        RuleRef::Head {
             component: _,
             args: _,
         } => Some(repeat),
-        Rule::Any { left, right } => {
-            if repeat.is_some() || *left != node {
+        RuleRef::Any { left, right } => {
+            if repeat.is_some() || left != node {
                 return None;
             }
-            Some(Some(*right))
+            Some(Some(right))
         }
     }
 }
 
 /// The same for all rules of the node.
-fn repeat_of(node: u32, rules: &[Rule<u32>]) -> Option<Option<u32>>
+fn repeat_of(node: u32, rules: &NodeRules) -> Option<Option<u32>>
     ensures { IfSome result (IsRepeat node rules.now) }
 {
     let mut repeat = None;
-    for rule in rules {
+    for place in 0..rules.len() {
+        let rule = rules.get(place);
         repeat = repeat_with(node, repeat, rule)?;
     }
     Some(repeat)
@@ -94,32 +96,33 @@ fn add_forms(
 /// The same for a rule. A pair of nodes is no head rule.
 fn add_rule(
     alloc: Global,
-    rule: &Rule<u32>,
+    rule: RuleRef<'_>,
     repeat: Option<u32>,
     size: u32,
     forms: &mut Vec<Form>,
 ) -> Result<(), OutOfMemory>
-    ensures { OnOk result (forms.new.items ≡ forms.old.items ++ forms_by repeat size (rule.now ∷ [])) }
+    ensures { OnOk result (forms.new.items ≡ forms.old.items ++ forms_by repeat size (rule_of rule.entry ∷ [])) }
 {
     match rule {
-        Rule::Head { component, args } => {
-            add_forms(alloc, *component, args.as_slice(), repeat, size, forms)
+        RuleRef::Head { component, args } => {
+            add_forms(alloc, component, args, repeat, size, forms)
         }
-        Rule::Any { left: _, right: _ } => Ok(()),
+        RuleRef::Any { left: _, right: _ } => Ok(()),
     }
 }
 
 /// The forms by these rules.
 fn node_forms(
     alloc: Global,
-    rules: &[Rule<u32>],
+    rules: &NodeRules,
     repeat: Option<u32>,
     size: u32,
 ) -> Result<Vec<Form>, OutOfMemory>
     ensures { IfOk result (λ forms. forms.items ≡ forms_by repeat size rules.now) }
 {
     let mut forms = Vec::new(alloc);
-    for rule in rules {
+    for place in 0..rules.len() {
+        let rule = rules.get(place);
         add_rule(alloc, rule, repeat, size, &mut forms)?;
     }
     Ok(forms)

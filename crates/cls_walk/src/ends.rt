@@ -3,31 +3,33 @@
 ghost use Rattle.std.specs.Prelude.{◌≡◌, ℕ, ◌≤◌, List};
 ghost use Rattle.cls_base.specs.Limits.{max_term_size};
 ghost use Rattle.cls_base.specs.declared.rule.Rule.TheVariants.{Head};
+ghost use Rattle.cls_rulebook.specs.Columns.{rule_of};
 ghost use Rattle.cls_term.specs.Costs.{cost_of};
 ghost use Rattle.cls_walk.specs.Ends.{CostAtMost, EndsAt};
 
 use crate::numbers::{cost_at, plus, times};
+use cls_base::Numbers;
 use cls_base::limits::MAX_TERM_LENGTH;
-use cls_base::{Numbers, Rule};
-use cls_rulebook::RuleBook;
+use cls_rulebook::{NodeRules, RuleBook, RuleRef};
 
 /// The cost of the component that heads the rule, 0 where none does.
-fn head_cost(rule: &Rule<u32>, costs: &Numbers) -> u32
-    ensures { (x : ℕ) (ns : List ℕ) → rule.now ≡ Head x ns → cost_of costs.now x ≤ result }
+fn head_cost(rule: RuleRef<'_>, costs: &Numbers) -> u32
+    ensures { (x : ℕ) (ns : List ℕ) → rule_of rule.entry ≡ Head x ns → cost_of costs.now x ≤ result }
 {
     match rule {
-        Rule::Head { component, args: _ } => cost_at(costs, *component),
-        Rule::Any { left: _, right: _ } => 0,
+        RuleRef::Head { component, args: _ } => cost_at(costs, component),
+        RuleRef::Any { left: _, right: _ } => 0,
     }
 }
 
 /// The greatest of `least` and the costs of the components that head the rules.
-fn greatest_cost(rules: &[Rule<u32>], costs: &Numbers, least: u32) -> u32
+fn greatest_cost(rules: &NodeRules, costs: &Numbers, least: u32) -> u32
     ensures kept { least ≤ result }
     ensures most { CostAtMost (cost_of costs.now) result rules.now }
 {
     let mut best = least;
-    for rule in rules {
+    for place in 0..rules.len() {
+        let rule = rules.get(place);
         best = best.max(head_cost(rule, costs));
     }
     best

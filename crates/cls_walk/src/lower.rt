@@ -3,6 +3,7 @@
 //! rule with arguments.
 ghost use Rattle.std.specs.Prelude.{◌≡◌, ℕ, IfOk, List, ◌∷◌, max};
 ghost use Rattle.cls_base.specs.declared.rule.Rule.{Rule};
+ghost use Rattle.cls_rulebook.specs.Columns.{rule_of};
 ghost use Rattle.cls_walk.specs.Counts.{greatest, pair_ways, pairs_of};
 ghost use Rattle.cls_walk.specs.Stages.{counts, sure_count, IsColumn};
 ghost use Rattle.cls_walk.specs.Tables.{capped};
@@ -11,39 +12,40 @@ use crate::numbers::{greater, plus};
 use crate::run::runs_of;
 use crate::stage::Stage;
 use crate::ways::pair_ways_of;
+use cls_base::OutOfMemory;
 use cls_base::limits::MAX_TERM_LENGTH;
-use cls_base::{OutOfMemory, Rule};
-use cls_rulebook::RuleBook;
+use cls_rulebook::{NodeRules, RuleBook, RuleRef};
 use std::alloc::Global;
 
 /// The greater of a number and the ways of the rule, where it is a pair of nodes.
-fn with_pair(stage: &Stage, rule: &Rule<u32>, best: u64) -> u64
+fn with_pair(stage: &Stage, rule: RuleRef<'_>, best: u64) -> u64
     ensures { (rs : List (Rule ℕ)) (most : ℕ) → let f = greatest (pair_ways (counts stage.now) stage.now.size) in
-        capped (max best (f (pairs_of (rule.now ∷ rs)))) ≡ capped most
+        capped (max best (f (pairs_of (rule_of rule.entry ∷ rs)))) ≡ capped most
         → capped (max result (f (pairs_of rs))) ≡ capped most }
 {
     match rule {
-        Rule::Head {
+        RuleRef::Head {
             component: _,
             args: _,
         } => best,
-        Rule::Any { left, right } => greater(best, pair_ways_of(stage, *left, *right)),
+        RuleRef::Any { left, right } => greater(best, pair_ways_of(stage, left, right)),
     }
 }
 
 /// In how many ways that pair of nodes makes a term that makes most.
-fn greatest_pair(stage: &Stage, rules: &[Rule<u32>]) -> u64
+fn greatest_pair(stage: &Stage, rules: &NodeRules) -> u64
     ensures { result ≡ capped (greatest (pair_ways (counts stage.now) stage.now.size) (pairs_of rules.now)) }
 {
     let mut best = 0;
-    for rule in rules {
+    for place in 0..rules.len() {
+        let rule = rules.get(place);
         best = with_pair(stage, rule, best);
     }
     best
 }
 
 /// How many terms the rules surely make, 0 where a term of the size may be too long to stand on a page.
-fn sure_ways_of(alloc: Global, stage: &Stage, rules: &[Rule<u32>]) -> Result<u64, OutOfMemory>
+fn sure_ways_of(alloc: Global, stage: &Stage, rules: &NodeRules) -> Result<u64, OutOfMemory>
     ensures { IfOk result (λ n. n ≡ sure_count stage.now rules.now) }
 {
     if u64::from(stage.size) > MAX_TERM_LENGTH {

@@ -1,11 +1,11 @@
 //! Whether head rules are in the order in which the codes of their terms begin, by which runs of them are counted.
 ghost use Rattle.std.specs.Prelude.{◌≡◌, true, IfSome, List, [], ◌∷◌, ◌++◌};
+ghost use Rattle.cls_rulebook.specs.Columns.{rule_of};
 ghost use Rattle.cls_walk.specs.Counts.{HeadRule, heads_of};
 ghost use Rattle.cls_walk.specs.Lasts.{EndWith};
 ghost use Rattle.cls_walk.specs.Orders.{InOrder, IsOrdered};
 
-use cls_base::Rule;
-use cls_rulebook::RuleBook;
+use cls_rulebook::{NodeRules, RuleBook, RuleRef};
 
 /// The component and the number of arguments of the last head rule so far.
 #[derive(Clone, Copy)]
@@ -16,22 +16,22 @@ pub(crate) struct Last {
 
 /// The last head rule once this rule stands behind the others, None if it is a head rule that belongs before one of
 /// them.
-fn behind(last: Last, rule: &Rule<u32>) -> Option<Last>
+fn behind(last: Last, rule: RuleRef<'_>) -> Option<Last>
     ensures { IfSome result (λ next. (hs : List HeadRule)
-        → EndWith last hs → EndWith next (hs ++ heads_of (rule.now ∷ []))) }
+        → EndWith last hs → EndWith next (hs ++ heads_of (rule_of rule.entry ∷ []))) }
 {
     match rule {
-        Rule::Any { left: _, right: _ } => Some(last),
-        Rule::Head { component, args } => {
-            let arguments = args.as_slice().len();
-            if *component < last.component {
+        RuleRef::Any { left: _, right: _ } => Some(last),
+        RuleRef::Head { component, args } => {
+            let arguments = args.len();
+            if component < last.component {
                 return None;
             }
-            if *component == last.component && arguments < last.arguments {
+            if component == last.component && arguments < last.arguments {
                 return None;
             }
             Some(Last {
-                component: *component,
+                component,
                 arguments,
             })
         }
@@ -39,14 +39,15 @@ fn behind(last: Last, rule: &Rule<u32>) -> Option<Last>
 }
 
 /// Whether the head rules are in order.
-fn are_in_order(rules: &[Rule<u32>]) -> bool
+fn are_in_order(rules: &NodeRules) -> bool
     ensures { result ≡ true → InOrder (heads_of rules.now) }
 {
     let mut last = Last {
         component: 0,
         arguments: 0,
     };
-    for rule in rules {
+    for place in 0..rules.len() {
+        let rule = rules.get(place);
         let Some(next) = behind(last, rule) else {
             return false;
         };

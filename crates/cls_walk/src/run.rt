@@ -2,6 +2,7 @@
 //! greatest number of ways in each.
 ghost use Rattle.std.specs.Prelude.{◌≡◌, ℕ, IfOk, List, ◌∷◌, length};
 ghost use Rattle.cls_base.specs.declared.rule.Rule.{Rule};
+ghost use Rattle.cls_rulebook.specs.Columns.{rule_of};
 ghost use Rattle.cls_walk.specs.Counts.{HeadRule, heads_of, runs};
 ghost use Rattle.cls_walk.specs.Runs.{KeepsSum};
 ghost use Rattle.cls_walk.specs.Stages.{ways_if};
@@ -10,7 +11,8 @@ ghost use Rattle.cls_walk.specs.Tables.{capped};
 use crate::numbers::{greater, plus};
 use crate::stage::Stage;
 use crate::upper::{head_ways_of, leaf_ways_of};
-use cls_base::{OutOfMemory, Rule};
+use cls_base::OutOfMemory;
+use cls_rulebook::{NodeRules, RuleRef};
 use std::alloc::Global;
 
 /// A run of head rules: its component and number of arguments, the greatest number of ways so far, and the sum over
@@ -65,20 +67,19 @@ fn ways_of_head(
 fn with_rule(
     alloc: Global,
     stage: &Stage,
-    rule: &Rule<u32>,
+    rule: RuleRef<'_>,
     alone: bool,
     run: Run,
 ) -> Result<Run, OutOfMemory>
     ensures { IfOk result (λ new. (rs : List (Rule ℕ))
-        → KeepsSum (ways_if stage.now alone) (heads_of (rule.now ∷ rs)) (heads_of rs) run new) }
+        → KeepsSum (ways_if stage.now alone) (heads_of (rule_of rule.entry ∷ rs)) (heads_of rs) run new) }
 {
     match rule {
-        Rule::Head { component, args } => {
-            let nodes = args.as_slice();
-            let ways = ways_of_head(alloc, stage, *component, nodes, alone)?;
-            Ok(with_head(run, *component, nodes.len(), ways))
+        RuleRef::Head { component, args } => {
+            let ways = ways_of_head(alloc, stage, component, args, alone)?;
+            Ok(with_head(run, component, args.len(), ways))
         }
-        Rule::Any { left: _, right: _ } => Ok(run),
+        RuleRef::Any { left: _, right: _ } => Ok(run),
     }
 }
 
@@ -86,7 +87,7 @@ fn with_rule(
 pub(crate) fn runs_of(
     alloc: Global,
     stage: &Stage,
-    rules: &[Rule<u32>],
+    rules: &NodeRules,
     alone: bool,
 ) -> Result<u64, OutOfMemory>
     ensures { IfOk result (λ n. n ≡ capped (runs (ways_if stage.now alone) (heads_of rules.now))) }
@@ -97,7 +98,8 @@ pub(crate) fn runs_of(
         best: 0,
         total: 0,
     };
-    for rule in rules {
+    for place in 0..rules.len() {
+        let rule = rules.get(place);
         run = with_rule(alloc, stage, rule, alone, run)?;
     }
     Ok(plus(run.total, run.best))

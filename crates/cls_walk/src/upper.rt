@@ -1,12 +1,13 @@
 //! The upper bound of the number of terms of a node and size: in how many ways its rules make one.
 ghost use Rattle.std.specs.Prelude.{◌≡◌, [], IfOk};
+ghost use Rattle.cls_rulebook.specs.Columns.{rule_of};
 ghost use Rattle.cls_walk.specs.Stages.{head_count, rule_count, rules_count, IsColumn};
 
 use crate::numbers::{cost_at, plus};
 use crate::stage::Stage;
 use crate::ways::{pair_ways_of, ways_of};
-use cls_base::{OutOfMemory, Rule};
-use cls_rulebook::RuleBook;
+use cls_base::OutOfMemory;
+use cls_rulebook::{NodeRules, RuleBook, RuleRef};
 use std::alloc::Global;
 
 /// In how many ways a component without arguments makes a term.
@@ -37,27 +38,27 @@ pub(crate) fn head_ways_of(
 }
 
 /// In how many ways a rule makes a term.
-fn rule_ways_of(alloc: Global, stage: &Stage, rule: &Rule<u32>) -> Result<u64, OutOfMemory>
-    ensures { IfOk result (λ n. n ≡ rule_count stage.now rule.now) }
+fn rule_ways_of(alloc: Global, stage: &Stage, rule: RuleRef<'_>) -> Result<u64, OutOfMemory>
+    ensures { IfOk result (λ n. n ≡ rule_count stage.now (rule_of rule.entry)) }
 {
     match rule {
-        Rule::Head { component, args } => {
-            let nodes = args.as_slice();
-            if nodes.is_empty() {
-                return Ok(leaf_ways_of(stage, *component));
+        RuleRef::Head { component, args } => {
+            if args.is_empty() {
+                return Ok(leaf_ways_of(stage, component));
             }
-            Ok(head_ways_of(alloc, stage, *component, nodes)?)
+            Ok(head_ways_of(alloc, stage, component, args)?)
         }
-        Rule::Any { left, right } => Ok(pair_ways_of(stage, *left, *right)),
+        RuleRef::Any { left, right } => Ok(pair_ways_of(stage, left, right)),
     }
 }
 
 /// In how many ways the rules together make a term.
-fn all_ways_of(alloc: Global, stage: &Stage, rules: &[Rule<u32>]) -> Result<u64, OutOfMemory>
+fn all_ways_of(alloc: Global, stage: &Stage, rules: &NodeRules) -> Result<u64, OutOfMemory>
     ensures { IfOk result (λ n. n ≡ rules_count stage.now rules.now) }
 {
     let mut total = 0;
-    for rule in rules {
+    for place in 0..rules.len() {
+        let rule = rules.get(place);
         total = plus(total, rule_ways_of(alloc, stage, rule)?);
     }
     Ok(total)

@@ -4,8 +4,8 @@ use Rattle.cls_term.specs.Costs.{cost_of}
 use Rattle.cls_enum.specs.Plans.{AreReady, rules_of}
 use Rattle.cls_enum.proofs.plan.node_plans.Given as goal
 
-abbrev pub invariant-loop-rule : goal.invariant-loop-rule
-invariant-loop-rule l = record {
-  rules : rules_of l.plans.items ≡ take l.rule-index l.rules;
+abbrev pub invariant-loop-place : goal.invariant-loop-place
+invariant-loop-place l = record {
+  rules : rules_of l.plans.items ≡ take l.place l.rules;
   ready : (b : List (List (Rule ℕ))) (s : ℕ) → AreReady b (cost_of l.costs) s l.plans.items;
 }

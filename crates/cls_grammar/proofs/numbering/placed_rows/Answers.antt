@@ -1,11 +1,9 @@
 use Rattle.std.proofs.Common.{ℕ, ◌≡◌, ◌≤◌, Some, length, map, slice_get, sym, ap, subst, ◌∙◌, arith, get_or}
-use Rattle.std.specs.Prelude.{Contains}
 use Rattle.std.specs.List.{filter_map}
 use Rattle.std.proofs.lemmas.Option.{slice_get_within, get_or_from_slice_get}
-use Rattle.cls_core.specs.Arguments.{arguments_in, map_rule}
 use Rattle.cls_core.specs.Renumbering.{placed}
 use Rattle.cls_grammar.specs.Grammars.{ruled_rows, book_of, first_wide, BookHasNodesBelow}
-use Rattle.cls_grammar.proofs.Places.{place, found-row, found-known, found-few, found-some, one-placed, wide-next, all-placed, none-first, none-wide}
+use Rattle.cls_grammar.proofs.Places.{found-row, found-known, found-few, found-some, one-placed, wide-next, all-placed, none-first, none-wide}
 use Rattle.cls_grammar.proofs.numbering.placed_rows.Goals as goal
 use Rattle.cls_grammar.proofs.Climbing.{get-read}
 
@@ -32,7 +30,7 @@ returns-in_default-clause-wide c =
     let row = get_or items i 0 in
     let at = subst (λ l. slice_get l i ≡ Some row) c.as_slice-row-items.ensures (get-read items i c.loop-row-test.true) in
     let g = c.in_ok-goal.goal in
-    let wide = wide-next rows keys i row c.loop-row.goals.items c.loop-row.rules.items g (slice_get_within keys i row at) (sym (get_or_from_slice_get keys i row row at)) (c.goal.ensures ∙ ap Some (sym c.in_ok-goal.ensures)) (c.answer.ensures ∙ ap Some c.in_default.is) c.loop-row.invariant in
+    let wide = wide-next rows keys i row c.loop-row.goals.items c.loop-row.rules.items g (slice_get_within keys i row at) (sym (get_or_from_slice_get keys i row row at)) (c.goal.ensures ∙ ap Some (sym c.in_ok-goal.ensures)) (c.answer.ensures ∙ ap Some c.in_default.ensures.wide) c.loop-row.invariant in
     subst (λ ks. first_wide (map (placed ks) (filter_map (slice_get rows) ks)) ≡ Some g) c.requires.order wide
 
 pub place_rules-requires : goal.place_rules-requires
@@ -40,7 +38,7 @@ place_rules-requires c = λ n h.
     let items = c.as_slice-row-items.result.now in
     let i = c.loop-row.row-index in
     let at = subst (λ l. slice_get l i ≡ Some (get_or items i 0)) c.as_slice-row-items.ensures (get-read items i c.loop-row-test.true) in
-    found-known c.args.rows.now c.requires.grammar c.args.found.now.order c.requires.order i (get_or items i 0) c.in-Rules.old at (c.answer.ensures ∙ ap Some c.in-Rules.is) n (subst (λ l. Contains (arguments_in l) n) c.as_slice.ensures h)
+    found-known c.args.rows.now c.requires.grammar c.args.found.now.order c.requires.order i (get_or items i 0) c.in-Some.old.now at (c.answer.ensures ∙ ap Some c.in-Some.ensures.rules) n h
 
 pub loop-row-preserved : goal.loop-row-preserved
 loop-row-preserved c =
@@ -50,12 +48,12 @@ loop-row-preserved c =
     let i = c.loop-row.row-index in
     let row = get_or items i 0 in
     let at = subst (λ l. slice_get l i ≡ Some row) c.as_slice-row-items.ensures (get-read items i c.loop-row-test.true) in
-    let is = c.answer.ensures ∙ ap Some c.in-Rules.is in
-    one-placed rows keys i row c.loop-row.goals.items c.push-in-loop-row.new.self.items c.loop-row.rules.items c.push.new.self.items c.in_ok-goal.goal c.in-Rules.old c.in_ok-new.new
+    let is = c.answer.ensures ∙ ap Some c.in-Some.ensures.rules in
+    one-placed rows keys i row c.loop-row.goals.items c.push-in-loop-row.new.self.items c.loop-row.rules.items c.push.new.self.items c.in_ok-goal.goal c.in-Some.old.now c.in_ok-new.new
     (slice_get_within keys i row at) (sym (get_or_from_slice_get keys i row row at))
     (c.goal.ensures ∙ ap Some (sym c.in_ok-goal.ensures)) is
-    (found-known rows c.requires.grammar keys c.requires.order i row c.in-Rules.old at is)
-    (c.in_ok-new.ensures ∙ ap (map (map_rule (place keys))) c.as_slice.ensures) c.in_ok-push-2.ensures.items c.in_ok-push.ensures.items
+    (found-known rows c.requires.grammar keys c.requires.order i row c.in-Some.old.now at is)
+    c.in_ok-new.ensures c.in_ok-push-2.ensures.items c.in_ok-push.ensures.items
     c.loop-row.invariant
 
 pub invariant_of-result : goal.invariant_of-result

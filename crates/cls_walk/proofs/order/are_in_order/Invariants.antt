@@ -3,5 +3,5 @@ use Rattle.cls_walk.specs.Counts.{heads_of}
 use Rattle.cls_walk.specs.Lasts.{EndWith}
 use Rattle.cls_walk.proofs.order.are_in_order.Given as goal
 
-abbrev pub invariant-loop-rule : goal.invariant-loop-rule
-invariant-loop-rule l = EndWith l.last (heads_of ((take l.rule-index l.rules)))
+abbrev pub invariant-loop-place : goal.invariant-loop-place
+invariant-loop-place l = EndWith l.last (heads_of ((take l.place l.rules)))

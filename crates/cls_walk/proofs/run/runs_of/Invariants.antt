@@ -4,7 +4,7 @@ use Rattle.cls_walk.specs.Runs.{ComesTo}
 use Rattle.cls_walk.specs.Stages.{ways_if}
 use Rattle.cls_walk.proofs.run.runs_of.Given as goal
 
-abbrev pub invariant-loop-rule : goal.invariant-loop-rule
-invariant-loop-rule l =
+abbrev pub invariant-loop-place : goal.invariant-loop-place
+invariant-loop-place l =
     let f = ways_if l.stage l.alone in
-    ComesTo f (heads_of (drop l.rule-index l.rules)) (runs f (heads_of l.rules)) l.run
+    ComesTo f (heads_of (drop l.place l.rules)) (runs f (heads_of l.rules)) l.run

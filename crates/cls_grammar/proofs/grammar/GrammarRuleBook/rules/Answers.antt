@@ -1,4 +1,4 @@
-use Rattle.std.proofs.Common.{arith, ap, length, refl, subst, sym, ◌∙◌, ◌≡◌, ◌<◌, Some, List, ℕ}
+use Rattle.std.proofs.Common.{arith, ap, length, refl, subst, ◌≡◌, ◌<◌, List, ℕ}
 use Rattle.std.proofs.lemmas.Option.{slice_get_read}
 use Rattle.cls_base.specs.Languages.{rules_at}
 use Rattle.cls_core.specs.Rows.{Row}
@@ -20,8 +20,8 @@ returns-clause-rules c =
     let rows = ruled_rows i.goals.items i.rules.items in
     let within : c.args.i < length i.rules.items = omega (arith, c.requires, c.self.invariant.paired, rows-count i.goals.items i.rules.items c.self.invariant.paired, ap length c.self.view_is, book-count c.args.self.now) in
     let at = slice_get_read i.rules.items (length i.rules.items) c.args.i c.index.result.now refl within c.index.ensures in
-    let there = rows-rules i.goals.items i.rules.items c.args.i c.as_slice.result.now c.self.invariant.paired (at ∙ ap Some (sym c.as_slice.ensures)) in
-    subst (λ (v : List (Row (List TypePath))). c.as_slice.result.now ≡ rules_at (book_of v) c.args.i) c.self.view_is (rows-book rows c.args.i c.as_slice.result.now there)
+    let there = rows-rules i.goals.items i.rules.items c.args.i c.index.result.now c.self.invariant.paired at in
+    subst (λ (v : List (Row (List TypePath))). c.index.result.now ≡ rules_at (book_of v) c.args.i) c.self.view_is (rows-book rows c.args.i c.index.result.now there)
 
 pub returns-clause-within : goal.returns-clause-within
 returns-clause-within c =

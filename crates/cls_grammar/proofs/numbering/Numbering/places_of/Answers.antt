@@ -1,6 +1,6 @@
-use Rattle.std.proofs.Common.{ap, sym, ◌∙◌, ◌∷◌, [], ◌++◌, nat_eq, map, take, get_or, ℕ}
+use Rattle.std.proofs.Common.{sym, ◌∙◌, ◌∷◌, [], ◌++◌, nat_eq, ℕ}
 use Rattle.std.specs.List.{position_or_len}
-use Rattle.std.proofs.lemmas.List.{take_more, map-append}
+use Rattle.std.proofs.lemmas.List.{map_more}
 use Rattle.cls_grammar.proofs.numbering.Numbering.places_of.Goals as goal
 use Rattle.cls_grammar.proofs.Climbing.{get-read}
 use Rattle.cls_base.proofs.Lists.{Contains-at}
@@ -13,6 +13,4 @@ place_of-requires c =
 pub loop-number-preserved : goal.loop-number-preserved
 loop-number-preserved c =
     let f = λ (n : ℕ). position_or_len (nat_eq n) c.args.self.now.order in
-    let xs = c.args.numbers.now in
-    let i = c.loop-number.number-index in
-    c.in_ok-push.ensures.items ∙ (ap (λ l. l ++ c.place_of.result ∷ []) c.loop-number.invariant ∙ (ap (λ n. map f (take i xs) ++ n ∷ []) c.place_of.ensures ∙ (sym (map-append f (take i xs) (get_or xs i 0 ∷ [])) ∙ ap (map f) (sym (take_more xs i 0 c.loop-number-test.true)))))
+    c.in_ok-push.ensures.items ∙ ((λ j. c.loop-number.invariant j ++ c.place_of.ensures j ∷ []) ∙ sym (map_more f c.args.numbers.now c.loop-number.number-index 0 c.loop-number-test.true))
