@@ -9,18 +9,40 @@ use Rattle.cls_path.specs.Paths.{TypePath, Paths, none, more, listed, type_of_pa
 use Rattle.cls_cover.specs.Lists.{IsAscending, Sublist, ends, drops}
 use Rattle.cls_cover.specs.Covers.{IsMinimal, AreMinimal, MeetsEach, AreCovers, HaveMore, AreWithinLimit}
 use Rattle.cls_library.specs.Arrows.{MultiArrow, arity_of}
-use Rattle.cls_library.specs.Families.{IsFamilyIn, NoneBegins, AreFamilies}
+use Rattle.cls_library.specs.Families.{IsNext, IsNextPlace, IsPlace, NoneBegins, AreFamilies}
 use Rattle.cls_library.specs.Libraries.{Library, paths_at, arrows_at}
+use Rattle.cls_library.specs.declared.place.Place.{Place}
 use Rattle.cls_library.specs.Reaching.{CoversGoal}
 use Rattle.cls_library.specs.Rules.{IsWide, by_covers, max_covers}
 use Rattle.cls_expand.proofs.FamilyCovers.{covers_goal, many_from}
+use Rattle.cls_expand.proofs.Unreached.{IsReached, reached}
 use Rattle.cls_proof.specs.Blocks.{block_of}
 use Rattle.cls_proof.specs.declared.block.Block as code
 use Rattle.cls_proof.specs.Certificates as proof
 use Rattle.cls_proof.specs.Certificates.{Block}
 use Rattle.cls_cert.specs.Making.{front_of, path_count, HasFirst, AreLayers, BlockBefore, IsMemberFor}
 use Rattle.cls_cert.specs.Building.{AreCoversOfFronts, HasFirstFamily, IsPlaceBefore, AddsBlock, with_block, without_block, AreBlocks}
-use Rattle.cls_cert.proofs.Lists.{not_false, is_true, rises_last, take_take, get_before, get_last, length_last}
+use Rattle.cls_cert.proofs.Lists.{differs, not_false, is_true, rises_last, take_take, get_before, get_last, length_last}
+
+compare : (a b : ℕ) → (a < b) ⊎ ((a ≡ b) ⊎ (b < a))
+compare a b = grind arith
+
+before_or_not : (y k x n : ℕ) → IsPlaceBefore y k x n ⊎ (IsPlaceBefore y k x n → ⊥)
+before_or_not y k x n = by (compare y x) (compare k n)
+  where
+    by : (y < x) ⊎ ((y ≡ x) ⊎ (x < y)) → (k < n) ⊎ ((k ≡ n) ⊎ (n < k)) → IsPlaceBefore y k x n ⊎ (IsPlaceBefore y k x n → ⊥)
+    by (inl h) m = inl (inl h)
+    by (inr (inr h)) m = inr (λ i. elim i [ inl j ↦ omega arith | inr j ↦ (let e : y ≡ x = j.0 in omega arith) ])
+    by (inr (inl e)) (inl m) = inl (inr (e, m))
+    by (inr (inl e)) (inr (inl m)) = inr (λ i. elim i [ inl j ↦ omega arith | inr j ↦ (let l : k < n = j.1 in omega arith) ])
+    by (inr (inl e)) (inr (inr m)) = inr (λ i. elim i [ inl j ↦ omega arith | inr j ↦ (let l : k < n = j.1 in omega arith) ])
+
+-- what comes before a place comes before each one that it reaches
+before_on : (x n y k z j : ℕ) → IsReached x n y k → IsPlaceBefore z j x n → IsPlaceBefore z j y k
+before_on x n y k z j (inl a) (inl b) = inl (omega arith)
+before_on x n y k z j (inl a) (inr b) = let e : z ≡ x = b.0 in inl (omega arith)
+before_on x n y k z j (inr a) (inl b) = let e : y ≡ x = a.0 in inl (omega arith)
+before_on x n y k z j (inr a) (inr b) = inr (b.0 ∙ sym a.0, (let l : j < n = b.1 in let m : n ≤ k = a.1 in omega arith))
 
 -- fewer first families have no more covers either
 pub within_front : (families : List (List ℕ)) (n j : ℕ) → j ≤ length families → AreWithinLimit families n → AreWithinLimit (take j families) n
@@ -214,38 +236,42 @@ module _ (l : Library) where
         each b (inl m) = a.layers b m
         each b (inr s) = subst (λ (c : Block). AreLayers l goal c.component c.n c.layers) s g
 
-    -- one component more
-    pub blocks_next : (x n : ℕ) (blocks : List Block) → n ≡ arity_of (paths_at l x) + 1 → AreBlocks l goal x n blocks → AreBlocks l goal (x + 1) 0 blocks
-    blocks_next x n blocks e a = record {
+    -- no block stands between the two places
+    blocks_on : (x n y k : ℕ) (blocks : List Block) → ((z j : ℕ) → HasFirst l goal z j → IsPlaceBefore z j x n ↔ IsPlaceBefore z j y k) → AreBlocks l goal x n blocks → AreBlocks l goal y k blocks
+    blocks_on x n y k blocks f a = record {
       in_order = a.in_order;
-      exactly = (λ y k. ((λ m. let r = (a.exactly y k).0 m in (r.0, inl (past y k r.1))), (λ h. (a.exactly y k).1 (h.0, back y k (first_place goal y k h.0).1 h.1))));
+      exactly = (λ z j. ((λ m. let r = (a.exactly z j).0 m in (r.0, (f z j r.0).0 r.1)), (λ h. (a.exactly z j).1 (h.0, (f z j h.0).1 h.1))));
       layers = a.layers;
     }
+
+    first_is_place : (z j : ℕ) → HasFirst l goal z j → IsPlace l (record { component = z; count = j })
+    first_is_place z j h = let f = first_place goal z j h in record { declared = f.0; within = f.1 }
+
+    -- up to the next place, and with it
+    pub blocks_next : (from p : Place) (old new : List Block) → IsNextPlace l goal from p → AddsBlock l goal p.component p.count old new → AreBlocks l goal from.component from.count old → AreBlocks l goal p.component (p.count + 1) new
+    blocks_next from p old new next adds a = blocks_step p.component p.count old new adds (blocks_on from.component from.count p.component p.count old (λ z j h. (
+      before_on from.component from.count p.component p.count z j (reached from.component from.count p.component p.count next.later),
+      (λ m. by z j h m (before_or_not z j from.component from.count)),
+    )) a)
       where
-        past : (y k : ℕ) → IsPlaceBefore y k x n → y < x + 1
-        past y k (inl i) = omega arith
-        past y k (inr i) = let j : y ≡ x = i.0 in omega arith
+        by : (z j : ℕ) → HasFirst l goal z j → IsPlaceBefore z j p.component p.count → IsPlaceBefore z j from.component from.count ⊎ (IsPlaceBefore z j from.component from.count → ⊥) → IsPlaceBefore z j from.component from.count
+        by z j h m (inl i) = i
+        by z j h m (inr i) = absurd (begins_nowhere goal z j (next.passed (record { component = z; count = j }) (first_is_place z j h) i m) h)
 
-        cases : (y : ℕ) → y < x + 1 → (y < x) ⊎ (y ≡ x)
-        cases y i = grind arith
-
-        back : (y k : ℕ) → k ≤ arity_of (paths_at l y) → IsPlaceBefore y k (x + 1) 0 → IsPlaceBefore y k x n
-        back y k w (inl i) = go (cases y i)
-          where
-            go : (y < x) ⊎ (y ≡ x) → IsPlaceBefore y k x n
-            go (inl j) = inl j
-            go (inr j) = let v : k ≤ arity_of (paths_at l x) = subst (λ (z : ℕ). k ≤ arity_of (paths_at l z)) j w in inr (j, omega arith)
-        back y k w (inr i) = absurd (let j : k < 0 = i.1 in omega arith)
-
-    -- a component by which no block begins
-    pub blocks_passed : (x : ℕ) (blocks : List Block) → ((n : ℕ) → NoneBegins l goal x n) → AreBlocks l goal x 0 blocks → AreBlocks l goal (x + 1) 0 blocks
-    blocks_passed x blocks h a = blocks_next x (arity_of (paths_at l x) + 1) blocks refl (to (arity_of (paths_at l x) + 1))
+    -- to the end, if there is no next place
+    pub blocks_whole : (from : Place) (blocks : List Block) → IsNext l goal from None → AreBlocks l goal from.component from.count blocks → AreBlocks l goal (length l.components) 0 blocks
+    blocks_whole from blocks next a = blocks_on from.component from.count (length l.components) 0 blocks (λ z j h. (
+      (λ i. inl (first_place goal z j h).0),
+      (λ i. by z j h (before_or_not z j from.component from.count)),
+    )) a
       where
-        to : (n : ℕ) → AreBlocks l goal x n blocks
-        to zero = a
-        to (suc n) =
-            let next : n + 1 ≡ suc n = omega arith in
-            subst (λ k. AreBlocks l goal x k blocks) next (blocks_step x n blocks blocks (without_block (begins_nowhere goal x n (h n)) refl) (to n))
+        by : (z j : ℕ) → HasFirst l goal z j → IsPlaceBefore z j from.component from.count ⊎ (IsPlaceBefore z j from.component from.count → ⊥) → IsPlaceBefore z j from.component from.count
+        by z j h (inl i) = i
+        by z j h (inr i) = absurd (begins_nowhere goal z j (next (record { component = z; count = j }) (first_is_place z j h) i) h)
+
+    -- a goal without a path
+    pub blocks_none : (blocks : List Block) → goal ≡ none → blocks ≡ [] → AreBlocks l goal (length l.components) 0 blocks
+    blocks_none blocks e f = blocks_on 0 0 (length l.components) 0 blocks (λ z j h. absurd (subst (λ (g : Paths). HasFirst l g z j) e h)) (no_blocks blocks f)
 
     -- all components
     pub member_whole : (m : proof.Member) → m.goal ≡ type_of_paths goal → AreBlocks l goal (length l.components) 0 m.blocks → IsMemberFor l goal m
@@ -280,6 +306,11 @@ first_some (f₀ ∷ fs) f b e g = subst (λ (k : List ℕ). IsTrue (not b) ↔ 
 pub first_none : (fs : List (List ℕ)) → slice_get fs 0 ≡ None → IsTrue false ↔ HasFirstFamily fs
 first_none [] e = ((λ t. absurd (not_false t)), (λ h. absurd h))
 first_none (f ∷ fs) e = absurd (let k : ◌≡◌ {A = Option (List ℕ)} (Some f) None = e in cc)
+
+-- a goal that has a path
+pub some_path : (ps goal : List TypePath) (b : Bool) → ps ≡ goal → b ≡ (length ps == 0) → b ≡ false → 0 < length goal
+some_path ps [] b e f g = absurd (differs (sym g ∙ (f ∙ ap (λ (qs : List TypePath). length qs == 0) e)))
+some_path ps (q ∷ goal) b e f g = omega arith
 
 -- the block that is pushed
 pub block_added : (l : Library) (goal : Paths) (x n : ℕ) (old new : List code.Block) (b : code.Block) (layers : List (List (List ℕ))) → new ≡ old ++ b ∷ [] → block_of b ≡ record { component = x; n = n; layers = layers } → HasFirst l goal x n → AreLayers l goal x n layers → AddsBlock l goal x n (map block_of old) (map block_of new)

@@ -10,7 +10,8 @@ use Rattle.cls_base.specs.declared.rule.Rule.{Rule}
 use Rattle.cls_base.specs.declared.rule.Rule.TheVariants.{Head, Any}
 use Rattle.cls_base.proofs.Lists.{Contains-at}
 use Rattle.cls_path.specs.Paths.{TypePath, Paths, none, more, listed, type_of_paths}
-use Rattle.cls_core.specs.Arguments.{arguments_of_rule, rules_of}
+use Rattle.cls_core.specs.Arguments.{rules_of}
+use Rattle.cls_rulebook.specs.Arguments.{arguments_of_rule}
 use Rattle.cls_core.specs.Rows.{Row}
 use Rattle.cls_core.specs.declared.answer.Answer.TheVariants as answers
 use Rattle.cls_grammar.specs.Grammars.{book_of}

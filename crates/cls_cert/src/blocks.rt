@@ -1,11 +1,10 @@
 //! The blocks of a member: for each component and number of arguments the minimal covers of the first paths of its goal.
-ghost use Rattle.std.specs.Prelude.{◌≡◌, ◌+◌, ◌<◌, ◌≤◌, ◌↔◌, All, IfOk, IfSome, OnOk, IsTrue, length, map};
+ghost use Rattle.std.specs.Prelude.{◌≡◌, ◌<◌, ◌↔◌, All, IfOk, IfSome, OnOk, IsTrue, length, map};
 ghost use Rattle.cls_cover.specs.Lists.{IsAscending};
 ghost use Rattle.cls_cover.specs.Covers.{AreCovers, AreWithinLimit};
 ghost use Rattle.cls_cover.specs.Forced.{IsForced};
 ghost use Rattle.cls_path.specs.Paths.{listed};
-ghost use Rattle.cls_library.specs.Arrows.{arity_of};
-ghost use Rattle.cls_library.specs.Libraries.{paths_at, IsLibrary};
+ghost use Rattle.cls_library.specs.Families.{AreFamiliesAt, IsPlace, alone};
 ghost use Rattle.cls_library.specs.Rules.{IsWide, max_covers};
 ghost use Rattle.cls_expand.specs.Answers.{IsReady};
 ghost use Rattle.cls_proof.specs.Blocks.{block_of};
@@ -14,8 +13,7 @@ ghost use Rattle.cls_cert.specs.Building.{AreCoversOfFronts, HasFirstFamily, Add
 use crate::forced::forced_with;
 use cls_base::{Numbers, OutOfMemory};
 use cls_cover::{CoverFault, covers};
-use cls_expand::families_of;
-use cls_library::{Library, Search};
+use cls_library::{Families, Finder, Library, Place};
 use cls_path::Nf;
 use cls_proof::{Block, Blocks, Layer, Layers};
 use std::alloc::Global;
@@ -84,64 +82,60 @@ fn has_first(families: &[Numbers]) -> bool
     }
 }
 
-/// Adds the block of the arrows that take so many arguments, if one of them leads to the first path of the goal.
+/// Each of the positions as a family of its own.
+fn each_alone(alloc: Global, positions: &[u32]) -> Result<Vec<Numbers>, OutOfMemory>
+    ensures { IfOk result (λ families. families.items ≡ map alone positions.now) }
+{
+    let mut families = Vec::with_capacity(alloc, positions.len())?;
+    for position in positions {
+        families.push(Numbers::new(Vec::from_slice(alloc, &[*position])?))?;
+    }
+    Ok(families)
+}
+
+/// The families of the goal's paths at a place.
+fn families_at(
+    alloc: Global,
+    finder: &mut Finder<'_>,
+    place: Place,
+) -> Result<Vec<Numbers>, OutOfMemory>
+    requires place { IsPlace finder.old.library place }
+    requires ready { IsReady finder.old.library finder.old.goal }
+    ensures same { finder.new ≡ finder.old }
+    ensures families { IfOk result (λ families.
+        AreFamiliesAt finder.old.library finder.old.goal place families.items) }
+{
+    match finder.families(alloc, place)? {
+        Families::Single(positions) => each_alone(alloc, positions.as_slice()),
+        Families::Several(families) => Ok(families),
+    }
+}
+
+/// Adds the block of the arrows at a place, if one of them leads to the first path of the goal.
 fn add_block(
     alloc: Global,
-    lib: &Library,
-    goal: &Nf,
-    search: &Search<'_>,
-    x: u32,
-    n: u32,
+    finder: &mut Finder<'_>,
+    place: Place,
     blocks: &mut Vec<Block>,
 ) -> Result<(), OutOfMemory>
-    requires search { search.now ≡ record { library = lib.now; goal = listed goal.now } }
-    requires declared { x < length lib.now.components }
-    requires within { n ≤ arity_of (paths_at lib.now x) }
-    requires ready { IsReady lib.now goal.now }
-    requires narrow { IsWide lib.now (listed goal.now) → ⊥ }
-    ensures { OnOk result
-        (AddsBlock lib.now (listed goal.now) x n (map block_of blocks.old.items) (map block_of blocks.new.items)) }
+    requires place { IsPlace finder.old.library place }
+    requires ready { IsReady finder.old.library finder.old.goal }
+    requires narrow { IsWide finder.old.library (listed finder.old.goal) → ⊥ }
+    ensures same { finder.new ≡ finder.old }
+    ensures block { OnOk result (AddsBlock finder.old.library (listed finder.old.goal) place.component place.count
+        (map block_of blocks.old.items) (map block_of blocks.new.items)) }
 {
-    if !search.may_begin_by(x, n) {
-        return Ok(());
-    }
-    let families = families_of(alloc, lib, goal, x, n)?;
+    let families = families_at(alloc, finder, place)?;
     if !has_first(families.as_slice()) {
         return Ok(());
     }
     let layers = front_covers(alloc, families.as_slice())?;
     let block = Block {
-        component: x,
-        n,
+        component: place.component,
+        n: place.count,
         layers,
     };
     blocks.push(block)?;
-    Ok(())
-}
-
-/// Adds the blocks of one component.
-fn add_blocks(
-    alloc: Global,
-    lib: &Library,
-    goal: &Nf,
-    search: &Search<'_>,
-    x: u32,
-    blocks: &mut Vec<Block>,
-) -> Result<(), OutOfMemory>
-    requires search { search.now ≡ record { library = lib.now; goal = listed goal.now } }
-    requires library { IsLibrary lib.now }
-    requires declared { x < length lib.now.components }
-    requires ready { IsReady lib.now goal.now }
-    requires narrow { IsWide lib.now (listed goal.now) → ⊥ }
-    ensures { OnOk result (AreBlocks lib.now (listed goal.now) x 0 (map block_of blocks.old.items)
-        → AreBlocks lib.now (listed goal.now) (x + 1) 0 (map block_of blocks.new.items)) }
-{
-    if !search.may_begin(x) {
-        return Ok(());
-    }
-    for n in 0..lib.arity(x) + 1 {
-        add_block(alloc, lib, goal, search, x, n, blocks)?;
-    }
     Ok(())
 }
 
@@ -151,10 +145,21 @@ pub(crate) fn blocks_of(alloc: Global, lib: &Library, goal: &Nf) -> Result<Block
     requires narrow { IsWide lib.now (listed goal.now) → ⊥ }
     ensures { IfOk result (AreBlocks lib.now (listed goal.now) (length lib.now.components) 0) }
 {
-    let search = Search::new(lib, goal);
     let mut blocks = Vec::new(alloc);
-    for x in 0..lib.count() {
-        add_blocks(alloc, lib, goal, &search, x, &mut blocks)?;
+    if goal.paths().is_empty() {
+        return Ok(Blocks::new(blocks));
+    }
+    let mut finder = Finder::new(alloc, lib, goal)?;
+    let mut from = Place {
+        component: 0,
+        count: 0,
+    };
+    while let Some(place) = finder.next(from) {
+        add_block(alloc, &mut finder, place, &mut blocks)?;
+        from = Place {
+            component: place.component,
+            count: place.count + 1,
+        };
     }
     Ok(Blocks::new(blocks))
 }

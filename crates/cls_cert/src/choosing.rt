@@ -3,7 +3,7 @@ ghost use Rattle.std.specs.Prelude.{◌≡◌, ℕ, ◌<◌, ◌≤◌, ◌^◌,
 ghost use Rattle.cls_base.specs.Lists.{AreBelow};
 ghost use Rattle.cls_base.specs.declared.rule.Rule.{Rule};
 ghost use Rattle.cls_rulebook.specs.Books.{HaveNodesBelow, HasNodesBelow};
-ghost use Rattle.cls_core.specs.Arguments.{arguments_of_rule};
+ghost use Rattle.cls_rulebook.specs.Columns.{rule_of};
 ghost use Rattle.cls_path.specs.Paths.{listed};
 ghost use Rattle.cls_library.specs.Arrows.{arity_of};
 ghost use Rattle.cls_library.specs.Libraries.{paths_at, arrows_at};
@@ -15,11 +15,12 @@ ghost use Rattle.cls_cert.specs.Making.{IsFirst, IsFirstChoice};
 ghost use Rattle.cls_cert.specs.Building.{HaveLess, HasLess, GivesRule, IsFirstAt, IsGiven, goals_over, rule_over};
 
 use crate::blocks::few_covers;
-use cls_base::{Numbers, OutOfMemory, Rule};
+use cls_base::{Numbers, OutOfMemory};
 use cls_expand::{arguments_of, families_of};
 use cls_grammar::Grammar;
 use cls_library::Library;
 use cls_path::Nf;
+use cls_rulebook::{NodeRules, RuleRef};
 use std::alloc::Global;
 
 /// Whether the goal has a rank that is less than this one.
@@ -47,28 +48,29 @@ fn are_less(ranks: &[Option<u32>], goals: &[u32], rank: u32) -> bool
 }
 
 /// Whether each argument of the rule has a rank that is less than this one.
-fn has_less(ranks: &[Option<u32>], rule: &Rule<u32>, rank: u32) -> bool
-    requires { HasNodesBelow (length ranks.now) rule.now }
-    ensures { IsTrue result ↔ HasLess ranks.now rank rule.now }
+fn has_less(ranks: &[Option<u32>], rule: RuleRef<'_>, rank: u32) -> bool
+    requires { HasNodesBelow (length ranks.now) (rule_of rule) }
+    ensures { IsTrue result ↔ HasLess ranks.now rank (rule_of rule.entry) }
 {
     match rule {
-        Rule::Head { component: _, args } => are_less(ranks, args.as_slice(), rank),
-        Rule::Any { left, right } => are_less(ranks, &[*left, *right], rank),
+        RuleRef::Head { component: _, args } => are_less(ranks, args, rank),
+        RuleRef::Any { left, right } => are_less(ranks, &[left, right], rank),
     }
 }
 
 /// The first of the rules whose arguments all have ranks less than this one.
 pub(crate) fn first_rule<'a>(
     ranks: &[Option<u32>],
-    rules: &'a [Rule<u32>],
+    rules: &'a NodeRules,
     rank: u32,
-) -> Option<&'a Rule<u32>>
+) -> Option<RuleRef<'a>>
     requires { HaveNodesBelow (length ranks.now) rules.now }
     ensures { MatchOption result
         ((j : ℕ) (r : Rule ℕ) → slice_get rules.now j ≡ Some r → HasLess ranks.now rank r → ⊥)
-        (λ rule. IsFirst (HasLess ranks.now rank) rules.now rule.now) }
+        (λ rule. IsFirst (HasLess ranks.now rank) rules.now (rule_of rule)) }
 {
-    for rule in rules {
+    for place in 0..rules.len() {
+        let rule = rules.get(place);
         if has_less(ranks, rule, rank) {
             return Some(rule);
         }

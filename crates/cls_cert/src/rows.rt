@@ -9,11 +9,12 @@ ghost use Rattle.cls_cert.specs.Building.{AreRowsTo, IsBucketTo};
 
 use crate::buckets::by_rank;
 use crate::choosing::{first_cover, first_rule};
-use cls_base::{Numbers, OutOfMemory, Rule};
+use cls_base::{Numbers, OutOfMemory};
 use cls_grammar::Grammar;
 use cls_library::Library;
 use cls_norm::type_of;
 use cls_proof::{ProofRow, ProofRows};
+use cls_rulebook::RuleRef;
 use std::alloc::Global;
 
 /// The row of the goal with this number, which has this rank.
@@ -42,19 +43,18 @@ fn row(
         });
     }
     match first_rule(ranks, grammar.rules(number), rank) {
-        Some(Rule::Head { component, args }) => {
-            let args = args.as_slice();
+        Some(RuleRef::Head { component, args }) => {
             // For the prover: a component takes few arguments.
-            let _arity = lib.arity(*component);
-            let cover = first_cover(alloc, lib, grammar, goal, *component, args)?;
+            let _arity = lib.arity(component);
+            let cover = first_cover(alloc, lib, grammar, goal, component, args)?;
             Ok(ProofRow {
                 goal: ty,
-                component: *component,
+                component,
                 n: args.len() as u32,
                 cover,
             })
         }
-        Some(Rule::Any { .. }) => unreachable!(),
+        Some(RuleRef::Any { .. }) => unreachable!(),
         None => unreachable!(),
     }
 }

@@ -1,8 +1,19 @@
+use Rattle.std.proofs.Common.{◌≡◌, ◌+◌, ◌-◌, ◌*◌, ◌≤◌, length}
 use Rattle.std.specs.Prelude.{map}
 use Rattle.cls_path.specs.Paths.{listed}
 use Rattle.cls_proof.specs.Blocks.{block_of}
 use Rattle.cls_cert.specs.Building.{AreBlocks}
 use Rattle.cls_cert.proofs.blocks.blocks_of.Given as goal
 
-abbrev pub invariant-loop-x : goal.invariant-loop-x
-invariant-loop-x l = AreBlocks l.lib (listed l.goal) l.x 0 (map block_of l.blocks.items)
+abbrev pub invariant-loop-place : goal.invariant-loop-place
+invariant-loop-place l = record {
+  finder : l.finder ≡ record { library = l.lib; goal = l.goal };
+  blocks : AreBlocks l.lib (listed l.goal) l.from.component l.from.count (map block_of l.blocks.items);
+  size : l.from.component ≤ length l.lib.components;
+  count : l.from.count ≤ 33;
+}
+
+-- how many places are left at most, where a component has one for each number of arguments up to 33, one more than its
+-- greatest arity
+abbrev pub decreases-loop-place : goal.decreases-loop-place
+decreases-loop-place l = (length l.lib.components + 1) * 34 - (l.from.component * 34 + l.from.count)

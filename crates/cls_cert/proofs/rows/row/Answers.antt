@@ -1,8 +1,8 @@
 use Rattle.std.proofs.Common.{ℕ, ◌∙◌, List, sym, subst, arith}
 use Rattle.cls_base.specs.Ty.{type_of}
-use Rattle.cls_base.specs.declared.rule.Rule.{Rule}
-use Rattle.cls_base.specs.declared.rule.Rule.TheVariants.{Head}
 use Rattle.cls_path.specs.Paths.{listed}
+use Rattle.cls_rulebook.specs.Columns.{rule_of}
+use Rattle.cls_rulebook.specs.declared.rule_ref.RuleRef.{RuleRef}
 use Rattle.cls_grammar.specs.Grammars.{book_of}
 use Rattle.cls_cert.specs.Conditions.{forms_of}
 use Rattle.cls_cert.specs.Making.{IsFirst, IsRowFor}
@@ -33,7 +33,7 @@ unreachable-requires c =
     let p = first_path c.paths.result.now g c.is_empty.result c.paths.ensures c.is_empty.ensures c.if-is_empty.false in
     let a = c.in-Some-Any in
     no_apply c.args.lib.now c.args.grammar.now c.requires.grammar c.args.ranks.now c.requires.ranks c.args.number c.args.rank c.requires.ranked g c.goal-goal.ensures rs c.rules.ensures.rules p.0 p.1 p.2 a.field-0-0 a.field-0-1
-    (subst (λ (r : Rule ℕ). IsFirst (HasLess c.args.ranks.now c.args.rank) rs r) a.field-0-is a.ensures)
+    (subst (λ (r : RuleRef). IsFirst (HasLess c.args.ranks.now c.args.rank) rs (rule_of r)) a.field-0-is a.ensures)
 
 pub unreachable-requires-in-None : goal.unreachable-requires-in-None
 unreachable-requires-in-None c =
@@ -51,9 +51,8 @@ arity-arity-requires c =
     let rs = c.rules.result.now in
     let p = first_path c.paths.result.now g c.is_empty.result c.paths.ensures c.is_empty.ensures c.if-is_empty.false in
     let x = c.in-Some-Head.component in
-    let ns = c.as_slice-args.result.now in
-    let first = subst (λ (ms : List ℕ). IsFirst (HasLess c.args.ranks.now c.args.rank) rs (Head x ms)) (sym c.as_slice-args.ensures)
-    (subst (λ (r : Rule ℕ). IsFirst (HasLess c.args.ranks.now c.args.rank) rs r) c.in-Some-Head.field-0-is c.in-Some-Head.ensures) in
+    let ns = c.in-Some-Head.args.now in
+    let first = subst (λ (r : RuleRef). IsFirst (HasLess c.args.ranks.now c.args.rank) rs (rule_of r)) c.in-Some-Head.field-0-is c.in-Some-Head.ensures in
     given_declared c.args.lib.now (forms_of c.args.grammar.now) (listed g) x ns (given c.args.lib.now c.args.grammar.now c.requires.grammar c.args.ranks.now c.requires.ranks c.args.number c.args.rank c.requires.ranked g c.goal-goal.ensures rs c.rules.ensures.rules p.0 p.1 p.2 x ns first)
 
 pub first_cover-requires-clause-args : goal.first_cover-requires-clause-args
@@ -61,9 +60,8 @@ first_cover-requires-clause-args c =
     let g = c.goal-goal.result.now in
     let rs = c.rules.result.now in
     let x = c.in-Some-Head.component in
-    let ns = c.as_slice-args.result.now in
-    let first = subst (λ (ms : List ℕ). IsFirst (HasLess c.args.ranks.now c.args.rank) rs (Head x ms)) (sym c.as_slice-args.ensures)
-    (subst (λ (r : Rule ℕ). IsFirst (HasLess c.args.ranks.now c.args.rank) rs r) c.in-Some-Head.field-0-is c.in-Some-Head.ensures) in
+    let ns = c.in-Some-Head.args.now in
+    let first = subst (λ (r : RuleRef). IsFirst (HasLess c.args.ranks.now c.args.rank) rs (rule_of r)) c.in-Some-Head.field-0-is c.in-Some-Head.ensures in
     below c.args.lib.now c.args.grammar.now c.requires.grammar c.args.ranks.now c.requires.ranks c.args.number c.args.rank c.requires.ranked g c.goal-goal.ensures rs c.rules.ensures.rules x ns c.rules.ensures.within first
 
 pub first_cover-requires-clause-short : goal.first_cover-requires-clause-short
@@ -72,9 +70,8 @@ first_cover-requires-clause-short c =
     let rs = c.rules.result.now in
     let p = first_path c.paths.result.now g c.is_empty.result c.paths.ensures c.is_empty.ensures c.if-is_empty.false in
     let x = c.in-Some-Head.component in
-    let ns = c.as_slice-args.result.now in
-    let first = subst (λ (ms : List ℕ). IsFirst (HasLess c.args.ranks.now c.args.rank) rs (Head x ms)) (sym c.as_slice-args.ensures)
-    (subst (λ (r : Rule ℕ). IsFirst (HasLess c.args.ranks.now c.args.rank) rs r) c.in-Some-Head.field-0-is c.in-Some-Head.ensures) in
+    let ns = c.in-Some-Head.args.now in
+    let first = subst (λ (r : RuleRef). IsFirst (HasLess c.args.ranks.now c.args.rank) rs (rule_of r)) c.in-Some-Head.field-0-is c.in-Some-Head.ensures in
     let within = given_within c.args.lib.now (forms_of c.args.grammar.now) (listed g) x ns (given c.args.lib.now c.args.grammar.now c.requires.grammar c.args.ranks.now c.requires.ranks c.args.number c.args.rank c.requires.ranked g c.goal-goal.ensures rs c.rules.ensures.rules p.0 p.1 p.2 x ns first) in
     let arity = c.arity-arity.ensures in
     let few = c.arity-arity.type_inv in
@@ -86,9 +83,8 @@ first_cover-requires-clause-given c =
     let rs = c.rules.result.now in
     let p = first_path c.paths.result.now g c.is_empty.result c.paths.ensures c.is_empty.ensures c.if-is_empty.false in
     let x = c.in-Some-Head.component in
-    let ns = c.as_slice-args.result.now in
-    let first = subst (λ (ms : List ℕ). IsFirst (HasLess c.args.ranks.now c.args.rank) rs (Head x ms)) (sym c.as_slice-args.ensures)
-    (subst (λ (r : Rule ℕ). IsFirst (HasLess c.args.ranks.now c.args.rank) rs r) c.in-Some-Head.field-0-is c.in-Some-Head.ensures) in
+    let ns = c.in-Some-Head.args.now in
+    let first = subst (λ (r : RuleRef). IsFirst (HasLess c.args.ranks.now c.args.rank) rs (rule_of r)) c.in-Some-Head.field-0-is c.in-Some-Head.ensures in
     given c.args.lib.now c.args.grammar.now c.requires.grammar c.args.ranks.now c.requires.ranks c.args.number c.args.rank c.requires.ranked g c.goal-goal.ensures rs c.rules.ensures.rules p.0 p.1 p.2 x ns first
 
 pub returns : goal.returns
@@ -97,7 +93,6 @@ returns c =
     let rs = c.rules.result.now in
     let p = first_path c.paths.result.now g c.is_empty.result c.paths.ensures c.is_empty.ensures c.if-is_empty.false in
     let x = c.in-Some-Head.component in
-    let ns = c.as_slice-args.result.now in
-    let first = subst (λ (ms : List ℕ). IsFirst (HasLess c.args.ranks.now c.args.rank) rs (Head x ms)) (sym c.as_slice-args.ensures)
-    (subst (λ (r : Rule ℕ). IsFirst (HasLess c.args.ranks.now c.args.rank) rs r) c.in-Some-Head.field-0-is c.in-Some-Head.ensures) in
+    let ns = c.in-Some-Head.args.now in
+    let first = subst (λ (r : RuleRef). IsFirst (HasLess c.args.ranks.now c.args.rank) rs (rule_of r)) c.in-Some-Head.field-0-is c.in-Some-Head.ensures in
     row_made c.args.lib.now c.args.grammar.now c.requires.grammar c.args.ranks.now c.requires.ranks c.args.number c.args.rank c.requires.ranked g c.goal-goal.ensures rs c.rules.ensures.rules p.0 p.1 p.2 x ns c.in_ok-cover-in-Some-Head.cover first c.in_ok-cover-in-Some-Head.ensures (type_of c.in_ok-ty.ty) c.in_ok-ty.ensures
