@@ -1,5 +1,5 @@
 -- A certificate is made for each grammar: row after row by rank, or member after member.
-use Rattle.std.proofs.Common.{ℕ, zero, suc, ◌≡◌, ◌+◌, ◌<◌, refl, sym, subst, ◌⊎◌, inl, inr, List, [], ◌∷◌, ◌++◌, length, arith, Contains}
+use Rattle.std.proofs.Common.{ℕ, zero, suc, ◌≡◌, ◌+◌, ◌<◌, ◌≤◌, refl, sym, subst, ◌⊎◌, inl, inr, List, [], ◌∷◌, ◌++◌, length, arith, Contains}
 use Rattle.std.specs.Prelude.{map}
 use Rattle.std.proofs.lemmas.List.{length-map}
 use Rattle.std.proofs.lemmas.List.Elements.{Contains-push, Contains-push_cases, Contains-append_left}
@@ -22,10 +22,10 @@ use Rattle.cls_library.specs.Reaching.{CoversGoal}
 use Rattle.cls_library.specs.Rules.{Choice, ComesBefore, code_of_choice, numbers_from, IsRuleFor, IsRules}
 use Rattle.cls_proof.specs.Certificates as proof
 use Rattle.cls_proof.specs.Certificates.{ProofRow, Block, Certificate, inhabited, empty}
-use Rattle.cls_cert.specs.Building.{AreRowsTo, AreMembersTo, AreBlocks, with_block, without_block}
+use Rattle.cls_cert.specs.Building.{AreRowsTo, AreMembersTo, AreBlocks, IsPlaceBefore, with_block, without_block}
 use Rattle.cls_cert.specs.Conditions.{forms_of, IsGrammarOf}
 use Rattle.cls_cert.specs.Making.{front_of, path_count, goal_in, named, Ranked, IsFirstChoice, HasFirst, AreLayers, IsMemberFor, IsLower, IsRowFor, AreRows, AreMembers, IsMadeFor}
-use Rattle.cls_cert.proofs.BlockLaws.{no_blocks, blocks_step, blocks_next, member_whole}
+use Rattle.cls_cert.proofs.BlockLaws.{first_place, no_blocks, blocks_step, member_whole}
 use Rattle.cls_cert.proofs.ChoiceLaws.{rule_given, omega_row, rule_row}
 use Rattle.cls_cert.proofs.MemberLaws.{no_members, members_skip, members_step, members_whole}
 use Rattle.cls_cert.proofs.Ranking.{tree_below}
@@ -66,6 +66,29 @@ module _ (l : Library) where
     abbrev HasBlocks : ℕ → ℕ → Type 0
     HasBlocks x n = (blocks : List Block) × AreBlocks l goal x n blocks
 
+    -- one component more
+    component_on : (x n : ℕ) (blocks : List Block) → n ≡ arity_of (paths_at l x) + 1 → AreBlocks l goal x n blocks → AreBlocks l goal (x + 1) 0 blocks
+    component_on x n blocks e a = record {
+      in_order = a.in_order;
+      exactly = (λ y k. ((λ m. let r = (a.exactly y k).0 m in (r.0, inl (past y k r.1))), (λ h. (a.exactly y k).1 (h.0, back y k (first_place l goal y k h.0).1 h.1))));
+      layers = a.layers;
+    }
+      where
+        past : (y k : ℕ) → IsPlaceBefore y k x n → y < x + 1
+        past y k (inl i) = omega arith
+        past y k (inr i) = let j : y ≡ x = i.0 in omega arith
+
+        cases : (y : ℕ) → y < x + 1 → (y < x) ⊎ (y ≡ x)
+        cases y i = grind arith
+
+        back : (y k : ℕ) → k ≤ arity_of (paths_at l y) → IsPlaceBefore y k (x + 1) 0 → IsPlaceBefore y k x n
+        back y k w (inl i) = go (cases y i)
+          where
+            go : (y < x) ⊎ (y ≡ x) → IsPlaceBefore y k x n
+            go (inl j) = inl j
+            go (inr j) = let v : k ≤ arity_of (paths_at l x) = subst (λ (z : ℕ). k ≤ arity_of (paths_at l z)) j w in inr (j, omega arith)
+        back y k w (inr i) = absurd (let j : k < 0 = i.1 in omega arith)
+
     block_by : (x n : ℕ) → HasBlocks x n → HasFirst l goal x n ⊎ (HasFirst l goal x n → ⊥) → IsPossible (HasBlocks x (n + 1))
     block_by x n (old, a) (inl f) = after (layers_exist x n) (λ r.
         let new = old ++ record { component = x; n = n; layers = r.0 } ∷ [] in
@@ -85,7 +108,7 @@ module _ (l : Library) where
         let P : ℕ → Type 0 = λ k. IsPossible (HasBlocks k 0) in
         let e : x + 1 ≡ suc x = omega arith in
         let n = arity_of (paths_at l x) + 1 in
-        subst P e (then (blocks_to x) (λ h. after (blocks_of x n h) (λ r. (r.0, blocks_next l goal x n r.0 refl r.1))))
+        subst P e (then (blocks_to x) (λ h. after (blocks_of x n h) (λ r. (r.0, component_on x n r.0 refl r.1))))
 
     pub member_exists : IsPossible ((m : proof.Member) × IsMemberFor l goal m)
     member_exists = after (blocks_to (length l.components)) (λ r.
