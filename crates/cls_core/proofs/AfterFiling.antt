@@ -1,5 +1,5 @@
 -- The rows after a filing, from the columns that the code writes.
-use Rattle.std.proofs.Common.{◌≡◌, ℕ, ◌+◌, ◌-◌, Bool, true, List, ◌++◌, Some, length, set, length-append, slice_get, ap, ◌∙◌, arith}
+use Rattle.std.proofs.Common.{◌≡◌, ℕ, ◌+◌, ◌-◌, Bool, true, List, ◌++◌, Some, length, set, slice_get, ap, ◌∙◌, arith}
 use Rattle.std.specs.Prelude.{replicate}
 use Rattle.std.proofs.lemmas.List.{set-append_left}
 use Rattle.std.proofs.lemmas.Option.{slice_get_within}
@@ -12,11 +12,6 @@ use Rattle.cls_core.specs.declared.answer.Answer.{Answer}
 use Rattle.cls_core.proofs.Insertion.{answer-kept}
 
 module _ {G : Type 0} (eq : G → G → Bool) (reflexive : (x : G) → eq x x ≡ true) (goals : List G) (states : List RowState) where
-  -- added goals are as many as the rows that they get
-  pub added-count : (answer : Answer G) (added : List G) (n : ℕ) → goals ++ added ≡ grown eq goals answer
-      → n ≡ length added → length (grown eq goals answer) ≡ length goals + n
-  added-count answer added n e is = omega (arith, ap length e, length-append goals added)
-
   pub filed-rows : (answer : Answer G) (more : List G) (behind : List RowState) (numbers : Answer ℕ) (n row : ℕ) (s : RowState)
       → more ≡ grown eq goals answer → length (grown eq goals answer) ≡ length goals + n → behind ≡ states ++ replicate n Free → numbers ≡ answer_from eq goals answer → slice_get states row ≡ Some s
       → machine more (set behind row (Filed numbers)) ≡ filed eq (machine goals states) row answer

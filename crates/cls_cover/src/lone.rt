@@ -12,7 +12,8 @@ use std::alloc::Global;
 /// only error is out of memory.
 pub fn lone_cover(alloc: Global, positions: &[u32]) -> Result<Numbers, OutOfMemory>
     ensures covers { IfOk result (λ cover. AreCovers (map single positions.now) (cover ∷ [])) }
-    ensures within { IfOk result (λ _. (limit : ℕ) → 0 < limit → AreWithinLimit (map single positions.now) limit) }
+    ensures within { IfOk result (λ _.
+        (limit : ℕ) → 0 < limit → AreWithinLimit (map single positions.now) limit) }
 {
     if let Some(set) = set_of(positions) {
         return Ok(Numbers::new(members_of(alloc, set)?));

@@ -37,7 +37,8 @@ fn name_rule<G: Key + Drop>(
     other: &G,
     rule: RuleRef<'_>,
 ) -> Result<Rule<G>, OutOfMemory>
-    ensures { IfOk result (λ named. named ≡ map_rule (λ i. slice_index_or goals.now i other.now) (rule_of rule.entry)) }
+    ensures { IfOk result (λ named.
+        named ≡ map_rule (λ i. slice_index_or goals.now i other.now) (rule_of rule.entry)) }
 {
     match rule {
         RuleRef::Head { component, args } => Ok(Rule::Head {

@@ -68,12 +68,6 @@ pub record IsSought (d : Declared) (q : TypePath) (s : Sought) : Type 0 where
   pub ending : s.ending ≡ ending_of q
   pub alone : s.alone ≡ is_alone (class_by d.pairs) s.ending.head
 
--- what is sought for the first path, if there is one
-abbrev pub IsFirstSought : Declared → List TypePath → Option Sought → Type 0
-IsFirstSought d [] None = Unit {0}
-IsFirstSought d (q ∷ qs) (Some s) = IsSought d q s
-IsFirstSought d _ _ = ⊥
-
 module _ (test : ℕ → ℕ → Bool) where
   -- whether a path of the one head may be below one of the other
   abbrev pub may_be_below : Head → Head → Bool

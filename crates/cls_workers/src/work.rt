@@ -17,9 +17,12 @@ const MOST_ASKS: u32 = 1_000;
 /// the caller goes on alone.
 const MOST_WAITS: u32 = 30;
 
-/// So many free rows are enough to start one other worker. Several are started at this many times the square of their
+/// So many free rows are enough to start one other worker. Several are started at this many times the fourth power of their
 /// number, since each costs a thread and finds the less to do the more there are.
 const ROWS_FOR_ONE: u64 = 2;
+
+/// So many free rows are enough to start any number of workers.
+const ROWS_FOR_ANY: u64 = 512;
 
 /// What a worker's asking for a goal came to.
 #[derive(Clone, Copy)]
@@ -110,7 +113,7 @@ pub(crate) fn work<E: Expand, L: Ledger, T: Gate, R: Wait>(
 fn are_worth(others: u64, free: u64) -> bool
     requires { 0 < others }
 {
-    free / ROWS_FOR_ONE / others >= others
+    free >= ROWS_FOR_ANY || free / ROWS_FOR_ONE / others / others / others >= others
 }
 
 /// Works alone, until nothing is left to do or there are enough free rows for `others` more workers, which it says.

@@ -3,7 +3,7 @@ use Rattle.cls_path.specs.Paths.{Paths}
 use Rattle.cls_library.specs.Arrows.{arrows_of}
 use Rattle.cls_library.specs.Families.{IsFamilyIn}
 use Rattle.cls_library.specs.Libraries.{Library, paths_at}
-use Rattle.cls_library.proofs.Beginning.{component-at}
+use Rattle.cls_library.proofs.ComponentPaths.{component-at}
 use Rattle.cls_library.proofs.library.Library.may_lead.Goals as goal
 
 pub returns : goal.returns
