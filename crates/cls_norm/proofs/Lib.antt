@@ -1,6 +1,7 @@
 pub mod Counts
 pub mod Parts
 pub mod PathLists
+pub mod Several
 pub mod Sizes
 pub mod SmallTypes
 pub mod Steps

@@ -1,3 +1,4 @@
 pub mod Fit
+pub mod Names
 pub mod PathLists
 pub mod Subtypes

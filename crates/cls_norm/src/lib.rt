@@ -11,6 +11,7 @@ mod paths;
 mod subtypes;
 mod types;
 mod weights;
+mod wide;
 
 pub use fits::fit;
 pub use normals::normal;

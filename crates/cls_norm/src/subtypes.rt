@@ -17,6 +17,7 @@ ghost use Rattle.cls_path.specs.Laws.{AreEquivalent};
 ghost use Rattle.cls_norm.specs.Subtypes.{Adds, Stands, IsEntered, IsLacking, IsSealing, Joins, paths_behind, paths_of_all, nodes_of_all};
 
 use crate::normals::normal;
+use crate::wide::{WIDE, are_below_wide};
 use cls_base::{Flat, Name, OutOfMemory, Taxa, Ty, Variance};
 use std::alloc::Global;
 
@@ -50,11 +51,14 @@ pub fn subtype<T: Taxa>(
 {
     let mut pieces = Vec::new(alloc);
     put_pieces(lower, &mut pieces)?;
+    if pieces.len() >= WIDE && matches!(upper, Ty::Meet(..)) {
+        return Ok(are_below_wide(alloc, taxa, &pieces, upper)?);
+    }
     Ok(are_below(alloc, taxa, &pieces, upper)?)
 }
 
 /// Puts the types whose intersection the type is at the end.
-fn put_pieces<'a>(ty: &'a Ty, pieces: &mut Vec<&'a Ty>) -> Result<(), OutOfMemory>
+pub(crate) fn put_pieces<'a>(ty: &'a Ty, pieces: &mut Vec<&'a Ty>) -> Result<(), OutOfMemory>
     ensures { OnOk result (Joins (type_of ty.now) pieces.old.items pieces.new.items) }
 {
     match ty {
@@ -69,7 +73,7 @@ fn put_pieces<'a>(ty: &'a Ty, pieces: &mut Vec<&'a Ty>) -> Result<(), OutOfMemor
 
 /// Whether the intersection of the types is below the type.
 #[cycle(below)]
-fn are_below<T: Taxa>(
+pub(crate) fn are_below<T: Taxa>(
     alloc: Global,
     taxa: &T,
     lowers: &[&Ty],
@@ -276,7 +280,7 @@ fn is_entered<T: Taxa>(taxa: &T, step: Step<'_>, name: Name) -> bool
 }
 
 /// Whether the type is omega.
-fn is_omega(ty: &Ty) -> bool
+pub(crate) fn is_omega(ty: &Ty) -> bool
     ensures { IsTrue result ↔ (type_of ty.now ≡ types.omega) }
 {
     matches!(ty, Ty::Omega)
