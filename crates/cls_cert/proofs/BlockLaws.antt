@@ -9,7 +9,7 @@ use Rattle.cls_path.specs.Paths.{TypePath, Paths, none, more, listed, type_of_pa
 use Rattle.cls_cover.specs.Lists.{IsAscending, Sublist, ends, drops}
 use Rattle.cls_cover.specs.Covers.{IsMinimal, AreMinimal, MeetsEach, AreCovers, HaveMore, AreWithinLimit}
 use Rattle.cls_library.specs.Arrows.{MultiArrow, arity_of}
-use Rattle.cls_library.specs.Families.{IsNext, IsNextPlace, IsPlace, NoneBegins, AreFamilies}
+use Rattle.cls_library.specs.Families.{IsNext, IsNextPlace, IsPlace, NoneBegins, AreFamilies, alone}
 use Rattle.cls_library.specs.Libraries.{Library, paths_at, arrows_at}
 use Rattle.cls_library.specs.declared.place.Place.{Place}
 use Rattle.cls_library.specs.Reaching.{CoversGoal}
@@ -306,6 +306,12 @@ first_some (f₀ ∷ fs) f b e g = subst (λ (k : List ℕ). IsTrue (not b) ↔ 
 pub first_none : (fs : List (List ℕ)) → slice_get fs 0 ≡ None → IsTrue false ↔ HasFirstFamily fs
 first_none [] e = ((λ t. absurd (not_false t)), (λ h. absurd h))
 first_none (f ∷ fs) e = absurd (let k : ◌≡◌ {A = Option (List ℕ)} (Some f) None = e in cc)
+
+-- where each family has one position, there is a first one for a goal that has a path
+pub first_alone : (l : Library) (arrows : List MultiArrow) (goal : List TypePath) (positions : List ℕ) → AreFamilies l arrows goal (map alone positions) → 0 < length goal → HasFirstFamily (map alone positions)
+first_alone l arrows [] positions h p = absurd (omega arith)
+first_alone l arrows (q ∷ goal) [] h p = absurd h
+first_alone l arrows (q ∷ goal) (i ∷ positions) h p = (i, Contains-here i [])
 
 -- a goal that has a path
 pub some_path : (ps goal : List TypePath) (b : Bool) → ps ≡ goal → b ≡ (length ps == 0) → b ≡ false → 0 < length goal

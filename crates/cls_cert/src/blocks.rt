@@ -1,16 +1,17 @@
 //! The blocks of a member: for each component and number of arguments the minimal covers of the first paths of its goal.
-ghost use Rattle.std.specs.Prelude.{◌≡◌, ◌<◌, ◌↔◌, All, IfOk, IfSome, OnOk, IsTrue, length, map};
+ghost use Rattle.std.specs.Prelude.{◌≡◌, ◌<◌, ◌↔◌, ◌∷◌, [], All, IfOk, IfSome, OnOk, IsTrue, MatchOption, length, map};
 ghost use Rattle.cls_cover.specs.Lists.{IsAscending};
 ghost use Rattle.cls_cover.specs.Covers.{AreCovers, AreWithinLimit};
 ghost use Rattle.cls_cover.specs.Forced.{IsForced};
 ghost use Rattle.cls_path.specs.Paths.{listed};
-ghost use Rattle.cls_library.specs.Families.{AreFamiliesAt, IsPlace, alone};
+ghost use Rattle.cls_library.specs.Families.{IsPlace, alone};
 ghost use Rattle.cls_library.specs.Rules.{IsWide, max_covers};
 ghost use Rattle.cls_expand.specs.Answers.{IsReady};
 ghost use Rattle.cls_proof.specs.Blocks.{block_of};
 ghost use Rattle.cls_cert.specs.Building.{AreCoversOfFronts, HasFirstFamily, AddsBlock, AreBlocks};
+ghost use Rattle.cls_cert.specs.Making.{HasFirst, AreLayers};
 
-use crate::forced::forced_with;
+use crate::forced::{forced_with, put};
 use cls_base::{Numbers, OutOfMemory};
 use cls_cover::{CoverFault, covers};
 use cls_library::{Families, Finder, Library, Place};
@@ -34,24 +35,29 @@ pub(crate) fn few_covers(alloc: Global, families: &[Numbers]) -> Result<Vec<Numb
     }
 }
 
+/// The layer of this set alone.
+fn one_set(alloc: Global, set: &[u32]) -> Result<Layer, OutOfMemory>
+    ensures { IfOk result (λ layer. layer ≡ set.now ∷ []) }
+{
+    let mut sets = Vec::with_capacity(alloc, 1)?;
+    sets.push(Numbers::new(Vec::from_slice(alloc, set)?))?;
+    Ok(Layer::new(sets))
+}
+
 /// The minimal covers of the families at the front. Where these have a single position each, their only cover is given.
 fn covers_of_front(
     alloc: Global,
     front: &[Numbers],
     forced: &Option<Vec<u32>>,
-) -> Result<Vec<Numbers>, OutOfMemory>
+) -> Result<Layer, OutOfMemory>
     requires ascending { All IsAscending front.now }
     requires few { AreWithinLimit front.now max_covers }
     requires forced { IfSome forced.now (λ cover. IsForced front.now cover.items) }
-    ensures { IfOk result (λ list. AreCovers front.now list.items) }
+    ensures { IfOk result (AreCovers front.now) }
 {
     match forced {
-        Some(cover) => {
-            let mut list = Vec::with_capacity(alloc, 1)?;
-            list.push(Numbers::new(Vec::from_slice(alloc, cover.as_slice())?))?;
-            Ok(list)
-        }
-        None => few_covers(alloc, front),
+        Some(cover) => Ok(one_set(alloc, cover.as_slice())?),
+        None => Ok(Layer::new(few_covers(alloc, front)?)),
     }
 }
 
@@ -67,7 +73,20 @@ fn front_covers(alloc: Global, families: &[Numbers]) -> Result<Layers, OutOfMemo
     for j in 0..families.len() {
         forced = forced_with(forced, families[j].as_slice())?;
         let (front, _) = families.split_at(j + 1);
-        layers.push(Layer::new(covers_of_front(alloc, front, &forced)?))?;
+        layers.push(covers_of_front(alloc, front, &forced)?)?;
+    }
+    Ok(Layers::new(layers))
+}
+
+/// The same for families of one position each, which are given by these.
+fn lone_covers(alloc: Global, positions: &[u32]) -> Result<Layers, OutOfMemory>
+    ensures { IfOk result (AreCoversOfFronts (map alone positions.now)) }
+{
+    let mut layers = Vec::with_capacity(alloc, positions.len())?;
+    let mut cover = Vec::with_capacity(alloc, positions.len())?;
+    for position in positions {
+        put(&mut cover, *position)?;
+        layers.push(one_set(alloc, &cover)?)?;
     }
     Ok(Layers::new(layers))
 }
@@ -82,32 +101,30 @@ fn has_first(families: &[Numbers]) -> bool
     }
 }
 
-/// Each of the positions as a family of its own.
-fn each_alone(alloc: Global, positions: &[u32]) -> Result<Vec<Numbers>, OutOfMemory>
-    ensures { IfOk result (λ families. families.items ≡ map alone positions.now) }
-{
-    let mut families = Vec::with_capacity(alloc, positions.len())?;
-    for position in positions {
-        families.push(Numbers::new(Vec::from_slice(alloc, &[*position])?))?;
-    }
-    Ok(families)
-}
-
-/// The families of the goal's paths at a place.
-fn families_at(
+/// The layers of the block at a place, or None if no arrow there leads to the first path of the goal.
+fn layers_at(
     alloc: Global,
     finder: &mut Finder<'_>,
     place: Place,
-) -> Result<Vec<Numbers>, OutOfMemory>
+) -> Result<Option<Layers>, OutOfMemory>
     requires place { IsPlace finder.old.library place }
     requires ready { IsReady finder.old.library finder.old.goal }
+    requires narrow { IsWide finder.old.library (listed finder.old.goal) → ⊥ }
+    requires path { 0 < length finder.old.goal }
     ensures same { finder.new ≡ finder.old }
-    ensures families { IfOk result (λ families.
-        AreFamiliesAt finder.old.library finder.old.goal place families.items) }
+    ensures layers { IfOk result (λ found. MatchOption found
+        (HasFirst finder.old.library (listed finder.old.goal) place.component place.count → ⊥)
+        (λ layers. HasFirst finder.old.library (listed finder.old.goal) place.component place.count
+        × AreLayers finder.old.library (listed finder.old.goal) place.component place.count layers)) }
 {
     match finder.families(alloc, place)? {
-        Families::Single(positions) => each_alone(alloc, positions.as_slice()),
-        Families::Several(families) => Ok(families),
+        Families::Single(positions) => Ok(Some(lone_covers(alloc, positions.as_slice())?)),
+        Families::Several(families) => {
+            if !has_first(families.as_slice()) {
+                return Ok(None);
+            }
+            Ok(Some(front_covers(alloc, families.as_slice())?))
+        }
     }
 }
 
@@ -121,15 +138,14 @@ fn add_block(
     requires place { IsPlace finder.old.library place }
     requires ready { IsReady finder.old.library finder.old.goal }
     requires narrow { IsWide finder.old.library (listed finder.old.goal) → ⊥ }
+    requires path { 0 < length finder.old.goal }
     ensures same { finder.new ≡ finder.old }
     ensures block { OnOk result (AddsBlock finder.old.library (listed finder.old.goal) place.component place.count
         (map block_of blocks.old.items) (map block_of blocks.new.items)) }
 {
-    let families = families_at(alloc, finder, place)?;
-    if !has_first(families.as_slice()) {
+    let Some(layers) = layers_at(alloc, finder, place)? else {
         return Ok(());
-    }
-    let layers = front_covers(alloc, families.as_slice())?;
+    };
     let block = Block {
         component: place.component,
         n: place.count,

@@ -6,7 +6,7 @@ ghost use Rattle.cls_cover.specs.Forced.{IsForced};
 use cls_base::OutOfMemory;
 
 /// Puts a position among ascending ones, unless it is there.
-fn put(positions: &mut Vec<u32>, x: u32) -> Result<(), OutOfMemory>
+pub(crate) fn put(positions: &mut Vec<u32>, x: u32) -> Result<(), OutOfMemory>
     requires { Ascending positions.old.items }
     ensures ascending { OnOk result (Ascending positions.new.items) }
     ensures members { OnOk result

@@ -1,5 +1,4 @@
-use Rattle.std.proofs.Common.{ℕ, ◌+◌, suc, List, take, subst, sym, ◌∙◌, IfSome}
-use Rattle.cls_cover.specs.Covers.{AreCovers}
+use Rattle.std.proofs.Common.{ℕ, ◌+◌, List, take, subst, sym, ◌∙◌, IfSome}
 use Rattle.cls_cover.specs.Forced.{IsForced}
 use Rattle.cls_cover.proofs.SingleFamilies.{forced_none}
 use Rattle.cls_library.specs.Rules.{max_covers}
@@ -24,9 +23,8 @@ covers_of_front-requires-clause-forced c =
 
 pub loop-j-preserved : goal.loop-j-preserved
 loop-j-preserved c =
-    let s = fronts_step c.args.families.now c.loop-j.layers.items c.push.new.self.items c.loop-j.j c.new-in-loop-j.result c.in_ok-push.ensures.items
-    (subst (λ (list : List (List ℕ)). AreCovers (take (suc c.loop-j.j) c.args.families.now) list) (sym c.new-in-loop-j.ensures)
-    (front_covered c.args.families.now c.split_at.result.0.now c.in_ok-covers_of_front.field-0.items c.loop-j.j c.split_at.ensures.front c.in_ok-covers_of_front.ensures))
+    let s = fronts_step c.args.families.now c.loop-j.layers.items c.push.new.self.items c.loop-j.j c.in_ok-covers_of_front.field-0 c.in_ok-push.ensures.items
+    (front_covered c.args.families.now c.split_at.result.0.now c.in_ok-covers_of_front.field-0 c.loop-j.j c.split_at.ensures.front c.in_ok-covers_of_front.ensures)
     (c.loop-j.invariant.0, c.loop-j.invariant.1) in (
       s.0,
       s.1,

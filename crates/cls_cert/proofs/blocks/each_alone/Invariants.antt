@@ -1,7 +1,0 @@
-use Rattle.std.proofs.Common.{◌≡◌, take}
-use Rattle.std.specs.Prelude.{map}
-use Rattle.cls_library.specs.Families.{alone}
-use Rattle.cls_cert.proofs.blocks.each_alone.Given as goal
-
-abbrev pub invariant-loop-position : goal.invariant-loop-position
-invariant-loop-position l = l.families.items ≡ map alone (take l.position-index l.positions)
