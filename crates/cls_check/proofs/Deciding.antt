@@ -1,31 +1,21 @@
--- What is left of the arrows of a head as its arguments are looked at, and what the term then has.
-use Rattle.std.proofs.Common.{ℕ, zero, suc, ◌≡◌, ◌+◌, ◌<◌, ◌≤◌, ◌↔◌, refl, sym, subst, List, [], ◌∷◌, length, get_or, arith, Contains, below_more}
-use Rattle.std.specs.Prelude.{map}
+-- Which arrows of a head are kept as its arguments are looked at, and what the term then has.
+use Rattle.std.proofs.Common.{ℕ, zero, suc, ◌≡◌, ◌+◌, ◌<◌, ◌≤◌, ◌↔◌, sym, subst, List, [], ◌∷◌, length, get_or, arith, Contains, below_more}
 use Rattle.cls_base.specs.Terms.{Applicative, component, IsTermOver}
 use Rattle.cls_base.specs.Spines.{spine}
-use Rattle.cls_path.specs.Paths.{TypePath, Paths, none, more, InPaths, first_in, later_in, listed, type_of_path, type_of_paths}
-use Rattle.cls_base.proofs.Lists.{Contains-here, Contains-later}
+use Rattle.cls_path.specs.Paths.{TypePath, Paths, none, more, InPaths, first_in, later_in, type_of_path, type_of_paths}
+use Rattle.cls_base.proofs.Lists.{Contains-here, Contains-later, Contains-map}
 use Rattle.cls_path.proofs.Completeness.{suits_in, covered, covers_all}
 use Rattle.cls_path.proofs.Transitivity.{le_trans}
 use Rattle.cls_library.specs.Arrows.{MultiArrow, arity_of}
 use Rattle.cls_library.specs.Libraries.{Library, IsLibrary, below_in, variances_in, paths_at, arrows_at}
 use Rattle.cls_library.specs.Reaching.{PathLeIn, PathsLeIn, IsReachedBy}
 use Rattle.cls_library.specs.Typing.{HasTypeIn}
-use Rattle.cls_library.proofs.ByCases.{At, at_first, at_later, at_member, at_contains, contains_at}
+use Rattle.cls_library.proofs.ByCases.{At, at_first, at_later, at_member, contains_at}
 use Rattle.cls_library.proofs.PathTyping.{Reaches}
 use Rattle.cls_library.proofs.PathLemma.{arrow_from}
 use Rattle.cls_library.proofs.LibraryTyping.{reflexive, transitive, suited, typed, arrow_sources, arrow_leads, paths_are_reached}
-use Rattle.cls_check.specs.Deciding.{arrow_of, source_of, argument_of, IsWanted, SuitIn, AllSuitIn, SomeBelow, AreSuited, IsLeading, KnowsPaths, HaveFirst, AreKept}
+use Rattle.cls_check.specs.Deciding.{source_of, sources_of, targets_of, argument_of, IsWanted, SuitIn, AllSuitIn, SomeBelow, AreSuited, IsLeading, KnowsPaths, HaveFirst, AreKept}
 use Rattle.cls_check.proofs.Lists.{pair_at, all_pairs, in_listed, listed_in}
-
-at_get : (arrows : List MultiArrow) (i : ℕ) → i < length arrows → At arrows i (arrow_of arrows i)
-at_get [] i l = absurd (omega arith)
-at_get (b ∷ arrows) zero l = at_first
-at_get (b ∷ arrows) (suc i) l = at_later (at_get arrows i (omega arith))
-
-get_at : {arrows : List MultiArrow} {i : ℕ} {a : MultiArrow} → At arrows i a → (i < length arrows) × (arrow_of arrows i ≡ a)
-get_at at_first = (omega arith, refl)
-get_at (at_later {xs = xs} {i = i} h) = let r = get_at h in let l : i < length xs = r.0 in (omega arith, r.1)
 
 source_in : (ns : List Paths) (k : ℕ) (P : Paths → Type 0) → P none → ((i : ℕ) (n : Paths) → At ns i n → P n) → P (get_or ns k none)
 source_in [] k P h f = h
@@ -71,43 +61,49 @@ module _ (lib : Library) (law : IsLibrary lib) where
 
   pub are_suited : (x n : ℕ) → AreSuited lib (arrows_at lib x n)
   are_suited x n = record {
-    targets = (λ i l. arrow_leads lib law x n i (arrow_of (arrows_at lib x n) i) (at_get (arrows_at lib x n) i l));
-    sources = (λ i k l. source_in (arrow_of (arrows_at lib x n) i).sources k (λ m. AllSuitIn lib m) tt (λ j m a. (arrow_sources lib law x n i (arrow_of (arrows_at lib x n) i) (at_get (arrows_at lib x n) i l)).0 m (at_member a)));
+    targets = (λ a m. let at = contains_at (arrows_at lib x n) a m in arrow_leads lib law x n at.0 a at.1);
+    sources = (λ a k m.
+        let at = contains_at (arrows_at lib x n) a m in
+        source_in a.sources k (λ s. AllSuitIn lib s) tt (λ j s b. (arrow_sources lib law x n at.0 a at.1).0 s (at_member b)));
   }
 
   module _ (arrows : List MultiArrow) (goals : List Paths) (es : List Applicative) where
-    pub kept_none : (good : List ℕ) → ((i : ℕ) → Contains good i ↔ ((i < length arrows) × IsLeading lib goals (arrow_of arrows i))) → AreKept lib arrows goals es 0 good
-    kept_none good f = record {
-      below = (λ i m. ((f i).0 m).0);
-      sound = (λ i m j l. absurd (let k : j < 0 = l in omega arith));
-      complete = (λ i l d h. (f i).1 (l, d));
+    pub kept_suit : (k : ℕ) (kept : List MultiArrow) → AreSuited lib arrows → AreKept lib arrows goals es k kept → AreSuited lib kept
+    kept_suit k kept s b = record { targets = (λ a m. s.targets a (b.among a m)); sources = (λ a j m. s.sources a j (b.among a m)) }
+
+    pub kept_none : (kept : List MultiArrow) → ((a : MultiArrow) → Contains kept a ↔ (Contains arrows a × IsLeading lib goals a.target)) → AreKept lib arrows goals es 0 kept
+    kept_none kept f = record {
+      among = (λ a m. ((f a).0 m).0);
+      sound = (λ a m j l. absurd (let k : j < 0 = l in omega arith));
+      complete = (λ a m d h. (f a).1 (m, d));
     }
 
-    pub kept_more : (k : ℕ) (good kept : List ℕ) (asked : List Paths) (had : Paths) → IsTermOver (length lib.components) (argument_of es k) → AreSuited lib arrows → AreKept lib arrows goals es k good
-        → ((i : ℕ) → Contains good i → (q : TypePath) → InPaths (source_of (arrow_of arrows i) k) q → IsWanted asked q) → KnowsPaths lib (argument_of es k) asked had
-        → ((i : ℕ) → Contains kept i ↔ (Contains good i × PathsLeIn lib had (source_of (arrow_of arrows i) k))) → AreKept lib arrows goals es (k + 1) kept
-    kept_more k good kept asked had over suits b each know f = record {
-      below = (λ i m. b.below i ((f i).0 m).0);
-      sound = (λ i m. let u = (f i).0 m in below_more (λ j. HasTypeIn lib (argument_of es j) (type_of_paths (source_of (arrow_of arrows i) j))) k (b.sound i u.0) (here i (b.below i u.0) u.1));
-      complete = (λ i l d h. let g = b.complete i l d (λ j m. h j (omega arith)) in (f i).1 (g, there i l g (h k (omega arith))));
+    -- where none is kept there is none to the end
+    pub kept_end : (k n : ℕ) (kept : List MultiArrow) → k ≤ n → length kept ≡ 0 → AreKept lib arrows goals es k kept → AreKept lib arrows goals es n kept
+    kept_end k n kept l e b = record {
+      among = b.among;
+      sound = (λ a m. absurd (let i : m.0 < length kept = m.1 in omega arith));
+      complete = (λ a m d h. b.complete a m d (λ j i. h j (omega arith)));
+    }
+
+    pub kept_more : (k : ℕ) (kept left : List MultiArrow) (had : Paths) → IsTermOver (length lib.components) (argument_of es k) → AreSuited lib kept → AreKept lib arrows goals es k kept
+        → KnowsPaths lib (argument_of es k) (sources_of kept k) had
+        → ((a : MultiArrow) → Contains left a ↔ (Contains kept a × PathsLeIn lib had (source_of a k))) → AreKept lib arrows goals es (k + 1) left
+    kept_more k kept left had over suits b know f = record {
+      among = (λ a m. b.among a ((f a).0 m).0);
+      sound = (λ a m. let u = (f a).0 m in below_more (λ j. HasTypeIn lib (argument_of es j) (type_of_paths (source_of a j))) k (b.sound a u.0) (here a u.0 u.1));
+      complete = (λ a m d h. let g = b.complete a m d (λ j i. h j (omega arith)) in (f a).1 (g, there a g (h k (omega arith))));
     }
       where
-        here : (i : ℕ) → i < length arrows → PathsLeIn lib had (source_of (arrow_of arrows i) k) → HasTypeIn lib (argument_of es k) (type_of_paths (source_of (arrow_of arrows i) k))
-        here i l h = each_from (argument_of es k) (source_of (arrow_of arrows i) k) (suits.sources i k l) over (λ q j. know.sound q (suits_one (source_of (arrow_of arrows i) k) q (suits.sources i k l) j) (cover_one had (source_of (arrow_of arrows i) k) h q j))
+        here : (a : MultiArrow) → Contains kept a → PathsLeIn lib had (source_of a k) → HasTypeIn lib (argument_of es k) (type_of_paths (source_of a k))
+        here a m h = each_from (argument_of es k) (source_of a k) (suits.sources a k m) over (λ q j. know.sound q (suits_one (source_of a k) q (suits.sources a k m) j) (cover_one had (source_of a k) h q j))
 
-        there : (i : ℕ) → i < length arrows → Contains good i → HasTypeIn lib (argument_of es k) (type_of_paths (source_of (arrow_of arrows i) k)) → PathsLeIn lib had (source_of (arrow_of arrows i) k)
-        there i l g h = cover_each had (source_of (arrow_of arrows i) k) (λ q j. know.complete q (each i g q j) (each_to (argument_of es k) (source_of (arrow_of arrows i) k) (suits.sources i k l) h q j))
+        there : (a : MultiArrow) → Contains kept a → HasTypeIn lib (argument_of es k) (type_of_paths (source_of a k)) → PathsLeIn lib had (source_of a k)
+        there a m h = cover_each had (source_of a k) (λ q j. know.complete q (source_of a k, Contains-map (λ (b : MultiArrow). source_of b k) kept a m, j) (each_to (argument_of es k) (source_of a k) (suits.sources a k m) h q j))
 
-  abbrev target_at : List MultiArrow → ℕ → TypePath
-  target_at arrows i = (arrow_of arrows i).target
-
-  -- the targets that are left can be put into normal form
-  pub targets_suit : (arrows : List MultiArrow) (good : List ℕ) → AreSuited lib arrows → ((i : ℕ) → Contains good i → i < length arrows) → AllSuitIn lib (listed (map (λ i. (arrow_of arrows i).target) good))
-  targets_suit arrows good s b = go good b
-    where
-      go : (good : List ℕ) → ((i : ℕ) → Contains good i → i < length arrows) → AllSuitIn lib (listed (map (λ i. (arrow_of arrows i).target) good))
-      go [] b = tt
-      go (i ∷ good) b = (s.targets i (b i (Contains-here i good)), go good (λ j m. b j (Contains-later j i good m)))
+  targets_suit : (kept : List MultiArrow) → ((a : MultiArrow) → Contains kept a → SuitIn lib a.target) → AllSuitIn lib (targets_of kept)
+  targets_suit [] s = tt
+  targets_suit (a ∷ kept) s = (s a (Contains-here a kept), targets_suit kept (λ b m. s b (Contains-later b a kept m)))
 
   module _ (x : ℕ) (es : List Applicative) (goals : List Paths) (suits : (n : Paths) → Contains goals n → AllSuitIn lib n) where
     suits_wanted : (q : TypePath) → IsWanted goals q → SuitIn lib q
@@ -121,39 +117,36 @@ module _ (lib : Library) (law : IsLibrary lib) where
       complete = (λ q w h. let r = (paths_are_reached lib law x es q (suits_wanted q w)).0 h in let m : length es ≤ arity_of (paths_at lib x) = r.within in absurd (omega arith));
     }
 
-    -- the targets that are left
-    module _ (good : List ℕ) (within : length es ≤ arity_of (paths_at lib x)) (b : AreKept lib (arrows_at lib x (length es)) goals es (length es) good) where
-      abbrev pub left : Paths
-      left = listed (map (target_at (arrows_at lib x (length es))) good)
-
-      reached : (q : TypePath) → SomeBelow lib left q → IsReachedBy lib x es q
+    -- the targets of the arrows that are kept to the end
+    module _ (kept : List MultiArrow) (within : length es ≤ arity_of (paths_at lib x)) (b : AreKept lib (arrows_at lib x (length es)) goals es (length es) kept) where
+      reached : (q : TypePath) → SomeBelow lib (targets_of kept) q → IsReachedBy lib x es q
       reached q h =
-          let u = in_listed (target_at (arrows_at lib x (length es))) good h.0 h.1 in
-          let at = at_get (arrows_at lib x (length es)) u.0 (b.below u.0 u.1) in
-          let size = (arrow_from (length es) (paths_at lib x) u.0 (arrow_of (arrows_at lib x (length es)) u.0) at).1 in
+          let u = in_listed (λ (a : MultiArrow). a.target) kept h.0 h.1 in
+          let one = b.among u.0 u.1 in
+          let at = contains_at (arrows_at lib x (length es)) u.0 one in
+          let size = (arrow_from (length es) (paths_at lib x) at.0 u.0 at.1).1 in
           record {
             within = within;
-            arrow = arrow_of (arrows_at lib x (length es)) u.0;
-            is_one = at_contains at;
+            arrow = u.0;
+            is_one = one;
             target = subst (λ (t : TypePath). PathLeIn lib t q) (sym u.2) h.2;
-            sources = all_pairs (λ e n. HasTypeIn lib e (type_of_paths n)) es (arrow_of (arrows_at lib x (length es)) u.0).sources (component 0) none size (b.sound u.0 u.1);
+            sources = all_pairs (λ e n. HasTypeIn lib e (type_of_paths n)) es u.0.sources (component 0) none size (b.sound u.0 u.1);
           }
 
-      found : (q : TypePath) → IsWanted goals q → IsReachedBy lib x es q → SomeBelow lib left q
+      found : (q : TypePath) → IsWanted goals q → IsReachedBy lib x es q → SomeBelow lib (targets_of kept) q
       found q w r =
-          let at = contains_at (arrows_at lib x (length es)) r.arrow r.is_one in
-          let here = get_at at.1 in
-          let leading : IsLeading lib goals (arrow_of (arrows_at lib x (length es)) at.0) = subst (λ (a : MultiArrow). IsLeading lib goals a) (sym here.1) (q, w, r.target) in
-          let have : HaveFirst lib es (length es) (arrow_of (arrows_at lib x (length es)) at.0) = subst (λ (a : MultiArrow). HaveFirst lib es (length es) a) (sym here.1) (λ j l. pair_at (λ e n. HasTypeIn lib e (type_of_paths n)) es r.arrow.sources j (component 0) none r.sources l) in
-          let g = b.complete at.0 here.0 leading have in (
-            target_at (arrows_at lib x (length es)) at.0,
-            listed_in (target_at (arrows_at lib x (length es))) good at.0 g,
-            subst (λ (a : MultiArrow). PathLeIn lib a.target q) (sym here.1) r.target,
+          let have : HaveFirst lib es (length es) r.arrow = λ j l. pair_at (λ e n. HasTypeIn lib e (type_of_paths n)) es r.arrow.sources j (component 0) none r.sources l in
+          let g = b.complete r.arrow r.is_one (q, w, r.target) have in (
+            r.arrow.target,
+            listed_in (λ (a : MultiArrow). a.target) kept r.arrow g,
+            r.target,
           )
 
-      pub all_known : KnowsPaths lib (spine (component x) es) goals left
-      all_known = record {
-        suits = targets_suit (arrows_at lib x (length es)) good (are_suited x (length es)) b.below;
-        sound = (λ q s h. (paths_are_reached lib law x es q s).1 (reached q h));
-        complete = (λ q w h. found q w ((paths_are_reached lib law x es q (suits_wanted q w)).0 h));
-      }
+      pub all_known : KnowsPaths lib (spine (component x) es) goals (targets_of kept)
+      all_known =
+          let suited = kept_suit (arrows_at lib x (length es)) goals es (length es) kept (are_suited x (length es)) b in
+          record {
+            suits = targets_suit kept suited.targets;
+            sound = (λ q s h. (paths_are_reached lib law x es q s).1 (reached q h));
+            complete = (λ q w h. found q w ((paths_are_reached lib law x es q (suits_wanted q w)).0 h));
+          }

@@ -6,6 +6,7 @@ pub mod DecidingSteps
 pub mod Finding
 pub mod GoalLaws
 pub mod Indexing
+pub mod Keeping
 pub mod Keys
 pub mod Lists
 pub mod Loops

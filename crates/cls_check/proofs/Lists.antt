@@ -29,17 +29,17 @@ all_pairs R [] (y ∷ ys) d e h f = absurd (let n : suc (length ys) ≡ 0 = h in
 all_pairs R (x ∷ xs) [] d e h f = absurd (let n : 0 ≡ suc (length xs) = h in omega arith)
 all_pairs R (x ∷ xs) (y ∷ ys) d e h f = (f 0 (omega arith), all_pairs R xs ys d e (let n : suc (length ys) ≡ suc (length xs) = h in omega arith) (λ k l. f (suc k) (omega arith)))
 
--- the paths that a function gives of numbers
-pub in_listed : (f : ℕ → TypePath) (s : List ℕ) (p : TypePath) → InPaths (listed (map f s)) p → (i : ℕ) × Contains s i × (f i ≡ p)
+-- the paths that a function gives of the elements of a list
+pub in_listed : {A : Type 0} (f : A → TypePath) (xs : List A) (p : TypePath) → InPaths (listed (map f xs)) p → (x : A) × Contains xs x × (f x ≡ p)
 in_listed f [] p h = elim h [ ]
-in_listed f (i ∷ s) _ first_in = (i, Contains-here i s, refl)
-in_listed f (i ∷ s) p (later_in h) = let r = in_listed f s p h in (r.0, Contains-later r.0 i s r.1, r.2)
+in_listed f (x ∷ xs) _ first_in = (x, Contains-here x xs, refl)
+in_listed f (x ∷ xs) p (later_in h) = let r = in_listed f xs p h in (r.0, Contains-later r.0 x xs r.1, r.2)
 
-pub listed_in : (f : ℕ → TypePath) (s : List ℕ) (i : ℕ) → Contains s i → InPaths (listed (map f s)) (f i)
-listed_in f [] i h = absurd (Contains-nil i h)
-listed_in f (j ∷ s) i h = elim (Contains-cases j s i h) [
-  | inl e ↦ subst (λ (k : ℕ). InPaths (listed (map f (j ∷ s))) (f k)) (sym e) first_in
-  | inr k ↦ later_in (listed_in f s i k)
+pub listed_in : {A : Type 0} (f : A → TypePath) (xs : List A) (x : A) → Contains xs x → InPaths (listed (map f xs)) (f x)
+listed_in f [] x h = absurd (Contains-nil x h)
+listed_in f (y ∷ xs) x h = elim (Contains-cases y xs x h) [
+  | inl e ↦ subst (λ z. InPaths (listed (map f (y ∷ xs))) (f z)) (sym e) first_in
+  | inr k ↦ later_in (listed_in f xs x k)
 ]
 
 -- a path of a list by its position

@@ -1,7 +1,8 @@
 -- A term and its arguments.
-use Rattle.std.proofs.Common.{ℕ, zero, suc, ◌≡◌, ◌+◌, ◌<◌, ◌≤◌, sym, subst, ap, List, [], ◌∷◌, length, get_or, arith}
-use Rattle.cls_base.specs.Terms.{Applicative, component, apply, length_of, IsTermOver}
+use Rattle.std.proofs.Common.{ℕ, zero, suc, ◌≡◌, ◌+◌, ◌<◌, ◌≤◌, sym, ◌∙◌, subst, ap, List, [], ◌∷◌, length, get_or, arith}
+use Rattle.cls_base.specs.Terms.{Applicative, component, apply, head_of, length_of, IsTermOver}
 use Rattle.cls_base.specs.Spines.{spine, lengths_of}
+use Rattle.cls_term.proofs.Spines.{head_of-spine}
 use Rattle.cls_library.specs.Libraries.{Library, IsLibrary}
 use Rattle.cls_library.proofs.ByCases.{At, at_first, at_later, at_member}
 use Rattle.cls_library.proofs.LibraryTyping.{spine_over}
@@ -23,6 +24,9 @@ at_get : (es : List Applicative) (i : ℕ) (d : Applicative) → i < length es �
 at_get [] i d l = absurd (omega arith)
 at_get (e ∷ es) zero d l = at_first
 at_get (e ∷ es) (suc i) d l = at_later (at_get es i d (omega arith))
+
+pub head_is : (x : ℕ) (es : List Applicative) (e : Applicative) → spine (component x) es ≡ e → x ≡ head_of e
+head_is x es e h = sym (head_of-spine (component x) es) ∙ ap head_of h
 
 -- the head of a term over components is one of them, and so are those of each argument
 pub head_over : (lib : Library) → IsLibrary lib → (n x : ℕ) (es : List Applicative) (e : Applicative) → spine (component x) es ≡ e → IsTermOver n e → x < n

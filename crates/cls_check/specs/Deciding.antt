@@ -1,6 +1,5 @@
--- internal: which arrows of a term's head are left while its arguments are looked at one after another
-use Rattle.std.specs.Prelude.{ℕ, ◌<◌, List, [], length, map, Contains, slice_index_or}
-use Rattle.std.specs.Borrow.{Bor}
+-- internal: which arrows of a term's head are kept while its arguments are looked at one after another
+use Rattle.std.specs.Prelude.{ℕ, ◌<◌, List, [], map, Contains, slice_index_or}
 use Rattle.cls_base.specs.Terms.{Applicative, component}
 use Rattle.cls_path.specs.Paths.{TypePath, Paths, none, unit, InPaths, listed, type_of_path, type_of_paths, Suits, SuitsAll}
 use Rattle.cls_library.specs.Arrows.{MultiArrow}
@@ -21,9 +20,12 @@ source_of a k = slice_index_or a.sources k none
 abbrev pub argument_of : List Applicative → ℕ → Applicative
 argument_of es k = slice_index_or es k (component 0)
 
--- the paths that are pointed to
-abbrev pub paths_in : List (Bor TypePath) → Paths
-paths_in had = listed (map (λ p. p.now) had)
+-- what each of the arrows takes at a place
+abbrev pub sources_of : List MultiArrow → ℕ → List Paths
+sources_of arrows k = map (λ a. source_of a k) arrows
+
+abbrev pub targets_of : List MultiArrow → Paths
+targets_of arrows = listed (map (λ a. a.target) arrows)
 
 -- the path is one of a goal
 abbrev pub IsWanted : List Paths → TypePath → Type 0
@@ -40,14 +42,18 @@ module _ (l : Library) where
   abbrev pub SomeBelow : Paths → TypePath → Type 0
   SomeBelow n q = (p : TypePath) × InPaths n p × PathLeIn l p q
 
+  -- the path is below some path of the list
+  abbrev pub SomeAbove : Paths → TypePath → Type 0
+  SomeAbove n p = (q : TypePath) × InPaths n q × PathLeIn l p q
+
   -- the targets and sources of the arrows suit the variances
   pub record AreSuited (arrows : List MultiArrow) : Type 0 where
-    pub targets : (i : ℕ) → i < length arrows → SuitIn (arrow_of arrows i).target
-    pub sources : (i k : ℕ) → i < length arrows → AllSuitIn (source_of (arrow_of arrows i) k)
+    pub targets : (a : MultiArrow) → Contains arrows a → SuitIn a.target
+    pub sources : (a : MultiArrow) (k : ℕ) → Contains arrows a → AllSuitIn (source_of a k)
 
-  -- the arrow leads to a path of a goal
-  abbrev pub IsLeading : List Paths → MultiArrow → Type 0
-  IsLeading goals a = (q : TypePath) × IsWanted goals q × PathLeIn l a.target q
+  -- the path is below a path of a goal
+  abbrev pub IsLeading : List Paths → TypePath → Type 0
+  IsLeading goals p = (q : TypePath) × IsWanted goals q × PathLeIn l p q
 
   -- The paths are what the term has, as far as the goals ask: it has each path above one of them, and if it has a path
   -- of a goal, one of them is below it.
@@ -60,12 +66,11 @@ module _ (l : Library) where
   abbrev pub HaveFirst : List Applicative → ℕ → MultiArrow → Type 0
   HaveFirst es k a = (j : ℕ) → j < k → HasTypeIn l (argument_of es j) (type_of_paths (source_of a j))
 
-  -- The positions are those of the arrows that lead to a path of a goal and whose first k sources the terms have; others
-  -- whose first k sources they have may be among them.
-  pub record AreKept (arrows : List MultiArrow) (goals : List Paths) (es : List Applicative) (k : ℕ) (good : List ℕ)
-      : Type 0 where
-    pub below : (i : ℕ) → Contains good i → i < length arrows
-    pub sound : (i : ℕ) → Contains good i → HaveFirst es k (arrow_of arrows i)
+  -- Of the arrows those are kept that lead to a path of a goal and whose first k sources the terms have; others whose
+  -- first k sources they have may be kept too.
+  pub record AreKept (arrows : List MultiArrow) (goals : List Paths) (es : List Applicative) (k : ℕ)
+      (kept : List MultiArrow) : Type 0 where
+    pub among : (a : MultiArrow) → Contains kept a → Contains arrows a
+    pub sound : (a : MultiArrow) → Contains kept a → HaveFirst es k a
     pub complete :
-        (i : ℕ) → i < length arrows → IsLeading goals (arrow_of arrows i) → HaveFirst es k (arrow_of arrows i)
-        → Contains good i
+        (a : MultiArrow) → Contains arrows a → IsLeading goals a.target → HaveFirst es k a → Contains kept a

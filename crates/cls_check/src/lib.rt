@@ -7,9 +7,11 @@
 #![tactic(auto)]
 
 mod argument;
+mod asked;
 mod checking;
 mod fault;
 mod goals;
+mod kept;
 mod lack;
 pub mod laws;
 mod layers;

@@ -1,110 +1,59 @@
-//! Arrows of a component by their positions.
-ghost use Rattle.std.specs.Prelude.{◌≡◌, ℕ, ◌<◌, ◌≤◌, ◌↔◌, Contains, IfOk, IsTrue, length, map};
-ghost use Rattle.cls_path.specs.Paths.{TypePath, Paths, listed, InPaths};
-ghost use Rattle.cls_library.specs.Reaching.{PathLeIn, PathsLeIn};
-ghost use Rattle.cls_library.specs.Splits.{paths_of_form};
-ghost use Rattle.cls_check.specs.Deciding.{AreSuited, IsLeading, IsWanted, SomeBelow, SuitIn, AllSuitIn, arrow_of, source_of, paths_in};
+//! Which arrows of a term's head are kept, and what their targets are above.
+ghost use Rattle.std.specs.Prelude.{ℕ, ◌↔◌, Contains, IfOk, IsTrue};
+ghost use Rattle.cls_path.specs.Paths.{Paths, listed};
+ghost use Rattle.cls_library.specs.Arrows as definitions;
+ghost use Rattle.cls_library.specs.Reaching.{PathsLeIn};
+ghost use Rattle.cls_check.specs.Asking.{goals_of};
+ghost use Rattle.cls_check.specs.Deciding.{AllSuitIn, AreSuited, IsLeading, SomeBelow, SuitIn, source_of, targets_of};
 
+use crate::asked::{Asked, leads_to_asked};
+use crate::kept::KeptArrows;
 use cls_base::OutOfMemory;
 use cls_library::{Arrows, Library, MultiArrow};
 use cls_path::{Nf, Path};
 use smallvec::SmallVec;
 use std::alloc::Global;
 
-/// Positions of arrows, of which mostly few are left.
-pub(crate) type Positions = SmallVec<usize, 4>;
-
-/// Whether the path is below some path of the goal.
-fn leads_to(lib: &Library, target: &Path, goal: &Nf) -> bool
-    requires target { SuitIn lib.now target.now }
-    requires goal { AllSuitIn lib.now (listed goal.now) }
-    ensures { IsTrue result ↔ ((q : TypePath) × InPaths (listed goal.now) q × PathLeIn lib.now target.now q) }
-{
-    for path in goal.paths() {
-        if target.le(lib.taxonomy(), path) {
-            return true;
-        }
-    }
-    false
-}
-
-/// Whether the arrow leads to a path of one of the goals.
-fn leads_to_some(lib: &Library, arrow: &MultiArrow<'_>, goals: &[&Nf]) -> bool
-    requires target { SuitIn lib.now arrow.now.target }
-    requires goals { (n : Paths) → Contains (map paths_of_form goals.now) n → AllSuitIn lib.now n }
-    ensures { IsTrue result ↔ IsLeading lib.now (map paths_of_form goals.now) arrow.now }
-{
-    for goal in goals {
-        if leads_to(lib, arrow.target(), goal) {
-            return true;
-        }
-    }
-    false
-}
-
-/// The positions of the arrows that lead to a path of one of the goals.
-pub(crate) fn leading(
+/// The arrows that lead to a path that is asked.
+pub(crate) fn leading<'l>(
     alloc: Global,
     lib: &Library,
-    arrows: &Arrows<'_>,
-    goals: &[&Nf],
-) -> Result<Positions, OutOfMemory>
-    requires arrows { AreSuited lib.now arrows.now }
-    requires goals { (n : Paths) → Contains (map paths_of_form goals.now) n → AllSuitIn lib.now n }
-    ensures { IfOk result (λ good. (i : ℕ) → Contains good.items i
-        ↔ ((i < length arrows.now) × IsLeading lib.now (map paths_of_form goals.now) (arrow_of arrows.now i))) }
+    arrows: Arrows<'l>,
+    asked: &Asked<'_>,
+) -> Result<KeptArrows<'l>, OutOfMemory>
+    requires arrows { AreSuited lib.now arrows }
+    requires goals { (n : Paths) → Contains (goals_of asked.now) n → AllSuitIn lib.now n }
+    ensures { IfOk result (λ kept. (a : definitions.MultiArrow) → Contains kept a
+        ↔ (Contains arrows.entry a × IsLeading lib.now (goals_of asked.now) a.target)) }
 {
-    let mut good = SmallVec::new(alloc);
+    let mut positions = SmallVec::new(alloc);
     for i in 0..arrows.len() {
-        if leads_to_some(lib, &arrows.get(i), goals) {
-            good.push(i)?;
+        if leads_to_asked(lib, arrows.get(i).target(), asked) {
+            positions.push(i)?;
         }
     }
-    Ok(good)
+    Ok(KeptArrows { arrows, positions })
 }
 
-/// What the arrows at these positions take at one place.
-pub(crate) fn asked_at<'a>(
-    alloc: Global,
-    arrows: &Arrows<'a>,
-    good: &[usize],
-    place: usize,
-) -> Result<Vec<&'a Nf>, OutOfMemory>
-    requires { (i : ℕ) → Contains good.now i → i < length arrows.now }
-    ensures each { IfOk result (λ asked. (i : ℕ) → Contains good.now i → (q : TypePath)
-        → InPaths (source_of (arrow_of arrows.now i) place) q → IsWanted (map paths_of_form asked.items) q) }
-    ensures only { IfOk result (λ asked. (n : Paths) → Contains (map paths_of_form asked.items) n
-        → (i : ℕ) × Contains good.now i × (n ≡ source_of (arrow_of arrows.now i) place)) }
-{
-    let mut asked = Vec::with_capacity(alloc, good.len())?;
-    for i in good {
-        match arrows.get(*i).source(place) {
-            Some(source) => asked.push(source)?,
-            None => continue,
-        }
-    }
-    Ok(asked)
-}
-
-/// Whether one of the paths is below this one.
-fn is_above(lib: &Library, had: &[&Path], path: &Path) -> bool
+/// Whether the target of one of the arrows is below the path.
+fn is_above(lib: &Library, had: &KeptArrows<'_>, path: &Path) -> bool
     requires path { SuitIn lib.now path.now }
-    requires had { AllSuitIn lib.now (paths_in had.now) }
-    ensures { IsTrue result ↔ SomeBelow lib.now (paths_in had.now) path.now }
+    requires had { AllSuitIn lib.now (targets_of had.now) }
+    ensures { IsTrue result ↔ SomeBelow lib.now (targets_of had.now) path.now }
 {
-    for below in had {
-        if below.le(lib.taxonomy(), path) {
+    for i in 0..had.len() {
+        if had.get(i).target().le(lib.taxonomy(), path) {
             return true;
         }
     }
     false
 }
 
-/// Whether each path of the goal is above one of these.
-pub(crate) fn are_above(lib: &Library, had: &[&Path], goal: &Nf) -> bool
+/// Whether each path of the goal is above the target of one of the arrows.
+pub(crate) fn are_above(lib: &Library, had: &KeptArrows<'_>, goal: &Nf) -> bool
     requires goal { AllSuitIn lib.now (listed goal.now) }
-    requires had { AllSuitIn lib.now (paths_in had.now) }
-    ensures { IsTrue result ↔ PathsLeIn lib.now (paths_in had.now) (listed goal.now) }
+    requires had { AllSuitIn lib.now (targets_of had.now) }
+    ensures { IsTrue result ↔ PathsLeIn lib.now (targets_of had.now) (listed goal.now) }
 {
     // For the prover: what holds of each library.
     let _count = lib.count();
@@ -116,11 +65,11 @@ pub(crate) fn are_above(lib: &Library, had: &[&Path], goal: &Nf) -> bool
     true
 }
 
-/// Whether what the arrow takes at this place is above the paths.
-fn has_source(lib: &Library, arrow: &MultiArrow<'_>, place: usize, had: &[&Path]) -> bool
+/// Whether what the arrow takes at this place is above the targets of those that are had.
+fn has_source(lib: &Library, arrow: &MultiArrow<'_>, place: usize, had: &KeptArrows<'_>) -> bool
     requires source { AllSuitIn lib.now (source_of arrow.now place) }
-    requires had { AllSuitIn lib.now (paths_in had.now) }
-    ensures { IsTrue result ↔ PathsLeIn lib.now (paths_in had.now) (source_of arrow.now place) }
+    requires had { AllSuitIn lib.now (targets_of had.now) }
+    ensures { IsTrue result ↔ PathsLeIn lib.now (targets_of had.now) (source_of arrow.now place) }
 {
     match arrow.source(place) {
         Some(source) => are_above(lib, had, source),
@@ -128,43 +77,28 @@ fn has_source(lib: &Library, arrow: &MultiArrow<'_>, place: usize, had: &[&Path]
     }
 }
 
-/// Those of the positions whose arrow takes something above the paths at this place.
-pub(crate) fn with_source(
+/// Those of the kept arrows that take something at this place which is above the targets of those that are had.
+pub(crate) fn with_source<'l>(
     alloc: Global,
     lib: &Library,
-    arrows: &Arrows<'_>,
-    good: &[usize],
+    kept: KeptArrows<'l>,
     place: usize,
-    had: &[&Path],
-) -> Result<Positions, OutOfMemory>
-    requires below { (i : ℕ) → Contains good.now i → i < length arrows.now }
-    requires arrows { AreSuited lib.now arrows.now }
-    requires had { AllSuitIn lib.now (paths_in had.now) }
-    ensures { IfOk result (λ kept. (i : ℕ) → Contains kept.items i
-        ↔ (Contains good.now i × PathsLeIn lib.now (paths_in had.now) (source_of (arrow_of arrows.now i) place))) }
+    had: &KeptArrows<'_>,
+) -> Result<KeptArrows<'l>, OutOfMemory>
+    requires arrows { AreSuited lib.now kept }
+    requires had { AllSuitIn lib.now (targets_of had.now) }
+    ensures { IfOk result (λ left. (a : definitions.MultiArrow) → Contains left a
+        ↔ (Contains kept.entry a × PathsLeIn lib.now (targets_of had.now) (source_of a place))) }
 {
-    let mut kept = SmallVec::new(alloc);
-    for i in good {
+    let KeptArrows { arrows, positions } = kept;
+    let mut left = SmallVec::new(alloc);
+    for i in positions.as_slice() {
         if has_source(lib, &arrows.get(*i), place, had) {
-            kept.push(*i)?;
+            left.push(*i)?;
         }
     }
-    Ok(kept)
-}
-
-/// The targets of the arrows at these positions.
-pub(crate) fn targets<'a>(
-    alloc: Global,
-    arrows: &Arrows<'a>,
-    good: &[usize],
-) -> Result<Vec<&'a Path>, OutOfMemory>
-    requires { (i : ℕ) → Contains good.now i → i < length arrows.now }
-    ensures { IfOk result (λ paths. paths_in paths.items
-        ≡ listed (map (λ i. (arrow_of arrows.now i).target) good.now)) }
-{
-    let mut paths = Vec::with_capacity(alloc, good.len())?;
-    for i in good {
-        paths.push(arrows.get(*i).target())?;
-    }
-    Ok(paths)
+    Ok(KeptArrows {
+        arrows,
+        positions: left,
+    })
 }

@@ -1,19 +1,21 @@
 //! Whether a term has a type, by the path lemma: a goal asks paths of a term, the arrows of its head that lead to them
-//! ask sources of its arguments, and what the arguments have of these says which arrows stay. Each part of the term is
-//! gone to once, with all that is asked of it.
-ghost use Rattle.std.specs.Prelude.{◌≡◌, ℕ, ◌<◌, ◌≤◌, ◌↔◌, Contains, IfOk, IsTrue, length, map};
+//! ask sources of its arguments, and what the arguments have of these says which arrows are kept. Each part of the term
+//! is gone to once at most, with all that is asked of it.
+ghost use Rattle.std.specs.Prelude.{ℕ, ◌↔◌, Contains, IfOk, IsTrue, length};
 ghost use Rattle.cls_base.specs.Terms.{IsTermOver};
-ghost use Rattle.cls_path.specs.Paths.{Paths, listed, type_of_paths, SuitsAll};
+ghost use Rattle.cls_path.specs.Paths.{Paths, listed, type_of_paths};
 ghost use Rattle.cls_path.specs.NormalForms.{IsNormal};
 ghost use Rattle.cls_library.specs.Libraries.{below_in, variances_in};
-ghost use Rattle.cls_library.specs.Splits.{paths_of_form};
 ghost use Rattle.cls_library.specs.Typing.{HasTypeIn};
-ghost use Rattle.cls_check.specs.Deciding.{AllSuitIn, KnowsPaths, paths_in};
+ghost use Rattle.cls_check.specs.Asking.{goals_of};
+ghost use Rattle.cls_check.specs.Deciding.{AllSuitIn, KnowsPaths, targets_of};
 
-use crate::reaching::{are_above, asked_at, leading, targets, with_source};
+use crate::asked::Asked;
+use crate::kept::KeptArrows;
+use crate::reaching::{are_above, leading, with_source};
 use cls_base::OutOfMemory;
 use cls_library::Library;
-use cls_path::{Nf, Path};
+use cls_path::Nf;
 use cls_term::Term;
 use std::alloc::Global;
 
@@ -25,33 +27,34 @@ pub fn has_type(alloc: Global, lib: &Library, term: &Term, goal: &Nf) -> Result<
 {
     // For the prover: what holds of each library.
     let _count = lib.count();
-    let had = paths_had(alloc, lib, term, &[goal])?;
+    let had = arrows_had(alloc, lib, term, &Asked::Goal(goal))?;
     Ok(are_above(lib, &had, goal))
 }
 
-/// Paths of the library by which the term has what the goals ask of it. The only error is out of memory.
-fn paths_had<'l>(
+/// Arrows of the term's head by whose targets it has what is asked of it. The only error is out of memory.
+fn arrows_had<'l>(
     alloc: Global,
     lib: &'l Library,
     term: &Term,
-    goals: &[&Nf],
-) -> Result<Vec<&'l Path>, OutOfMemory>
+    asked: &Asked<'_>,
+) -> Result<KeptArrows<'l>, OutOfMemory>
     requires declared { IsTermOver (length lib.now.components) term.now }
-    requires suits { (n : Paths) → Contains (map paths_of_form goals.now) n → AllSuitIn lib.now n }
-    ensures { IfOk result (λ had. KnowsPaths lib.now term.now (map paths_of_form goals.now) (paths_in had.items)) }
+    requires suits { (n : Paths) → Contains (goals_of asked.now) n → AllSuitIn lib.now n }
+    ensures { IfOk result (λ had. KnowsPaths lib.now term.now (goals_of asked.now) (targets_of had)) }
 {
     let count = term.args.len();
     // For the prover: what holds of each library.
     let _components = lib.count();
     if count > lib.arity(term.head) as usize {
-        return Ok(Vec::new(alloc));
+        return Ok(KeptArrows::none(alloc, lib.arrows(term.head, 0)));
     }
-    let arrows = lib.arrows(term.head, count as u32);
-    let mut good = leading(alloc, lib, &arrows, goals)?;
+    let mut kept = leading(alloc, lib, lib.arrows(term.head, count as u32), asked)?;
     for (place, arg) in term.args.as_slice().iter().enumerate() {
-        let asked = asked_at(alloc, &arrows, &good, place)?;
-        let had = paths_had(alloc, lib, arg, &asked)?;
-        good = with_source(alloc, lib, &arrows, &good, place, &had)?;
+        if kept.is_empty() {
+            return Ok(kept);
+        }
+        let had = arrows_had(alloc, lib, arg, &Asked::Sources(&kept, place))?;
+        kept = with_source(alloc, lib, kept, place, &had)?;
     }
-    Ok(targets(alloc, &arrows, &good)?)
+    Ok(kept)
 }

@@ -1,7 +1,7 @@
 use Rattle.std.proofs.Common.{ℕ, ◌<◌, get_or}
 use Rattle.cls_path.specs.Paths.{unit}
-use Rattle.cls_check.specs.Deciding.{SomeBelow, paths_in}
+use Rattle.cls_check.specs.Deciding.{SomeBelow, targets_of}
 use Rattle.cls_check.proofs.reaching.are_above.Given as goal
 
 abbrev pub invariant-loop-path : goal.invariant-loop-path
-invariant-loop-path l = (k : ℕ) → k < l.path-index → SomeBelow l.lib (paths_in l.had) (get_or l.goal k unit)
+invariant-loop-path l = (k : ℕ) → k < l.path-index → SomeBelow l.lib (targets_of l.had) (get_or l.goal k unit)

@@ -1,8 +1,7 @@
-use Rattle.std.proofs.Common.{ℕ, ◌<◌, get_or}
-use Rattle.std.specs.Prelude.{map}
-use Rattle.cls_path.specs.Paths.{unit}
+use Rattle.std.proofs.Common.{ℕ, ◌<◌}
 use Rattle.cls_library.specs.Reaching.{PathLeIn}
+use Rattle.cls_check.specs.Deciding.{arrow_of}
 use Rattle.cls_check.proofs.reaching.is_above.Given as goal
 
-abbrev pub invariant-loop-below : goal.invariant-loop-below
-invariant-loop-below l = (k : ℕ) → k < l.below-index → PathLeIn l.lib (get_or (map (λ p. p.now) l.had) k unit) l.path → ⊥
+abbrev pub invariant-loop-i : goal.invariant-loop-i
+invariant-loop-i l = (k : ℕ) → k < l.i → PathLeIn l.lib (arrow_of l.had k).target l.path → ⊥

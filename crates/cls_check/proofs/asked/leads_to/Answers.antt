@@ -5,7 +5,7 @@ use Rattle.cls_library.specs.Libraries.{below_in, variances_in}
 use Rattle.cls_library.specs.Reaching.{PathLeIn}
 use Rattle.cls_check.proofs.Lists.{in_position}
 use Rattle.cls_check.proofs.DecidingSteps.{item_is, item_in, item_suits, both_ways}
-use Rattle.cls_check.proofs.reaching.leads_to.Goals as goal
+use Rattle.cls_check.proofs.asked.leads_to.Goals as goal
 
 pub le-requires-clause-other_suits : goal.le-requires-clause-other_suits
 le-requires-clause-other_suits c = subst (λ (t : Declared). Suits (variances_in t) c.path-item.result) (sym c.taxonomy.ensures)
