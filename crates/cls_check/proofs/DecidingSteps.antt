@@ -1,6 +1,5 @@
 -- Steps of loops over paths and positions of arrows.
-use Rattle.std.proofs.Common.{ℕ, zero, suc, ◌≡◌, ◌+◌, ◌<◌, ◌≤◌, ◌↔◌, refl, sym, ◌∙◌, subst, ap, ◌⊎◌, inl, inr, List, [], ◌∷◌, ◌++◌, length, get_or, take, arith, Contains, Bool, true, false}
-use Rattle.cls_base.proofs.Lists.{take_next, take_whole}
+use Rattle.std.proofs.Common.{ℕ, zero, suc, ◌≡◌, ◌+◌, ◌<◌, ◌↔◌, refl, sym, ◌∙◌, subst, ap, ◌⊎◌, inl, inr, List, [], ◌∷◌, ◌++◌, length, get_or, arith, Contains, Bool, true, false}
 use Rattle.cls_base.specs.Taxonomies.{Variance}
 use Rattle.cls_path.specs.Paths.{TypePath, InPaths, listed, Suits, SuitsAll}
 use Rattle.cls_check.proofs.Lists.{Contains-last, Contains-put, position_in}
@@ -53,37 +52,3 @@ module _ (P : ℕ → Type 0) where
       less : (k < i) ⊎ (k ≡ i) → P k → k < i
       less (inl l) q = l
       less (inr g) q = absurd (n (subst P g q))
-
-  pub kept_yes : (good : List ℕ) (j : ℕ) (old new : List ℕ) → j < length good → new ≡ old ++ get_or good j 0 ∷ [] → P (get_or good j 0) → ((k : ℕ) → Contains old k ↔ (Contains (take j good) k × P k)) → (k : ℕ) → Contains new k ↔ (Contains (take (j + 1) good) k × P k)
-  kept_yes good j old new l e p f k = (
-    (λ m. to (Contains-last old (get_or good j 0) k (subst (λ (xs : List ℕ). Contains xs k) e m))),
-    (λ h. subst (λ (xs : List ℕ). Contains xs k) (sym e) (Contains-put old (get_or good j 0) k (back (Contains-last (take j good) (get_or good j 0) k (subst (λ (xs : List ℕ). Contains xs k) (take_next good j 0 l) h.0)) h.1))),
-  )
-    where
-      whole : Contains (take j good) k ⊎ (k ≡ get_or good j 0) → Contains (take (j + 1) good) k
-      whole u = subst (λ (xs : List ℕ). Contains xs k) (sym (take_next good j 0 l)) (Contains-put (take j good) (get_or good j 0) k u)
-
-      to : Contains old k ⊎ (k ≡ get_or good j 0) → Contains (take (j + 1) good) k × P k
-      to (inl m) = let r = (f k).0 m in (whole (inl r.0), r.1)
-      to (inr g) = (whole (inr g), subst P (sym g) p)
-
-      back : Contains (take j good) k ⊎ (k ≡ get_or good j 0) → P k → Contains old k ⊎ (k ≡ get_or good j 0)
-      back (inl m) q = inl ((f k).1 (m, q))
-      back (inr g) q = inr g
-
-  pub kept_no : (good : List ℕ) (j : ℕ) (old : List ℕ) → j < length good → (P (get_or good j 0) → ⊥) → ((k : ℕ) → Contains old k ↔ (Contains (take j good) k × P k)) → (k : ℕ) → Contains old k ↔ (Contains (take (j + 1) good) k × P k)
-  kept_no good j old l n f k = (
-    (λ m. let r = (f k).0 m in (subst (λ (xs : List ℕ). Contains xs k) (sym (take_next good j 0 l)) (Contains-put (take j good) (get_or good j 0) k (inl r.0)), r.1)),
-    (λ h. (f k).1 (less (Contains-last (take j good) (get_or good j 0) k (subst (λ (xs : List ℕ). Contains xs k) (take_next good j 0 l) h.0)) h.1, h.1)),
-  )
-    where
-      less : Contains (take j good) k ⊎ (k ≡ get_or good j 0) → P k → Contains (take j good) k
-      less (inl m) q = m
-      less (inr g) q = absurd (n (subst P g q))
-
-  pub kept_whole : (good : List ℕ) (j : ℕ) (kept : List ℕ) → length good ≤ j → ((k : ℕ) → Contains kept k ↔ (Contains (take j good) k × P k)) → (k : ℕ) → Contains kept k ↔ (Contains good k × P k)
-  kept_whole good j kept l f k = subst (λ (xs : List ℕ). Contains kept k ↔ (Contains xs k × P k)) (take_whole good j l) (f k)
-
--- the position that a loop is at
-pub position : (good : List ℕ) (j : ℕ) → j < length good → Contains good (get_or good j 0)
-position good j l = (j, l, any_default good j (get_or good j 0) 0 l)

@@ -1,6 +1,10 @@
 -- Arrows that are kept, and their positions.
-use Rattle.std.proofs.Common.{ℕ, zero, suc, ◌≡◌, ◌<◌, ◌≤◌, ◌↔◌, sym, ◌∙◌, subst, ap, inl, inr, List, [], ◌∷◌, length, get_or, ◌==◌, arith, Contains, Some, Bool, true}
+use Rattle.std.proofs.Common.{ℕ, zero, suc, ◌≡◌, ◌+◌, ◌-◌, ◌⊎◌, refl, ◌<◌, ◌≤◌, ◌↔◌, sym, ◌∙◌, subst, ap, inl, inr, List, [], ◌∷◌, length, get_or, ◌==◌, arith, Contains, Some, Bool, true}
 use Rattle.std.specs.Prelude.{map, slice_get}
+use Rattle.std.specs.List.{swap_remove}
+use Rattle.std.proofs.Math.ListN.{set}
+use Rattle.std.proofs.lemmas.Grind.{get_or-set_at}
+use Rattle.std.proofs.lemmas.List.{get_or-set_other, get_or-take, length-take, length-set}
 use Rattle.cls_base.specs.Lists.{AreBelow}
 use Rattle.cls_base.specs.Taxonomies.{Variance}
 use Rattle.cls_base.proofs.Lists.{AreBelow-at, Contains-here, Contains-later, Contains-nil, Contains-cases, Contains-at, Contains-map, Contains-from_map}
@@ -11,6 +15,12 @@ use Rattle.cls_library.specs.Reaching.{PathLeIn}
 use Rattle.cls_check.specs.Deciding.{no_arrow, arrow_of, source_of, sources_of, targets_of, SomeAbove, SomeBelow, IsLeading}
 use Rattle.cls_check.proofs.Lists.{got, in_listed, listed_in}
 use Rattle.cls_check.proofs.DecidingSteps.{any_default}
+
+same_or_not : (j i : ℕ) → (j ≡ i) ⊎ (j ≡ i → ⊥)
+same_or_not zero zero = inl refl
+same_or_not zero (suc i) = inr (λ e. let f : 0 ≡ suc i = e in omega arith)
+same_or_not (suc j) zero = inr (λ e. let f : suc j ≡ 0 = e in omega arith)
+same_or_not (suc j) (suc i) = elim (same_or_not j i) [ inl e ↦ inl (ap suc e) | inr n ↦ inr (λ e. n (let f : suc j ≡ suc i = e in omega arith)) ]
 
 pub below_each : (n : ℕ) (ks : List ℕ) → ((k : ℕ) → Contains ks k → k < n) → AreBelow n ks
 below_each n [] f = tt
@@ -26,14 +36,15 @@ below_all n ks h k m =
 pub none_kept : (n : ℕ) (b : Bool) → b ≡ (n == 0) → b ≡ true → n ≡ 0
 none_kept n b e t = grind arith
 
+-- what stands at a position is in the list, and what is in the list stands at a position
+module _ {A : Type 0} (d : A) (xs : List A) where
+  pub position_has : (k : ℕ) → k < length xs → Contains xs (get_or xs k d)
+  position_has k l = (k, l, any_default xs k (get_or xs k d) d l)
+
+  pub has_position : (x : A) → Contains xs x → (k : ℕ) × (k < length xs) × (get_or xs k d ≡ x)
+  has_position x m = (m.0, m.1, any_default xs m.0 d x m.1 ∙ m.2)
+
 module _ (arrows : List MultiArrow) where
-  -- the arrow at a position stands in the list, and each arrow there has a position
-  pub position_has : (k : ℕ) → k < length arrows → Contains arrows (arrow_of arrows k)
-  position_has k l = (k, l, any_default arrows k (arrow_of arrows k) no_arrow l)
-
-  pub has_position : (a : MultiArrow) → Contains arrows a → (k : ℕ) × (k < length arrows) × (arrow_of arrows k ≡ a)
-  has_position a m = (m.0, m.1, any_default arrows m.0 no_arrow a m.1 ∙ m.2)
-
   -- the arrow that a loop is at
   pub arrow_got : (i : ℕ) (a : MultiArrow) → slice_get arrows i ≡ Some a → arrow_of arrows i ≡ a
   arrow_got i a e = got arrows i a no_arrow (sym e)
@@ -41,7 +52,7 @@ module _ (arrows : List MultiArrow) where
   -- what holds of the arrow at each position holds of each arrow
   pub each_arrow : (P : MultiArrow → Type 0) (n : ℕ) → length arrows ≤ n → ((k : ℕ) → k < n → P (arrow_of arrows k)) → (a : MultiArrow) → Contains arrows a → P a
   each_arrow P n l f a m =
-      let r = has_position a m in
+      let r = has_position no_arrow arrows a m in
       let i : r.0 < length arrows = r.1 in
       subst P r.2 (f r.0 (omega arith))
 
@@ -58,23 +69,85 @@ module _ (arrows : List MultiArrow) where
       (λ m.
           let r = Contains-from_map (arrow_of arrows) ps a m in
           let u = (f r.0).0 r.1 in
-          subst (λ (b : MultiArrow). Contains arrows b × P b) (sym r.2) (position_has r.0 u.0, u.1)),
+          subst (λ (b : MultiArrow). Contains arrows b × P b) (sym r.2) (position_has no_arrow arrows r.0 u.0, u.1)),
       (λ h.
-          let r = has_position a h.0 in
+          let r = has_position no_arrow arrows a h.0 in
           subst (λ (b : MultiArrow). Contains (map (arrow_of arrows) ps) b) r.2 (Contains-map (arrow_of arrows) ps r.0 ((f r.0).1 (r.1, subst P (sym r.2) h.1)))),
     )
 
-    -- the same of those that were kept before
-    pub kept_of_kept : (ps qs : List ℕ) → ((k : ℕ) → Contains qs k ↔ (Contains ps k × P (arrow_of arrows k))) → (a : MultiArrow) → Contains (map (arrow_of arrows) qs) a ↔ (Contains (map (arrow_of arrows) ps) a × P a)
-    kept_of_kept ps qs f a = (
-      (λ m.
-          let r = Contains-from_map (arrow_of arrows) qs a m in
-          let u = (f r.0).0 r.1 in
-          subst (λ (b : MultiArrow). Contains (map (arrow_of arrows) ps) b × P b) (sym r.2) (Contains-map (arrow_of arrows) ps r.0 u.0, u.1)),
-      (λ h.
-          let r = Contains-from_map (arrow_of arrows) ps a h.0 in
-          subst (λ (b : MultiArrow). Contains (map (arrow_of arrows) qs) b) (sym r.2) (Contains-map (arrow_of arrows) qs r.0 ((f r.0).1 (r.1, subst P r.2 h.1)))),
-    )
+-- one element is dropped, and the last takes its place
+module _ {A : Type 0} (d : A) (xs new : List A) (i : ℕ) (l : i < length xs) (e : new ≡ swap_remove xs i d) where
+  pub dropped_length : length new + 1 ≡ length xs
+  dropped_length =
+      let h = ap (λ (zs : List A). length zs) e in
+      omega (arith, h, length-take (length xs - 1) (set xs i (get_or xs (length xs - 1) d)), length-set xs i (get_or xs (length xs - 1) d))
+
+  taken : (k : ℕ) → k < length new → get_or new k d ≡ get_or (set xs i (get_or xs (length xs - 1) d)) k d
+  taken k m = ap (λ (zs : List A). get_or zs k d) e ∙ get_or-take (length xs - 1) (set xs i (get_or xs (length xs - 1) d)) k d (omega (arith, dropped_length))
+
+  moved : (k : ℕ) → k < length new → k ≡ i → get_or new k d ≡ get_or xs (length new) d
+  moved k m f =
+      let n : length xs - 1 ≡ length new = omega (arith, dropped_length) in
+      taken k m ∙ (get_or-set_at xs i k (get_or xs (length xs - 1) d) d f l ∙ ap (λ (j : ℕ). get_or xs j d) n)
+
+  stays : (k : ℕ) → k < length new → (k ≡ i → ⊥) → get_or new k d ≡ get_or xs k d
+  stays k m f = taken k m ∙ get_or-set_other xs i k (get_or xs (length xs - 1) d) d f
+
+  pub dropped_among : (x : A) → Contains new x → Contains xs x
+  dropped_among x m =
+      let r = has_position d new x m in
+      subst (λ (y : A). Contains xs y) r.2 (at r.0 r.1 (same_or_not r.0 i))
+    where
+      at : (k : ℕ) → k < length new → (k ≡ i) ⊎ (k ≡ i → ⊥) → Contains xs (get_or new k d)
+      at k m (inl f) = subst (λ (y : A). Contains xs y) (sym (moved k m f)) (position_has d xs (length new) (omega (arith, dropped_length)))
+      at k m (inr f) = subst (λ (y : A). Contains xs y) (sym (stays k m f)) (position_has d xs k (omega (arith, dropped_length)))
+
+  module _ (P : A → Type 0) where
+    -- where nothing holds of what is dropped, all of which something holds stay
+    pub dropped_keeps : (P (get_or xs i d) → ⊥) → (x : A) → Contains xs x → P x → Contains new x
+    dropped_keeps not x m p =
+        let r = has_position d xs x m in
+        subst (λ (y : A). Contains new y) r.2 (at r.0 r.1 (subst P (sym r.2) p) (same_or_not r.0 i) (same_or_not r.0 (length new)))
+      where
+        less : (k : ℕ) → k < length xs → (k ≡ i → ⊥) → k ≡ length new → i < length new
+        less k m f g = grind (arith, dropped_length)
+
+        within : (k : ℕ) → k < length xs → (k ≡ length new → ⊥) → k < length new
+        within k m g = grind (arith, dropped_length)
+
+        at : (k : ℕ) → k < length xs → P (get_or xs k d) → (k ≡ i) ⊎ (k ≡ i → ⊥) → (k ≡ length new) ⊎ (k ≡ length new → ⊥) → Contains new (get_or xs k d)
+        at k m h (inl f) g = absurd (not (subst (λ (j : ℕ). P (get_or xs j d)) f h))
+        at k m h (inr f) (inl g) =
+            let j : i < length new = less k m f g in
+            subst (λ (y : A). Contains new y) (moved i j refl ∙ ap (λ (n : ℕ). get_or xs n d) (sym g)) (position_has d new i j)
+        at k m h (inr f) (inr g) =
+            let j : k < length new = within k m g in
+            subst (λ (y : A). Contains new y) (stays k j f) (position_has d new k j)
+
+    -- from there on it holds if it held behind
+    pub dropped_done : ((k : ℕ) → i < k → k < length xs → P (get_or xs k d)) → (k : ℕ) → i ≤ k → k < length new → P (get_or new k d)
+    dropped_done f k b m = at (same_or_not k i)
+      where
+        above : (k : ℕ) → i ≤ k → (k ≡ i → ⊥) → i < k
+        above k b g = grind arith
+
+        at : (k ≡ i) ⊎ (k ≡ i → ⊥) → P (get_or new k d)
+        at (inl g) = subst P (sym (moved k m g)) (f (length new) (omega arith) (omega (arith, dropped_length)))
+        at (inr g) = subst P (sym (stays k m g)) (f k (above k b g) (omega (arith, dropped_length)))
+
+-- one position more at the front
+pub done_more : (Q : ℕ → Type 0) (i n : ℕ) → Q i → ((k : ℕ) → i < k → k < n → Q k) → (k : ℕ) → i ≤ k → k < n → Q k
+done_more Q i n q f k b m = at (same_or_not k i)
+  where
+    above : (k : ℕ) → i ≤ k → (k ≡ i → ⊥) → i < k
+    above k b g = grind arith
+
+    at : (k ≡ i) ⊎ (k ≡ i → ⊥) → Q k
+    at (inl g) = subst Q (sym g) q
+    at (inr g) = f k (above k b g) m
+
+pub dropped_below : (n : ℕ) (ps qs : List ℕ) (i p : ℕ) → i < length ps → qs ≡ swap_remove ps i p → AreBelow n ps → AreBelow n qs
+dropped_below n ps qs i p l e h = below_each n qs (λ k m. below_all n ps h k (dropped_among p ps qs i l e k m))
 
 -- the target of one of the arrows
 pub target_suits : (v : ℕ → Variance) (arrows : List MultiArrow) (a : MultiArrow) → Contains arrows a → SuitsAll v (targets_of arrows) → Suits v a.target

@@ -1,5 +1,7 @@
 //! Arrows of a component of which some are kept.
 ghost use Rattle.std.specs.Prelude.{◌≡◌, ◌<◌, ◌==◌, [], Some, length, slice_get};
+ghost use Rattle.std.specs.List.{swap_remove};
+ghost use Rattle.cls_check.specs.Deciding.{no_arrow};
 
 use cls_library::{Arrows, MultiArrow};
 use smallvec::SmallVec;
@@ -65,5 +67,13 @@ impl<'l> KeptArrows<'l> {
         ensures { slice_get self.now i ≡ Some result }
     {
         self.arrows.get(self.positions[i])
+    }
+
+    /// Drops the arrow with this number, and moves the last one into its place.
+    pub(crate) fn swap_remove(&mut self, i: usize)
+        requires { i < length self.old }
+        ensures { self.new ≡ swap_remove self.old i no_arrow }
+    {
+        self.positions.swap_remove(i);
     }
 }

@@ -77,28 +77,23 @@ fn has_source(lib: &Library, arrow: &MultiArrow<'_>, place: usize, had: &KeptArr
     }
 }
 
-/// Those of the kept arrows that take something at this place which is above the targets of those that are had.
-pub(crate) fn with_source<'l>(
-    alloc: Global,
+/// Keeps those of the arrows that take something at this place which is above the targets of those that are had.
+pub(crate) fn keep_with_source(
     lib: &Library,
-    kept: KeptArrows<'l>,
+    kept: &mut KeptArrows<'_>,
     place: usize,
     had: &KeptArrows<'_>,
-) -> Result<KeptArrows<'l>, OutOfMemory>
-    requires arrows { AreSuited lib.now kept }
+)
+    requires arrows { AreSuited lib.now kept.old }
     requires had { AllSuitIn lib.now (targets_of had.now) }
-    ensures { IfOk result (λ left. (a : definitions.MultiArrow) → Contains left a
-        ↔ (Contains kept.entry a × PathsLeIn lib.now (targets_of had.now) (source_of a place))) }
+    ensures { (a : definitions.MultiArrow) → Contains kept.new a
+        ↔ (Contains kept.old a × PathsLeIn lib.now (targets_of had.now) (source_of a place)) }
 {
-    let KeptArrows { arrows, positions } = kept;
-    let mut left = SmallVec::new(alloc);
-    for i in positions.as_slice() {
-        if has_source(lib, &arrows.get(*i), place, had) {
-            left.push(*i)?;
+    let mut i = kept.len();
+    while i > 0 {
+        i -= 1;
+        if !has_source(lib, &kept.get(i), place, had) {
+            kept.swap_remove(i);
         }
     }
-    Ok(KeptArrows {
-        arrows,
-        positions: left,
-    })
 }

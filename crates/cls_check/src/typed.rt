@@ -12,7 +12,7 @@ ghost use Rattle.cls_check.specs.Deciding.{AllSuitIn, KnowsPaths, targets_of};
 
 use crate::asked::Asked;
 use crate::kept::KeptArrows;
-use crate::reaching::{are_above, leading, with_source};
+use crate::reaching::{are_above, keep_with_source, leading};
 use cls_base::OutOfMemory;
 use cls_library::Library;
 use cls_path::Nf;
@@ -54,7 +54,7 @@ fn arrows_had<'l>(
             return Ok(kept);
         }
         let had = arrows_had(alloc, lib, arg, &Asked::Sources(&kept, place))?;
-        kept = with_source(alloc, lib, kept, place, &had)?;
+        keep_with_source(lib, &mut kept, place, &had);
     }
     Ok(kept)
 }

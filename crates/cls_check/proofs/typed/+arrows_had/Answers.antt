@@ -68,8 +68,8 @@ arrows_had-requires t c =
       ),
     )
 
-pub with_source-requires-clause-arrows : goal.with_source-requires-clause-arrows
-with_source-requires-clause-arrows t c = kept_suit c.args.lib.now c.count-components.ensures.library (arrows_at c.args.lib.now (head_of c.args.term.now) (length c.as_slice-arg-items.result.now)) (goals_of c.args.asked.now) c.as_slice-arg-items.result.now c.loop-place.place c.loop-place.kept (are_suited c.args.lib.now c.count-components.ensures.library (head_of c.args.term.now) (length c.as_slice-arg-items.result.now)) c.loop-place.invariant
+pub keep_with_source-requires-clause-arrows : goal.keep_with_source-requires-clause-arrows
+keep_with_source-requires-clause-arrows t c = kept_suit c.args.lib.now c.count-components.ensures.library (arrows_at c.args.lib.now (head_of c.args.term.now) (length c.as_slice-arg-items.result.now)) (goals_of c.args.asked.now) c.as_slice-arg-items.result.now c.loop-place.place c.loop-place.kept (are_suited c.args.lib.now c.count-components.ensures.library (head_of c.args.term.now) (length c.as_slice-arg-items.result.now)) c.loop-place.invariant
 
 pub loop-place-preserved : goal.loop-place-preserved
 loop-place-preserved t c =
@@ -77,11 +77,11 @@ loop-place-preserved t c =
     let same : c.arg-item.result ≡ argument_of c.as_slice-arg-items.result.now c.loop-place.place = c.arg-item.is ∙ any_default c.as_slice-arg-items.result.now c.loop-place.place c.arg-item.result (component 0) c.loop-place-test.true in
     let over = argument_over c.args.lib.now c.count-components.ensures.library (length c.args.lib.now.components) c.term.inside.head c.as_slice-arg-items.result.now c.args.term.now view c.requires.declared c.loop-place.place c.arg-item.result c.arg-item.is c.loop-place-test.true in
     let suited : AreSuited c.args.lib.now c.loop-place.kept = kept_suit c.args.lib.now c.count-components.ensures.library (arrows_at c.args.lib.now (head_of c.args.term.now) (length c.as_slice-arg-items.result.now)) (goals_of c.args.asked.now) c.as_slice-arg-items.result.now c.loop-place.place c.loop-place.kept (are_suited c.args.lib.now c.count-components.ensures.library (head_of c.args.term.now) (length c.as_slice-arg-items.result.now)) c.loop-place.invariant in
-    kept_more c.args.lib.now c.count-components.ensures.library (arrows_at c.args.lib.now (head_of c.args.term.now) (length c.as_slice-arg-items.result.now)) (goals_of c.args.asked.now) c.as_slice-arg-items.result.now c.loop-place.place c.loop-place.kept c.in_ok-kept-2.kept (targets_of c.in_ok-had.had)
+    kept_more c.args.lib.now c.count-components.ensures.library (arrows_at c.args.lib.now (head_of c.args.term.now) (length c.as_slice-arg-items.result.now)) (goals_of c.args.asked.now) c.as_slice-arg-items.result.now c.loop-place.place c.loop-place.kept c.keep_with_source.new.kept (targets_of c.in_ok-had.had)
     (subst (λ (e : Applicative). IsTermOver (length c.args.lib.now.components) e) same over)
     suited c.loop-place.invariant
     (subst (λ (e : Applicative). KnowsPaths c.args.lib.now e (sources_of c.loop-place.kept c.loop-place.place) (targets_of c.in_ok-had.had)) same c.in_ok-had.ensures)
-    c.in_ok-kept-2.ensures
+    c.keep_with_source.ensures
 
 pub returns : goal.returns
 returns t c =
