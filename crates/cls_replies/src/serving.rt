@@ -93,18 +93,19 @@ impl Serving {
         &mut self,
         rt: &R,
         alloc: Global,
-        line: &Line,
+        line: Line,
         gate: &G,
     ) -> Result<String, OutOfMemory>
         requires { length self.old.held + 1 < 2 ^ 32 }
-        ensures goes { IfOk result (λ text. Goes self.old line.now (string_bytes text) self.new) }
+        ensures goes { IfOk result (λ text. Goes self.old line (string_bytes text) self.new) }
         ensures counted { OnOk result (length self.new.held ≤ length self.old.held + 1) }
     {
         let Some(mut held) = self.held.take() else {
             return self.feed_free(rt, alloc, line, gate);
         };
-        held.inside.push(Line::new(alloc, line.as_bytes())?)?;
-        if is_qed(alloc, line)? {
+        let ends = is_qed(alloc, &line)?;
+        held.inside.push(line)?;
+        if ends {
             return self.verify(alloc, &held.line, &held.inside);
         }
         self.held = Some(held);
@@ -127,23 +128,23 @@ impl Serving {
         &mut self,
         rt: &R,
         alloc: Global,
-        line: &Line,
+        line: Line,
         gate: &G,
     ) -> Result<String, OutOfMemory>
         requires { self.old.held ≡ [] }
-        ensures goes { IfOk result (λ text. Goes self.old line.now (string_bytes text) self.new) }
+        ensures goes { IfOk result (λ text. Goes self.old line (string_bytes text) self.new) }
         ensures counted { OnOk result (length self.new.held ≤ 1) }
     {
-        match kind_of(alloc, line)? {
+        match kind_of(alloc, &line)? {
             LineKind::Skipped => Ok(String::new(alloc)),
             LineKind::Opening => {
                 self.held = Some(Held {
-                    line: Line::new(alloc, line.as_bytes())?,
+                    line,
                     inside: Vec::new(alloc),
                 });
                 Ok(String::new(alloc))
             }
-            LineKind::Single => self.ask(rt, alloc, line, gate),
+            LineKind::Single => self.ask(rt, alloc, &line, gate),
         }
     }
 

@@ -49,16 +49,16 @@ pub fn answer_line<R: Threads + Wait + Sync, K: Sink, G: Gate + Sync>(
     rt: &R,
     alloc: Global,
     session: &mut Session,
-    line: &Line,
+    line: Line,
     sink: &mut K,
     gate: &G,
 ) -> Result<(), Stop>
     requires few_lines { lines_of_session session.old + 1 < 2 ^ 32 }
-    requires room { FitsLine (K.seen sink.old) session.old line.now }
+    requires room { FitsLine (K.seen sink.old) session.old line }
     ensures answers { MatchStop result
-        (λ _. AnswersLine (K.seen sink.old) (K.seen sink.new) session.old session.new line.now)
-        (RefusesLine (K.seen sink.old) (K.seen sink.new) session.old line.now)
-        (BreaksLine (K.seen sink.old) (K.seen sink.new) session.old line.now) }
+        (λ _. AnswersLine (K.seen sink.old) (K.seen sink.new) session.old session.new line)
+        (RefusesLine (K.seen sink.old) (K.seen sink.new) session.old line)
+        (BreaksLine (K.seen sink.old) (K.seen sink.new) session.old line) }
     ensures counted { OnOk result (lines_of_session session.new ≤ lines_of_session session.old + 1) }
     ensures faults { CountsFaults result (K.seen sink.old) (K.seen sink.new) }
 {
@@ -139,9 +139,7 @@ fn collect_replies<R: Threads + Wait + Sync, K: Sink, G: Gate + Sync>(
         let Some(line) = line else {
             return Ok(());
         };
-        let answer = session.feed(rt, alloc, &line, gate)?;
-        // For the prover alone: so the end of the loop has one proof, and not one for each way to drop a line.
-        drop(line);
+        let answer = session.feed(rt, alloc, line, gate)?;
         match answer {
             Answer::Reply(text) => pending.put(text.as_str(), sink)?,
             Answer::Refusal(text) => {
@@ -174,7 +172,7 @@ pub fn answer_last<R: Threads + Wait + Sync, K: Sink, G: Gate + Sync>(
     match reader.finish() {
         None => Ok(()),
         Some(line) => {
-            answer_line(rt, alloc, session, &line, sink, gate)?;
+            answer_line(rt, alloc, session, line, sink, gate)?;
             Ok(())
         }
     }

@@ -94,17 +94,17 @@ impl Session {
         &mut self,
         rt: &R,
         alloc: Global,
-        line: &Line,
+        line: Line,
         gate: &G,
     ) -> Result<Answer, OutOfMemory>
         requires few_lines { lines_of_session self.old + 1 < 2 ^ 32 }
-        ensures answered { IfOk result (λ answer. IsAnswerTo self.old line.now answer self.new) }
+        ensures answered { IfOk result (λ answer. IsAnswerTo self.old line answer self.new) }
         ensures counted { OnOk result (lines_of_session self.new ≤ lines_of_session self.old + 1) }
     {
         if let Some(serving) = &mut self.serving {
             return Ok(Answer::Reply(serving.feed(rt, alloc, line, gate)?));
         }
-        match self.declare(alloc, line) {
+        match self.declare(alloc, &line) {
             Ok(()) => Ok(Answer::Reply(String::new(alloc))),
             Err(fault) => Ok(Answer::Refusal(refusal(alloc, &fault)?)),
         }

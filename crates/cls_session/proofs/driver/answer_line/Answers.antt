@@ -30,7 +30,7 @@ returns-in_ok-write_all-in-Refusal-clause-answers g c = record {
 pub returns-in_err-text-clause-answers : goal.returns-in_err-text-clause-answers
 returns-in_err-text-clause-answers g c =
     let p = err_from_is_err_and c.from_residual.result c.from_residual.ensures.1 in
-    rw (p.1, p.2) (breaks_unread (g.K.Sink.seen c.args.sink.now) c.args.session.now c.args.line.now)
+    rw (p.1, p.2) (breaks_unread (g.K.Sink.seen c.args.sink.now) c.args.session.now c.args.line)
 
 pub returns-in_err-write_all-in-Reply-clause-answers : goal.returns-in_err-write_all-in-Reply-clause-answers
 returns-in_err-write_all-in-Reply-clause-answers g c =

@@ -10,6 +10,6 @@ use Rattle.cls_replies.proofs.serving.Serving.feed_free.Goals as goal
 
 pub returns-in-Single-clause-goes : goal.returns-in-Single-clause-goes
 returns-in-Single-clause-goes g c =
-    let single : IsSingle c.args.line.now = subst (IsOfKind c.args.line.now) c.in-Single.is c.in_ok-kind_of.ensures in
-    IfOk-weaker c.ask.result (λ text. Answered c.args.self.now c.args.line.now (string_bytes text) c.ask.new.self) (λ text. Goes c.args.self.now c.args.line.now (string_bytes text) c.ask.new.self)
+    let single : IsSingle c.args.line = subst (IsOfKind c.args.line) c.in-Single.is c.in_ok-kind_of.ensures in
+    IfOk-weaker c.ask.result (λ text. Answered c.args.self.now c.args.line (string_bytes text) c.ask.new.self) (λ text. Goes c.args.self.now c.args.line (string_bytes text) c.ask.new.self)
     (λ text a. lines.Goes.asks c.requires single a) c.ask.ensures.answered

@@ -11,17 +11,17 @@ pub returns-in-Some-clause-answered : goal.returns-in-Some-clause-answered
 returns-in-Some-clause-answered g c = λ o lines written stands.
     let i = c.self.inside in
     let new : Standing = record { options = i.options; reader = i.reader; serving = Some c.feed.new.self } in
-    Stands-goes o lines written c.args.self.now c.args.line.now _ c.in-Some.serving c.feed.new.self new
+    Stands-goes o lines written c.args.self.now c.args.line _ c.in-Some.serving c.feed.new.self new
     (sym (ap (λ (s : Standing). s.serving) c.self.view_is) ∙ c.in-Some.is) c.in_ok-feed.ensures.goes (ap (λ (s : Standing). s.options) c.self.view_is) refl stands
 
 pub returns-in-Ok-clause-answered : goal.returns-in-Ok-clause-answered
 returns-in-Ok-clause-answered g c =
     let none : c.args.self.now.serving ≡ None = sym (ap (λ (s : Standing). s.serving) c.self.view_is) ∙ none_of c.self.inside.serving c.in_default.not-Some in
-    answers_declared c.args.self.now c.declare.new.self c.args.line.now _ none
-    (subst (λ (s : Standing). Declares s c.args.line.now c.declare.new.self) c.self.view_is c.in-Ok.ensures.declared) c.new.ensures.bytes
+    answers_declared c.args.self.now c.declare.new.self c.args.line _ none
+    (subst (λ (s : Standing). Declares s c.args.line c.declare.new.self) c.self.view_is c.in-Ok.ensures.declared) c.new.ensures.bytes
 
-pub returns-in_ok-refusal-in-Err-clause-answered : goal.returns-in_ok-refusal-in-Err-clause-answered
-returns-in_ok-refusal-in-Err-clause-answered g c =
+pub returns-clause-answered : goal.returns-clause-answered
+returns-clause-answered g c =
     let none : c.args.self.now.serving ≡ None = sym (ap (λ (s : Standing). s.serving) c.self.view_is) ∙ none_of c.self.inside.serving c.in_default.not-Some in
-    answers_fault c.args.self.now c.args.line.now _ c.in-Err.fault none
-    (subst (λ (s : Standing). IsSaid (IsFaultAt s c.args.line.now) c.in-Err.fault) c.self.view_is c.in-Err.ensures.fault) c.in_ok-refusal-in-Err.ensures
+    answers_fault c.args.self.now c.args.line _ c.in-Err.fault none
+    (subst (λ (s : Standing). IsSaid (IsFaultAt s c.args.line) c.in-Err.fault) c.self.view_is c.in-Err.ensures.fault) c.in_ok-refusal-in-Err.ensures
