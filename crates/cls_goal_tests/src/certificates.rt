@@ -45,7 +45,7 @@ fn lines(alloc: Global, text: &str) -> Result<Vec<Line>, Fail>
 {
     let mut lines = Vec::new(alloc);
     for line in text.lines() {
-        lines.push(Line::new(alloc, line.as_bytes())?)?;
+        lines.push(Line::new(line.as_bytes()))?;
     }
     if lines.len() > 1_000 {
         return Err("too long".into());

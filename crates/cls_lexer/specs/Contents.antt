@@ -1,15 +1,16 @@
 -- What a line keeps of its bytes.
-use Rattle.std.specs.Prelude.{ℕ, List, string_bytes}
+use Rattle.std.specs.Prelude.{ℕ, List}
+use Rattle.std.specs.Cow.{cow_str_bytes, cow_slice_items}
 use Rattle.cls_lexer.specs.declared.line.Content.{Content}
 use Rattle.cls_lexer.specs.declared.line.Content.TheVariants as content
 use Rattle.cls_lexer.specs.Skipped.{IsText}
 
 -- The bytes that are kept.
 abbrev pub bytes_of : Content → List ℕ
-bytes_of (content.Text text) = string_bytes text
-bytes_of (content.Unread bytes) = bytes.items
+bytes_of (content.Text text) = cow_str_bytes text
+bytes_of (content.Unread bytes) = cow_slice_items bytes
 
 -- They are kept as a text if and only if they can be read as one.
 abbrev pub TellsText : Content → Type 0
-TellsText (content.Text text) = IsText (string_bytes text)
-TellsText (content.Unread bytes) = IsText bytes.items → ⊥
+TellsText (content.Text text) = IsText (cow_str_bytes text)
+TellsText (content.Unread bytes) = IsText (cow_slice_items bytes) → ⊥

@@ -8,6 +8,7 @@ use crate::characters::is_blank;
 use cls_base::OutOfMemory;
 use cls_base::limits::MAX_LINE_BYTES;
 use std::alloc::Global;
+use std::borrow::{CowSlice, CowStr};
 use std::marker::Model;
 use thiserror::Error;
 
@@ -22,23 +23,23 @@ pub enum TextFault {
     NotUtf8,
 }
 
-/// One line of a text, whatever its bytes. It is seen as these bytes, without the line's ending.
+/// One line of a text, whatever its bytes, which it borrows or owns. It is seen as these bytes, without the line's ending.
 ///
 /// A line ends with a line feed, or with the text if at least one byte stands after the last line feed. One
 /// carriage return directly before the line feed, or before the end of the text, belongs to the ending.
 #[derive(Drop)]
-pub struct Line {
-    content: Content,
+pub struct Line<'a> {
+    content: Content<'a>,
 }
 
 /// The bytes of a line: a text if they can be read as one.
 #[derive(Drop)]
-enum Content {
-    Text(String),
-    Unread(Vec<u8>),
+enum Content<'a> {
+    Text(CowStr<'a, Global>),
+    Unread(CowSlice<'a, u8, Global>),
 }
 
-impl Model for Line {
+impl<'a> Model for Line<'a> {
     ghost use Rattle.std.specs.Prelude.{ℕ, List};
     ghost use Rattle.cls_lexer.specs.Contents.{bytes_of, TellsText};
 
@@ -49,16 +50,39 @@ impl Model for Line {
     ghost invariant = { λ l. TellsText l.content };
 }
 
-impl Line {
+impl<'a> Line<'a> {
     /// The line of these bytes.
-    pub fn new(alloc: Global, bytes: &[u8]) -> Result<Line, OutOfMemory>
-        ensures { IfOk result (λ line. line ≡ bytes.now) }
+    pub fn new(bytes: &'a [u8]) -> Line<'a>
+        ensures { result ≡ bytes.now }
     {
-        Ok(Line::of_bytes(Vec::from_slice(alloc, bytes)?))
+        if bytes.len() > MAX_LINE_BYTES {
+            return Line {
+                content: Content::Unread(CowSlice::Borrowed(bytes)),
+            };
+        }
+        match str::from_utf8(bytes) {
+            Ok(text) => Line {
+                content: Content::Text(CowStr::Borrowed(text)),
+            },
+            Err(_) => Line {
+                content: Content::Unread(CowSlice::Borrowed(bytes)),
+            },
+        }
     }
 
     /// The line that these bytes are, of which one carriage return at the end belongs to the ending.
-    pub(crate) fn ended(mut bytes: Vec<u8>) -> Line
+    pub(crate) fn ended(bytes: &'a [u8]) -> Line<'a>
+        ensures { result ≡ without_return bytes.now }
+    {
+        let count = bytes.len();
+        if count > 0 && bytes[count - 1] == b'\r' {
+            return Line::new(&bytes[..count - 1]);
+        }
+        Line::new(bytes)
+    }
+
+    /// The line that these bytes are, of which one carriage return at the end belongs to the ending.
+    pub(crate) fn ended_owned(mut bytes: Vec<u8>) -> Line<'static>
         ensures { result ≡ without_return bytes.items }
     {
         let count = bytes.len();
@@ -68,23 +92,34 @@ impl Line {
         Line::of_bytes(bytes)
     }
 
-    /// The line of these bytes.
-    fn of_bytes(bytes: Vec<u8>) -> Line
+    /// The line of these bytes, which it owns.
+    fn of_bytes(bytes: Vec<u8>) -> Line<'static>
         ensures { result ≡ bytes.items }
     {
         if bytes.len() > MAX_LINE_BYTES {
             return Line {
-                content: Content::Unread(bytes),
+                content: Content::Unread(CowSlice::Owned(bytes)),
             };
         }
         match String::from_utf8(bytes) {
             Ok(text) => Line {
-                content: Content::Text(text),
+                content: Content::Text(CowStr::Owned(text)),
             },
             Err(error) => Line {
-                content: Content::Unread(error.into_bytes()),
+                content: Content::Unread(CowSlice::Owned(error.into_bytes())),
             },
         }
+    }
+
+    /// The same line, which owns its bytes.
+    pub fn into_owned(self, alloc: Global) -> Result<Line<'static>, OutOfMemory>
+        ensures { IfOk result (λ line. line ≡ self.entry) }
+    {
+        let content = match self.content {
+            Content::Text(text) => Content::Text(CowStr::Owned(text.into_owned(alloc)?)),
+            Content::Unread(bytes) => Content::Unread(CowSlice::Owned(bytes.into_owned(alloc)?)),
+        };
+        Ok(Line { content })
     }
 
     /// The bytes of the line.

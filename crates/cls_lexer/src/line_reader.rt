@@ -6,6 +6,7 @@ use cls_base::OutOfMemory;
 use memchr::memchr;
 use std::alloc::Global;
 use std::marker::Model;
+use std::mem;
 
 /// Cuts a text that comes in pieces into its lines. It is seen as the bytes that came since the last line feed.
 #[derive(Drop)]
@@ -34,12 +35,13 @@ impl LineReader {
     /// Takes the bytes of the piece up to and with its first line feed, and gives the line that this ends beside the
     /// rest of the piece.
     ///
-    /// If the piece has no line feed, all of it is taken and no line is given. After an error the reader is as before.
+    /// A line that stands in the piece is borrowed from it. If the piece has no line feed, all of it is taken and no line is
+    /// given. After an error the reader is as before.
     pub fn take<'a>(
         &mut self,
         alloc: Global,
         piece: &'a [u8],
-    ) -> Result<(Option<Line>, &'a [u8]), OutOfMemory>
+    ) -> Result<(Option<Line<'a>>, &'a [u8]), OutOfMemory>
         ensures line { IfOk result (λ r. IfSome r.0 (λ line. CutsLine (self.old ++ piece.now) line r.1.now)) }
         ensures fresh { IfOk result (λ r. OnSome r.0 (self.new ≡ [])) }
 
@@ -51,21 +53,21 @@ impl LineReader {
         ensures no_feed { HasNoFeed self.new }
         ensures err { OnErr result (self.new ≡ self.old) }
     {
-        match first_feed(piece) {
-            None => {
-                self.bytes.extend_from_slice(piece)?;
-                Ok((None, &piece[piece.len()..]))
-            }
-            Some(place) => {
-                self.bytes.extend_from_slice(&piece[..place])?;
-                let bytes = std::mem::replace(&mut self.bytes, Vec::new(alloc));
-                Ok((Some(Line::ended(bytes)), &piece[place + 1..]))
-            }
+        let Some(place) = first_feed(piece) else {
+            self.bytes.extend_from_slice(piece)?;
+            return Ok((None, &piece[piece.len()..]));
+        };
+        let (front, rest) = (&piece[..place], &piece[place + 1..]);
+        if self.bytes.is_empty() {
+            return Ok((Some(Line::ended(front)), rest));
         }
+        self.bytes.extend_from_slice(front)?;
+        let bytes = mem::replace(&mut self.bytes, Vec::new(alloc));
+        Ok((Some(Line::ended_owned(bytes)), rest))
     }
 
     /// Ends the text, and gives the last line if a byte stands after the last line feed. It takes no memory.
-    pub fn finish(self) -> Option<Line>
+    pub fn finish(self) -> Option<Line<'static>>
         ensures none { IsNone result ↔ (self ≡ []) }
         ensures line { IfSome result (λ line. line ≡ without_return self) }
         ensures lines { option_to_list result ≡ lines_of self }
@@ -74,7 +76,7 @@ impl LineReader {
         if bytes.is_empty() {
             None
         } else {
-            Some(Line::ended(bytes))
+            Some(Line::ended_owned(bytes))
         }
     }
 }

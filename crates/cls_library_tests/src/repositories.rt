@@ -75,7 +75,7 @@ const FIRST_FAULTS: [(&str, &str); 44] = [
 fn lines_of(alloc: Global, text: &str) -> Result<Vec<Line>, Fail> {
     let mut lines = Vec::new(alloc);
     for line in text.lines() {
-        lines.push(Line::new(alloc, line.as_bytes())?)?;
+        lines.push(Line::new(line.as_bytes()))?;
     }
     Ok(lines)
 }

@@ -58,7 +58,11 @@ impl Nf {
         ensures { state.new ≡ fold H.write state.old (list_writes self.now) }
     {
         for path in &self.paths {
-            path.feed(state);
+            // Most paths are names over omega, and need no call.
+            match &path.form {
+                Form::Atom(name) => state.write_u64(u64::from(name.0)),
+                _ => path.feed(state),
+            }
         }
         state.write_u64(END);
     }

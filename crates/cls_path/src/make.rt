@@ -93,19 +93,31 @@ impl Path {
     }
 
     /// A path equal to this one. The only error is out of memory.
-    #[cycle(copy)]
+    #[inline]
     pub fn copy(&self, alloc: Global) -> Result<Path, OutOfMemory>
+        ensures { IfOk result (λ path. path ≡ self.now) }
+    {
+        // Most paths that are copied are names over omega, and need no call.
+        match &self.form {
+            Form::Atom(name) => Ok(Path::atom(*name)),
+            _ => self.copy_deep(alloc),
+        }
+    }
+
+    /// The same, part by part.
+    #[cycle(copy)]
+    fn copy_deep(&self, alloc: Global) -> Result<Path, OutOfMemory>
         ensures { IfOk result (λ path. path ≡ self.now) }
     {
         let form = match &self.form {
             Form::Atom(name) => Form::Atom(*name),
-            Form::Con(name, rest) => Form::Con(*name, Box::new(alloc, rest.copy(alloc)?)?),
+            Form::Con(name, rest) => Form::Con(*name, Box::new(alloc, rest.copy_deep(alloc)?)?),
             Form::Unit => Form::Unit,
-            Form::Left(rest) => Form::Left(Box::new(alloc, rest.copy(alloc)?)?),
-            Form::Right(rest) => Form::Right(Box::new(alloc, rest.copy(alloc)?)?),
+            Form::Left(rest) => Form::Left(Box::new(alloc, rest.copy_deep(alloc)?)?),
+            Form::Right(rest) => Form::Right(Box::new(alloc, rest.copy_deep(alloc)?)?),
             Form::Arrow(arrow) => {
                 let source = arrow.source.copy(alloc)?;
-                let target = arrow.target.copy(alloc)?;
+                let target = arrow.target.copy_deep(alloc)?;
                 Form::Arrow(Box::new(alloc, Arrow { source, target })?)
             }
             Form::Sealed(name, argument) => {
@@ -147,7 +159,11 @@ impl Nf {
     {
         let mut paths = Vec::with_capacity(alloc, self.paths.len())?;
         for path in &self.paths {
-            paths.push(path.copy(alloc)?)?;
+            let copy = match &path.form {
+                Form::Atom(name) => Path::atom(*name),
+                _ => path.copy_deep(alloc)?,
+            };
+            paths.push(copy)?;
         }
         Ok(Nf { paths })
     }

@@ -48,7 +48,7 @@ pub fn read_query<'a>(
 }
 
 /// The line as a text.
-fn text_of(line: &Line) -> Result<&str, LineFault>
+fn text_of<'a>(line: &'a Line) -> Result<&'a str, LineFault<'a>>
     ensures same { IfOk result (λ text. text.now ≡ line.now) }
     ensures text { OnOk result (IsText line.now) }
     ensures tested { Tests (text_errors line.now) result }

@@ -24,8 +24,8 @@ use std::thread::Threads;
 /// A query whose certificate hasn't ended: its line, and the lines behind it.
 #[derive(Drop)]
 struct Held {
-    line: Line,
-    inside: Vec<Line>,
+    line: Line<'static>,
+    inside: Vec<Line<'static>>,
 }
 
 /// Answers the lines after a repository. It is seen as what it keeps: the names of constructors so far, the names and
@@ -104,7 +104,7 @@ impl Serving {
             return self.feed_free(rt, alloc, line, gate);
         };
         let ends = is_qed(alloc, &line)?;
-        held.inside.push(line)?;
+        held.inside.push(line.into_owned(alloc)?)?;
         if ends {
             return self.verify(alloc, &held.line, &held.inside);
         }
@@ -139,7 +139,7 @@ impl Serving {
             LineKind::Skipped => Ok(String::new(alloc)),
             LineKind::Opening => {
                 self.held = Some(Held {
-                    line,
+                    line: line.into_owned(alloc)?,
                     inside: Vec::new(alloc),
                 });
                 Ok(String::new(alloc))

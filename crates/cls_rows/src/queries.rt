@@ -20,7 +20,7 @@ fn table(alloc: Global, names: &[&str]) -> Result<Names, Fail> {
 fn words(alloc: Global, text: &str) -> Result<String, Fail> {
     let components = table(alloc, &["x", "f"])?;
     let mut constructors = table(alloc, &["A"])?;
-    let line = Line::new(alloc, text.as_bytes())?;
+    let line = Line::new(text.as_bytes());
     let mut words = String::new(alloc);
     match read_query(alloc, &mut constructors, &components, &line) {
         Ok(_) => words.push_str("read")?,
@@ -77,10 +77,10 @@ fn names_are_numbered_where_no_error_comes(rt: HostRuntime) -> Result<(), Fail> 
     let alloc = rt.alloc();
     let components = table(alloc, &["x", "f"])?;
     let mut constructors = table(alloc, &["A"])?;
-    let refused = Line::new(alloc, b"typed g : B")?;
+    let refused = Line::new(b"typed g : B");
     assert!(rt; read_query(alloc, &mut constructors, &components, &refused).is_err());
     assert_eq!(rt; constructors.len(), 1);
-    let line = Line::new(alloc, b"sub C(B) <= A & B")?;
+    let line = Line::new(b"sub C(B) <= A & B");
     assert!(rt;
         matches!(
             read_query(alloc, &mut constructors, &components, &line),
@@ -97,7 +97,7 @@ fn a_listing_is_one_record(rt: HostRuntime) -> Result<(), Fail> {
     let alloc = rt.alloc();
     let components = table(alloc, &["x", "f"])?;
     let mut constructors = table(alloc, &["A"])?;
-    let line = Line::new(alloc, b"texts A max 3 take 10 after f(f, x)")?;
+    let line = Line::new(b"texts A max 3 take 10 after f(f, x)");
     let read = read_query(alloc, &mut constructors, &components, &line);
     let Ok(Query::Texts(listing)) = read else {
         return Err("no listing")?;

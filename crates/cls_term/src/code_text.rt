@@ -11,7 +11,11 @@ use cls_lexer::Names;
 fn write_before(place: u32, text: &mut String) -> Result<(), OutOfMemory>
     ensures { OnOk result (string_bytes text.new ≡ string_bytes text.old ++ mark_before place) }
 {
-    text.push_str(if place == 0 { "(" } else { ", " })?;
+    if place == 0 {
+        text.push('(')?;
+    } else {
+        text.push_str(", ")?;
+    }
     Ok(())
 }
 
@@ -19,7 +23,9 @@ fn write_before(place: u32, text: &mut String) -> Result<(), OutOfMemory>
 fn write_behind(count: u32, text: &mut String) -> Result<(), OutOfMemory>
     ensures { OnOk result (string_bytes text.new ≡ string_bytes text.old ++ mark_behind count) }
 {
-    text.push_str(if count == 0 { "" } else { ")" })?;
+    if count > 0 {
+        text.push(')')?;
+    }
     Ok(())
 }
 

@@ -13,5 +13,5 @@ last held line h some e = ap (λ (l : List ℕ). l ∷ []) e ∙ sym (lines_of-H
 pub returns-then-is_empty-clause-lines : goal.returns-then-is_empty-clause-lines
 returns-then-is_empty-clause-lines c = let zero : length c.self.inside.bytes.items ≡ 0 = grind arith in empty c.self.inside.bytes.items zero ∙ ap lines_of c.self.view_is
 
-pub returns-else-is_empty-clause-lines : goal.returns-else-is_empty-clause-lines
-returns-else-is_empty-clause-lines c = let some : 0 < length c.self.inside.bytes.items = grind arith in last c.self.inside.bytes.items c.ended.result c.self.invariant some c.ended.ensures ∙ ap lines_of c.self.view_is
+pub returns-clause-lines : goal.returns-clause-lines
+returns-clause-lines c = let some : 0 < length c.self.inside.bytes.items = grind arith in last c.self.inside.bytes.items c.ended_owned.result c.self.invariant some c.ended_owned.ensures ∙ ap lines_of c.self.view_is
