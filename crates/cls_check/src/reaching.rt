@@ -15,6 +15,8 @@ use smallvec::SmallVec;
 use std::alloc::Global;
 
 /// The arrows that lead to a path that is asked.
+// Not inlined: a frame is cleared whenever its function is called, and this one's is large.
+#[inline(never)]
 pub(crate) fn leading<'l>(
     alloc: Global,
     lib: &Library,

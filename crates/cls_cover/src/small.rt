@@ -146,6 +146,8 @@ fn in_order(alloc: Global, mut sets: Vec<u128>) -> Result<Covers, OutOfMemory>
 ///
 /// Covers are made family by family. One that meets the next family stays. Another one is extended by each position of the
 /// family by which it stays minimal. A position that stands in no family before is tried without a test.
+// Not inlined: a frame is cleared whenever its function is called, and this one's is large.
+#[inline(never)]
 pub(crate) fn small_covers(
     alloc: Global,
     families: &[Numbers],

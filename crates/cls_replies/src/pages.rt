@@ -1,5 +1,5 @@
 //! Pages of terms.
-ghost use Rattle.std.specs.Prelude.{◌≡◌, ◌++◌, ◌<◌, All, codes, decimal, length, IfOk, OnOk, string_bytes};
+ghost use Rattle.std.specs.Prelude.{◌≡◌, [], ◌++◌, ◌<◌, All, codes, decimal, length, IfOk, OnOk, string_bytes};
 ghost use Rattle.cls_base.specs.Terms.{IsTermOver};
 ghost use Rattle.cls_term.specs.Banks.{at};
 ghost use Rattle.cls_term.specs.Texts.{name_at};
@@ -14,18 +14,18 @@ use cls_term::{CodedTerms, Term};
 use itoa::Buffer;
 use std::alloc::Global;
 
-/// A line for each term, and a last one that says whether more terms follow.
+/// A line for each term, and a last one that says whether more terms follow, in the empty text.
 #[tactic(auto, using(crate::proofs::Terms::lines))]
 pub(crate) fn print_terms(
-    alloc: Global,
+    mut text: String,
     page: &Page,
     components: &Names,
 ) -> Result<String, OutOfMemory>
-    requires { All (IsTermOver (length components.now)) page.now.terms }
+    requires empty { string_bytes text ≡ [] }
+    requires named { All (IsTermOver (length components.now)) page.now.terms }
     ensures { IfOk result (λ text. string_bytes text
         ≡ page_text (term_line (name_at components.now)) page.now.terms page.now.more) }
 {
-    let mut text = String::new(alloc);
     for place in 0..page.terms.len() {
         write_term(&page.terms, place, components, &mut text)?;
     }
@@ -37,16 +37,17 @@ pub(crate) fn print_terms(
 #[tactic(auto, using(crate::proofs::Terms::lines))]
 pub(crate) fn print_texts(
     alloc: Global,
+    mut text: String,
     page: &Page,
     components: &Names,
     templates: &Templates,
 ) -> Result<String, OutOfMemory>
+    requires empty { string_bytes text ≡ [] }
     requires named { All (IsTermOver (length components.now)) page.now.terms }
     requires written { length templates.now ≡ length components.now }
     ensures { IfOk result (λ text. string_bytes text
         ≡ page_text (term_lines (name_at components.now) templates.now) page.now.terms page.now.more) }
 {
-    let mut text = String::new(alloc);
     for place in 0..page.terms.len() {
         write_term(&page.terms, place, components, &mut text)?;
         let term = page.terms.term(alloc, place)?;

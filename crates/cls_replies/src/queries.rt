@@ -183,7 +183,7 @@ impl Serving {
         ensures same { self.new ≡ self.old }
     {
         match self.page(rt, alloc, listing, gate) {
-            Ok(page) => print_terms(alloc, &page, &self.components),
+            Ok(page) => print_terms(self.empty_text(alloc), &page, &self.components),
             Err(fault) => engine_fault(alloc, &self.names, &fault),
         }
     }
@@ -200,7 +200,10 @@ impl Serving {
         ensures same { self.new ≡ self.old }
     {
         match self.page(rt, alloc, listing, gate) {
-            Ok(page) => print_texts(alloc, &page, &self.components, &self.templates),
+            Ok(page) => {
+                let text = self.empty_text(alloc);
+                print_texts(alloc, text, &page, &self.components, &self.templates)
+            }
             Err(fault) => engine_fault(alloc, &self.names, &fault),
         }
     }

@@ -18,8 +18,12 @@ use cls_query::read_query;
 use cls_repo::Repository;
 use std::alloc::Global;
 use std::marker::Model;
+use std::mem;
 use std::sync::Wait;
 use std::thread::Threads;
+
+/// The most bytes of room that are kept, 1 MiB.
+const MAX_ROOM_BYTES: usize = 1_048_576;
 
 /// A query whose certificate hasn't ended: its line, and the lines behind it.
 #[derive(Drop)]
@@ -36,6 +40,8 @@ pub struct Serving {
     pub(crate) templates: Templates,
     pub(crate) engine: Engine,
     held: Option<Held>,
+    // Room for the text of a page: that of an earlier text.
+    room: String,
 }
 
 // Not derived, for the prover: so a caller's proof has one step where a value is dropped, and not one for each part of it.
@@ -47,6 +53,7 @@ impl Drop for Serving {
             templates: _,
             engine: _,
             held: _,
+            room: _,
         } = self;
     }
 }
@@ -84,11 +91,14 @@ impl Serving {
             templates: repository.templates,
             engine: Engine::new(alloc, repository.library, repository.costs, options),
             held: None,
+            room: String::new(alloc),
         }
     }
 
     /// Takes the next line, and gives what is written for it. After an error, which is out of memory, no further line is
     /// to be fed.
+    // Not inlined: a frame is cleared whenever its function is called, and this one's is large.
+    #[inline(never)]
     pub fn feed<R: Threads + Wait + Sync, G: Gate + Sync>(
         &mut self,
         rt: &R,
@@ -97,7 +107,7 @@ impl Serving {
         gate: &G,
     ) -> Result<String, OutOfMemory>
         requires { length self.old.held + 1 < 2 ^ 32 }
-        ensures goes { IfOk result (λ text. Goes self.old line (string_bytes text) self.new) }
+        ensures goes { IfOk result (λ text. Goes self.old line.entry (string_bytes text) self.new) }
         ensures counted { OnOk result (length self.new.held ≤ length self.old.held + 1) }
     {
         let Some(mut held) = self.held.take() else {
@@ -110,6 +120,26 @@ impl Serving {
         }
         self.held = Some(held);
         Ok(String::new(alloc))
+    }
+
+    /// Takes back a text that was written, so that a later page may be written in its room. It takes no memory.
+    pub fn reuse(&mut self, text: String)
+        ensures { self.new ≡ self.old }
+    {
+        let capacity = text.capacity();
+        if self.room.capacity() < capacity && capacity <= MAX_ROOM_BYTES {
+            self.room = text;
+        }
+    }
+
+    /// An empty text, in the room that is kept.
+    pub(crate) fn empty_text(&mut self, alloc: Global) -> String
+        ensures empty { string_bytes result ≡ [] }
+        ensures same { self.new ≡ self.old }
+    {
+        let mut text = mem::replace(&mut self.room, String::new(alloc));
+        text.clear();
+        text
     }
 
     /// Gives what is written if no line follows.
@@ -132,7 +162,7 @@ impl Serving {
         gate: &G,
     ) -> Result<String, OutOfMemory>
         requires { self.old.held ≡ [] }
-        ensures goes { IfOk result (λ text. Goes self.old line (string_bytes text) self.new) }
+        ensures goes { IfOk result (λ text. Goes self.old line.entry (string_bytes text) self.new) }
         ensures counted { OnOk result (length self.new.held ≤ 1) }
     {
         match kind_of(alloc, &line)? {

@@ -121,6 +121,8 @@ fn take_line(alloc: Global, draft: &mut Draft, line: &Line, number: u32) -> Resu
 }
 
 /// Takes the line of this number, which isn't skipped, and says whether it is the line `end`.
+// Not inlined: a frame is cleared whenever its function is called, and this one's is large.
+#[inline(never)]
 fn take_text(alloc: Global, draft: &mut Draft, text: &str, number: u32) -> Result<bool, FaultKind>
     requires text { IsText text.now }
     requires unskipped { IsSkipped text.now → ⊥ }

@@ -141,7 +141,10 @@ fn collect_replies<R: Threads + Wait + Sync, K: Sink, G: Gate + Sync>(
         };
         let answer = session.feed(rt, alloc, line, gate)?;
         match answer {
-            Answer::Reply(text) => pending.put(text.as_str(), sink)?,
+            Answer::Reply(text) => {
+                pending.put(text.as_str(), sink)?;
+                session.reuse(text);
+            }
             Answer::Refusal(text) => {
                 pending.put(text.as_str(), sink)?;
                 return Err(Stop::Refused);

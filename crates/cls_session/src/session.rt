@@ -1,9 +1,9 @@
 //! What a run keeps between lines.
-ghost use Rattle.std.specs.Prelude.{◌≡◌, ℕ, ◌+◌, ◌^◌, ◌<◌, ◌≤◌, ◌++◌, List, [], None, IfOk, IfErr, OnOk, string_bytes};
+ghost use Rattle.std.specs.Prelude.{◌≡◌, ℕ, ◌+◌, ◌^◌, ◌<◌, ◌≤◌, ◌++◌, List, [], None, IfOk, IfErr, OnOk, OnErr, MatchOption, string_bytes};
 ghost use Rattle.cls_base.specs.Firsts.{First, IsSilent};
 ghost use Rattle.cls_engine.specs.Options.{AreInRange};
 ghost use Rattle.cls_repo.specs.FaultWords.{IsSaid};
-ghost use Rattle.cls_repo.specs.Readings.{closing_faults};
+ghost use Rattle.cls_repo.specs.Readings.{closing_faults, no_reading};
 ghost use Rattle.cls_replies.specs.Serving.{Serves};
 ghost use Rattle.cls_session.specs.Sessions.{IsAnswerTo, Declares, IsFaultAt, SaysFault};
 ghost use Rattle.cls_session.specs.Standings.{Stands, lines_of_session};
@@ -110,6 +110,15 @@ impl Session {
         }
     }
 
+    /// Takes back a text that was written, so that its room serves again. It takes no memory.
+    pub fn reuse(&mut self, text: String)
+        ensures { self.new ≡ self.old }
+    {
+        if let Some(serving) = &mut self.serving {
+            serving.reuse(text);
+        }
+    }
+
     /// Ends the output if no further line comes: a repository without the line `end` is refused.
     pub fn finish(self, alloc: Global) -> Result<Outcome, OutOfMemory>
         requires few_lines { lines_of_session self < 2 ^ 32 }
@@ -144,25 +153,35 @@ impl Session {
         if !self.reader.feed(alloc, line)? {
             return Ok(());
         }
-        let reader = mem::replace(&mut self.reader, RepoReader::new(alloc));
-        let serving = open(alloc, reader, self.options)?;
-        self.serving.insert(serving);
-        Ok(())
+        open(alloc, self.options, &mut self.reader, &mut self.serving)
     }
 }
 
-/// Opens the repository that was read. The fault may be out of memory.
-fn open(alloc: Global, reader: RepoReader, options: Options) -> Result<Serving, RepoFault>
+/// Opens the repository that was read, and leaves a reader that was fed no line. The fault may be out of memory.
+// Not inlined: a frame is cleared whenever its function is called, and this one's is large.
+#[inline(never)]
+fn open(
+    alloc: Global,
+    options: Options,
+    reader: &mut RepoReader,
+    serving: &mut Option<Serving>,
+) -> Result<(), RepoFault>
     requires { AreInRange options }
-    ensures serves { IfOk result (Serves options reader.draft) }
-    ensures silent { OnOk result (IsSilent (First (closing_faults reader))) }
-    ensures fault { IfErr result (IsSaid (First (closing_faults reader))) }
+    ensures serves { OnOk result (MatchOption serving.new ⊥ (Serves options reader.old.draft)) }
+    ensures silent { OnOk result (IsSilent (First (closing_faults reader.old))) }
+    ensures fault { IfErr result (IsSaid (First (closing_faults reader.old))) }
+    ensures emptied { reader.new ≡ no_reading }
+    ensures same { OnErr result (serving.new ≡ serving.old) }
 {
-    let repository = reader.finish(alloc)?;
-    Ok(Serving::new(alloc, repository, options))
+    let read = mem::replace(reader, RepoReader::new(alloc));
+    let repository = read.finish(alloc)?;
+    serving.insert(Serving::new(alloc, repository, options));
+    Ok(())
 }
 
 /// The line that refuses a repository. The only error is out of memory, which is also the answer where that is the fault.
+// Not inlined: a frame is cleared whenever its function is called, and this one's is large.
+#[inline(never)]
 fn refusal(alloc: Global, fault: &RepoFault) -> Result<String, OutOfMemory>
     ensures { IfOk result (λ text. SaysFault fault.now (string_bytes text)) }
 {

@@ -1,6 +1,6 @@
 //! The walk: codes are written from the left in their order, by depth-first search over the forms of the node that is
 //! awaited next. A form that comes to more than is left is passed over, and so is one before the cursor.
-ghost use Rattle.std.specs.Prelude.{◌≡◌, ℕ, ◌+◌, ◌≤◌, [], ◌∷◌, IfOk, List, length, reverse};
+ghost use Rattle.std.specs.Prelude.{◌≡◌, ℕ, ◌+◌, ◌≤◌, [], ◌∷◌, ◌++◌, IfOk, OnOk, List, length, reverse};
 ghost use Rattle.cls_term.specs.Costs.{cost_of};
 ghost use Rattle.cls_walk.specs.Filled.{form_size, needs, EachRise};
 ghost use Rattle.cls_walk.specs.Tables.{capped};
@@ -48,6 +48,16 @@ fn emit(plan: &Plan, walk: &mut Walk, slack: u32, cursor: Cursor) -> Result<bool
         walk.codes.push(walk.code.as_slice())?;
     }
     Ok(walk.codes.len() <= plan.take as usize)
+}
+
+/// Puts the nodes behind those that are awaited. Most forms have none, and need no call of the vector's.
+fn await_nodes(awaited: &mut Vec<u32>, nodes: &[u32]) -> Result<(), OutOfMemory>
+    ensures { OnOk result (awaited.new.items ≡ awaited.old.items ++ nodes.now) }
+{
+    if nodes.is_empty() {
+        return Ok(());
+    }
+    Ok(awaited.extend_from_slice(nodes)?)
 }
 
 /// Lists the codes of terms of the awaited nodes that come to `slack` more than the least sizes of the nodes, and says
@@ -127,7 +137,7 @@ fn follow(
     };
     let height = walk.awaited.len();
     let length = walk.code.len();
-    walk.awaited.extend_from_slice(form.nodes.as_slice())?;
+    await_nodes(&mut walk.awaited, form.nodes.as_slice())?;
     walk.code.push(form.component)?;
     walk.code.push(form.count)?;
     let going = go(plan, walk, left, next)?;

@@ -92,10 +92,10 @@ follow-go-requires t c =
     let least = plan.least.now in
     let h = c.args.form.now in
     let ms = reverse c.args.walk.now.awaited.items in
-    let p : reverse c.extend_from_slice.new.self.items ≡ h.1 ++ ms =
-    awaited-next c.form.inside.component c.args.walk.now.awaited.items c.form.inside.nodes.items c.extend_from_slice.new.self.items h c.form.view_is
-    (c.in_ok-extend_from_slice.ensures.items ∙ ap (λ (xs : List ℕ). c.args.walk.now.awaited.items ++ xs) c.as_slice.ensures.value) in
-    let q : needs least (reverse c.extend_from_slice.new.self.items) ≡ needs least (h.1 ++ ms) = ap (needs least) p in
+    let p : reverse c.await_nodes.new.awaited.items ≡ h.1 ++ ms =
+    awaited-next c.form.inside.component c.args.walk.now.awaited.items c.form.inside.nodes.items c.await_nodes.new.awaited.items h c.form.view_is
+    (c.in_ok-await_nodes.ensures ∙ ap (λ (xs : List ℕ). c.args.walk.now.awaited.items ++ xs) c.as_slice.ensures.value) in
+    let q : needs least (reverse c.await_nodes.new.awaited.items) ≡ needs least (h.1 ++ ms) = ap (needs least) p in
     let k = left-whole (form_size (cost_of plan.costs.now) plan.least.now h) c.args.size c.args.least c.args.slack c.in-Some.left c.ranges.least.fits c.ranges.slack.fits c.requires.size c.in-Some.ensures.some in
     (omega (arith, c.decreases, q, needs-append least h.1 ms, k, plan.positive h.0), (c.requires.rising, c.requires.few))
 
@@ -109,10 +109,10 @@ follow-returns-clause-listed t c =
     let cursor = c.args.cursor in
     let next = c.in-Some-step.next in
     let old = c.args.walk.now in
-    let p : reverse c.extend_from_slice.new.self.items ≡ h.1 ++ ms =
-    awaited-next c.form.inside.component c.args.walk.now.awaited.items c.form.inside.nodes.items c.extend_from_slice.new.self.items h c.form.view_is
-    (c.in_ok-extend_from_slice.ensures.items ∙ ap (λ (xs : List ℕ). c.args.walk.now.awaited.items ++ xs) c.as_slice.ensures.value) in
-    let begun : Walk = record { awaited = c.extend_from_slice.new.self; code = c.push-2.new.self; codes = old.codes } in
+    let p : reverse c.await_nodes.new.awaited.items ≡ h.1 ++ ms =
+    awaited-next c.form.inside.component c.args.walk.now.awaited.items c.form.inside.nodes.items c.await_nodes.new.awaited.items h c.form.view_is
+    (c.in_ok-await_nodes.ensures ∙ ap (λ (xs : List ℕ). c.args.walk.now.awaited.items ++ xs) c.as_slice.ensures.value) in
+    let begun : Walk = record { awaited = c.await_nodes.new.awaited; code = c.push-2.new.self; codes = old.codes } in
     let P : List ℕ → Type 0 = λ ns. Lists (IsWanted plan ns (needs least ns + c.in-Some.left) next) begun c.go.new.walk c.in_ok-going.going in
     lists-by plan ms size cursor h (needs least (h.1 ++ ms) + c.in-Some.left) next old c.go.new.walk begun c.go.new.walk c.in_ok-going.going
     (let k = left-whole (form_size (cost_of plan.costs.now) plan.least.now h) c.args.size c.args.least c.args.slack c.in-Some.left c.ranges.least.fits c.ranges.slack.fits c.requires.size c.in-Some.ensures.some in omega (arith, k, needs-append least h.1 ms))

@@ -1,4 +1,4 @@
-use Rattle.std.proofs.Common.{◌≡◌, [], ◌∷◌, ◌++◌, true, false, refl, ap, sym, subst, ◌∙◌}
+use Rattle.std.proofs.Common.{◌≡◌, ℕ, List, [], ◌∷◌, ◌++◌, true, false, refl, ap, sym, subst, ◌∙◌}
 use Rattle.std.specs.Prelude.{IfOk, string_bytes}
 use Rattle.std.proofs.lemmas.Result.{IfOk-weaker}
 use Rattle.cls_replies.specs.Answering.{Verified}
@@ -15,7 +15,7 @@ returns-then-ends-clause-goes g c =
     let s = serving_of i.names i.components i.templates i.engine (held_lines i.held) in
     let v = serving_of i.names i.components i.templates i.engine (held_lines c.take.new.self) in
     let h = c.in-Some.held in
-    let more : c.deref.result.now ≡ h.inside.items ++ c.args.line ∷ [] = c.deref.ensures.value ∙ c.in_ok-push.ensures.items in
+    let more : c.deref.result.now ≡ h.inside.items ++ c.args.line ∷ [] = c.deref.ensures.value ∙ (c.in_ok-push.ensures.items ∙ ap (λ (l : List ℕ). h.inside.items ++ l ∷ []) c.in_ok-into_owned.ensures) in
     let qed : IsQed c.args.line = c.in_ok-ends.ensures.0 c.if-ends.true in
     subst (λ (z : Serving). IfOk c.verify.result (λ text. Goes z c.args.line (string_bytes text) c.verify.new.self)) c.self.view_is
     (IfOk-weaker c.verify.result (λ text. Verified v h.line c.deref.result.now (string_bytes text) c.verify.new.self) (λ text. Goes s c.args.line (string_bytes text) c.verify.new.self)
@@ -30,7 +30,7 @@ returns-clause-goes g c =
     let i = c.self.inside in
     let s = serving_of i.names i.components i.templates i.engine (held_lines i.held) in
     let h = c.in-Some.held in
-    let more : c.push.new.self.items ≡ h.inside.items ++ c.args.line ∷ [] = c.in_ok-push.ensures.items in
+    let more : c.push.new.self.items ≡ h.inside.items ++ c.args.line ∷ [] = c.in_ok-push.ensures.items ∙ ap (λ (l : List ℕ). h.inside.items ++ l ∷ []) c.in_ok-into_owned.ensures in
     let s' = holding s (h.line ∷ c.push.new.self.items) in
     subst (λ (z : Serving). Goes z c.args.line (string_bytes c.new.result) s') c.self.view_is
     (holds_on s s' c.args.line h.line h.inside.items c.push.new.self.items (string_bytes c.new.result) (ap held_lines (sym c.in-Some.ensures.value))

@@ -1,35 +1,17 @@
-use Rattle.std.proofs.Common.{◌≡◌, sym, subst, ◌∙◌}
+use Rattle.std.proofs.Common.{◌≡◌, subst, ◌∙◌}
 use Rattle.std.specs.Prelude.{IfOk, string_bytes}
-use Rattle.std.proofs.lemmas.Result.{IfOk-weaker}
 use Rattle.cls_query.specs.Queries.{texts}
 use Rattle.cls_query.specs.ReadQueries.{listing_of}
-use Rattle.cls_term.specs.Texts.{name_at}
-use Rattle.cls_replies.specs.Answering.{Answers}
-use Rattle.cls_replies.specs.Replies.{Reply}
 use Rattle.cls_replies.specs.Serving.{Serving, serving_of}
 use Rattle.cls_replies.specs.Steps.{held_lines, IsFaultLine}
-use Rattle.cls_replies.specs.Texts.{term_lines, page_text}
-use Rattle.cls_replies.proofs.Faulting.{fault_answers, reply_answers}
+use Rattle.cls_replies.proofs.Faulting.{fault_answers}
 use Rattle.cls_replies.proofs.serving.Serving.texts.Goals as goal
-use Rattle.cls_replies.proofs.serving.Serving.texts.Goals.{in-Ok, in-Err+in-Wide-1, in-Err+in-Size-1}
 
-pub returns-clause-answers : goal.returns-clause-answers
-returns-clause-answers g c =
-    let i = c.self.inside in
+pub returns-in-Err-clause-answers : goal.returns-in-Err-clause-answers
+returns-in-Err-clause-answers g c =
+    let i = c.self-in-Err.inside in
     let s = c.args.self.now in
     let q = texts (listing_of c.args.listing.now) in
-    let same : serving_of i.names i.components i.templates i.engine (held_lines i.held) ≡ s = c.self.view_is ∙ c.page.ensures.same in
-    elim c.match-page.branch [
-      | in-Ok w ↦ subst (λ r. IfOk r (λ text. Answers s q (string_bytes text))) (sym w.result-is)
-          (reply_answers string_bytes w.print_texts.result s q w.in-Ok.ensures.silent
-          (subst (λ (z : Serving). IfOk w.print_texts.result (λ text. string_bytes text ≡ page_text (term_lines (name_at z.components) z.templates) w.in-Ok.page.terms w.in-Ok.page.more) → IfOk w.print_texts.result (λ text. Reply s q (string_bytes text))) (sym same)
-          (λ h. IfOk-weaker w.print_texts.result (λ text. string_bytes text ≡ page_text (term_lines (name_at s.components) s.templates) w.in-Ok.page.terms w.in-Ok.page.more) (λ text. Reply s q (string_bytes text))
-          (λ text e. let t : Reply s q (string_bytes text) = record { terms = w.in-Ok.page.terms; more = w.in-Ok.page.more; page = w.in-Ok.ensures.page; written = e } in t) h)
-          w.print_texts.ensures))
-      | in-Err+in-Wide-1 w ↦ subst (λ r. IfOk r (λ text. Answers s q (string_bytes text))) (sym w.result-is)
-          (fault_answers string_bytes w.engine_fault.result s q w.in-Err.fault w.in-Err.ensures.fault
-          (subst (λ (z : Serving). IfOk w.engine_fault.result (λ text. IsFaultLine z.names w.in-Err.fault (string_bytes text))) same w.engine_fault.ensures))
-      | in-Err+in-Size-1 w ↦ subst (λ r. IfOk r (λ text. Answers s q (string_bytes text))) (sym w.result-is)
-          (fault_answers string_bytes w.engine_fault.result s q w.in-Err.fault w.in-Err.ensures.fault
-          (subst (λ (z : Serving). IfOk w.engine_fault.result (λ text. IsFaultLine z.names w.in-Err.fault (string_bytes text))) same w.engine_fault.ensures))
-    ]
+    let same : serving_of i.names i.components i.templates i.engine (held_lines i.held) ≡ s = c.self-in-Err.view_is ∙ c.page.ensures.same in
+    fault_answers string_bytes c.engine_fault.result s q c.in-Err.fault c.in-Err.ensures.fault
+    (subst (λ (z : Serving). IfOk c.engine_fault.result (λ text. IsFaultLine z.names c.in-Err.fault (string_bytes text))) same c.engine_fault.ensures)
