@@ -7,15 +7,18 @@ use Rattle.std.proofs.lemmas.List.Elements.{Contains-push, Contains-push_cases, 
 use Rattle.std.proofs.lemmas.Option.{slice_get_within, slice_get-get_or}
 use Rattle.cls_base.specs.Limits.{max_arity}
 use Rattle.cls_base.proofs.Lists.{Contains-at, Contains-nil, Contains-place}
-use Rattle.cls_path.specs.Paths.{TypePath, Paths, none, more, PathLe}
+use Rattle.cls_path.specs.Paths.{TypePath, atom, inside, unit, left, right, function, sealed, Paths, none, more, PathLe, atoms, inside_atom, units, left_unit, right_unit}
+use Rattle.cls_taxon.specs.DecisionLaws.{is_below-reflexive}
 use Rattle.cls_taxon.specs.Decisions.{is_below}
 use Rattle.cls_taxon.specs.Orders.{Declared, class_by}
 use Rattle.cls_library.specs.declared.ending.Ending.{Ending}
+use Rattle.cls_library.specs.declared.ending.Head.{Head}
+use Rattle.cls_library.specs.declared.ending.Head.TheVariants.{Covariant, Product, Sealed}
 use Rattle.cls_library.specs.declared.index.Entry.{Entry}
 use Rattle.cls_library.specs.declared.place.Place.{Place}
 use Rattle.cls_library.specs.declared.sought.Sought.{Sought}
 use Rattle.cls_library.specs.Arrows.{MultiArrow, leading_arrows, arity_of, arrows_of, onto}
-use Rattle.cls_library.specs.Endings.{IsSought, ending_behind, ending_of, head_of, is_alone}
+use Rattle.cls_library.specs.Endings.{IsSought, ending_behind, ending_of, head_of, is_alone, is_bare}
 use Rattle.cls_library.specs.Families.{IsBefore, IsFamilyIn, IsNext, IsPlace}
 use Rattle.cls_library.specs.Index.{AreEntries, EndsIn, paths_in}
 use Rattle.cls_library.specs.Leads.{AreOnward, IsFirstFrom, Leads}
@@ -62,6 +65,67 @@ same-end d p q le alone =
     let b : ending_behind 0 (ending_of q) ≡ ending_of q = (λ i. record { arrows = a i; head = head_of q }) in
     sym w ∙ b
 
+abbrev name-of : Head → ℕ
+name-of (Covariant c) = c.0
+name-of Product = 0
+name-of (Sealed c) = c.0
+
+no-arrows : (p q : TypePath) → leading_arrows q ≡ 0 → ending_of p ≡ ending_of q → leading_arrows p ≡ 0
+no-arrows p q z e =
+    let a : min (max_arity + 1) (leading_arrows p) ≡ min (max_arity + 1) (leading_arrows q) = ap (λ (f : Ending). f.arrows) e in
+    omega arith
+
+module _ (d : Declared) where
+  below-same : (b c : ℕ) → b ≡ c → IsTrue (is_below d b c)
+  below-same b c e = subst (λ (k : ℕ). IsTrue (is_below d b k)) e (is_below-reflexive d b)
+
+  -- a path whose head is the name, without leading arrows, is below the name over omega
+  below-name : (p : TypePath) (c : ℕ) → leading_arrows p ≡ 0 → head_of p ≡ head_of (atom c) → PathLe (below_in d) (variances_in d) p (atom c)
+  below-name (atom b) c e h = atoms (below-same b c (ap name-of h))
+  below-name (inside b p) c e h = inside_atom (below-same b c (ap name-of h))
+  below-name unit c e h = cc
+  below-name (left p) c e h = cc
+  below-name (right p) c e h = cc
+  below-name (function n p) c e h = absurd (omega arith)
+  below-name (sealed b n) c e h = cc
+
+  -- a product is below that of omega and omega
+  below-unit : (p : TypePath) → leading_arrows p ≡ 0 → head_of p ≡ Product → PathLe (below_in d) (variances_in d) p unit
+  below-unit (atom b) e h = cc
+  below-unit (inside b p) e h = cc
+  below-unit unit e h = units
+  below-unit (left p) e h = left_unit
+  below-unit (right p) e h = right_unit
+  below-unit (function n p) e h = absurd (omega arith)
+  below-unit (sealed b n) e h = cc
+
+  -- each path of its ending is below a bare path
+  below-bare : (p q : TypePath) → is_bare q ≡ true → ending_of p ≡ ending_of q → PathLe (below_in d) (variances_in d) p q
+  below-bare p (atom c) b e = below-name p c (no-arrows p (atom c) refl e) (ap (λ (f : Ending). f.head) e)
+  below-bare p unit b e = below-unit p (no-arrows p unit refl e) (ap (λ (f : Ending). f.head) e)
+  below-bare p (inside c q) b e = cc
+  below-bare p (left q) b e = cc
+  below-bare p (right q) b e = cc
+  below-bare p (function n q) b e = cc
+  below-bare p (sealed c n) b e = cc
+
+module _ (l : Library) (t : Entry) where
+  -- an arrow whose target has the ending of a bare path leads to it
+  pub bare-leads : (q : TypePath) → is_bare q ≡ true → EndsIn l.components (ending_of q) t → Leads l q t
+  bare-leads q b h = some-map (slice_get (arrows_at l t.place.component t.place.count) t.position) (λ a. ending_of a.target ≡ ending_of q) (λ a. PathLe (below_in l.taxonomy) (variances_in l.taxonomy) a.target q)
+      (λ a e. below-bare l.taxonomy a.target q b e) h
+
+  -- the arrow of such an entry is one of a component of the library
+  module _ (e : Ending) (h : EndsIn l.components e t) where
+    pub entry-place : IsPlace l t.place
+    entry-place = record {
+      declared = within-library l.components t.place.component t.place.count t.position (λ a. ending_of a.target ≡ e) h;
+      within = within-arity t.place.count (paths_in l.components t.place.component) t.position (λ a. ending_of a.target ≡ e) h;
+    }
+
+    pub entry-within : t.position < length (arrows_at l t.place.component t.place.count)
+    entry-within = some-within (arrows_at l t.place.component t.place.count) t.position (λ a. ending_of a.target ≡ e) h
+
 module _ (l : Library) (q : TypePath) (s : Sought) (sought : IsSought l.taxonomy q s) (alone : IsTrue s.alone) (entries : List Entry) (h : AreEntries l.components s.ending entries) where
   lone : is_alone (class_by l.taxonomy.pairs) (head_of q) ≡ true
   lone = ap (λ (e : Ending). is_alone (class_by l.taxonomy.pairs) e.head) (sym sought.ending) ∙ (sym sought.alone ∙ alone)
@@ -74,12 +138,7 @@ module _ (l : Library) (q : TypePath) (s : Sought) (sought : IsSought l.taxonomy
       (λ a le. same-end l.taxonomy a.target q le lone ∙ sym sought.ending) leads)
 
   is-place : (t : Entry) → Contains entries t → IsPlace l t.place
-  is-place t c =
-      let e : EndsIn l.components s.ending t = (h.exactly t).0 c in
-      record {
-        declared = within-library l.components t.place.component t.place.count t.position (λ a. ending_of a.target ≡ s.ending) e;
-        within = within-arity t.place.count (paths_in l.components t.place.component) t.position (λ a. ending_of a.target ≡ s.ending) e;
-      }
+  is-place t c = entry-place l t s.ending ((h.exactly t).0 c)
 
   none-at : (p : Place) → ((t : Entry) → Contains entries t → t.place ≡ p → ⊥) → IsFamilyIn l.taxonomy (arrows_at l p.component p.count) q []
   none-at p n = record {
@@ -119,7 +178,7 @@ module _ (l : Library) (q : TypePath) (s : Sought) (sought : IsSought l.taxonomy
     onward = record {
       in_order = λ a b s t m e g. h.in_order (i + a) (i + b) s t (omega arith) (sym (drop-at entries i a) ∙ e) (sym (drop-at entries i b) ∙ g);
       from = λ k t e before. first k t (sym (drop-at entries i k) ∙ e) before;
-      stand = λ k t e. some-within (arrows_at l t.place.component t.place.count) t.position (λ a. ending_of a.target ≡ s.ending) ((h.exactly t).0 (Contains-at entries (i + k) t (sym (drop-at entries i k) ∙ e)));
+      ends = λ k t e. subst (λ (f : Ending). EndsIn l.components f t) sought.ending ((h.exactly t).0 (Contains-at entries (i + k) t (sym (drop-at entries i k) ∙ e)));
       whole = λ t same leads. there t same (Contains-place entries t (stands t leads));
     }
       where

@@ -25,6 +25,12 @@ head_of (sealed c n) = Sealed (record { 0 = c })
 abbrev pub ending_of : TypePath → Ending
 ending_of p = record { arrows = min (max_arity + 1) (leading_arrows p); head = head_of p }
 
+-- whether the path is a name over omega, or the product of omega and omega
+abbrev pub is_bare : TypePath → Bool
+is_bare (atom c) = true
+is_bare unit = true
+is_bare _ = false
+
 -- the ending of a path that has n arrows before a path of this one
 abbrev pub ending_behind : ℕ → Ending → Ending
 ending_behind n f = record { arrows = min (max_arity + 1) (n + f.arrows); head = f.head }

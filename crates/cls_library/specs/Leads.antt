@@ -7,9 +7,9 @@ use Rattle.cls_library.specs.declared.index.Entry.{Entry}
 use Rattle.cls_library.specs.declared.place.Place.{Place}
 use Rattle.cls_library.specs.declared.sought.Sought.{Sought}
 use Rattle.cls_library.specs.Arrows.{arity_of}
-use Rattle.cls_library.specs.Endings.{IsSought}
+use Rattle.cls_library.specs.Endings.{IsSought, ending_of}
 use Rattle.cls_library.specs.Families.{IsBefore, IsFamilyIn, IsNext}
-use Rattle.cls_library.specs.Index.{AreEntries, AreInOrder}
+use Rattle.cls_library.specs.Index.{AreEntries, AreInOrder, EndsIn}
 use Rattle.cls_library.specs.Libraries.{Library, arrows_at, below_in, paths_at, variances_in}
 
 -- the arrows that are kept, if any, are those of the ending that is sought, and its head is alone
@@ -44,11 +44,12 @@ pub record IsFirstFrom (entries : List Entry) (p : Place) (i : ℕ) : Type 0 whe
 abbrev pub Leads : Library → TypePath → Entry → Type 0
 Leads l q t = IsSomeAnd (slice_get (arrows_at l t.place.component t.place.count) t.position) (λ a. PathLe (below_in l.taxonomy) (variances_in l.taxonomy) a.target q)
 
--- arrows of the library, in order and none before the place, among which are those of the place that lead to the path
+-- arrows of the library whose targets have the path's ending, in order and none before the place, among which are those of the
+-- place that lead to the path
 pub record AreOnward (l : Library) (q : TypePath) (p : Place) (entries : List Entry) : Type 0 where
   pub in_order : AreInOrder entries
   pub from : (i : ℕ) (t : Entry) → slice_get entries i ≡ Some t → IsBefore t.place p → ⊥
-  pub stand : (i : ℕ) (t : Entry) → slice_get entries i ≡ Some t → t.position < length (arrows_at l t.place.component t.place.count)
+  pub ends : (i : ℕ) (t : Entry) → slice_get entries i ≡ Some t → EndsIn l.components (ending_of q) t
   pub whole : (t : Entry) → t.place ≡ p → Leads l q t → Contains entries t
 
 -- no arrow of the place leads to a path for which this is sought

@@ -2,7 +2,7 @@
 ghost use Rattle.std.specs.Prelude.{◌≡◌, ◌<◌};
 ghost use Rattle.cls_taxon.specs.Decisions.{is_below};
 ghost use Rattle.cls_taxon.specs.Orders.{class_by};
-ghost use Rattle.cls_library.specs.Endings.{ending_of, ending_behind, head_of, is_alone, mark_of, may_be_below, may_end_below};
+ghost use Rattle.cls_library.specs.Endings.{ending_of, ending_behind, head_of, is_alone, is_bare, mark_of, may_be_below, may_end_below};
 
 use crate::measure::{TOO_MANY, leading_arrows};
 use crate::sought::Sought;
@@ -116,4 +116,12 @@ impl Ending {
             self.may_end_below(taxonomy, count, sought.ending)
         }
     }
+}
+
+/// Whether the path says no more than its ending: it is a name over omega, or the product of omega and omega. Each path of the same
+/// ending is below it then.
+pub(crate) fn is_bare(path: &Path) -> bool
+    ensures { result ≡ is_bare path.now }
+{
+    matches!(path.form(), Form::Atom(_) | Form::Unit)
 }

@@ -1,15 +1,16 @@
 //! A path of a goal, and the arrows that lead to it: its next place, and its family there. If arrows of one ending alone may lead to
 //! it, they are looked up in the index of the library and gone over from the place where the last search ended; else the flags of
 //! components say which places are passed over.
-ghost use Rattle.std.specs.Prelude.{◌≡◌, ◌<◌, ◌≤◌, OnOk, drop, length};
+ghost use Rattle.std.specs.Prelude.{◌≡◌, ◌↔◌, ◌<◌, ◌≤◌, IsTrue, OnOk, drop, length};
 ghost use Rattle.cls_path.specs.Paths.{Suits};
 ghost use Rattle.cls_taxon.specs.Orders.{class_by};
-ghost use Rattle.cls_library.specs.Endings.{is_alone};
+ghost use Rattle.cls_library.specs.Endings.{ending_of, is_alone};
 ghost use Rattle.cls_library.specs.Families.{IsPlace};
-ghost use Rattle.cls_library.specs.Index.{AreInOrder};
-ghost use Rattle.cls_library.specs.Leads.{AreBefore, AreSoughtEntries, AreOnward, IsFirstFrom, IsLead, IsNextFor, IsNextWithin, PutsFamily};
+ghost use Rattle.cls_library.specs.Index.{AreInOrder, EndsIn};
+ghost use Rattle.cls_library.specs.Leads.{AreBefore, AreSoughtEntries, AreOnward, IsFirstFrom, IsLead, IsNextFor, IsNextWithin, Leads, PutsFamily};
 ghost use Rattle.cls_library.specs.Libraries.{IsLibrary, variances_in};
 
+use crate::ending::is_bare;
 use crate::index::Entry;
 use crate::library::Library;
 use crate::place::Place;
@@ -143,22 +144,34 @@ fn put_leading(
     place: Place,
     positions: &mut Positions,
 ) -> Result<(), OutOfMemory>
-    requires place { IsPlace lib.now place }
     requires suits { Suits (variances_in lib.now.taxonomy) path.now }
     requires entries { AreOnward lib.now path.now place entries.now }
     ensures { OnOk result (PutsFamily lib.now path.now place positions.old.items positions.new.items) }
 {
-    let arrows = lib.arrows(place.component, place.count);
     for entry in entries {
         if entry.place != place {
             return Ok(());
         }
-        let arrow = arrows.get(entry.position as usize);
-        if arrow.target().le(lib.taxonomy(), path) {
+        if leads(lib, path, *entry) {
             positions.push(entry.position)?;
         }
     }
     Ok(())
+}
+
+/// Whether the arrow leads to the path. Its target has the path's ending.
+fn leads(lib: &Library, path: &Path, entry: Entry) -> bool
+    requires ends { EndsIn lib.now.components (ending_of path.now) entry }
+    requires suits { Suits (variances_in lib.now.taxonomy) path.now }
+    ensures { IsTrue result ↔ Leads lib.now path.now entry }
+{
+    // Each path of its ending is below a bare path. So the arrow, which stands far off in memory, isn't looked at.
+    if is_bare(path) {
+        return true;
+    }
+    let arrows = lib.arrows(entry.place.component, entry.place.count);
+    let arrow = arrows.get(entry.position as usize);
+    arrow.target().le(lib.taxonomy(), path)
 }
 
 /// The first place from this one on where by the flags of heads and of numbers of arrows an arrow may lead to what is sought.
