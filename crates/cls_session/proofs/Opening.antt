@@ -1,6 +1,6 @@
 -- A repository that was read whole opens a session.
 use Rattle.std.proofs.Common.{◌≡◌, ℕ, zero, suc, ◌+◌, ◌<◌, ◌≤◌, List, [], ◌∷◌, ◌++◌, length, true, false, refl, ap, subst, arith}
-use Rattle.std.specs.Prelude.{Option, None, Some, slice_index_or}
+use Rattle.std.specs.Prelude.{Option, None, Some, MatchOption, Result, Ok, Err, IfErr, OnOk, slice_index_or}
 use Rattle.std.specs.List.{AllByRecursion}
 use Rattle.cls_base.specs.Firsts.{First, IsSilent}
 use Rattle.cls_engine.specs.declared.options.Options.{Options}
@@ -73,20 +73,33 @@ goes_by old new line next t going none is =
     subst (λ (s : Standing). Declares old line s) is (sessions.Declares.goes_on t going refl none)
 
 -- the line `end`
-pub opens_by : (old new : Standing) (line : List ℕ) (ended read after : Reading) (serving : Serving) → read ≡ ended → Takes old.reader line ended → ended.ended ≡ true
-    → IsSilent (First (closing_faults read)) → Serves old.options read.draft serving
-    → record { options = old.options; reader = after; serving = Some serving } ≡ new → Declares old line new
-opens_by old new line ended read after serving same t is silent serves at =
-    let s : IsSilent (First (closing_faults ended)) = subst (λ (r : Reading). IsSilent (First (closing_faults r))) same silent in
-    let v : Serves old.options ended.draft serving = subst (λ (r : Reading). Serves old.options r.draft serving) same serves in
-    subst (λ (x : Standing). Declares old line x) at (sessions.Declares.opens ended t is s serving v refl refl)
+pub opens_by : (old new : Standing) (line : List ℕ) (ended after : Reading) (serving : Option Serving) → Takes old.reader line ended → ended.ended ≡ true
+    → IsSilent (First (closing_faults ended)) → MatchOption serving ⊥ (Serves old.options ended.draft)
+    → record { options = old.options; reader = after; serving = serving } ≡ new → Declares old line new
+opens_by old new line ended after None t is silent serves at = absurd serves
+opens_by old new line ended after (Some v) t is silent serves at =
+    subst (λ (x : Standing). Declares old line x) at (sessions.Declares.opens ended t is silent v serves refl refl)
+
+-- the same, if the repository is opened
+pub opens_on : {A : Type 0} (r : Result A RepoFault) (old new : Standing) (line : List ℕ) (ended after : Reading) (serving : Option Serving)
+    → OnOk r (IsSilent (First (closing_faults ended))) → OnOk r (MatchOption serving ⊥ (Serves old.options ended.draft))
+    → Takes old.reader line ended → ended.ended ≡ true → record { options = old.options; reader = after; serving = serving } ≡ new
+    → OnOk r (Declares old line new)
+opens_on (Ok x) old new line ended after serving silent serves t is at = opens_by old new line ended after serving t is silent serves at
+opens_on (Err f) old new line ended after serving silent serves t is at = record {}
 
 -- what is wrong with a repository at its line `end`
-pub closing_said : (old : Standing) (line : List ℕ) (ended read : Reading) (fault : RepoFault) → read ≡ ended → Takes old.reader line ended → ended.ended ≡ true
-    → IsSaid (First (closing_faults read)) fault → IsSaid (IsFaultAt old line) fault
-closing_said old line ended read fault same t is said =
-    said_weaker (λ words. First (closing_faults read) (fault.line, words)) (λ words. IsFaultAt old line (fault.line, words))
-    (λ words first. sessions.IsFaultAt.of_repository ended t is (subst (λ (r : Reading). First (closing_faults r) (fault.line, words)) same first)) fault.kind said
+pub closing_said : (old : Standing) (line : List ℕ) (ended : Reading) (fault : RepoFault) → Takes old.reader line ended → ended.ended ≡ true
+    → IsSaid (First (closing_faults ended)) fault → IsSaid (IsFaultAt old line) fault
+closing_said old line ended fault t is said =
+    said_weaker (λ words. First (closing_faults ended) (fault.line, words)) (λ words. IsFaultAt old line (fault.line, words))
+    (λ words first. sessions.IsFaultAt.of_repository ended t is first) fault.kind said
+
+-- the same, if it isn't opened
+pub closing_on : {A : Type 0} (r : Result A RepoFault) (old : Standing) (line : List ℕ) (ended : Reading) → Takes old.reader line ended → ended.ended ≡ true
+    → IfErr r (IsSaid (First (closing_faults ended))) → IfErr r (IsSaid (IsFaultAt old line))
+closing_on (Ok x) old line ended t is said = record {}
+closing_on (Err f) old line ended t is said = closing_said old line ended f t is said
 
 -- a line that is at fault
 pub line_said : (old : Standing) (line : List ℕ) (fault : RepoFault) → IsSaid (Refuses old.reader line) fault → IsSaid (IsFaultAt old line) fault

@@ -56,9 +56,9 @@ pub fn answer_line<R: Threads + Wait + Sync, K: Sink, G: Gate + Sync>(
     requires few_lines { lines_of_session session.old + 1 < 2 ^ 32 }
     requires room { FitsLine (K.seen sink.old) session.old line }
     ensures answers { MatchStop result
-        (λ _. AnswersLine (K.seen sink.old) (K.seen sink.new) session.old session.new line)
-        (RefusesLine (K.seen sink.old) (K.seen sink.new) session.old line)
-        (BreaksLine (K.seen sink.old) (K.seen sink.new) session.old line) }
+        (λ _. AnswersLine (K.seen sink.old) (K.seen sink.new) session.old session.new line.entry)
+        (RefusesLine (K.seen sink.old) (K.seen sink.new) session.old line.entry)
+        (BreaksLine (K.seen sink.old) (K.seen sink.new) session.old line.entry) }
     ensures counted { OnOk result (lines_of_session session.new ≤ lines_of_session session.old + 1) }
     ensures faults { CountsFaults result (K.seen sink.old) (K.seen sink.new) }
 {

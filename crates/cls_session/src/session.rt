@@ -98,7 +98,7 @@ impl Session {
         gate: &G,
     ) -> Result<Answer, OutOfMemory>
         requires few_lines { lines_of_session self.old + 1 < 2 ^ 32 }
-        ensures answered { IfOk result (λ answer. IsAnswerTo self.old line answer self.new) }
+        ensures answered { IfOk result (λ answer. IsAnswerTo self.old line.entry answer self.new) }
         ensures counted { OnOk result (lines_of_session self.new ≤ lines_of_session self.old + 1) }
     {
         if let Some(serving) = &mut self.serving {

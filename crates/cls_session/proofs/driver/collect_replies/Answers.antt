@@ -64,7 +64,7 @@ lines-preserved g c =
     let fresh = rw c.in-Some.is at c.in_ok-line.ensures.fresh in
     let replied = rw c.in-Reply.is at c.in_ok-answer.ensures.answered in
     record {
-      answered = pending_next fresh cut c.lines.invariant.answered replied (rw c.as_str.ensures.value at c.in_ok-put-in-Reply.ensures.written);
-      few_lines = (let less = shorter_next fresh cut in omega (arith, c.in_ok-answer.ensures.counted, c.lines.invariant.few_lines));
+      answered = rw c.reuse.ensures (pending_next fresh cut c.lines.invariant.answered replied (rw c.as_str.ensures.value at c.in_ok-put-in-Reply.ensures.written));
+      few_lines = (let less = shorter_next fresh cut in rw c.reuse.ensures (omega (arith, c.in_ok-answer.ensures.counted, c.lines.invariant.few_lines)));
       faults = c.in_ok-put-in-Reply.ensures.no_fault ∙ c.lines.invariant.faults;
     }
