@@ -1,4 +1,5 @@
 pub mod Counts
+pub mod NameLists
 pub mod Parts
 pub mod PathLists
 pub mod Several
