@@ -1,12 +1,14 @@
 -- Internal: what the code's forms of queries say.
-use Rattle.std.specs.Prelude.{ℕ, ◌≤◌, List}
+use Rattle.std.specs.Prelude.{ℕ, ◌≤◌, List, Option, Some, None}
 use Rattle.std.specs.Option.{option_map}
 use Rattle.std.proofs.Common.{inl, inr}
 use Rattle.cls_base.specs.Limits.{max_term_size, max_page_terms}
+use Rattle.cls_base.specs.Terms.{Applicative}
 use Rattle.cls_base.specs.Types.{ClosedType}
 use Rattle.cls_lexer.specs.Numerals.{number_value}
 use Rattle.cls_syntax.specs.Forms.{Values}
 use Rattle.cls_syntax.specs.LineGrammars.{LineOf}
+use Rattle.cls_syntax.specs.declared.spelled_term.SpelledTerm.{SpelledTerm}
 use Rattle.cls_syntax.specs.SpelledTerms.{term_text}
 use Rattle.cls_syntax.specs.SpelledTypes.{type_text}
 use Rattle.cls_query.specs.declared.form.GoalWord.{GoalWord}
@@ -18,7 +20,7 @@ use Rattle.cls_query.specs.declared.form.GoalForm.{GoalForm}
 use Rattle.cls_query.specs.declared.form.GoalForm.TheVariants.{Goal, Page}
 use Rattle.cls_query.specs.declared.form.QueryForm.{QueryForm}
 use Rattle.cls_query.specs.declared.form.QueryForm.TheVariants.{Sub, Paths, Typed, Asks}
-use Rattle.cls_query.specs.Queries.{Listing, Query, inhabit, grammar, audit, certify, verify, finite, list, texts}
+use Rattle.cls_query.specs.Queries.{Listing, Query, term_in, inhabit, grammar, audit, certify, verify, finite, list, texts}
 use Rattle.cls_query.specs.QueryForms.{goal_form, listing_form, listing_rows, goal_rows, query_rows}
 
 abbrev pub listing_says : ListingForm → Values listing_form
@@ -65,3 +67,17 @@ goal_asked Finite t = finite t
 abbrev pub listing_asked : ListingWord → Listing → Query
 listing_asked listing.List l = list l
 listing_asked listing.Texts l = texts l
+
+-- The term of the form, if it has one, and what it is by the table of components.
+abbrev pub cursor_spelled : GoalForm → Option SpelledTerm
+cursor_spelled (Goal word t) = None
+cursor_spelled (Page word l) = l.after
+
+abbrev pub term_spelled : QueryForm → Option SpelledTerm
+term_spelled (Sub s t) = None
+term_spelled (Paths x) = None
+term_spelled (Typed e t) = Some e
+term_spelled (Asks form) = cursor_spelled form
+
+abbrev pub spelled_in : List (List ℕ) → SpelledTerm → Applicative
+spelled_in components e = term_in components (term_text e)

@@ -1,12 +1,13 @@
 //! Types, terms and numbers in place of the texts of a query.
 ghost use Rattle.std.specs.Prelude.{◌≡◌, false, IfOk, OnOk, OnErr};
 ghost use Rattle.std.specs.List.{AllByRecursion, list_any};
+ghost use Rattle.std.specs.Option.{option_map};
 ghost use Rattle.cls_base.specs.Ty.{type_of};
 ghost use Rattle.cls_syntax.specs.ClosedTypes.{HasNoDollar};
 ghost use Rattle.cls_syntax.specs.SpelledTypes.{type_text, words_in};
 ghost use Rattle.cls_syntax.specs.TypeSchemas.{with_constructors};
 ghost use Rattle.cls_syntax.specs.TypeTexts.{type_words};
-ghost use Rattle.cls_query.specs.FormAnswers.{AreInRange, listing_says, goal_says, form_says, goal_asked, listing_asked};
+ghost use Rattle.cls_query.specs.FormAnswers.{AreInRange, listing_says, goal_says, form_says, goal_asked, listing_asked, cursor_spelled, term_spelled, spelled_in};
 ghost use Rattle.cls_query.specs.Queries.{row_parts, tables_of, with_names, type_in, listing_of, goal_query, query_of};
 ghost use Rattle.cls_query.specs.QueryErrors.{row_types, is_outside};
 ghost use Rattle.cls_query.specs.QueryForms.{goal_rows, query_rows};
@@ -18,20 +19,22 @@ use crate::query::{Listing, Query};
 use cls_base::{OutOfMemory, Ty};
 use cls_lexer::Names;
 use cls_syntax::SpelledType;
-use cls_term::spelled_term;
+use cls_term::Term;
 use std::alloc::Global;
 
 impl QueryForm<'_, '_> {
-    /// The query. The names of its constructors are numbered in the order of its tokens. The only error is out of
-    /// memory, and leaves the table as before.
+    /// The query, whose term is this one. The names of its constructors are numbered in the order of its tokens. The
+    /// only error is out of memory, and leaves the table as before.
     pub fn query(
         &self,
         alloc: Global,
         constructors: &mut Names,
         components: &Names,
+        term: Option<Term>,
     ) -> Result<Query, OutOfMemory>
         requires closed { AllByRecursion (λ t. HasNoDollar (type_words t)) (row_types query_rows (form_says self.now)) }
         requires in_range { list_any is_outside (row_parts query_rows (form_says self.now)) ≡ false }
+        requires term { term ≡ option_map (spelled_in components.now) (term_spelled self.now) }
         ensures query { IfOk result (λ query. asked_of query
             ≡ query_of (tables_of constructors.new components.now) (form_says self.now)) }
         ensures constructors { OnOk result (constructors.new
@@ -44,11 +47,11 @@ impl QueryForm<'_, '_> {
                 Ok(Query::Sub(lower, upper))
             }
             QueryForm::Paths(name) => Ok(Query::Paths(components.number(name))),
-            QueryForm::Typed(term, goal) => {
-                let term = spelled_term(alloc, components, term)?;
+            QueryForm::Typed(_, goal) => {
+                let Some(term) = term else { unreachable!() };
                 Ok(Query::Typed(term, goal.ty(alloc, constructors)?))
             }
-            QueryForm::Asks(form) => Ok(form.query(alloc, constructors, components)?),
+            QueryForm::Asks(form) => Ok(form.query(alloc, constructors, term)?),
         }
     }
 }
@@ -59,12 +62,13 @@ impl GoalForm<'_, '_> {
         &self,
         alloc: Global,
         constructors: &mut Names,
-        components: &Names,
+        after: Option<Term>,
     ) -> Result<Query, OutOfMemory>
         requires closed { AllByRecursion (λ t. HasNoDollar (type_words t)) (row_types goal_rows (goal_says self.now)) }
         requires in_range { list_any is_outside (row_parts goal_rows (goal_says self.now)) ≡ false }
-        ensures query { IfOk result (λ query. asked_of query
-            ≡ goal_query (tables_of constructors.new components.now) (goal_says self.now)) }
+        ensures query { IfOk result (λ query. (components : _)
+            → after ≡ option_map (spelled_in components) (cursor_spelled self.now)
+            → asked_of query ≡ goal_query (tables_of constructors.new components) (goal_says self.now)) }
         ensures constructors { OnOk result (constructors.new
             ≡ with_names constructors.old (row_parts goal_rows (goal_says self.now))) }
         ensures stay { OnErr result (constructors.new ≡ constructors.old) }
@@ -72,7 +76,7 @@ impl GoalForm<'_, '_> {
         match self {
             GoalForm::Goal(word, goal) => Ok(word.query(goal.ty(alloc, constructors)?)),
             GoalForm::Page(word, form) => {
-                Ok(word.query(form.listing(alloc, constructors, components)?))
+                Ok(word.query(form.listing(alloc, constructors, after)?))
             }
         }
     }
@@ -107,28 +111,25 @@ impl ListingWord {
 }
 
 impl ListingForm<'_, '_> {
-    /// The page that is asked for. The names of its type are numbered in the order of its tokens. The only error is out
-    /// of memory, and leaves the table as before.
+    /// The page that is asked for, after this term. The names of its type are numbered in the order of its tokens. The
+    /// only error is out of memory, and leaves the table as before.
     fn listing(
         &self,
         alloc: Global,
         constructors: &mut Names,
-        components: &Names,
+        after: Option<Term>,
     ) -> Result<Listing, OutOfMemory>
         requires closed { HasNoDollar (words_in self.now.goal) }
         requires in_range { AreInRange self.now.max.text.now self.now.take.text.now }
-        ensures listing { IfOk result (λ listing. answers.listing_of listing
-            ≡ listing_of (tables_of constructors.new components.now) (listing_says self.now)) }
+        ensures listing { IfOk result (λ listing. (components : _)
+            → after ≡ option_map (spelled_in components) self.now.after
+            → answers.listing_of listing ≡ listing_of (tables_of constructors.new components) (listing_says self.now)) }
         ensures constructors { OnOk result (constructors.new
             ≡ with_constructors constructors.old (words_in self.now.goal)) }
         ensures stay { OnErr result (constructors.new ≡ constructors.old) }
     {
         let Some((max, take)) = self.numbers() else {
             unreachable!()
-        };
-        let after = match &self.after {
-            Some(term) => Some(spelled_term(alloc, components, term)?),
-            None => None,
         };
         let goal = self.goal.ty(alloc, constructors)?;
         Ok(Listing {

@@ -1,5 +1,5 @@
 //! The errors of a line that is a query: what its types, its numbers and the names of components decide.
-ghost use Rattle.std.specs.Prelude.{◌≡◌, false, ◌+◌, ◌<◌, ◌^◌, [], ◌∷◌, length, find, position, OnOk};
+ghost use Rattle.std.specs.Prelude.{◌≡◌, false, ◌+◌, ◌<◌, ◌^◌, [], ◌∷◌, length, find, position, IfOk, OnOk};
 ghost use Rattle.std.specs.List.{list_any};
 ghost use Rattle.std.specs.Option.{option_map, SomeIff};
 ghost use Rattle.cls_lexer.specs.Numerals.{number_value};
@@ -13,7 +13,7 @@ ghost use Rattle.cls_syntax.specs.SpelledTerms.{term_text};
 ghost use Rattle.cls_syntax.specs.SpelledTypes.{type_text};
 ghost use Rattle.cls_syntax.specs.TermTexts.{term_words};
 ghost use Rattle.cls_term.specs.TokenFaults as faults;
-ghost use Rattle.cls_query.specs.FormAnswers.{IsWithin, AreInRange, goal_says, form_says};
+ghost use Rattle.cls_query.specs.FormAnswers.{IsWithin, AreInRange, goal_says, form_says, term_spelled, spelled_in};
 ghost use Rattle.cls_query.specs.Queries.{row_parts};
 ghost use Rattle.cls_query.specs.QueryErrors.{row_types, is_large, is_outside, is_unknown, is_unknown_in_term};
 ghost use Rattle.cls_query.specs.QueryForms.{goal_rows, query_rows};
@@ -21,11 +21,13 @@ ghost use Rattle.cls_query.specs.Steps.{type_errors, value_errors, Tests};
 
 use crate::fault::LineFault;
 use crate::form::{GoalForm, ListingForm, QueryForm};
+use crate::greatest::greatest;
 use crate::line::CutLine;
 use cls_base::limits::{MAX_PAGE_TERMS, MAX_TERM_SIZE};
 use cls_lexer::{Names, Numeral};
 use cls_syntax::{SpelledTerm, SpelledType, first_variable};
-use cls_term::first_unknown;
+use cls_term::{Term, first_unknown, spelled_term};
+use std::alloc::Global;
 
 impl<'t, 'a> QueryForm<'t, 'a> {
     /// Whether its types are small and without variables.
@@ -44,16 +46,19 @@ impl<'t, 'a> QueryForm<'t, 'a> {
         }
     }
 
-    /// Whether its numbers are in their ranges and its components known.
+    /// Whether its numbers are in their ranges and its components known, and then its term, if it has one. Each name of
+    /// the term is looked up once, or once more where one is unknown, to find the first of these.
     pub fn check_values(
         &self,
+        alloc: Global,
         components: &Names,
         line: &CutLine<'t, 'a>,
-    ) -> Result<(), LineFault<'a>>
+    ) -> Result<Option<Term>, LineFault<'a>>
         requires { Says (row_words query_rows) (RowStands query_rows)
             (form_says self.now) (words_of line.now.text.now) }
         ensures tested { Tests (value_errors line.now.text.now components.now) result }
         ensures in_range { OnOk result (list_any is_outside (row_parts query_rows (form_says self.now)) ≡ false) }
+        ensures term { IfOk result (λ term. term ≡ option_map (spelled_in components.now) (term_spelled self.now)) }
     {
         if self.is_outside() {
             return Err(LineFault::OutOfRange);
@@ -61,9 +66,28 @@ impl<'t, 'a> QueryForm<'t, 'a> {
         if let Some(name) = self.unknown(components) {
             return Err(LineFault::UnknownComponent(name));
         }
+        let Some(spelled) = self.term() else {
+            return Ok(None);
+        };
+        // An unknown name gets the number of components, which no component has.
+        let term = spelled_term(alloc, components, &spelled)?;
+        if greatest(&term) < components.len() {
+            return Ok(Some(term));
+        }
         match self.unknown_in_term(components, line.tokens.len()) {
             Some(place) => Err(LineFault::UnknownInTerm(line.byte(place))),
-            None => Ok(()),
+            None => Ok(Some(term)),
+        }
+    }
+
+    /// Its term, if it has one.
+    fn term(&self) -> Option<SpelledTerm<'t, 'a>>
+        ensures { result ≡ term_spelled self.now }
+    {
+        match self {
+            QueryForm::Typed(term, _) => Some(*term),
+            QueryForm::Asks(GoalForm::Page(_, form)) => form.after,
+            _ => None,
         }
     }
 

@@ -13,6 +13,7 @@ mod build;
 mod checks;
 mod fault;
 mod form;
+mod greatest;
 pub mod laws;
 mod line;
 mod query;

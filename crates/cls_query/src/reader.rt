@@ -43,8 +43,8 @@ pub fn read_query<'a>(
     };
     let form = cut.form()?;
     form.check_types(&cut)?;
-    form.check_values(components, &cut)?;
-    Ok(form.query(alloc, constructors, components)?)
+    let term = form.check_values(alloc, components, &cut)?;
+    Ok(form.query(alloc, constructors, components, term)?)
 }
 
 /// The line as a text.

@@ -34,14 +34,14 @@ returns-in_err-check_types-clause-fault c =
     let failed = by_types tables c.args.line.now c.in_ok-text.ensures.tested spelled o found in
     search (rules, failed)
 
-pub returns-in_err-check_values-clause-fault : goal.returns-in_err-check_values-clause-fault
-returns-in_err-check_values-clause-fault c =
+pub returns-in_err-term-clause-fault : goal.returns-in_err-term-clause-fault
+returns-in_err-term-clause-fault c =
     let tables = tables_of c.args.constructors.now c.args.components.now in
     let same = c.in_ok-text.ensures.same in
-    let o = fault_words c.in_err-check_values.field-0.0 in
+    let o = fault_words c.in_err-term.field-0.0 in
     let spelled = subst (λ (l : List ℕ). IsSilent (First (spelling_errors l))) same c.in_ok-form.ensures.tested in
     let typed = subst (λ (l : List ℕ). IsSilent (First (type_errors l))) same c.in_ok-check_types.ensures.tested in
-    let found = subst (λ (l : List ℕ). IfSome o (λ w. First (value_errors l c.args.components.now) w)) same c.in_err-check_values.ensures.tested in
+    let found = subst (λ (l : List ℕ). IfSome o (λ w. First (value_errors l c.args.components.now) w)) same c.in_err-term.ensures.tested in
     let failed = by_values tables c.args.line.now c.in_ok-text.ensures.tested spelled typed o found in
     search (rules, failed)
 
@@ -57,7 +57,7 @@ returns-clause-query c =
     let said = form_says c.in_ok-form.form in
     let spelled = subst (λ (l : List ℕ). IsSilent (First (spelling_errors l))) same c.in_ok-form.ensures.tested in
     let typed = subst (λ (l : List ℕ). IsSilent (First (type_errors l))) same c.in_ok-check_types.ensures.tested in
-    let valued = subst (λ (l : List ℕ). IsSilent (First (value_errors l c.args.components.now))) same c.in_ok-check_values.ensures.tested in
+    let valued = subst (λ (l : List ℕ). IsSilent (First (value_errors l c.args.components.now))) same c.in_ok-term.ensures.tested in
     record {
       faultless = all_silent tables c.args.line.now c.in_ok-text.ensures.tested spelled typed valued;
       said = said;

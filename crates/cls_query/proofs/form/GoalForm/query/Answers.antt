@@ -14,8 +14,8 @@ listing-requires-clause-in_range c =
     (sym (page_outside_is (ap Asks c.in-Page.is)) ∙ c.requires.in_range)
 
 pub returns-in_ok-ty-in-Goal-clause-query : goal.returns-in_ok-ty-in-Goal-clause-query
-returns-in_ok-ty-in-Goal-clause-query c =
-    let tables = tables_of c.ty.new.constructors c.args.components.now in
+returns-in_ok-ty-in-Goal-clause-query c components given =
+    let tables = tables_of c.ty.new.constructors components in
     let type_is = spelled_is c.ty.new.constructors (type_text c.in-Goal.goal) _ c.in_ok-ty-in-Goal.ensures.ty in
     c.query.ensures
     ∙ (ap (goal_asked c.in-Goal.word) type_is

@@ -1,16 +1,18 @@
-use Rattle.std.proofs.Common.{Bor, ℕ, ◌++◌, List, sym, ap, ◌∙◌, subst, length}
-use Rattle.std.specs.Prelude.{codes}
+use Rattle.std.proofs.Common.{Bor, ℕ, ◌<◌, ◌++◌, List, sym, ap, ◌∙◌, subst, length, arith}
+use Rattle.std.specs.Prelude.{codes, Some, None}
 use Rattle.std.specs.Fmt.{decimal}
 use Rattle.std.proofs.lemmas.List.{length-map}
 use Rattle.cls_base.specs.Firsts.{First}
 use Rattle.cls_lexer.specs.Words.{word_of}
 use Rattle.cls_syntax.specs.declared.role.Role.TheVariants.{Component}
 use Rattle.cls_syntax.specs.Forms.{part_word, naming}
+use Rattle.cls_term.specs.Components.{greatest_of}
 use Rattle.cls_query.proofs.Searches.{never_some}
-use Rattle.cls_query.specs.FormAnswers.{form_says}
+use Rattle.cls_query.specs.FormAnswers.{form_says, spelled_in}
 use Rattle.cls_query.specs.Queries.{row_parts}
 use Rattle.cls_query.specs.QueryForms.{query_rows}
 use Rattle.cls_query.specs.Steps.{value_errors}
+use Rattle.cls_query.proofs.HeldTerms.{form_held}
 use Rattle.cls_query.proofs.LineSteps.{unknown_said, term_said, values_silent}
 use Rattle.cls_query.proofs.RowParts.{words_of_parts}
 use Rattle.cls_query.proofs.form.QueryForm.check_values.Goals as goal
@@ -33,8 +35,23 @@ returns-in-Some-unknown_in_term-clause-tested c =
     subst (λ (b : ℕ). First (value_errors line c.args.components.now) (codes "token " ++ decimal b)) (sym c.byte.ensures)
     (term_said line (form_says c.args.self.now) c.requires c.args.components.now inside none c.in-Some-unknown_in_term.place (sym c.unknown_in_term.ensures ∙ c.in-Some-unknown_in_term.is))
 
-pub returns-in-None-clause-tested : goal.returns-in-None-clause-tested
-returns-in-None-clause-tested c =
+pub returns-in_default-term-clause-tested : goal.returns-in_default-term-clause-tested
+returns-in_default-term-clause-tested c =
+    let placed = form_held c.args.components.now c.args.self.now None (sym c.term.ensures ∙ c.in_default-term.is) tt in
+    let inside = sym c.is_outside.ensures ∙ c.if-is_outside.false in
+    let none = c.unknown.ensures ∙ never_some (λ (name : Bor (List ℕ)). naming Component name.now) c.unknown.result c.in_default.not-Some in
+    values_silent c.args.line.now.text.now (form_says c.args.self.now) c.requires c.args.components.now inside none placed
+
+pub returns-then-greatest-len-clause-tested : goal.returns-then-greatest-len-clause-tested
+returns-then-greatest-len-clause-tested c =
+    let below : greatest_of (spelled_in c.args.components.now c.in-Some-term.spelled) < length c.args.components.now = omega (arith, c.if-greatest-len.true, c.greatest.ensures, c.len.ensures.count, ap greatest_of c.in_ok-term.ensures) in
+    let placed = form_held c.args.components.now c.args.self.now (Some c.in-Some-term.spelled) (sym c.term.ensures ∙ c.in-Some-term.is) below in
+    let inside = sym c.is_outside.ensures ∙ c.if-is_outside.false in
+    let none = c.unknown.ensures ∙ never_some (λ (name : Bor (List ℕ)). naming Component name.now) c.unknown.result c.in_default.not-Some in
+    values_silent c.args.line.now.text.now (form_says c.args.self.now) c.requires c.args.components.now inside none placed
+
+pub returns-clause-tested : goal.returns-clause-tested
+returns-clause-tested c =
     let inside = sym c.is_outside.ensures ∙ c.if-is_outside.false in
     let none = c.unknown.ensures ∙ never_some (λ (name : Bor (List ℕ)). naming Component name.now) c.unknown.result c.in_default.not-Some in
     values_silent c.args.line.now.text.now (form_says c.args.self.now) c.requires c.args.components.now inside none (sym c.unknown_in_term.ensures ∙ c.in-None.is)
