@@ -1,9 +1,12 @@
+mod Columns
 pub mod Feeds
+mod KeyedTexts
 pub mod LineEndings
 pub mod LinePieces
 pub mod Numerals
 pub mod Positions
 pub mod Runs
+mod TextKeys
 pub mod TextTables
 pub mod TokenCuts
 pub mod TokenPlaces

@@ -1,42 +1,25 @@
 -- The number of a text in a table of texts.
-use Rattle.std.proofs.Common.{◌≡◌, ℕ, ◌<◌, ◌^◌, take, length, ltb, cond, Bool, true, false, List, [], ◌∷◌, ◌++◌, map, get_or, Option, Some, None, refl, ap, sym, ◌∙◌, arith, Contains, slice_get}
-use Rattle.std.specs.List.{list_any, position, position_or_len, IsDistinct, AllByRecursion}
+use Rattle.std.proofs.Common.{◌≡◌, ℕ, ◌<◌, ◌^◌, take, length, map, ◌∷◌, ltb, cond, Bool, true, false, List, [], get_or, Some, None, refl, ap, sym, ◌∙◌, arith, Contains, slice_get}
+use Rattle.std.specs.List.{list_any, position, position_or_len, IsDistinct}
 use Rattle.std.specs.Str.{bytes_eq}
 use Rattle.std.proofs.Common.{not}
 use Rattle.std.proofs.lemmas.Bool.{true≢false, not-true, ltb-false}
-use Rattle.std.proofs.lemmas.List.{get_or_default, length-map, map-append, length-take}
+use Rattle.std.proofs.lemmas.List.{get_or_default, length-map, length-take}
 use Rattle.std.proofs.lemmas.List.Sums.{prefix_len_passes, prefix_len-le-length}
 use Rattle.std.proofs.lemmas.List.Folds.{list_any_at}
 use Rattle.std.proofs.lemmas.List.Quantifiers.{position-Some}
-use Rattle.std.proofs.lemmas.Option.{slice_get-get_or, slice_get-map, slice_get_within, get_or_from_slice_get}
-use Rattle.std.specs.Option.{option_map}
-use Rattle.std.specs.Prelude.{if◌then◌else◌, String}
-use Rattle.std.specs.String.{string_bytes, string_eq}
-use Rattle.indexmap.specs.IndexSet.{insert_key}
+use Rattle.std.proofs.lemmas.Option.{slice_get-get_or}
 use Rattle.std.proofs.lemmas.Slice.Eq.{bytes_eq-Decides}
 use Rattle.cls_lexer.proofs.Positions.{position-found, position-none}
 use Rattle.cls_lexer.specs.Names.{IsTable, number_of, with_text}
 
 module _ {X Y : Type 0} (f : X → Y) where
-  pub list_any-map : (p : Y → Bool) (xs : List X) → list_any p (map f xs) ≡ list_any (λ x. p (f x)) xs
-  list_any-map p [] = refl
-  list_any-map p (x ∷ xs) = rw (list_any-map p xs) refl
-
-  pub position_or_len-map : (p : Y → Bool) (xs : List X) → position_or_len p (map f xs) ≡ position_or_len (λ x. p (f x)) xs
+  position_or_len-map : (p : Y → Bool) (xs : List X) → position_or_len p (map f xs) ≡ position_or_len (λ x. p (f x)) xs
   position_or_len-map p [] = refl
   position_or_len-map p (x ∷ xs) = rw (position_or_len-map p xs) refl
 
   pub position-map : (p : Y → Bool) (xs : List X) → position p (map f xs) ≡ position (λ x. p (f x)) xs
   position-map p xs = rw (position_or_len-map p xs, length-map xs f) refl
-
-  apart-map : (p : Y → Bool) (xs : List X) → AllByRecursion (λ x. p (f x) ≡ false) xs → AllByRecursion (λ y. p y ≡ false) (map f xs)
-  apart-map p [] h = tt
-  apart-map p (x ∷ xs) h = (h.0, apart-map p xs h.1)
-
-  pub IsDistinct-map : (e : Y → Y → Bool) (xs : List X) → IsDistinct (λ a b. e (f a) (f b)) xs → IsDistinct e (map f xs)
-  unfolding IsDistinct
-  IsDistinct-map e [] h = tt
-  IsDistinct-map e (x ∷ xs) h = (apart-map (e (f x)) xs h.0, IsDistinct-map e xs h.1)
 
 -- what a number that was found says
 pub record IsFound (texts : List (List ℕ)) (text : List ℕ) (place : ℕ) : Type 0 where
@@ -65,31 +48,6 @@ absent texts text h at =
     let passes = prefix_len_passes (λ t. not (bytes_eq text t)) texts at.0 text (omega (arith, late, at.1)) in
     let same : bytes_eq text (get_or texts at.0 text) ≡ true = (bytes_eq-Decides text _).1 (sym at.2) in
     true≢false (sym same ∙ not-true _ passes)
-
--- a text that stands in the table changes nothing
-pub with_text-held : (texts : List (List ℕ)) (text : List ℕ) (n : ℕ) → slice_get texts n ≡ Some text → with_text texts text ≡ texts
-with_text-held texts text n h =
-    let same = get_or_from_slice_get texts n text text h in
-    let any : list_any (bytes_eq text) texts ≡ true = list_any_at (bytes_eq text) texts n text (slice_get_within texts n text h) ((bytes_eq-Decides text _).1 (sym same)) in
-    rw any refl
-
--- the table that a set of strings becomes with one more
-module _ {A : Type 0} where
-  pub map-insert_key :
-      (keys : List (String A)) (key : String A)
-      → map string_bytes (insert_key string_eq keys key) ≡ with_text (map string_bytes keys) (string_bytes key)
-  map-insert_key keys key =
-      let same = list_any-map string_bytes (bytes_eq (string_bytes key)) keys in
-      (elim (list_any (string_eq key) keys) as (λ b. map string_bytes (if b then keys else keys ++ key ∷ []) ≡ (if b then map string_bytes keys else map string_bytes keys ++ string_bytes key ∷ [])) [
-        | true ↦ refl
-        | false ↦ map-append string_bytes keys (key ∷ [])
-      ]) ∙ ap (λ (b : Bool). if b then map string_bytes keys else map string_bytes keys ++ string_bytes key ∷ []) (sym same)
-
-  pub stored_text :
-      (keys : List (String A)) (place : ℕ) (text : List ℕ) (key k : String A) → string_bytes key ≡ text
-      → slice_get keys place ≡ Some k → string_eq key k ≡ true → slice_get (map string_bytes keys) place ≡ Some text
-  stored_text keys place text key k is at same =
-      slice_get-map string_bytes keys place ∙ (ap (λ (o : Option (String A)). option_map string_bytes o) at ∙ ap (λ (t : List ℕ). Some t) (sym ((bytes_eq-Decides (string_bytes key) (string_bytes k)).0 same) ∙ is))
 
 -- the table with no text
 pub no_texts : IsTable []

@@ -1,6 +1,7 @@
 -- To be read and believed: Lines, Skipped, Characters, Spelling, Numerals, Names and Words. Tokens scans as the code does; laws
 -- say by Spelling what it comes to.
 pub mod Characters
+pub mod Columns
 pub mod Contents
 pub mod LineLaws
 pub mod Lines
@@ -8,5 +9,6 @@ pub mod Names
 pub mod Numerals
 pub mod Skipped
 pub mod Spelling
+pub mod TextKeys
 pub mod Tokens
 pub mod Words

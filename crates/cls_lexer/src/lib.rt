@@ -13,6 +13,8 @@ mod line_reader;
 mod names;
 mod numeral;
 mod scan;
+mod text_key;
+mod texts;
 mod token;
 
 pub use line::{Line, TextFault};

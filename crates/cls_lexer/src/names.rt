@@ -1,8 +1,11 @@
 ghost use Rattle.std.specs.Prelude.{◌≡◌, ℕ, ◌-◌, ◌^◌, ◌<◌, ◌↔◌, List, [], Some, None, length, take, map, Contains, IsTrue, IsNone, IfSome, IfOk, OnOk, OnErr, slice_get, slice_index_or};
-ghost use Rattle.std.specs.List.{IsDistinct, remove};
+ghost use Rattle.std.specs.List.{IsDistinct, position, remove};
 ghost use Rattle.std.specs.Str.{bytes_eq};
 ghost use Rattle.cls_lexer.specs.Names.{number_of, with_text};
+ghost use Rattle.cls_lexer.specs.TextKeys.{IsKeyOf};
 
+use crate::text_key::{TextKey, key_of};
+use crate::texts::Texts;
 use cls_base::{Name, OutOfMemory};
 use indexmap::IndexSet;
 use std::alloc::Global;
@@ -12,25 +15,27 @@ use std::marker::Model;
 ///
 /// It is seen as the list of the texts. None stands twice, and there are fewer than 2^32.
 pub struct Names {
-    texts: IndexSet<String>,
+    keys: IndexSet<TextKey<String>>, // Of the texts, in the same order.
+    texts: Texts,
 }
 
 // Not derived, for the prover: so a caller's proof has one step where a value is dropped, and not one for each part of it.
 impl Drop for Names {
     fn drop(self) {
-        let Names { texts: _ } = self;
+        let Names { keys: _, texts: _ } = self;
     }
 }
 
 impl Model for Names {
-    ghost use Rattle.std.specs.Prelude.{ℕ, List, map, string_bytes};
+    ghost use Rattle.std.specs.Prelude.{ℕ, List};
     ghost use Rattle.cls_lexer.specs.Names.{IsTable};
+    ghost use Rattle.cls_lexer.specs.TextKeys.{AreKeysOf};
 
     ghost Value = { List (List ℕ) };
 
-    ghost view = { λ n. map string_bytes n.texts.keys };
+    ghost view = { λ n. n.texts };
 
-    ghost invariant = { λ n. IsTable (map string_bytes n.texts.keys) };
+    ghost invariant = { λ n. IsTable n.texts × AreKeysOf n.keys.keys n.texts };
 }
 
 impl Names {
@@ -39,7 +44,8 @@ impl Names {
         ensures { result ≡ [] }
     {
         Names {
-            texts: IndexSet::new(alloc),
+            keys: IndexSet::new(alloc),
+            texts: Texts::new(alloc),
         }
     }
 
@@ -55,7 +61,7 @@ impl Names {
     pub fn is_empty(&self) -> bool
         ensures { IsTrue result ↔ (length self.now ≡ 0) }
     {
-        self.texts.is_empty()
+        self.texts.len() == 0
     }
 
     /// The number of the text. A text that is known keeps its number, and a new one goes last.
@@ -69,11 +75,16 @@ impl Names {
         ensures distinct { IsDistinct bytes_eq self.new }
         ensures err { OnErr result (self.new ≡ self.old) }
     {
-        if let Some(name) = self.find(text) {
-            return Ok(name);
+        let key = key_of(text);
+        if let Some(place) = self.place_of(key) {
+            return Ok(Name(place));
         }
-        let (place, _) = self.texts.insert_full(String::from_str(alloc, text)?)?;
-        Ok(Name(place as u32))
+        let own = key.into_owned(alloc)?;
+        let name = Name(self.len());
+        self.keys.reserve(1)?; // So that there is an error only while all is as before.
+        self.texts.push(text)?;
+        self.keys.insert_full(own)?;
+        Ok(name)
     }
 
     /// The number of the text, or None if it isn't held.
@@ -82,8 +93,17 @@ impl Names {
         ensures number { IfSome result (λ name. name.0 ≡ number_of self.now text.now) }
         ensures stands { IfSome result (λ name. slice_get self.now name.0 ≡ Some text.now) }
     {
-        let place = self.texts.get_index_of(text)?;
-        Some(Name(place as u32))
+        let place = self.place_of(key_of(text))?;
+        Some(Name(place))
+    }
+
+    /// The place of the text that has the key.
+    fn place_of(&self, key: TextKey<&str>) -> Option<u32>
+        ensures { (text : List ℕ)
+            → IsKeyOf (λ own. own.now) key.entry text → result ≡ position (bytes_eq text) self.now }
+    {
+        let place = self.keys.get_index_of(key)?;
+        Some(place as u32)
     }
 
     /// The number of the text, or the number of texts if it isn't held.
@@ -102,6 +122,7 @@ impl Names {
         ensures kept { self.new ≡ take len self.old }
         ensures distinct { IsDistinct bytes_eq self.new }
     {
+        self.keys.truncate(len as usize);
         self.texts.truncate(len as usize);
     }
 
@@ -111,16 +132,14 @@ impl Names {
         ensures removed { self.new ≡ remove self.old name.0 }
         ensures distinct { IsDistinct bytes_eq self.new }
     {
-        self.texts.shift_remove_index(name.0 as usize);
+        self.keys.shift_remove_index(name.0 as usize);
+        self.texts.remove(name.0 as usize);
     }
 
     /// The text of the number. A number that no text has gives the empty text.
     pub fn text(&self, name: Name) -> &str
         ensures { result.now ≡ slice_index_or self.now name.0 [] }
     {
-        match self.texts.get_index(name.0 as usize) {
-            Some(text) => text.as_str(),
-            None => "",
-        }
+        self.texts.get(name.0 as usize)
     }
 }

@@ -18,4 +18,4 @@ returns c =
       | else-count-gt0-via-else-count-gt0 w ↦
           let z : length c.args.bytes.now ≡ 0 = omega (arith, w.if-count-gt0.false) in
           rw (nil_from_length c.args.bytes.now z) refl
-      ]
+    ]

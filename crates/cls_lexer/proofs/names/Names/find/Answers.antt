@@ -1,16 +1,14 @@
-use Rattle.std.proofs.Common.{List, sym, ap, ◌∙◌, ℕ, string_bytes, rules}
-use Rattle.std.specs.List.{position}
-use Rattle.std.specs.Str.{bytes_eq}
-use Rattle.cls_lexer.proofs.TextTables.{position-map, IsFound, found, absent}
+use Rattle.std.proofs.Common.{sym, rules}
+use Rattle.cls_lexer.proofs.TextTables.{IsFound, found, absent}
 use Rattle.cls_lexer.proofs.names.Names.find.Goals as goal
 
--- what the set answered, in the words of the table
+-- what the keys answered, in the words of the table
 answer : (c : goal.In_ok-place) → IsFound c.args.self.now c.args.text.now c.in_ok-place.place
-answer c = found c.args.self.now c.args.text.now c.in_ok-place.place (ap (λ (texts : List (List ℕ)). position (bytes_eq c.args.text.now) texts) (sym c.self.view_is) ∙ (position-map string_bytes (bytes_eq c.args.text.now) c.self.inside.texts.keys ∙ sym c.in_ok-place.ensures.index))
+answer c = found c.args.self.now c.args.text.now c.in_ok-place.place (sym (c.in_ok-place.ensures c.args.text.now c.key_of.ensures))
 
 pub returns-in_err-place-clause-absent : goal.returns-in_err-place-clause-absent
 returns-in_err-place-clause-absent c =
-    (λ _. absent c.args.self.now c.args.text.now (ap (λ (texts : List (List ℕ)). position (bytes_eq c.args.text.now) texts) (sym c.self.view_is) ∙ (position-map string_bytes (bytes_eq c.args.text.now) c.self.inside.texts.keys ∙ sym c.in_err-place.ensures.index)), λ _. search rules)
+    (λ _. absent c.args.self.now c.args.text.now (sym (c.in_err-place.ensures c.args.text.now c.key_of.ensures)), λ _. search rules)
 
 pub returns-clause-absent : goal.returns-clause-absent
 returns-clause-absent c = (λ no _. cc, λ not_held. absurd (not_held (answer c).held))

@@ -1,0 +1,94 @@
+//! What a text is looked up by.
+ghost use Rattle.std.specs.Prelude.{◌≡◌, ℕ, ◌<◌, List, length, string_bytes, IfOk};
+ghost use Rattle.cls_lexer.specs.TextKeys.{text_number, IsKeyOf};
+
+use cls_base::OutOfMemory;
+use indexmap::Equivalent;
+use std::alloc::Global;
+use std::hash::{Hash, Hasher};
+
+/// A text of fewer than 16 bytes as a number, which is compared in place, or a longer one as it is.
+///
+/// The digits of the number in base 256 are the bytes, the first of them the lowest, and then a 1. So two texts never have the
+/// same number.
+#[derive(Clone, Copy, PartialEq, Eq)]
+pub(crate) enum TextKey<T> {
+    Short(u128),
+    Long(T),
+}
+
+impl<T: Hash> Hash for TextKey<T> {
+    ghost use Rattle.cls_lexer.specs.TextKeys.{key_writes};
+    ghost use Rattle.std.proofs.Common.{rules};
+
+    ghost hash_input = { key_writes T.hash_input };
+
+    ghost respects_eq = { Prim.search rules };
+
+    fn hash<H: Hasher>(&self, state: &mut H) {
+        match self {
+            TextKey::Short(number) => number.hash(state),
+            TextKey::Long(text) => text.hash(state),
+        }
+    }
+}
+
+impl<'a> Equivalent<TextKey<String>> for TextKey<&'a str> {
+    ghost use Rattle.std.specs.Str.{bytes_eq};
+    ghost use Rattle.std.specs.String.{string_bytes};
+    ghost use Rattle.cls_lexer.specs.TextKeys.{keys_equal};
+    ghost use Rattle.std.proofs.Common.{rules};
+
+    ghost equivalent = { keys_equal (λ text own. bytes_eq text.now (string_bytes own)) };
+
+    ghost respects_hash = { Prim.search rules };
+
+    ghost respects_eq = { Prim.search rules };
+
+    fn equivalent(&self, key: &TextKey<String>) -> bool {
+        match (self, key) {
+            (TextKey::Short(number), TextKey::Short(other)) => *number == *other,
+            (TextKey::Long(text), TextKey::Long(own)) => *text == own.as_str(),
+            _ => false,
+        }
+    }
+}
+
+impl TextKey<&str> {
+    /// The same key, which owns its text. The only error is out of memory.
+    pub(crate) fn into_owned(self, alloc: Global) -> Result<TextKey<String>, OutOfMemory>
+        ensures { IfOk result (λ own.
+            (text : List ℕ) → IsKeyOf (λ t. t.now) self.entry text → IsKeyOf string_bytes own text) }
+    {
+        match self {
+            TextKey::Short(number) => Ok(TextKey::Short(number)),
+            TextKey::Long(text) => Ok(TextKey::Long(String::from_str(alloc, text)?)),
+        }
+    }
+}
+
+/// The number of a short text.
+#[tactic(auto, using(crate::proofs::TextKeys::number_step, crate::proofs::TextKeys::number_room))]
+fn number_of_bytes(text: &[u8]) -> u128
+    requires { length text.now < 16 }
+    ensures { result ≡ text_number text.now }
+{
+    let mut number = 1u128;
+    let mut place = text.len();
+    while place > 0 {
+        place -= 1;
+        number = number * 256 + text[place] as u128;
+    }
+    number
+}
+
+/// The key by which a text is looked up. It borrows the text.
+pub(crate) fn key_of(text: &str) -> TextKey<&str>
+    ensures { IsKeyOf (λ own. own.now) result text.now }
+{
+    if text.len() < 16 {
+        TextKey::Short(number_of_bytes(text.as_bytes()))
+    } else {
+        TextKey::Long(text)
+    }
+}
