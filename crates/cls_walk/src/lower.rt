@@ -51,8 +51,7 @@ fn sure_ways_of(alloc: Global, stage: &Stage, rules: &NodeRules) -> Result<u64, 
     if u64::from(stage.size) > MAX_TERM_LENGTH {
         return Ok(0);
     }
-    let heads = runs_of(alloc, stage, rules, false)?;
-    let alone = runs_of(alloc, stage, rules, true)?;
+    let (heads, alone) = runs_of(alloc, stage, rules)?;
     Ok(greater(heads, plus(alone, greatest_pair(stage, rules))))
 }
 

@@ -1,12 +1,13 @@
 //! The sum over the runs of head rules that can make the same term, a component with as many arguments, of the
 //! greatest number of ways in each.
-ghost use Rattle.std.specs.Prelude.{◌≡◌, ℕ, IfOk, List, ◌∷◌, length};
+ghost use Rattle.std.specs.Prelude.{◌≡◌, ℕ, true, false, IfOk, List, ◌∷◌, length};
 ghost use Rattle.cls_base.specs.declared.rule.Rule.{Rule};
 ghost use Rattle.cls_rulebook.specs.Columns.{rule_of};
 ghost use Rattle.cls_walk.specs.Counts.{HeadRule, heads_of, runs};
 ghost use Rattle.cls_walk.specs.Runs.{KeepsSum};
 ghost use Rattle.cls_walk.specs.Stages.{ways_if};
 ghost use Rattle.cls_walk.specs.Tables.{capped};
+ghost use Rattle.cls_walk.specs.declared.stage.Stage.{Stage};
 
 use crate::numbers::{greater, plus};
 use crate::stage::Stage;
@@ -44,63 +45,83 @@ fn with_head(run: Run, component: u32, arguments: usize, ways: u64) -> Run
     }
 }
 
-/// In how many ways a head rule makes a term, where one with arguments may count for nothing.
+/// The runs of the head rules, and those where one with arguments counts for nothing.
+#[derive(Clone, Copy)]
+pub(crate) struct Runs {
+    all: Run,
+    alone: Run,
+}
+
+/// In how many ways a head rule makes a term.
 fn ways_of_head(
     alloc: Global,
     stage: &Stage,
     component: u32,
     nodes: &[u32],
-    alone: bool,
 ) -> Result<u64, OutOfMemory>
-    ensures { IfOk result (λ n. n ≡ capped (ways_if stage.now alone (component, nodes.now))) }
+    ensures { IfOk result (λ n. n ≡ capped (ways_if stage.now false (component, nodes.now))) }
 {
     if nodes.is_empty() {
         return Ok(leaf_ways_of(stage, component));
     }
-    if alone {
-        return Ok(0);
-    }
     Ok(head_ways_of(alloc, stage, component, nodes)?)
 }
 
-/// The run with one more rule, where head rules with arguments may count for nothing. A pair of nodes is none.
+/// The same where a rule with arguments counts for nothing, from these ways.
+fn ways_if_leaf(nodes: &[u32], ways: u64) -> u64
+    ensures { (stage : Stage) (x : ℕ) → ways ≡ capped (ways_if stage false (x, nodes.now))
+        → result ≡ capped (ways_if stage true (x, nodes.now)) }
+{
+    if nodes.is_empty() { ways } else { 0 }
+}
+
+/// The runs with one more rule. A pair of nodes is none.
 fn with_rule(
     alloc: Global,
     stage: &Stage,
     rule: RuleRef<'_>,
-    alone: bool,
-    run: Run,
-) -> Result<Run, OutOfMemory>
-    ensures { IfOk result (λ new. (rs : List (Rule ℕ))
-        → KeepsSum (ways_if stage.now alone) (heads_of (rule_of rule.entry ∷ rs)) (heads_of rs) run new) }
+    runs: Runs,
+) -> Result<Runs, OutOfMemory>
+    ensures all { IfOk result (λ new. (rs : List (Rule ℕ)) → KeepsSum
+        (ways_if stage.now false) (heads_of (rule_of rule.entry ∷ rs)) (heads_of rs) runs.all new.all) }
+    ensures alone { IfOk result (λ new. (rs : List (Rule ℕ)) → KeepsSum
+        (ways_if stage.now true) (heads_of (rule_of rule.entry ∷ rs)) (heads_of rs) runs.alone new.alone) }
 {
     match rule {
         RuleRef::Head { component, args } => {
-            let ways = ways_of_head(alloc, stage, component, args, alone)?;
-            Ok(with_head(run, component, args.len(), ways))
+            let ways = ways_of_head(alloc, stage, component, args)?;
+            Ok(Runs {
+                all: with_head(runs.all, component, args.len(), ways),
+                alone: with_head(runs.alone, component, args.len(), ways_if_leaf(args, ways)),
+            })
         }
-        RuleRef::Any { left: _, right: _ } => Ok(run),
+        RuleRef::Any { left: _, right: _ } => Ok(runs),
     }
 }
 
-/// The sum over the runs of the head rules, where those with arguments may count for nothing.
+/// The sum over the runs of the head rules, and that where those with arguments count for nothing.
 pub(crate) fn runs_of(
     alloc: Global,
     stage: &Stage,
     rules: &NodeRules,
-    alone: bool,
-) -> Result<u64, OutOfMemory>
-    ensures { IfOk result (λ n. n ≡ capped (runs (ways_if stage.now alone) (heads_of rules.now))) }
+) -> Result<(u64, u64), OutOfMemory>
+    ensures all { IfOk result (λ n. n.0 ≡ capped (runs (ways_if stage.now false) (heads_of rules.now))) }
+    ensures alone { IfOk result (λ n. n.1 ≡ capped (runs (ways_if stage.now true) (heads_of rules.now))) }
 {
-    let mut run = Run {
+    let none = Run {
         component: 0,
         arguments: 0,
         best: 0,
         total: 0,
     };
+    let mut runs = Runs {
+        all: none,
+        alone: none,
+    };
     for place in 0..rules.len() {
         let rule = rules.get(place);
-        run = with_rule(alloc, stage, rule, alone, run)?;
+        runs = with_rule(alloc, stage, rule, runs)?;
     }
-    Ok(plus(run.total, run.best))
+    let Runs { all, alone } = runs;
+    Ok((plus(all.total, all.best), plus(alone.total, alone.best)))
 }
