@@ -10,7 +10,7 @@ use Rattle.std.proofs.lemmas.Bool.{false≢true}
 use Rattle.std.proofs.lemmas.List.Elements.{Contains-push, Contains-push_cases, Contains-append_left, Contains-append_right, Contains-append_cases}
 use Rattle.std.proofs.lemmas.List.MinMax.{ranks_by}
 use Rattle.std.proofs.lemmas.List.Quantifiers.{position-Some}
-use Rattle.std.proofs.lemmas.List.Sorted.{sorted_far, Contains-permutation, IsPermutation-sym}
+use Rattle.std.proofs.lemmas.List.Sorted.{sorted_far, Contains-permutation, IsPermutation-refl, IsPermutation-sym}
 use Rattle.std.proofs.lemmas.Map.Keys.{IsDistinct-head, IsDistinct-tail, IsDistinct-cons, IsDistinct-IsPermutation}
 use Rattle.cls_base.proofs.Lists.{Contains-nil, Contains-here, Contains-later, Contains-cases}
 use Rattle.cls_base.specs.Taxonomies.{Variance}
@@ -409,6 +409,13 @@ module _ (test : ℕ → ℕ → Bool) (variance : ℕ → Variance) where
           lower = subst (λ l. PathsLe (Below test) variance (listed out) l) (sym back) lower;
           upper = subst (λ l. PathsLe (Below test) variance l (listed out)) (sym back) upper;
         }
+
+    -- a list of at most one path is its own normal form
+    pub form_of_one :
+        (paths : List TypePath) → length paths ≤ 1 → SuitsAll variance (listed paths) → EachCanonical (Below test) variance (listed paths)
+        → IsNormalForm (Below test) variance (type_of_paths (listed paths)) (listed paths)
+    form_of_one paths l s c =
+        sorted_form paths paths paths s c (reduced_one paths l s) (IsPermutation-refl paths) (λ k d low high. absurd (omega arith))
 
     -- groups by a key are apart
     module _ (class : ℕ → ℕ) (one_class : (c d : ℕ) → Below test c d → class c ≡ class d) (mask : Mask) (paths : List TypePath) (suits : SuitsAll variance (listed paths)) (fits : (p : TypePath) → Contains paths p → Fits mask (label_of class p)) where

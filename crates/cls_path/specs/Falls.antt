@@ -3,11 +3,13 @@ use Rattle.std.specs.Prelude.{◌+◌, ◌≤◌, List, [], ◌∷◌, max, ◌�
 use Rattle.std.proofs.Common.{arith, ap}
 use denote.Param.Weighed.{most}
 use Rattle.cls_path.specs.Paths.{TypePath, listed}
-use Rattle.cls_path.specs.Seen.{path_of}
+use Rattle.cls_path.specs.Seen.{path_of, items_of}
 use Rattle.cls_path.specs.Sizes.{size_of, sizes_of, list_size}
 use Rattle.cls_path.specs.declared.path.Form.{Form}
 use Rattle.cls_path.specs.declared.path.Form.TheVariants.{Atom, Con, Unit, Left, Right, Arrow, Sealed}
-use Rattle.cls_path.specs.declared.path.Nf.TheDeep.{deep-Form}
+use Rattle.cls_path.specs.declared.path.Nf.TheDeep.{deep-Form, deep-PathList}
+use Rattle.cls_path.specs.declared.path.PathList.{PathList}
+use Rattle.cls_path.specs.declared.path.PathList.TheVariants.{One, Several}
 
 pub sizes_of-listed : (ps : List TypePath) → sizes_of (listed ps) ≡ list_size ps
 sizes_of-listed [] = refl
@@ -26,5 +28,6 @@ most_falls : (ps : List TypePath) → most (λ p. size_of p + 1) ps ≤ list_siz
 most_falls [] = omega arith
 most_falls (p ∷ ps) = omega (arith, most_falls ps)
 
-pub list_falls : (ps : List TypePath) → max (most (λ p. size_of p + 1) ps) 0 ≤ list_size ps
-list_falls ps = omega (arith, most_falls ps)
+pub list_falls : (l : PathList) → max (deep-PathList l) 0 ≤ list_size (items_of l)
+list_falls (One p alloc) = omega arith
+list_falls (Several ps) = omega (arith, most_falls ps.items)

@@ -5,7 +5,7 @@ ghost use Rattle.cls_base.specs.Subtyping.{Subtype};
 ghost use Rattle.cls_path.specs.Paths.{PathLe, PathsLe, Suits, SuitsAll, type_of_path, type_of_paths, listed};
 ghost use Rattle.cls_path.specs.Tests.{path_below, list_below, some_below, same_paths, sealed_below};
 
-use crate::path::{Form, Nf, Path};
+use crate::path::{Form, Nf, Path, PathList};
 use cls_base::{Taxa, Variance};
 
 impl Path {
@@ -69,7 +69,7 @@ impl Nf {
         ensures { result
             ≡ list_below (T.is_below taxa.now) (T.variance_of_name taxa.now) (listed self.now) (listed other.now) }
     {
-        for path in &other.paths {
+        for path in other.paths.as_slice() {
             if !self.some_below(taxa, path) {
                 return false;
             }
@@ -83,10 +83,10 @@ impl Nf {
         ensures { IsTrue (list_below (T.is_below taxa.now) (T.variance_of_name taxa.now)
             (listed self.now) (listed other.now)) → IsTrue result }
     {
-        if self.paths.len() != 1 || other.paths.len() != 1 {
+        let (PathList::One(one, _), PathList::One(another, _)) = (&self.paths, &other.paths) else {
             return true;
-        }
-        match (&self.paths[0].form, &other.paths[0].form) {
+        };
+        match (&one.form, &another.form) {
             (Form::Atom(c), Form::Atom(d)) => taxa.below(*c, *d),
             _ => true,
         }
@@ -115,7 +115,7 @@ impl Nf {
     pub(crate) fn some_below<T: Taxa>(&self, taxa: &T, path: &Path) -> bool
         ensures { result ≡ some_below (T.is_below taxa.now) (T.variance_of_name taxa.now) (listed self.now) path.now }
     {
-        for one in &self.paths {
+        for one in self.paths.as_slice() {
             if one.is_below(taxa, path) {
                 return true;
             }

@@ -57,7 +57,7 @@ impl Nf {
     pub(crate) fn feed<H: Hasher>(&self, state: &mut H)
         ensures { state.new ≡ fold H.write state.old (list_writes self.now) }
     {
-        for path in &self.paths {
+        for path in self.paths.as_slice() {
             // Most paths are names over omega, and need no call.
             match &path.form {
                 Form::Atom(name) => state.write_u64(u64::from(name.0)),

@@ -8,7 +8,7 @@ ghost use Rattle.cls_path.specs.Groups.{comparable};
 
 use crate::label::head_class;
 use crate::meet::sort_up;
-use crate::path::{Nf, Path};
+use crate::path::{Nf, Path, PathList};
 use cls_base::{OutOfMemory, Taxa};
 use std::alloc::Global;
 
@@ -24,9 +24,16 @@ pub(crate) fn form_of_few<T: Taxa>(
     ensures { IfOk result (λ nf. IsNormalForm (Below (T.is_below taxa.now)) (T.variance_of_name taxa.now)
         (type_of_paths (listed paths.items)) (listed nf)) }
 {
+    if paths.len() <= 1 {
+        return Ok(Nf {
+            paths: PathList::of(paths),
+        });
+    }
     sort_up(&mut paths);
     if have_rising_heads(taxa, &paths) {
-        return Ok(Nf { paths });
+        return Ok(Nf {
+            paths: PathList::of(paths),
+        });
     }
     let mut nf = Nf::empty(alloc);
     while let Some(path) = paths.pop() {

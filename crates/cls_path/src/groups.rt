@@ -2,7 +2,7 @@
 //! them and those of their sources, where each path of a group has names of one class there. Only paths of one group are
 //! compared.
 ghost use Rattle.std.specs.List.{IsDistinct};
-ghost use Rattle.std.specs.Prelude.{◌≡◌, ◌⊎◌, ◌↔◌, ◌++◌, Contains, IsTrue, IfOk, OnOk};
+ghost use Rattle.std.specs.Prelude.{◌≡◌, ◌⊎◌, ◌↔◌, Contains, IsTrue, IfOk, OnOk};
 ghost use Rattle.cls_base.specs.Taxa.{Below};
 ghost use Rattle.cls_path.specs.Paths.{TypePath, SuitsAll, listed};
 ghost use Rattle.cls_path.specs.NormalForms.{EachCanonical};
@@ -68,8 +68,8 @@ pub(crate) fn reduced<T: Taxa>(
     let mut groups = grouped(alloc, taxa, paths, mask)?;
     let mut least = Vec::new(alloc);
     while let Some(group) = groups.pop() {
-        let few = reduced(alloc, taxa, group.paths, rounds - 1)?;
-        put_all(&mut least, few)?;
+        let mut few = reduced(alloc, taxa, group.paths, rounds - 1)?;
+        least.append(&mut few)?;
     }
     Ok(least)
 }
@@ -137,16 +137,6 @@ fn put_in_group<T: Taxa>(
             paths.push(path)?;
             groups.push(Group { paths })?;
         }
-    }
-    Ok(())
-}
-
-/// Puts the paths behind the others.
-fn put_all(least: &mut Vec<Path>, paths: Vec<Path>) -> Result<(), OutOfMemory>
-    ensures { OnOk result (least.new.items ≡ least.old.items ++ paths.items) }
-{
-    for path in paths {
-        least.push(path)?;
     }
     Ok(())
 }

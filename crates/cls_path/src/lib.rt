@@ -13,6 +13,7 @@ mod groups;
 mod key;
 mod label;
 pub mod laws;
+mod list;
 mod make;
 mod meet;
 mod order;

@@ -1,9 +1,9 @@
 //! How paths and intersections of paths are made and taken apart.
-ghost use Rattle.std.specs.Prelude.{◌≡◌, [], IfOk};
+ghost use Rattle.std.specs.Prelude.{◌≡◌, [], ◌∷◌, ◌++◌, IfOk, OnOk};
 ghost use Rattle.cls_path.specs.Paths.{atom, inside, unit, left, right, function, sealed, listed};
 ghost use Rattle.cls_path.specs.Seen.{path_of};
 
-use crate::path::{Arrow, Form, Nf, Path};
+use crate::path::{Arrow, Form, Nf, Path, PathList};
 use cls_base::{Name, OutOfMemory};
 use std::alloc::Global;
 
@@ -134,7 +134,18 @@ impl Nf {
         ensures { result ≡ [] }
     {
         Nf {
-            paths: Vec::new(alloc),
+            paths: PathList::empty(alloc),
+        }
+    }
+
+    /// The intersection of one path. Takes no memory.
+    pub fn one(alloc: Global, path: Path) -> Nf
+        ensures { result ≡ path ∷ [] }
+    {
+        // For the prover: opens the model of the path, whose lists are sorted.
+        let _ = &path.form;
+        Nf {
+            paths: PathList::One(path, alloc),
         }
     }
 
@@ -145,11 +156,15 @@ impl Nf {
         self.paths.as_slice()
     }
 
-    /// The paths in order, as a vector. It takes no memory.
-    pub fn into_paths(self) -> Vec<Path>
-        ensures { result.items ≡ self }
+    /// Puts the paths behind the others, in order. The only error is out of memory.
+    pub fn put_into(self, paths: &mut Vec<Path>) -> Result<(), OutOfMemory>
+        ensures { OnOk result (paths.new.items ≡ paths.old.items ++ self) }
     {
-        self.paths
+        match self.paths {
+            PathList::One(path, _) => paths.push(path)?,
+            PathList::Several(mut more) => paths.append(&mut more)?,
+        }
+        Ok(())
     }
 
     /// An intersection equal to this one. The only error is out of memory.
@@ -157,14 +172,33 @@ impl Nf {
     pub fn copy(&self, alloc: Global) -> Result<Nf, OutOfMemory>
         ensures { IfOk result (λ nf. nf ≡ self.now) }
     {
-        let mut paths = Vec::with_capacity(alloc, self.paths.len())?;
-        for path in &self.paths {
-            let copy = match &path.form {
-                Form::Atom(name) => Path::atom(*name),
-                _ => path.copy_deep(alloc)?,
-            };
-            paths.push(copy)?;
-        }
+        let paths = match &self.paths {
+            PathList::One(path, _) => {
+                // Most paths are names over omega, and need no call.
+                let one = match &path.form {
+                    Form::Atom(name) => Path::atom(*name),
+                    _ => path.copy_deep(alloc)?,
+                };
+                PathList::One(one, alloc)
+            }
+            PathList::Several(list) => PathList::Several(copy_all(alloc, list)?),
+        };
         Ok(Nf { paths })
     }
+}
+
+/// The paths once more.
+#[cycle(copy)]
+fn copy_all(alloc: Global, list: &Vec<Path>) -> Result<Vec<Path>, OutOfMemory>
+    ensures { IfOk result (λ copy. copy.items ≡ list.now.items) }
+{
+    let mut paths = Vec::with_capacity(alloc, list.len())?;
+    for path in list {
+        let copy = match &path.form {
+            Form::Atom(name) => Path::atom(*name),
+            _ => path.copy_deep(alloc)?,
+        };
+        paths.push(copy)?;
+    }
+    Ok(paths)
 }

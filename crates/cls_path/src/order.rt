@@ -5,7 +5,7 @@ ghost use Rattle.cls_path.specs.NormalForms.{kind_of, PathBefore, PathsBefore};
 ghost use Rattle.cls_path.specs.PathOrder.{path_order, list_order};
 ghost use Rattle.cls_path.specs.Seen.{path_of};
 
-use crate::path::{Form, Nf, Path};
+use crate::path::{Form, Nf, Path, PathList};
 use std::cmp::Ordering;
 
 impl Form {
@@ -84,14 +84,18 @@ impl Nf {
     pub(crate) fn order_by_path(&self, other: &Nf) -> Ordering
         ensures { result ≡ list_order self.now other.now }
     {
+        if let (PathList::One(one, _), PathList::One(another, _)) = (&self.paths, &other.paths) {
+            return one.order_by_kind(another);
+        }
+        let (ones, others) = (self.paths.as_slice(), other.paths.as_slice());
         let mut i = 0;
-        while i < self.paths.len() && i < other.paths.len() {
-            let one = self.paths[i].order_by_kind(&other.paths[i]);
+        while i < ones.len() && i < others.len() {
+            let one = ones[i].order_by_kind(&others[i]);
             if one.is_ne() {
                 return one;
             }
             i += 1;
         }
-        self.paths.len().cmp(&other.paths.len())
+        ones.len().cmp(&others.len())
     }
 }

@@ -1,4 +1,5 @@
 use cls_base::Name;
+use std::alloc::Global;
 use std::marker::Model;
 
 /// A path: a type without intersections on its way to its end. It is seen as a `TypePath`.
@@ -46,7 +47,17 @@ pub struct Arrow {
 #[cycle(path)]
 #[derive(Drop)]
 pub struct Nf {
-    pub(crate) paths: Vec<Path>,
+    pub(crate) paths: PathList,
+}
+
+/// A list of paths. A list of one path, as most are, takes no memory of its own.
+#[cycle(path)]
+#[derive(Drop)]
+pub(crate) enum PathList {
+    /// One path, and the allocator for a longer list.
+    One(Path, Global),
+    /// No path, or at least two.
+    Several(Vec<Path>),
 }
 
 impl Model for Path {
@@ -84,11 +95,13 @@ impl Model for Nf {
 
     ghost coded = { coded_list coded_path };
 
-    ghost view = { λ n. n.paths.items };
+    ghost use Rattle.cls_path.specs.Seen.{items_of};
+
+    ghost view = { λ n. items_of n.paths };
 
     ghost use Rattle.cls_path.specs.NormalForms.{IsSorted};
 
-    ghost invariant = { λ n. IsSorted (listed n.paths.items) };
+    ghost invariant = { λ n. IsSorted (listed (items_of n.paths)) };
 
     ghost use Rattle.cls_path.specs.Sizes.{list_size};
 
@@ -96,5 +109,5 @@ impl Model for Nf {
 
     ghost use Rattle.cls_path.specs.Falls.{list_falls};
 
-    ghost size_decreases = { λ n h. list_falls n.paths.items };
+    ghost size_decreases = { λ n h. list_falls n.paths };
 }

@@ -1,4 +1,4 @@
-use Rattle.std.proofs.Common.{rules, ◌≡◌, sym, subst, [], ◌∷◌, ◌++◌}
+use Rattle.std.proofs.Common.{rules, arith, ◌≡◌, sym, subst, [], ◌∷◌, ◌++◌}
 use Rattle.std.specs.List.{IsDistinct}
 use Rattle.std.proofs.lemmas.List.Sorted.{IsPermutation-sym}
 use Rattle.std.proofs.lemmas.Map.Keys.{IsDistinct-IsPermutation}
@@ -6,7 +6,7 @@ use Rattle.cls_base.specs.Taxa.{Below}
 use Rattle.cls_path.specs.Paths.{listed, none, InPaths, SuitsAll, type_of_paths}
 use Rattle.cls_path.specs.Groups.{comparable}
 use Rattle.cls_path.proofs.Ascending.{moved_in, remains_moved}
-use Rattle.cls_path.proofs.GroupLaws.{flips, reduced_apart, sorted_form}
+use Rattle.cls_path.proofs.GroupLaws.{flips, form_of_one, reduced_apart, sorted_form}
 use Rattle.cls_path.proofs.Insertion.{canonical_sorted}
 use Rattle.cls_path.proofs.Remains.{Remains, next_suits, next_canonical, remains_step, suits_within, whole_form, last_in, before_last_in, last_or_before}
 use Rattle.cls_path.proofs.RoundTrip.{paths_back}
@@ -20,6 +20,21 @@ have_rising_heads-requires g c =
     let m = c.sort_up.new.paths.items in
     subst (λ l. SuitsAll v (listed l)) (sym c.deref.ensures.value) (suits_within b v (listed m) (listed n) c.requires.suits (moved_in m n (IsPermutation-sym n m c.sort_up.ensures.permutation)))
 
+pub returns-then-len-le1 : goal.returns-then-len-le1
+returns-then-len-le1 g c =
+    let t = c.args.taxa.now in
+    let met = g.met.T.Taxa in
+    rw c.of.ensures (form_of_one (g.T.Taxa.is_below t) (g.T.Taxa.variance_of_name t) (met.reflexive t) (met.transitive t) (met.one_variance t) c.args.paths.items (omega (arith, c.len.ensures, c.if-len-le1.true)) c.requires.suits c.requires.canonical)
+
+pub invariant_of-result : goal.invariant_of-result
+invariant_of-result g c =
+    let t = c.args.taxa.now in
+    let v = g.T.Taxa.variance_of_name t in
+    let met = g.met.T.Taxa in
+    let n = c.args.paths.items in
+    let form = form_of_one (g.T.Taxa.is_below t) v (met.reflexive t) (met.transitive t) (met.one_variance t) n (omega (arith, c.len.ensures, c.if-len-le1.true)) c.requires.suits c.requires.canonical in
+    rw c.of.ensures (canonical_sorted (Below (g.T.Taxa.is_below t)) v (listed n) form.normal.canonical)
+
 pub returns-then-have_rising_heads : goal.returns-then-have_rising_heads
 returns-then-have_rising_heads g c =
     let t = c.args.taxa.now in
@@ -30,11 +45,11 @@ returns-then-have_rising_heads g c =
     let m = c.sort_up.new.paths.items in
     let d : IsDistinct (comparable b v) m = subst (λ l. IsDistinct (comparable b v) l) c.deref.ensures.value (c.have_rising_heads.ensures c.if-have_rising_heads.true) in
     let apart : IsDistinct (comparable b v) n = IsDistinct-IsPermutation (comparable b v) (flips b v) m n (IsPermutation-sym n m c.sort_up.ensures.permutation) d in
-    sorted_form b v (met.reflexive t) (met.transitive t) (met.one_variance t) n n m c.requires.suits c.requires.canonical
-    (reduced_apart b v (met.reflexive t) (met.transitive t) (met.one_variance t) n apart c.requires.suits) c.sort_up.ensures.permutation c.sort_up.ensures.ascending
+    rw c.of-then-have_rising_heads.ensures (sorted_form b v (met.reflexive t) (met.transitive t) (met.one_variance t) n n m c.requires.suits c.requires.canonical
+    (reduced_apart b v (met.reflexive t) (met.transitive t) (met.one_variance t) n apart c.requires.suits) c.sort_up.ensures.permutation c.sort_up.ensures.ascending)
 
-pub invariant_of-result : goal.invariant_of-result
-invariant_of-result g c =
+pub invariant_of-result-then-have_rising_heads : goal.invariant_of-result-then-have_rising_heads
+invariant_of-result-then-have_rising_heads g c =
     let t = c.args.taxa.now in
     let b = g.T.Taxa.is_below t in
     let v = g.T.Taxa.variance_of_name t in
@@ -45,7 +60,7 @@ invariant_of-result g c =
     let apart : IsDistinct (comparable b v) n = IsDistinct-IsPermutation (comparable b v) (flips b v) m n (IsPermutation-sym n m c.sort_up.ensures.permutation) d in
     let form = sorted_form b v (met.reflexive t) (met.transitive t) (met.one_variance t) n n m c.requires.suits c.requires.canonical
     (reduced_apart b v (met.reflexive t) (met.transitive t) (met.one_variance t) n apart c.requires.suits) c.sort_up.ensures.permutation c.sort_up.ensures.ascending in
-    canonical_sorted (Below b) v (listed m) form.normal.canonical
+    rw c.of-then-have_rising_heads.ensures (canonical_sorted (Below b) v (listed m) form.normal.canonical)
 
 pub loop-path-init : goal.loop-path-init
 loop-path-init g c =

@@ -39,7 +39,7 @@ loop-group-preserved g t c =
     let out = c.loop-group.least.items in
     let h = subst (λ x. AreJoined b v n x out) c.in-Some.ensures.items c.loop-group.invariant in
     let r = subst (λ m. IsReduced b v m c.in_ok-few.few.items) c.group.view_is c.in_ok-few.ensures in
-    subst (λ m. AreJoined b v n gs m) (sym c.in_ok-put_all.ensures) (joined_more b v (met.reflexive x) (met.transitive x) (met.one_variance x) n gs c.in-Some.group out c.in_ok-few.few.items h r)
+    subst (λ m. AreJoined b v n gs m) (sym c.in_ok-append.ensures.items) (joined_more b v (met.reflexive x) (met.transitive x) (met.one_variance x) n gs c.in-Some.group out c.in_ok-few.few.items h r)
 
 pub returns : goal.returns
 returns g t c =

@@ -2,18 +2,18 @@ use Rattle.std.proofs.Common.{rules, arith, length, ◌≤◌, inl, inr}
 use Rattle.std.specs.Prelude.{◌⊎◌}
 use Rattle.cls_path.proofs.Orders.{paths_order-listed, exhausted}
 use Rattle.cls_path.proofs.path.+order.Goals as goal
-use Rattle.cls_path.proofs.path.+order.Goals.{Nf::order_by_path-then-loop-i-test+else-i-len, Nf::order_by_path-else-loop-i-test}
+use Rattle.cls_path.proofs.path.+order.Goals.{Nf::order_by_path-then-loop-i-test+else-i-others, Nf::order_by_path-else-loop-i-test}
 
 pub Nf::order_by_path-returns : goal.Nf::order_by_path-returns
 Nf::order_by_path-returns t c =
-    let xs = c.self.inside.paths in
-    let ys = c.other.inside.paths in
-    let over : (length xs.items ≤ c.loop-i.i) ⊎ (length ys.items ≤ c.loop-i.i) =
+    let xs = c.as_slice-ones.result.now in
+    let ys = c.as_slice-others.result.now in
+    let over : (length xs ≤ c.loop-i.i) ⊎ (length ys ≤ c.loop-i.i) =
     elim c.loop-i-test.branch [
-      | Nf::order_by_path-then-loop-i-test+else-i-len w ↦ inr (omega (arith, ys.ok.0))
-      | Nf::order_by_path-else-loop-i-test w ↦ inl (omega (arith, xs.ok.0))
+      | Nf::order_by_path-then-loop-i-test+else-i-others w ↦ inr (omega arith)
+      | Nf::order_by_path-else-loop-i-test w ↦ inl (omega arith)
     ] in
-    let e = exhausted c.loop-i.i xs.items ys.items c.loop-i.invariant.in_one c.loop-i.invariant.in_two over in
+    let e = exhausted c.loop-i.i xs ys c.loop-i.invariant.in_one c.loop-i.invariant.in_two over in
     search rules
 
 pub Path::order_by_kind-returns-then-is_ne-2 : goal.Path::order_by_kind-returns-then-is_ne-2

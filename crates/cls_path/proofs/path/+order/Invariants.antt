@@ -11,10 +11,10 @@ decreases-Nf::order_by_path l = list_size l.self.now
 
 abbrev pub invariant-Nf::order_by_path-loop-i : goal.invariant-Nf::order_by_path-loop-i
 invariant-Nf::order_by_path-loop-i l = record {
-  in_one : l.i ≤ length l.self-inside.paths.items;
-  in_two : l.i ≤ length l.other-inside.paths.items;
-  rest : list_order l.self-inside.paths.items l.other-inside.paths.items ≡ list_order (drop l.i l.self-inside.paths.items) (drop l.i l.other-inside.paths.items);
+  in_one : l.i ≤ length l.ones;
+  in_two : l.i ≤ length l.others;
+  rest : list_order l.ones l.others ≡ list_order (drop l.i l.ones) (drop l.i l.others);
 }
 
 abbrev pub decreases-Nf::order_by_path-loop-i : goal.decreases-Nf::order_by_path-loop-i
-decreases-Nf::order_by_path-loop-i l = length l.initial.self-inside.paths.items - l.i
+decreases-Nf::order_by_path-loop-i l = length l.initial.ones - l.i
