@@ -1,5 +1,5 @@
 -- The fronts of tokens, by what the code tests.
-use Rattle.std.proofs.Common.{◌≡◌, ℕ, Bool, true, false, List, ◌∷◌, refl, ap, sym, ◌∙◌}
+use Rattle.std.proofs.Common.{◌≡◌, ℕ, Bool, true, false, List, length, ◌∷◌, refl, ap, sym, ◌∙◌}
 use Rattle.std.specs.Prelude.{Option, Some, None, Ok, Err, if◌then◌else◌}
 use Rattle.std.specs.Str.{bytes_eq}
 use Rattle.std.proofs.lemmas.Slice.Eq.{bytes_eq-Decides}
@@ -89,4 +89,11 @@ other_test x l h n = name_test l.kind x l.text.now h ∙ false_from_ne_true _ (�
 pub none_test : (x : List ℕ) (l : Token) → is_name (word_of l) ≡ false → is_word x (word_of l) ≡ false
 none_test x l h = no_name_test x (word_of l) h
 
-pub ruleset word_tests = (same_test, other_test, none_test)
+pub length_test : (x : List ℕ) (l : Token) → (length l.text.now ≡ length x → ⊥) → is_word x (word_of l) ≡ false
+length_test x l h =
+    (elim (is_name (word_of l)) as (λ b. is_name (word_of l) ≡ b → is_word x (word_of l) ≡ false) [
+      | true ↦ λ e. other_test x l e (λ q. h (ap length q))
+      | false ↦ λ e. none_test x l e
+    ]) refl
+
+pub ruleset word_tests = (same_test, other_test, none_test, length_test)

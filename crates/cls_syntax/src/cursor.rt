@@ -177,7 +177,7 @@ pub(crate) fn some_types<'t, 'a>(
 fn is_word(token: &Token, word: &str) -> bool
     ensures { result ≡ is_word word.now (word_of token.now) }
 {
-    is_name(token) && token.text == word
+    token.text.len() == word.len() && is_name(token) && token.text == word
 }
 
 fn is_sign(kind: TokenKind) -> bool
