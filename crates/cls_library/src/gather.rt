@@ -1,5 +1,5 @@
 //! The paths and the weight of all instances of a schema.
-ghost use Rattle.std.specs.Prelude.{◌≡◌, ◌≤◌, ◌+◌, ◌++◌, IfOk, IfErr, OnOk};
+ghost use Rattle.std.specs.Prelude.{◌≡◌, ◌≤◌, ◌+◌, IfOk, IfErr, OnOk};
 ghost use Rattle.cls_base.specs.Schemas.{schema_of};
 ghost use Rattle.cls_base.specs.Ty.{type_of};
 ghost use Rattle.cls_base.specs.Types.{spread};
@@ -12,7 +12,7 @@ ghost use Rattle.cls_library.specs.Refusals.{IsAcceptable, RefusesSchema};
 use crate::fault::LibraryKind;
 use crate::measure::{TOO_MANY, arity};
 use cls_base::limits::MAX_LIBRARY_WEIGHT;
-use cls_base::{OutOfMemory, Schema, Ty};
+use cls_base::{Schema, Ty};
 use cls_kind::{Kinds, instances};
 use cls_norm::normal;
 use cls_path::Path;
@@ -72,16 +72,6 @@ fn put_instance(
     if weight > MAX_LIBRARY_WEIGHT {
         return Err(LibraryKind::LibraryTooLarge);
     }
-    put_paths(paths, nf.into_paths())?;
+    nf.put_into(paths)?;
     Ok(weight)
-}
-
-/// Puts the paths behind the others.
-fn put_paths(paths: &mut Vec<Path>, more: Vec<Path>) -> Result<(), OutOfMemory>
-    ensures { OnOk result (paths.new.items ≡ paths.old.items ++ more.items) }
-{
-    for path in more {
-        paths.push(path)?;
-    }
-    Ok(())
 }

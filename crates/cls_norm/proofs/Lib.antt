@@ -1,7 +1,9 @@
+pub mod Changes
 pub mod Counts
 pub mod NameLists
 pub mod Parts
 pub mod PathLists
+pub mod Puts
 pub mod Several
 pub mod Sizes
 pub mod SmallTypes

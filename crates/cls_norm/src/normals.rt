@@ -5,7 +5,7 @@ ghost use Rattle.cls_base.specs.Subtyping.{Subtype};
 ghost use Rattle.cls_path.specs.Paths.{type_of_paths, listed};
 ghost use Rattle.cls_path.specs.NormalForms.{IsNormalForm};
 
-use crate::paths::paths_of;
+use crate::paths::form_of;
 use cls_base::{OutOfMemory, Taxa, Ty};
 use cls_path::Nf;
 use std::alloc::Global;
@@ -25,6 +25,6 @@ pub fn normal<T: Taxa>(alloc: Global, taxa: &T, ty: &Ty) -> Result<Nf, OutOfMemo
         Subtype (Below (T.is_below taxa.now)) (T.variance_of_name taxa.now)
         (type_of ty.now) (type_of_paths (listed nf))) }
 {
-    let paths = paths_of(alloc, taxa, ty)?;
-    Ok(Nf::from_paths(alloc, taxa, paths)?)
+    let nf = form_of(alloc, taxa, ty)?;
+    Ok(nf)
 }

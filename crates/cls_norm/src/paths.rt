@@ -1,153 +1,191 @@
-//! The paths that a type falls into.
-ghost use Rattle.std.specs.Prelude.{◌≡◌, ◌∷◌, ◌++◌, [], IfOk, OnOk, map};
-ghost use Rattle.cls_base.specs.Types.{constructor, omega};
+//! The paths that a type falls into. They are put at the end of a vector, and changed in place as the type is read from
+//! the inside out.
+ghost use Rattle.std.specs.Prelude.{◌≡◌, ◌≤◌, ◌∷◌, ◌++◌, [], IfOk, OnOk, drop, length, map, take};
+ghost use Rattle.cls_base.specs.Types.{constructor, omega, product};
 ghost use Rattle.cls_base.specs.Ty.{type_of};
 ghost use Rattle.cls_base.specs.Taxa.{Below};
-ghost use Rattle.cls_path.specs.Paths.{atom, inside, unit, left, right, function, sealed, listed};
+ghost use Rattle.cls_path.specs.NormalForms.{IsNormalForm};
+ghost use Rattle.cls_path.specs.Paths.{atom, inside, left, right, function, listed};
 ghost use Rattle.cls_path.specs.PathLists.{ArePathsOf};
-ghost use Rattle.cls_norm.specs.PathLists.{or_else};
+ghost use Rattle.cls_norm.specs.PathLists.{or_else, PutsPathsOf};
 
 use cls_base::{Name, OutOfMemory, Taxa, Ty, Variance};
 use cls_path::{Nf, Path};
 use std::alloc::Global;
 
-/// Paths whose intersection is the type. The lists inside them are normal.
-pub(crate) fn paths_of<T: Taxa>(alloc: Global, taxa: &T, ty: &Ty) -> Result<Vec<Path>, OutOfMemory>
-    ensures { IfOk result (λ paths.
-        ArePathsOf (Below (T.is_below taxa.now)) (T.variance_of_name taxa.now) (type_of ty.now) (listed paths.items)) }
+/// Puts paths whose intersection is the type behind the others. The lists inside them are normal.
+#[cycle(paths)]
+pub(crate) fn put_paths_of<T: Taxa>(
+    alloc: Global,
+    taxa: &T,
+    ty: &Ty,
+    paths: &mut Vec<Path>,
+) -> Result<(), OutOfMemory>
+    ensures { OnOk result (PutsPathsOf (Below (T.is_below taxa.now)) (T.variance_of_name taxa.now)
+        (type_of ty.now) paths.old.items paths.new.items) }
 {
     match ty {
-        Ty::Omega => Ok(Vec::new(alloc)),
-        Ty::Bare(name) => Ok(alone(alloc, taxa, *name)?),
-        Ty::Con(name, argument) => {
-            let argument = paths_of(alloc, taxa, argument)?;
-            match taxa.variance(*name) {
-                Variance::Co => Ok(under_name(alloc, *name, argument)?),
-                Variance::Contra | Variance::Inv => {
-                    let argument = Nf::from_paths(alloc, taxa, argument)?;
-                    Ok(under_sealed_name(alloc, *name, argument)?)
-                }
-            }
-        }
-        Ty::Prod(sides) => {
-            let (first, second) = &**sides;
-            let first = paths_of(alloc, taxa, first)?;
-            let second = paths_of(alloc, taxa, second)?;
-            Ok(in_product(alloc, first, second)?)
-        }
+        Ty::Omega => Ok(()),
+        Ty::Bare(name) => Ok(paths.push(alone(alloc, taxa, *name)?)?),
+        Ty::Con(name, argument) => put_under_name(alloc, taxa, *name, argument, paths),
+        Ty::Prod(sides) => put_product(alloc, taxa, &sides.0, &sides.1, paths),
         Ty::Arrow(sides) => {
-            let (source, target) = &**sides;
-            let source = paths_of(alloc, taxa, source)?;
-            let source = Nf::from_paths(alloc, taxa, source)?;
-            let target = paths_of(alloc, taxa, target)?;
-            Ok(from_source(alloc, source, target)?)
+            let start = paths.len();
+            let source = form_of(alloc, taxa, &sides.0)?;
+            put_paths_of(alloc, taxa, &sides.1, paths)?;
+            set_source(alloc, source, paths, start)
         }
         Ty::Meet(sides) => {
-            let (first, second) = &**sides;
-            let first = paths_of(alloc, taxa, first)?;
-            let second = paths_of(alloc, taxa, second)?;
-            Ok(joined(first, second)?)
+            put_paths_of(alloc, taxa, &sides.0, paths)?;
+            put_paths_of(alloc, taxa, &sides.1, paths)
         }
     }
+}
+
+/// The normal form of the type.
+#[cycle(paths)]
+pub(crate) fn form_of<T: Taxa>(alloc: Global, taxa: &T, ty: &Ty) -> Result<Nf, OutOfMemory>
+    ensures { IfOk result (λ nf. IsNormalForm (Below (T.is_below taxa.now)) (T.variance_of_name taxa.now)
+        (type_of ty.now) (listed nf)) }
+{
+    // The list of one path takes no memory of its own.
+    if let Ty::Bare(name) = ty {
+        return Ok(Nf::one(alloc, alone(alloc, taxa, *name)?));
+    }
+    let mut paths = Vec::with_capacity(alloc, 1)?;
+    put_paths_of(alloc, taxa, ty, &mut paths)?;
+    Ok(Nf::from_paths(alloc, taxa, paths)?)
+}
+
+/// Puts the paths of a name over a type behind the others.
+#[cycle(paths)]
+fn put_under_name<T: Taxa>(
+    alloc: Global,
+    taxa: &T,
+    name: Name,
+    argument: &Ty,
+    paths: &mut Vec<Path>,
+) -> Result<(), OutOfMemory>
+    ensures { OnOk result (PutsPathsOf (Below (T.is_below taxa.now)) (T.variance_of_name taxa.now)
+        (constructor name.0 (type_of argument.now)) paths.old.items paths.new.items) }
+{
+    match taxa.variance(name) {
+        Variance::Co => {
+            let start = paths.len();
+            put_paths_of(alloc, taxa, argument, paths)?;
+            set_name(alloc, name, paths, start)
+        }
+        Variance::Contra | Variance::Inv => {
+            let argument = form_of(alloc, taxa, argument)?;
+            Ok(paths.push(Path::sealed(alloc, name, argument)?)?)
+        }
+    }
+}
+
+/// Puts the paths of a product behind the others.
+#[cycle(paths)]
+fn put_product<T: Taxa>(
+    alloc: Global,
+    taxa: &T,
+    first: &Ty,
+    second: &Ty,
+    paths: &mut Vec<Path>,
+) -> Result<(), OutOfMemory>
+    ensures { OnOk result (PutsPathsOf (Below (T.is_below taxa.now)) (T.variance_of_name taxa.now)
+        (product (type_of first.now) (type_of second.now)) paths.old.items paths.new.items) }
+{
+    let start = paths.len();
+    put_paths_of(alloc, taxa, first, paths)?;
+    set_left(alloc, paths, start)?;
+    let middle = paths.len();
+    put_paths_of(alloc, taxa, second, paths)?;
+    set_right(alloc, paths, middle)?;
+    if paths.len() == start {
+        return Ok(paths.push(Path::unit())?);
+    }
+    Ok(())
 }
 
 /// The path of a bare name, which is the name over the empty list unless it is covariant.
-fn alone<T: Taxa>(alloc: Global, taxa: &T, name: Name) -> Result<Vec<Path>, OutOfMemory>
-    ensures { IfOk result (λ paths. ArePathsOf (Below (T.is_below taxa.now)) (T.variance_of_name taxa.now)
-        (constructor name.0 omega) (listed paths.items)) }
+fn alone<T: Taxa>(alloc: Global, taxa: &T, name: Name) -> Result<Path, OutOfMemory>
+    ensures { IfOk result (λ path. ArePathsOf (Below (T.is_below taxa.now)) (T.variance_of_name taxa.now)
+        (constructor name.0 omega) (listed (path ∷ []))) }
 {
     match taxa.variance(name) {
-        Variance::Co => Ok(under_name(alloc, name, Vec::new(alloc))?),
-        Variance::Contra | Variance::Inv => {
-            Ok(under_sealed_name(alloc, name, Nf::empty(alloc))?)
-        }
+        Variance::Co => Ok(Path::atom(name)),
+        Variance::Contra | Variance::Inv => Ok(Path::sealed(alloc, name, Nf::empty(alloc))?),
     }
 }
 
-/// Each path under the name, or the name alone if there is none.
-fn under_name(alloc: Global, name: Name, paths: Vec<Path>) -> Result<Vec<Path>, OutOfMemory>
-    ensures { IfOk result (λ named. named.items ≡ or_else (atom name.0) (map (inside name.0) paths.items)) }
+/// Sets each path from `start` on under the name. If there is none, the name alone is put there.
+fn set_name(
+    alloc: Global,
+    name: Name,
+    paths: &mut Vec<Path>,
+    start: usize,
+) -> Result<(), OutOfMemory>
+    requires { start ≤ length paths.old.items }
+    ensures { OnOk result (paths.new.items ≡ take start paths.old.items
+        ++ or_else (atom name.0) (map (inside name.0) (drop start paths.old.items))) }
 {
-    let mut named = Vec::with_capacity(alloc, paths.len().max(1))?;
-    for path in paths {
-        named.push(Path::con(alloc, name, path)?)?;
+    if paths.len() == start {
+        paths.push(Path::atom(name))?;
+        return Ok(());
     }
-    Ok(or_path(named, Path::atom(name))?)
-}
-
-/// The name over the intersection, as the only path.
-fn under_sealed_name(alloc: Global, name: Name, argument: Nf) -> Result<Vec<Path>, OutOfMemory>
-    ensures { IfOk result (λ named. named.items ≡ sealed name.0 (listed argument) ∷ []) }
-{
-    let mut named = Vec::with_capacity(alloc, 1)?;
-    named.push(Path::sealed(alloc, name, argument)?)?;
-    Ok(named)
-}
-
-/// The list, or the path alone if the list is empty.
-fn or_path(mut paths: Vec<Path>, path: Path) -> Result<Vec<Path>, OutOfMemory>
-    ensures { IfOk result (λ some. some.items ≡ or_else path paths.items) }
-{
-    if paths.is_empty() {
-        paths.push(path)?;
-    }
-    Ok(paths)
-}
-
-/// The paths of a product, from those of its sides.
-fn in_product(alloc: Global, first: Vec<Path>, second: Vec<Path>) -> Result<Vec<Path>, OutOfMemory>
-    ensures { IfOk result (λ sides.
-        sides.items ≡ or_else unit (map left first.items ++ map right second.items)) }
-{
-    let mut sides = Vec::new(alloc);
-    put_left(alloc, first, &mut sides)?;
-    put_right(alloc, second, &mut sides)?;
-    Ok(or_path(sides, Path::unit())?)
-}
-
-/// Puts each path at the end as the left side of a product.
-fn put_left(alloc: Global, paths: Vec<Path>, sides: &mut Vec<Path>) -> Result<(), OutOfMemory>
-    ensures { OnOk result (sides.new.items ≡ sides.old.items ++ map left paths.items) }
-{
-    for path in paths {
-        sides.push(Path::left(alloc, path)?)?;
+    for place in start..paths.len() {
+        let path = std::mem::replace(&mut paths[place], Path::unit());
+        paths[place] = Path::con(alloc, name, path)?;
     }
     Ok(())
 }
 
-/// Puts each path at the end as the right side of a product.
-fn put_right(alloc: Global, paths: Vec<Path>, sides: &mut Vec<Path>) -> Result<(), OutOfMemory>
-    ensures { OnOk result (sides.new.items ≡ sides.old.items ++ map right paths.items) }
+/// Makes each path from `start` on the left side of a product.
+fn set_left(alloc: Global, paths: &mut Vec<Path>, start: usize) -> Result<(), OutOfMemory>
+    requires { start ≤ length paths.old.items }
+    ensures { OnOk result
+        (paths.new.items ≡ take start paths.old.items ++ map left (drop start paths.old.items)) }
 {
-    for path in paths {
-        sides.push(Path::right(alloc, path)?)?;
+    for place in start..paths.len() {
+        let path = std::mem::replace(&mut paths[place], Path::unit());
+        paths[place] = Path::left(alloc, path)?;
     }
     Ok(())
 }
 
-/// Each path behind the source, which the last one takes and the others copy.
-fn from_source(alloc: Global, source: Nf, mut paths: Vec<Path>) -> Result<Vec<Path>, OutOfMemory>
-    ensures { IfOk result (λ arrows. arrows.items ≡ map (function (listed source)) paths.items) }
+/// Makes each path from `start` on the right side of a product.
+fn set_right(alloc: Global, paths: &mut Vec<Path>, start: usize) -> Result<(), OutOfMemory>
+    requires { start ≤ length paths.old.items }
+    ensures { OnOk result
+        (paths.new.items ≡ take start paths.old.items ++ map right (drop start paths.old.items)) }
 {
-    let mut arrows = Vec::with_capacity(alloc, paths.len())?;
-    let Some(last) = paths.pop() else {
-        return Ok(arrows);
-    };
-    for path in paths {
+    for place in start..paths.len() {
+        let path = std::mem::replace(&mut paths[place], Path::unit());
+        paths[place] = Path::right(alloc, path)?;
+    }
+    Ok(())
+}
+
+/// Sets each path from `start` on behind the source, which the last one takes and the others copy.
+fn set_source(
+    alloc: Global,
+    source: Nf,
+    paths: &mut Vec<Path>,
+    start: usize,
+) -> Result<(), OutOfMemory>
+    requires { start ≤ length paths.old.items }
+    ensures { OnOk result (paths.new.items ≡ take start paths.old.items
+        ++ map (function (listed source)) (drop start paths.old.items)) }
+{
+    if paths.len() == start {
+        return Ok(());
+    }
+    let last = paths.len() - 1;
+    for place in start..last {
         let copy = source.copy(alloc)?;
-        arrows.push(Path::arrow(alloc, copy, path)?)?;
+        let path = std::mem::replace(&mut paths[place], Path::unit());
+        paths[place] = Path::arrow(alloc, copy, path)?;
     }
-    arrows.push(Path::arrow(alloc, source, last)?)?;
-    Ok(arrows)
-}
-
-/// The one list and then the other.
-fn joined(first: Vec<Path>, second: Vec<Path>) -> Result<Vec<Path>, OutOfMemory>
-    ensures { IfOk result (λ both. both.items ≡ first.items ++ second.items) }
-{
-    let mut both = first;
-    for path in second {
-        both.push(path)?;
-    }
-    Ok(both)
+    let path = std::mem::replace(&mut paths[last], Path::unit());
+    paths[last] = Path::arrow(alloc, source, path)?;
+    Ok(())
 }

@@ -1,0 +1,7 @@
+use Rattle.std.proofs.Common.{◌≡◌}
+use Rattle.cls_path.specs.Paths.{function, listed}
+use Rattle.cls_norm.proofs.Changes.{changed}
+use Rattle.cls_norm.proofs.paths.set_source.Given as goal
+
+abbrev pub invariant-loop-place : goal.invariant-loop-place
+invariant-loop-place l = l.paths.items ≡ changed (function (listed l.fn.source)) l.fn.start l.place l.fn.paths.items
