@@ -39,9 +39,8 @@ pub(crate) fn few_covers(alloc: Global, families: &[Numbers]) -> Result<Vec<Numb
 fn one_set(alloc: Global, set: &[u32]) -> Result<Layer, OutOfMemory>
     ensures { IfOk result (λ layer. layer ≡ set.now ∷ []) }
 {
-    let mut sets = Vec::with_capacity(alloc, 1)?;
-    sets.push(Numbers::new(Vec::from_slice(alloc, set)?))?;
-    Ok(Layer::new(sets))
+    let set = Vec::from_slice(alloc, set)?;
+    Ok(Layer::one(Numbers::new(set)))
 }
 
 /// The minimal covers of the families at the front. Where these have a single position each, their only cover is given.

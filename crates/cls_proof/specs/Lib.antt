@@ -4,6 +4,7 @@ pub mod Blocks
 pub mod Certificates
 pub mod Drafts
 pub mod Forms
+pub mod Layers
 pub mod Members
 pub mod ReadOnce
 pub mod Reading

@@ -1,43 +1,60 @@
-ghost use Rattle.std.specs.Prelude.{◌≡◌};
+ghost use Rattle.std.specs.Prelude.{◌≡◌, ◌∷◌, []};
 
 use cls_base::Numbers;
 use std::marker::Model;
+use std::slice;
 
-/// Sets of positions of arrows, each set as a list. It is seen as the list of these lists. It is made from a `Vec` and
-/// gives it back. Neither takes memory.
+/// Sets of positions of arrows, each set as a list. It is seen as the list of these lists. Making it takes no memory.
 #[derive(Drop)]
 pub struct Layer {
-    items: Vec<Numbers>,
+    sets: Sets,
+}
+
+/// A list of sets. A list of one set, as most are, takes no memory beside that of the set.
+#[derive(Drop)]
+enum Sets {
+    /// One set.
+    One(Numbers),
+    /// No set, or several.
+    Several(Vec<Numbers>),
 }
 
 impl Model for Layer {
     ghost use Rattle.std.specs.Prelude.{ℕ, List};
+    ghost use Rattle.cls_proof.specs.Layers.{sets_of};
 
     ghost Value = { List (List ℕ) };
 
-    ghost view = { λ l. l.items.items };
+    ghost view = { λ l. sets_of l.sets };
 }
 
 impl Layer {
     /// The list of these sets.
-    pub fn new(items: Vec<Numbers>) -> Layer
-        ensures { result ≡ items.items }
+    pub fn new(sets: Vec<Numbers>) -> Layer
+        ensures { result ≡ sets.items }
     {
-        Layer { items }
+        Layer {
+            sets: Sets::Several(sets),
+        }
+    }
+
+    /// The list of this set alone.
+    pub fn one(set: Numbers) -> Layer
+        ensures { result ≡ set ∷ [] }
+    {
+        Layer {
+            sets: Sets::One(set),
+        }
     }
 
     /// The sets as a slice.
     pub fn as_slice(&self) -> &[Numbers]
         ensures { result.now ≡ self.now }
     {
-        self.items.as_slice()
-    }
-
-    /// The vector of the sets.
-    pub fn into_vec(self) -> Vec<Numbers>
-        ensures { result.items ≡ self }
-    {
-        self.items
+        match &self.sets {
+            Sets::One(set) => slice::from_ref(set),
+            Sets::Several(sets) => sets.as_slice(),
+        }
     }
 }
 
