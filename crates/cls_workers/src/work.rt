@@ -17,12 +17,12 @@ const MOST_ASKS: u32 = 1_000;
 /// the caller goes on alone.
 const MOST_WAITS: u32 = 30;
 
-/// So many free rows are enough to start one other worker. Several are started at this many times the fourth power of their
-/// number, since each costs a thread and finds the less to do the more there are.
+/// So many free rows are enough to start one other worker. Several are started at this many times the sixth power of their
+/// number, since each costs a thread, and they wait for one another where a row is done quickly.
 const ROWS_FOR_ONE: u64 = 2;
 
 /// So many free rows are enough to start any number of workers.
-const ROWS_FOR_ANY: u64 = 512;
+const ROWS_FOR_ANY: u64 = 4_096;
 
 /// What a worker's asking for a goal came to.
 #[derive(Clone, Copy)]
@@ -110,10 +110,8 @@ pub(crate) fn work<E: Expand, L: Ledger, T: Gate, R: Wait>(
 }
 
 /// Whether so many free rows are enough for the other workers to start.
-fn are_worth(others: u64, free: u64) -> bool
-    requires { 0 < others }
-{
-    free >= ROWS_FOR_ANY || free / ROWS_FOR_ONE / others / others / others >= others
+fn are_worth(others: u64, free: u64) -> bool {
+    free >= ROWS_FOR_ANY || free >= others.saturating_pow(6).saturating_mul(ROWS_FOR_ONE)
 }
 
 /// Works alone, until nothing is left to do or there are enough free rows for `others` more workers, which it says.
