@@ -2,7 +2,9 @@ use Rattle.std.proofs.Common.{◌≡◌, ◌-◌, ◌<◌, ◌↔◌, length, ma
 use Rattle.std.proofs.lemmas.List.{length-map}
 use Rattle.std.proofs.lemmas.Option.{slice_get_within, get_or_from_slice_get}
 use Rattle.cls_base.specs.Ty.{type_of}
-use Rattle.cls_path.specs.Paths.{listed, type_of_paths}
+use Rattle.cls_path.specs.Paths.{listed, type_of_paths, SuitsAll}
+use Rattle.cls_taxon.specs.Orders.{Declared}
+use Rattle.cls_library.specs.Libraries.{variances_in}
 use Rattle.cls_proof.specs.Certificates.{ProofRow}
 use Rattle.cls_proof.specs.Rows.{row_of}
 use Rattle.cls_check.specs.Checking.{EndsBelow, IsSubtype}
@@ -27,3 +29,8 @@ returns c =
     let up = form_le l (type_of r.goal) asked (listed c.in_ok-goal.goal) form in
     let ends = subst (λ (q : ProofRow). EndsBelow l (map row_of rows) asked ↔ IsSubtype l q.goal asked) is (ends_at l (map row_of rows) k (row_of r) asked (omega arith)) in
     ((λ t. ends.1 (up.0 (le.0 t))), (λ h. le.1 (up.1 (ends.0 h))))
+
+pub le-requires-clause-suits : goal.le-requires-clause-suits
+le-requires-clause-suits c =
+    let form = form_by c.args.lib.now c.taxonomy.result.now c.taxonomy.ensures (type_of c.in-Some.row.now.goal) (listed c.in_ok-goal.goal) c.in_ok-goal.ensures.form in
+    subst (λ (t : Declared). SuitsAll (variances_in t) (listed c.in_ok-goal.goal)) (sym c.taxonomy-2.ensures) form.normal.suits
