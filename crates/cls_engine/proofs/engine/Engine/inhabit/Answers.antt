@@ -24,3 +24,6 @@ returns-in-Some-clause-exact g c =
 pub returns-in-Some-clause-silent : goal.returns-in-Some-clause-silent
 returns-in-Some-clause-silent g c =
     known-silent c.args.self.now.library c.args.self.now.options (type_of c.args.ty.now) c.in_ok-goal.goal c.in_ok-goal.ensures.goal c.in_ok-goal.ensures.narrow c.in-Some.ensures.rows c.in-Some.ensures.known
+
+pub keep_recent-requires-clause-known : goal.keep_recent-requires-clause-known
+keep_recent-requires-clause-known g c = rw c.closure.ensures.same (c.in_ok-grammar.ensures.known.goal, c.in_ok-grammar.ensures.known.known)
