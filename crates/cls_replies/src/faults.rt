@@ -38,8 +38,18 @@ pub(crate) fn proof_fault(alloc: Global, fault: &ProofFault) -> Result<String, O
     }
 }
 
-/// The error of the engine, likewise.
+/// The error of the engine, likewise. It takes the fault, so that the proofs of its callers have one case for it.
 pub(crate) fn engine_fault(
+    alloc: Global,
+    names: &Names,
+    fault: EngineFault,
+) -> Result<String, OutOfMemory>
+    ensures { IfOk result (λ text. IsFaultLine names.now fault (string_bytes text)) }
+{
+    fault_line(alloc, names, &fault)
+}
+
+fn fault_line(
     alloc: Global,
     names: &Names,
     fault: &EngineFault,

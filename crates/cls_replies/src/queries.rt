@@ -65,7 +65,7 @@ impl Serving {
     {
         match self.engine.subtype(alloc, lower, upper) {
             Ok(yes) => says(alloc, yes, "yes", "no"),
-            Err(fault) => engine_fault(alloc, &self.names, &fault),
+            Err(fault) => engine_fault(alloc, &self.names, fault),
         }
     }
 
@@ -82,7 +82,7 @@ impl Serving {
     {
         match self.engine.typed(alloc, term, ty) {
             Ok(yes) => says(alloc, yes, "yes", "no"),
-            Err(fault) => engine_fault(alloc, &self.names, &fault),
+            Err(fault) => engine_fault(alloc, &self.names, fault),
         }
     }
 
@@ -98,7 +98,7 @@ impl Serving {
     {
         match self.engine.inhabit(rt, alloc, ty, gate) {
             Ok(yes) => says(alloc, yes, "inhabited", "uninhabited"),
-            Err(fault) => engine_fault(alloc, &self.names, &fault),
+            Err(fault) => engine_fault(alloc, &self.names, fault),
         }
     }
 
@@ -114,7 +114,7 @@ impl Serving {
     {
         match self.engine.grammar(rt, alloc, ty, gate) {
             Ok(grammar) => grammar.print(alloc, &self.names, &self.components),
-            Err(fault) => engine_fault(alloc, &self.names, &fault),
+            Err(fault) => engine_fault(alloc, &self.names, fault),
         }
     }
 
@@ -130,7 +130,7 @@ impl Serving {
     {
         match self.engine.audit(rt, alloc, ty, gate) {
             Ok(history) => print_history(alloc, &history),
-            Err(fault) => engine_fault(alloc, &self.names, &fault),
+            Err(fault) => engine_fault(alloc, &self.names, fault),
         }
     }
 
@@ -151,7 +151,7 @@ impl Serving {
                 &self.components,
                 &certificate,
             ),
-            Err(fault) => engine_fault(alloc, &self.names, &fault),
+            Err(fault) => engine_fault(alloc, &self.names, fault),
         }
     }
 
@@ -167,7 +167,7 @@ impl Serving {
     {
         match self.engine.finite(rt, alloc, ty, gate) {
             Ok(sizes) => print_sizes(alloc, &sizes),
-            Err(fault) => engine_fault(alloc, &self.names, &fault),
+            Err(fault) => engine_fault(alloc, &self.names, fault),
         }
     }
 
@@ -184,7 +184,7 @@ impl Serving {
     {
         match self.page(rt, alloc, listing, gate) {
             Ok(page) => print_terms(self.empty_text(alloc), &page, &self.components),
-            Err(fault) => engine_fault(alloc, &self.names, &fault),
+            Err(fault) => engine_fault(alloc, &self.names, fault),
         }
     }
 
@@ -204,7 +204,7 @@ impl Serving {
                 let text = self.empty_text(alloc);
                 print_texts(alloc, text, &page, &self.components, &self.templates)
             }
-            Err(fault) => engine_fault(alloc, &self.names, &fault),
+            Err(fault) => engine_fault(alloc, &self.names, fault),
         }
     }
 
@@ -246,7 +246,7 @@ impl Serving {
     {
         match self.engine.verify(alloc, goal, certificate) {
             Ok(verdict) => verdict_line(alloc, verdict),
-            Err(fault) => engine_fault(alloc, &self.names, &fault),
+            Err(fault) => engine_fault(alloc, &self.names, fault),
         }
     }
 }

@@ -11,7 +11,7 @@ use Rattle.std.proofs.Common.{◌≡◌}
 use Rattle.cls_replies.specs.Texts.{history_text}
 use Rattle.cls_replies.proofs.Faulting.{fault_answers, reply_answers}
 use Rattle.cls_replies.proofs.serving.Serving.audit.Goals as goal
-use Rattle.cls_replies.proofs.serving.Serving.audit.Goals.{in-Ok, in-Err+in-Wide-1, in-Err+in-Size-1}
+use Rattle.cls_replies.proofs.serving.Serving.audit.Goals.{in-Ok, in-Err}
 
 pub returns-clause-answers : goal.returns-clause-answers
 returns-clause-answers g c =
@@ -23,8 +23,6 @@ returns-clause-answers g c =
       | in-Ok w ↦ subst (λ r. IfOk r (λ text. Answers s q (string_bytes text))) (sym w.result-is)
           (reply_answers string_bytes w.print_history.result s q w.in-Ok.ensures.silent
           (IfOk-weaker w.print_history.result (λ text. string_bytes text ≡ history_text w.in-Ok.history) (λ text. Reply s q (string_bytes text)) (λ text e. let t : Reply s q (string_bytes text) = (w.in-Ok.history, w.in-Ok.ensures.history, e) in t) w.print_history.ensures))
-      | in-Err+in-Wide-1 w ↦ subst (λ r. IfOk r (λ text. Answers s q (string_bytes text))) (sym w.result-is)
-          (fault_answers string_bytes w.engine_fault.result s q w.in-Err.fault w.in-Err.ensures.fault w.engine_fault.ensures)
-      | in-Err+in-Size-1 w ↦ subst (λ r. IfOk r (λ text. Answers s q (string_bytes text))) (sym w.result-is)
+      | in-Err w ↦ subst (λ r. IfOk r (λ text. Answers s q (string_bytes text))) (sym w.result-is)
           (fault_answers string_bytes w.engine_fault.result s q w.in-Err.fault w.in-Err.ensures.fault w.engine_fault.ensures)
     ])

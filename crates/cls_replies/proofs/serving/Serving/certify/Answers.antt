@@ -12,7 +12,7 @@ use Rattle.cls_proof.specs.Seen.{certificate_of}
 use Rattle.cls_proof.specs.Texts.{certificate_text}
 use Rattle.cls_replies.proofs.Faulting.{fault_answers, reply_answers}
 use Rattle.cls_replies.proofs.serving.Serving.certify.Goals as goal
-use Rattle.cls_replies.proofs.serving.Serving.certify.Goals.{in-Ok+in-Inhabited-1, in-Ok+in-Empty-1, in-Err+in-Wide-1, in-Err+in-Size-1}
+use Rattle.cls_replies.proofs.serving.Serving.certify.Goals.{in-Ok+in-Inhabited-1, in-Ok+in-Empty-1, in-Err}
 
 pub returns-clause-answers : goal.returns-clause-answers
 returns-clause-answers g c =
@@ -27,8 +27,6 @@ returns-clause-answers g c =
       | in-Ok+in-Empty-1 w ↦ subst (λ r. IfOk r (λ text. Answers s q (string_bytes text))) (sym w.result-is)
           (reply_answers string_bytes w.print_certificate.result s q w.in-Ok.ensures.silent
           (IfOk-weaker w.print_certificate.result (λ text. string_bytes text ≡ certificate_text i.names i.components (certificate_of w.in-Ok.certificate)) (λ text. Reply s q (string_bytes text)) (λ text e. let t : Reply s q (string_bytes text) = (certificate_of w.in-Ok.certificate, w.in-Ok.ensures.certificate, e) in t) w.print_certificate.ensures))
-      | in-Err+in-Wide-1 w ↦ subst (λ r. IfOk r (λ text. Answers s q (string_bytes text))) (sym w.result-is)
-          (fault_answers string_bytes w.engine_fault.result s q w.in-Err.fault w.in-Err.ensures.fault w.engine_fault.ensures)
-      | in-Err+in-Size-1 w ↦ subst (λ r. IfOk r (λ text. Answers s q (string_bytes text))) (sym w.result-is)
+      | in-Err w ↦ subst (λ r. IfOk r (λ text. Answers s q (string_bytes text))) (sym w.result-is)
           (fault_answers string_bytes w.engine_fault.result s q w.in-Err.fault w.in-Err.ensures.fault w.engine_fault.ensures)
     ])

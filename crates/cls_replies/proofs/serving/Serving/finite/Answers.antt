@@ -13,7 +13,7 @@ use Rattle.cls_replies.specs.Texts.{sizes_text}
 use Rattle.cls_replies.proofs.Telling.{tells_sizes}
 use Rattle.cls_replies.proofs.Faulting.{fault_answers, reply_answers}
 use Rattle.cls_replies.proofs.serving.Serving.finite.Goals as goal
-use Rattle.cls_replies.proofs.serving.Serving.finite.Goals.{in-Ok+in-Infinite-1, in-Ok+in-Finite-1, in-Err+in-Wide-1, in-Err+in-Size-1}
+use Rattle.cls_replies.proofs.serving.Serving.finite.Goals.{in-Ok+in-Infinite-1, in-Ok+in-Finite-1, in-Err}
 
 pub returns-clause-answers : goal.returns-clause-answers
 returns-clause-answers g c =
@@ -30,8 +30,6 @@ returns-clause-answers g c =
           (reply_answers string_bytes w.print_sizes.result s q w.in-Ok.ensures.silent
           (IfOk-weaker w.print_sizes.result (λ text. string_bytes text ≡ sizes_text w.in-Ok.sizes) (λ text. Reply s q (string_bytes text))
           (λ text e. let t : Reply s q (string_bytes text) = (w.in-Ok.sizes, tells_sizes i.engine.library (cost_of i.engine.costs) (type_of c.args.ty.now) w.in-Ok.sizes w.in-Ok.ensures.greatest w.in-Ok.ensures.over w.in-Ok.ensures.infinite w.in-Ok.ensures.walk, e) in t) w.print_sizes.ensures))
-      | in-Err+in-Wide-1 w ↦ subst (λ r. IfOk r (λ text. Answers s q (string_bytes text))) (sym w.result-is)
-          (fault_answers string_bytes w.engine_fault.result s q w.in-Err.fault w.in-Err.ensures.fault w.engine_fault.ensures)
-      | in-Err+in-Size-1 w ↦ subst (λ r. IfOk r (λ text. Answers s q (string_bytes text))) (sym w.result-is)
+      | in-Err w ↦ subst (λ r. IfOk r (λ text. Answers s q (string_bytes text))) (sym w.result-is)
           (fault_answers string_bytes w.engine_fault.result s q w.in-Err.fault w.in-Err.ensures.fault w.engine_fault.ensures)
     ])

@@ -11,7 +11,7 @@ use Rattle.cls_syntax.specs.TypePrinting.{name_in}
 use Rattle.cls_grammar.specs.GrammarTexts.{IsGrammarText}
 use Rattle.cls_replies.proofs.Faulting.{fault_answers, reply_answers}
 use Rattle.cls_replies.proofs.serving.Serving.grammar.Goals as goal
-use Rattle.cls_replies.proofs.serving.Serving.grammar.Goals.{in-Ok, in-Err+in-Wide-1, in-Err+in-Size-1}
+use Rattle.cls_replies.proofs.serving.Serving.grammar.Goals.{in-Ok, in-Err}
 
 pub returns-clause-answers : goal.returns-clause-answers
 returns-clause-answers g c =
@@ -23,8 +23,6 @@ returns-clause-answers g c =
       | in-Ok w ↦ subst (λ r. IfOk r (λ text. Answers s q (string_bytes text))) (sym w.result-is)
           (reply_answers string_bytes w.print.result s q w.in-Ok.ensures.silent
           (IfOk-weaker w.print.result (λ text. IsGrammarText (name_in i.names) (name_in i.components) w.in-Ok.grammar (string_bytes text)) (λ text. Reply s q (string_bytes text)) (λ text e. let t : Reply s q (string_bytes text) = (w.in-Ok.grammar, w.in-Ok.ensures.closed, e) in t) w.print.ensures))
-      | in-Err+in-Wide-1 w ↦ subst (λ r. IfOk r (λ text. Answers s q (string_bytes text))) (sym w.result-is)
-          (fault_answers string_bytes w.engine_fault.result s q w.in-Err.fault w.in-Err.ensures.fault w.engine_fault.ensures)
-      | in-Err+in-Size-1 w ↦ subst (λ r. IfOk r (λ text. Answers s q (string_bytes text))) (sym w.result-is)
+      | in-Err w ↦ subst (λ r. IfOk r (λ text. Answers s q (string_bytes text))) (sym w.result-is)
           (fault_answers string_bytes w.engine_fault.result s q w.in-Err.fault w.in-Err.ensures.fault w.engine_fault.ensures)
     ])

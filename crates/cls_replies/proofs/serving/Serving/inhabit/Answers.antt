@@ -13,7 +13,7 @@ use Rattle.cls_replies.specs.Texts.{reply_line}
 use Rattle.cls_replies.proofs.Faulting.{says_which}
 use Rattle.cls_replies.proofs.Faulting.{fault_answers, reply_answers}
 use Rattle.cls_replies.proofs.serving.Serving.inhabit.Goals as goal
-use Rattle.cls_replies.proofs.serving.Serving.inhabit.Goals.{in-Ok, in-Err+in-Wide-1, in-Err+in-Size-1}
+use Rattle.cls_replies.proofs.serving.Serving.inhabit.Goals.{in-Ok, in-Err}
 
 pub returns-clause-answers : goal.returns-clause-answers
 returns-clause-answers g c =
@@ -25,8 +25,6 @@ returns-clause-answers g c =
       | in-Ok w ↦ subst (λ r. IfOk r (λ text. Answers s q (string_bytes text))) (sym w.result-is)
           (reply_answers string_bytes w.says.result s q w.in-Ok.ensures.silent
           (IfOk-weaker w.says.result (λ text. string_bytes text ≡ reply_line (if w.in-Ok.yes then codes "inhabited" else codes "uninhabited")) (λ text. Reply s q (string_bytes text)) (λ text e. says_which _ w.in-Ok.yes (codes "inhabited") (codes "uninhabited") (string_bytes text) w.in-Ok.ensures.exact e) w.says.ensures))
-      | in-Err+in-Wide-1 w ↦ subst (λ r. IfOk r (λ text. Answers s q (string_bytes text))) (sym w.result-is)
-          (fault_answers string_bytes w.engine_fault.result s q w.in-Err.fault w.in-Err.ensures.fault w.engine_fault.ensures)
-      | in-Err+in-Size-1 w ↦ subst (λ r. IfOk r (λ text. Answers s q (string_bytes text))) (sym w.result-is)
+      | in-Err w ↦ subst (λ r. IfOk r (λ text. Answers s q (string_bytes text))) (sym w.result-is)
           (fault_answers string_bytes w.engine_fault.result s q w.in-Err.fault w.in-Err.ensures.fault w.engine_fault.ensures)
     ])
