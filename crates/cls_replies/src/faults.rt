@@ -49,11 +49,8 @@ pub(crate) fn engine_fault(
     fault_line(alloc, names, &fault)
 }
 
-fn fault_line(
-    alloc: Global,
-    names: &Names,
-    fault: &EngineFault,
-) -> Result<String, OutOfMemory>
+/// The same of a fault that is lent.
+fn fault_line(alloc: Global, names: &Names, fault: &EngineFault) -> Result<String, OutOfMemory>
     ensures { IfOk result (λ text. IsFaultLine names.now fault.now (string_bytes text)) }
 {
     match fault {
