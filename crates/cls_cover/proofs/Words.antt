@@ -143,9 +143,6 @@ pub record IsJoinedTo (once met row : List ℕ) (n : ℕ) (once' met' : List ℕ
   pub once_len : length once' ≡ length once
   pub met_len : length met' ≡ length met
 
-pub joined_at_start : (once met row : List ℕ) → IsJoinedTo once met row 0 once met
-joined_at_start once met row = record { once_done = (λ k l. absurd (omega arith)); met_done = (λ k l. absurd (omega arith)); once_left = (λ k l. refl); met_left = (λ k l. refl); once_len = refl; met_len = refl }
-
 pub joined_more : (once met row : List ℕ) (n : ℕ) (once' met' once'' met'' : List ℕ) → n < length once → n < length met
     → once'' ≡ set once' n (once_word (get_or once' n 0) (get_or met' n 0) (get_or row n 0)) → met'' ≡ set met' n (bit_or (get_or met' n 0) (get_or row n 0))
     → IsJoinedTo once met row n once' met' → IsJoinedTo once met row (n + 1) once'' met''
