@@ -1,10 +1,12 @@
--- A table of places, name by name.
-use Rattle.std.proofs.Common.{◌≡◌, ℕ, zero, suc, ◌<◌, ◌≤◌, ◌^◌, Bool, true, false, cond, ltb, List, [], ◌∷◌, ◌++◌, length, refl, sym, ap, ◌∙◌, subst, inl, inr, arith, Option, Some, None, set, get_or}
-use Rattle.std.specs.Prelude.{slice_index_or, slice_set, ◌==◌, ◌||◌, not}
-use Rattle.std.specs.List.{list_any}
+-- The places that are kept, name by name.
+use Rattle.std.proofs.Common.{◌≡◌, ℕ, suc, ◌<◌, ◌≤◌, Bool, true, false, cond, ltb, List, [], ◌∷◌, ◌++◌, length, refl, sym, ap, ◌∙◌, subst, inl, inr, arith, Option, Some, None}
+use Rattle.std.specs.Prelude.{◌==◌, ◌||◌}
+use Rattle.std.specs.List.{list_any, IsDistinct}
+use Rattle.std.specs.Cmp.{nat_eq_equiv}
 use Rattle.std.specs.Option.{is_some}
 use Rattle.std.proofs.lemmas.Bool.{cases_Bool, ltb-true, ltb-false, lt-ltb, le-ltb}
-use Rattle.cls_taxon.specs.Places.{place_of, place_in, with_name, IsTabled}
+use Rattle.std.proofs.lemmas.Map.Keys.{IsDistinct-push}
+use Rattle.cls_taxon.specs.Places.{place_of, place_in, with_name, IsSet}
 use Rattle.cls_taxon.specs.DecisionLaws.{same_name, name_same}
 use Rattle.cls_taxon.proofs.PlaceLaws.{place-here, place-later}
 
@@ -16,10 +18,6 @@ or-first x y f e = differs (sym (subst (λ z. (z || y) ≡ false) f e))
 
 or-rest : (x y : Bool) → x ≡ false → (x || y) ≡ false → y ≡ false
 or-rest x y f e = subst (λ z. (z || y) ≡ false) f e
-
-pub not-true : (b : Bool) → not b ≡ true → b ≡ false
-not-true true e = absurd (differs e)
-not-true false e = refl
 
 some-if : (p n : ℕ) → p < n → cond (ltb p n) (Some p) None ≡ Some p
 some-if p n l = ap (λ b. cond b (Some p) None) (lt-ltb p n l)
@@ -75,47 +73,19 @@ others (x ∷ names) a b e = elim (cases_Bool (a == x)) [
   | inr h ↦ place-next a x (names ++ b ∷ []) h ∙ ap next (others names a b e) ∙ sym (place-next a x names h)
 ]
 
--- Setting one entry.
-set-here : (table : List (Option ℕ)) (a : ℕ) (o : Option ℕ) → a < length table → get_or (set table a o) a None ≡ o
-set-here [] a o l = absurd (omega arith)
-set-here (t ∷ table) zero o l = refl
-set-here (t ∷ table) (suc a) o l = set-here table a o (omega arith)
+-- A name that isn't there goes last.
+absent : (names : List ℕ) (a : ℕ) → is_some (place_in names a) ≡ false → list_any (λ b. a == b) names ≡ false
+absent names a e = sym (is-there names a) ∙ e
 
-set-other : (table : List (Option ℕ)) (a b : ℕ) (o : Option ℕ) → (a == b) ≡ false → get_or (set table b o) a None ≡ get_or table a None
-set-other [] a b o e = refl
-set-other (t ∷ table) zero zero o e = absurd (let d : true ≡ false = e in cc)
-set-other (t ∷ table) zero (suc b) o e = refl
-set-other (t ∷ table) (suc a) zero o e = refl
-set-other (t ∷ table) (suc a) (suc b) o e = set-other table a b o (elim (cases_Bool (a == b)) [
-  | inl h ↦ absurd (differs (sym e ∙ name_same (suc a) (suc b) (ap suc (same_name a b h))))
-  | inr h ↦ h
-])
+pub goes-last : (names : List ℕ) (a : ℕ) → is_some (place_in names a) ≡ false → names ++ a ∷ [] ≡ with_name names a
+goes-last names a e = sym (ap (λ t. cond t names (names ++ a ∷ [])) (absent names a e))
 
--- the table that has the same entries
-pub tabled-same : (names : List ℕ) (table table' : List (Option ℕ)) → ((a : ℕ) → slice_index_or table' a None ≡ slice_index_or table a None) → IsTabled names table → IsTabled names table'
-tabled-same names table table' e h a l = e a ∙ h a l
+pub distinct-last : (names : List ℕ) (a : ℕ) → place_in names a ≡ None → IsDistinct (λ a b. a == b) names → IsDistinct (λ a b. a == b) (names ++ a ∷ [])
+distinct-last names a e d = IsDistinct-push nat_eq_equiv names a d (absent names a (ap is_some e))
 
--- a name that is there
-pub tabled-there : (names names' : List ℕ) (b : ℕ) (table : List (Option ℕ)) → names' ≡ with_name names b → list_any (λ x. b == x) names ≡ true → IsTabled names table → IsTabled names' table
-tabled-there names names' b table e t h = subst (λ (ns : List ℕ). IsTabled ns table) (sym (e ∙ ap (λ t. cond t names (names ++ b ∷ [])) t)) h
-
--- a new name past the table
-pub tabled-past : (names names' : List ℕ) (b : ℕ) (table : List (Option ℕ)) → names' ≡ with_name names b → 2 ^ 20 ≤ b → IsTabled names table → IsTabled names' table
-tabled-past names names' b table e past h = elim (cases_Bool (list_any (λ x. b == x) names)) [
-  | inl t ↦ tabled-there names names' b table e t h
-  | inr t ↦ subst (λ (ns : List ℕ). IsTabled ns table) (sym (e ∙ ap (λ t. cond t names (names ++ b ∷ [])) t))
-      (λ a l. h a l ∙ sym (others names a b (elim (cases_Bool (a == b)) [ inl s ↦ absurd (let k = same_name a b s in omega arith) | inr s ↦ s ])))
+-- once its place is set, the places of all names are kept with it
+pub kept-last : (names : List ℕ) (old new : ℕ → Option ℕ) (b : ℕ) → place_in names b ≡ None → ((a : ℕ) → old a ≡ place_in names a) → IsSet old new b (length names) → (a : ℕ) → new a ≡ place_in (names ++ b ∷ []) a
+kept-last names old new b e kept s a = elim (cases_Bool (a == b)) [
+  | inl h ↦ s a ∙ (ap (λ t. cond t (Some (length names)) (old a)) h ∙ subst (λ (x : ℕ). Some (length names) ≡ place_in (names ++ b ∷ []) x) (sym (same_name a b h)) (sym (last names b (absent names b (ap is_some e)))))
+  | inr h ↦ s a ∙ (ap (λ t. cond t (Some (length names)) (old a)) h ∙ (kept a ∙ sym (others names a b h)))
 ]
-
--- a new name in the table
-pub tabled-new : (names names' : List ℕ) (b : ℕ) (table : List (Option ℕ)) → names' ≡ with_name names b → list_any (λ x. b == x) names ≡ false → b < length table → IsTabled names table → IsTabled names' (slice_set table b (Some (length names)))
-tabled-new names names' b table e t l h =
-    subst (λ (ns : List ℕ). IsTabled ns (slice_set table b (Some (length names)))) (sym (e ∙ ap (λ t. cond t names (names ++ b ∷ [])) t))
-    (λ a m. elim (cases_Bool (a == b)) [
-      | inl s ↦ subst (λ (x : ℕ). get_or (set table b (Some (length names))) x None ≡ place_in (names ++ b ∷ []) x) (sym (same_name a b s)) (set-here table b (Some (length names)) l ∙ sym (last names b t))
-      | inr s ↦ set-other table a b (Some (length names)) s ∙ (h a m ∙ sym (others names a b s))
-    ])
-
--- what the table has of a name
-pub tabled-found : (names : List ℕ) (table : List (Option ℕ)) (a : ℕ) → IsTabled names table → a < 2 ^ 20 → (o : Option ℕ) → slice_index_or table a None ≡ o → o ≡ place_in names a
-tabled-found names table a h l o e = sym e ∙ h a l

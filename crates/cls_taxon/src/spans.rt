@@ -1,5 +1,5 @@
 //! Sets of numbers as sorted lists of intervals, here called spans.
-ghost use Rattle.std.specs.Prelude.{◌≡◌, ℕ, ◌↔◌, All, IsTrue, IfOk};
+ghost use Rattle.std.specs.Prelude.{◌≡◌, ℕ, ◌-◌, ◌^◌, ◌<◌, ◌↔◌, All, IsTrue, IfOk};
 ghost use Rattle.cls_taxon.specs.Spans.{InSpans, IsSpan, IsRising, start_of};
 
 use cls_base::OutOfMemory;
@@ -51,6 +51,19 @@ impl Spans {
             }
         }
         items.push(last)?;
+        Ok(Spans { items })
+    }
+
+    /// The set of this number alone.
+    pub fn one(alloc: Global, number: usize) -> Result<Spans, OutOfMemory>
+        requires { number < 2 ^ 64 - 1 }
+        ensures { IfOk result (λ s. (n : ℕ) → InSpans s n ↔ (number ≡ n)) }
+    {
+        let mut items = SmallVec::new(alloc);
+        items.push(Span {
+            start: number,
+            end: number + 1,
+        })?;
         Ok(Spans { items })
     }
 
