@@ -16,20 +16,31 @@ use cls_base::{Numbers, OutOfMemory};
 use cls_cover::{CoverFault, covers};
 use cls_library::{Families, Finder, Library, Place};
 use cls_path::Nf;
-use cls_proof::{Block, Blocks, Layer, Layers};
+use cls_proof::{Block, Blocks, Layer, Layers, Positions};
 use std::alloc::Global;
 
 /// The greatest number of minimal covers that first paths of a goal have if the goal isn't wide.
 const MAX_COVERS: u32 = 1024;
 
+/// The covers as a certificate has them.
+fn positions_of(alloc: Global, covers: &[Numbers]) -> Result<Vec<Positions>, OutOfMemory>
+    ensures { IfOk result (λ sets. sets.items ≡ covers.now) }
+{
+    let mut sets = Vec::with_capacity(alloc, covers.len())?;
+    for cover in covers {
+        sets.push(Positions::from_slice(alloc, cover.as_slice())?)?;
+    }
+    Ok(sets)
+}
+
 /// The minimal covers of the families, which have few.
-pub(crate) fn few_covers(alloc: Global, families: &[Numbers]) -> Result<Vec<Numbers>, OutOfMemory>
+pub(crate) fn few_covers(alloc: Global, families: &[Numbers]) -> Result<Vec<Positions>, OutOfMemory>
     requires ascending { All IsAscending families.now }
     requires few { AreWithinLimit families.now max_covers }
     ensures { IfOk result (λ list. AreCovers families.now list.items) }
 {
     match covers(alloc, families, MAX_COVERS) {
-        Ok(list) => Ok(list.into_vec()),
+        Ok(list) => positions_of(alloc, list.as_slice()),
         Err(CoverFault::TooManyCovers(_)) => unreachable!(),
         Err(CoverFault::OutOfMemory) => Err(OutOfMemory),
     }
@@ -39,8 +50,7 @@ pub(crate) fn few_covers(alloc: Global, families: &[Numbers]) -> Result<Vec<Numb
 fn one_set(alloc: Global, set: &[u32]) -> Result<Layer, OutOfMemory>
     ensures { IfOk result (λ layer. layer ≡ set.now ∷ []) }
 {
-    let set = Vec::from_slice(alloc, set)?;
-    Ok(Layer::one(Numbers::new(set)))
+    Ok(Layer::one(Positions::from_slice(alloc, set)?))
 }
 
 /// The minimal covers of the families at the front. Where these have a single position each, their only cover is given.

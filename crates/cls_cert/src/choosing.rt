@@ -15,11 +15,12 @@ ghost use Rattle.cls_cert.specs.Making.{IsFirst, IsFirstChoice};
 ghost use Rattle.cls_cert.specs.Building.{HaveLess, HasLess, GivesRule, IsFirstAt, IsGiven, goals_over, rule_over};
 
 use crate::blocks::few_covers;
-use cls_base::{Numbers, OutOfMemory};
+use cls_base::OutOfMemory;
 use cls_expand::{arguments_of, families_of};
 use cls_grammar::Grammar;
 use cls_library::Library;
 use cls_path::Nf;
+use cls_proof::Positions;
 use cls_rulebook::{NodeRules, RuleRef};
 use std::alloc::Global;
 
@@ -121,7 +122,7 @@ fn first_giving(
     grammar: &Grammar,
     x: u32,
     args: &[u32],
-    covers: &[Numbers],
+    covers: &[Positions],
 ) -> Result<Option<usize>, OutOfMemory>
     requires declared { x < length lib.now.components }
     requires few { length args.now ≤ arity_of (paths_at lib.now x) }
@@ -149,7 +150,7 @@ pub(crate) fn first_cover(
     goal: &Nf,
     x: u32,
     args: &[u32],
-) -> Result<Numbers, OutOfMemory>
+) -> Result<Positions, OutOfMemory>
     requires ready { IsReady lib.now goal.now }
     requires narrow { IsWide lib.now (listed goal.now) → ⊥ }
     requires args { AreBelow (length grammar.now) args.now }

@@ -9,11 +9,11 @@ ghost use Rattle.cls_cert.specs.Building.{AreRowsTo, IsBucketTo};
 
 use crate::buckets::by_rank;
 use crate::choosing::{first_cover, first_rule};
-use cls_base::{Numbers, OutOfMemory};
+use cls_base::OutOfMemory;
 use cls_grammar::Grammar;
 use cls_library::Library;
 use cls_norm::type_of;
-use cls_proof::{ProofRow, ProofRows};
+use cls_proof::{Positions, ProofRow, ProofRows};
 use cls_rulebook::RuleRef;
 use std::alloc::Global;
 
@@ -39,7 +39,7 @@ fn row(
             goal: ty,
             component: 0,
             n: 0,
-            cover: Numbers::new(Vec::new(alloc)),
+            cover: Positions::new(alloc),
         });
     }
     match first_rule(ranks, grammar.rules(number), rank) {

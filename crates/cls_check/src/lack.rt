@@ -5,7 +5,8 @@ ghost use Rattle.cls_check.specs.Near.{AreIndexed};
 ghost use Rattle.cls_check.specs.Layers.{AllBelow, AllMet, AreFlagged, IsLack, flag};
 
 use crate::near::{Index, near};
-use cls_base::{Numbers, OutOfMemory};
+use cls_base::OutOfMemory;
+use cls_proof::Positions;
 use std::alloc::Global;
 
 /// How much a set lacks of another one.
@@ -21,7 +22,7 @@ pub(crate) enum Lack {
 pub(crate) fn all_met(
     alloc: Global,
     family: &[u32],
-    layer: &[Numbers],
+    layer: &[Positions],
     index: &Index,
     set: &[u32],
     count: usize,

@@ -6,9 +6,9 @@ ghost use Rattle.cls_check.specs.Places.{block_place};
 
 use crate::place::Place;
 use crate::positions::are_positions;
-use cls_base::{Numbers, OutOfMemory};
+use cls_base::OutOfMemory;
 use cls_library::Library;
-use cls_proof::{Block, Layer};
+use cls_proof::{Block, Layer, Positions};
 use indexmap::IndexSet;
 use std::alloc::Global;
 
@@ -65,7 +65,7 @@ fn are_layers(layers: &[Layer], count: usize) -> bool
 }
 
 /// Whether the sets are of positions of so many arrows.
-fn are_sets(sets: &[Numbers], count: usize) -> bool
+fn are_sets(sets: &[Positions], count: usize) -> bool
     ensures { IsTrue result ↔ All (ArePositions count) sets.now }
 {
     for set in sets {

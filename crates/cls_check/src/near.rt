@@ -6,7 +6,8 @@ ghost use Rattle.cls_base.specs.Lists.{AreBelow};
 ghost use Rattle.cls_check.specs.Layers.{AllBelow};
 ghost use Rattle.cls_check.specs.Near.{AreIndexed, at};
 
-use cls_base::{Numbers, OutOfMemory};
+use cls_base::OutOfMemory;
+use cls_proof::Positions;
 use std::alloc::Global;
 use std::marker::Model;
 
@@ -60,7 +61,11 @@ pub(crate) struct Index {
 }
 
 /// The index of the layer, whose numbers are below the count. The only error is out of memory.
-pub(crate) fn index_of(alloc: Global, layer: &[Numbers], count: usize) -> Result<Index, OutOfMemory>
+pub(crate) fn index_of(
+    alloc: Global,
+    layer: &[Positions],
+    count: usize,
+) -> Result<Index, OutOfMemory>
     requires { AllBelow count layer.now }
     ensures { IfOk result (λ index. AreIndexed count layer.now (length layer.now) index.under.items index.small) }
 {

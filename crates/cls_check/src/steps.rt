@@ -16,10 +16,10 @@ use crate::goals::Goals;
 use crate::lack::all_met;
 use crate::near::{Index, index_of};
 use crate::place::Place;
-use cls_base::{Numbers, OutOfMemory};
+use cls_base::OutOfMemory;
 use cls_library::Library;
 use cls_path::{Nf, Path};
-use cls_proof::Layer;
+use cls_proof::{Layer, Positions};
 use std::alloc::Global;
 
 /// Whether the layers lead from the empty set to sets that are all blocked. There is a layer for each path of the goal.
@@ -55,12 +55,12 @@ fn only_empty(alloc: Global) -> Result<Layer, OutOfMemory>
     ensures { IfOk result (λ layer. layer ≡ [] ∷ []) }
 {
     let mut sets = Vec::with_capacity(alloc, 1)?;
-    sets.push(Numbers::new(Vec::new(alloc)))?;
+    sets.push(Positions::new(alloc))?;
     Ok(Layer::new(sets))
 }
 
 /// The sets from which the step of this number goes.
-fn sets_at<'a>(start: &'a [Numbers], layers: &'a [Layer], step: usize) -> &'a [Numbers]
+fn sets_at<'a>(start: &'a [Positions], layers: &'a [Layer], step: usize) -> &'a [Positions]
     requires { step < length layers.now + 1 }
     ensures { result.now ≡ sets_at start.now layers.now step }
 {
@@ -78,8 +78,8 @@ fn all_step(
     goals: &Goals,
     place: Place,
     path: &Path,
-    sets: &[Numbers],
-    layer: &[Numbers],
+    sets: &[Positions],
+    layer: &[Positions],
 ) -> Result<bool, OutOfMemory>
     requires place { Stands lib.now place }
     requires goals { AllSuit lib.now goals.now }
@@ -123,7 +123,7 @@ fn is_settled(
     place: Place,
     path: &Path,
     family: &[u32],
-    layer: &[Numbers],
+    layer: &[Positions],
     index: &Index,
     set: &[u32],
 ) -> Result<bool, OutOfMemory>
@@ -150,7 +150,7 @@ fn all_blocked(
     lib: &Library,
     goals: &Goals,
     place: Place,
-    sets: &[Numbers],
+    sets: &[Positions],
 ) -> Result<bool, OutOfMemory>
     requires place { Stands lib.now place }
     requires goals { AllSuit lib.now goals.now }

@@ -1,6 +1,6 @@
 //! Whether two certificates are the same.
 use cls_base::Numbers;
-use cls_proof::{Block, Certificate, Layer, Member, ProofRow};
+use cls_proof::{Block, Certificate, Layer, Member, Positions, ProofRow};
 
 /// Whether the certificates are the same.
 pub fn are_same(one: &Certificate, other: &Certificate) -> bool {
@@ -77,7 +77,7 @@ fn have_same_layers(one: &[Layer], other: &[Layer]) -> bool {
     true
 }
 
-fn have_same_sets(one: &[Numbers], other: &[Numbers]) -> bool {
+fn have_same_sets(one: &[Positions], other: &[Positions]) -> bool {
     if one.len() != other.len() {
         return false;
     }

@@ -13,7 +13,7 @@ use Rattle.cls_base.specs.Types.{ClosedType}
 use Rattle.cls_base.specs.Schemas.{OpenType}
 use Rattle.cls_lexer.specs.declared.token.TokenKind.TheVariants.{Colon}
 use Rattle.cls_lexer.specs.Names.{number_of, with_text, with_texts}
-use Rattle.cls_lexer.specs.Words.{Word, name, number, sign, words_of}
+use Rattle.cls_lexer.specs.Words.{Word, name, sign}
 use Rattle.cls_syntax.specs.declared.role.Role.TheVariants.{Component}
 use Rattle.cls_syntax.specs.ClosedTypes.{HasNoDollar}
 use Rattle.cls_syntax.specs.Depths.{open_after, most_open}
@@ -28,7 +28,7 @@ use Rattle.cls_syntax.proofs.ReadTypes.{open_nodes, closed_nodes, type_count, de
 use Rattle.cls_syntax.proofs.ReadTypes as words
 use Rattle.cls_proof.specs.Forms.{certificate_rows, greatest_number, Written, line_of, constructors_of}
 use Rattle.cls_proof.specs.Forms as written
-use Rattle.cls_proof.specs.Statements.{Statement, row, member, block, set, statements_of}
+use Rattle.cls_proof.specs.Statements.{Statement, statements_of}
 use Rattle.cls_proof.specs.Reading.{AreNumbers, IsGoal, Means, SaysStatement, Says, no_statement, one_statement, LinesSay}
 use Rattle.cls_proof.specs.RoundTrips.{AreSayable, IsTypeSayable, IsPlaceSayable, IsSayable, ReadCertificatesAreReadAgain}
 use Rattle.cls_proof.proofs.Meanings.{words_closed}

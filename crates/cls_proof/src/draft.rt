@@ -12,9 +12,10 @@ use crate::block::{Block, Blocks};
 use crate::certificate::Certificate;
 use crate::layer::{Layer, Layers};
 use crate::member::{Member, Members};
+use crate::positions::Positions;
 use crate::row::{ProofRow, ProofRows};
 use crate::statement::Statement;
-use cls_base::{Numbers, OutOfMemory, Ty};
+use cls_base::{OutOfMemory, Ty};
 use std::alloc::Global;
 
 /// A certificate up to some line.
@@ -60,7 +61,7 @@ pub(crate) struct BlockDraft {
 pub(crate) struct LayerDraft {
     /// The block that it belongs to, with the layers before it.
     of: BlockDraft,
-    sets: Vec<Numbers>,
+    sets: Vec<Positions>,
 }
 
 impl Draft {

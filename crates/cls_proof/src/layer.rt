@@ -1,6 +1,6 @@
 ghost use Rattle.std.specs.Prelude.{◌≡◌, ◌∷◌, []};
 
-use cls_base::Numbers;
+use crate::positions::Positions;
 use std::marker::Model;
 use std::slice;
 
@@ -14,9 +14,9 @@ pub struct Layer {
 #[derive(Drop)]
 enum Sets {
     /// One set.
-    One(Numbers),
+    One(Positions),
     /// No set, or several.
-    Several(Vec<Numbers>),
+    Several(Vec<Positions>),
 }
 
 impl Model for Layer {
@@ -30,7 +30,7 @@ impl Model for Layer {
 
 impl Layer {
     /// The list of these sets.
-    pub fn new(sets: Vec<Numbers>) -> Layer
+    pub fn new(sets: Vec<Positions>) -> Layer
         ensures { result ≡ sets.items }
     {
         Layer {
@@ -39,7 +39,7 @@ impl Layer {
     }
 
     /// The list of this set alone.
-    pub fn one(set: Numbers) -> Layer
+    pub fn one(set: Positions) -> Layer
         ensures { result ≡ set ∷ [] }
     {
         Layer {
@@ -48,7 +48,7 @@ impl Layer {
     }
 
     /// The sets as a slice.
-    pub fn as_slice(&self) -> &[Numbers]
+    pub fn as_slice(&self) -> &[Positions]
         ensures { result.now ≡ self.now }
     {
         match &self.sets {

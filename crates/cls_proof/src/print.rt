@@ -11,8 +11,9 @@ use crate::block::Block;
 use crate::certificate::Certificate;
 use crate::layer::Layer;
 use crate::member::Member;
+use crate::positions::Positions;
 use crate::row::ProofRow;
-use cls_base::{Name, Numbers, OutOfMemory};
+use cls_base::{Name, OutOfMemory};
 use cls_lexer::Names;
 use cls_syntax::write_type;
 use itoa::Buffer;
@@ -135,7 +136,7 @@ fn write_layers(layers: &[Layer], text: &mut String) -> Result<(), OutOfMemory>
 
 /// Writes the lines of the sets at the end.
 #[tactic(auto, using(crate::proofs::Writing::texts))]
-fn write_sets(sets: &[Numbers], text: &mut String) -> Result<(), OutOfMemory>
+fn write_sets(sets: &[Positions], text: &mut String) -> Result<(), OutOfMemory>
     ensures { OnOk result (string_bytes text.new ≡ string_bytes text.old ++ flat_map set_text sets.now) }
 {
     for set in sets {

@@ -14,11 +14,12 @@ ghost use Rattle.cls_proof.specs.Rows.{row_of};
 ghost use Rattle.cls_proof.specs.Statements.{row};
 ghost use Rattle.cls_proof.specs.Said.{statement_of, written, written_row, written_block, IsMeant, IsMeaningless, IsReadAs, HasGrown};
 
+use crate::positions::Positions;
 use crate::row::ProofRow;
 use crate::statement::Statement;
 use crate::statement_form::{BlockForm, RowForm, StatementForm, statement_form};
 use cls_base::limits::MAX_TYPE_SPREAD;
-use cls_base::{Numbers, OutOfMemory, Ty};
+use cls_base::{OutOfMemory, Ty};
 use cls_lexer::{Line, Names, tokens};
 use cls_syntax::{NumeralList, SpelledType, first_variable, is_too_deep};
 use std::alloc::Global;
@@ -155,12 +156,12 @@ fn goal(alloc: Global, names: &mut Names, text: &SpelledType) -> Result<Option<T
 
 /// The numbers, or None if one is over the limit.
 #[tactic(auto, using(crate::proofs::NumberLists::number_lists))]
-fn numbers(alloc: Global, numerals: NumeralList) -> Result<Option<Numbers>, OutOfMemory>
+fn numbers(alloc: Global, numerals: NumeralList) -> Result<Option<Positions>, OutOfMemory>
     ensures { IfOk result (λ numbers. MatchOption numbers
         ((ns : List ℕ) → AreNumbers (numerals_of numerals.entry) ns → ⊥) (AreNumbers (numerals_of numerals.entry))) }
 {
     let mut rest = numerals;
-    let mut numbers = Vec::new(alloc);
+    let mut numbers = Positions::new(alloc);
     while let Some((numeral, others)) = rest.split_first() {
         let Some(number) = numeral.value() else {
             return Ok(None);
@@ -168,5 +169,5 @@ fn numbers(alloc: Global, numerals: NumeralList) -> Result<Option<Numbers>, OutO
         numbers.push(number)?;
         rest = others;
     }
-    Ok(Some(Numbers::new(numbers)))
+    Ok(Some(numbers))
 }

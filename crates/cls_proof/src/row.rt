@@ -1,7 +1,8 @@
 ghost use Rattle.std.specs.Prelude.{◌≡◌, map};
 ghost use Rattle.cls_proof.specs.Rows.{row_of};
 
-use cls_base::{Numbers, Ty};
+use crate::positions::Positions;
+use cls_base::Ty;
 use std::marker::Model;
 
 /// A goal, with the positions of arrows of a component by which some term has it.
@@ -14,7 +15,7 @@ pub struct ProofRow {
     /// How many arguments the arrows take.
     pub n: u32,
     /// The positions among the arrows that take n arguments.
-    pub cover: Numbers,
+    pub cover: Positions,
 }
 
 /// A list of rows, seen as that list. It is made from a `Vec` and gives it back. Neither takes memory.

@@ -1,5 +1,6 @@
+use crate::positions::Positions;
 use crate::row::ProofRow;
-use cls_base::{Numbers, Ty};
+use cls_base::Ty;
 
 /// What a line of a certificate says.
 #[derive(Drop)]
@@ -22,7 +23,7 @@ pub(crate) enum Statement {
     /// A layer of a block, whose sets follow.
     Layer,
     /// A set of positions of a layer.
-    Set(Numbers),
+    Set(Positions),
     /// The certificate ends.
     Qed,
 }

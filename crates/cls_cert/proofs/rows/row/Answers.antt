@@ -1,4 +1,4 @@
-use Rattle.std.proofs.Common.{ℕ, ◌∙◌, List, sym, subst, arith}
+use Rattle.std.proofs.Common.{ℕ, List, sym, subst, arith}
 use Rattle.cls_base.specs.Ty.{type_of}
 use Rattle.cls_path.specs.Paths.{listed}
 use Rattle.cls_rulebook.specs.Columns.{rule_of}
@@ -22,7 +22,7 @@ pub returns-then-is_empty : goal.returns-then-is_empty
 returns-then-is_empty c =
     let g = c.goal-goal.result.now in
     subst (λ (cover : List ℕ). IsRowFor c.args.lib.now (forms_of c.args.grammar.now) (book_of c.args.grammar.now) (record { number = c.args.number; rank = c.args.rank }) (record { goal = type_of c.in_ok-ty.ty; component = 0; n = 0; cover = cover }))
-    (sym (c.new-then-is_empty.ensures ∙ c.new.ensures.items))
+    (sym c.new.ensures)
     (omega_made c.args.lib.now c.args.grammar.now c.requires.grammar c.args.ranks.now c.requires.ranks c.args.number c.args.rank c.requires.ranked g c.goal-goal.ensures (type_of c.in_ok-ty.ty) c.in_ok-ty.ensures
     (empty_form c.paths.result.now g c.is_empty.result c.paths.ensures c.is_empty.ensures c.if-is_empty.true))
 

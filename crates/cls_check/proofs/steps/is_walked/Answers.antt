@@ -1,4 +1,4 @@
-use Rattle.std.proofs.Common.{ℕ, ◌≡◌, ◌<◌, ◌≤◌, ◌∷◌, ◌↔◌, IsTrue, length, get_or, subst, sym, ap, ◌∙◌, arith, List, []}
+use Rattle.std.proofs.Common.{rules, ℕ, ◌≡◌, ◌<◌, ◌≤◌, ◌∷◌, ◌↔◌, IsTrue, length, get_or, subst, sym, ap, ◌∙◌, arith, List, []}
 use Rattle.std.specs.Prelude.{All, Contains}
 use Rattle.std.proofs.lemmas.List.{get_or_default}
 use Rattle.std.proofs.lemmas.List.Elements.{All-get_or}
@@ -22,6 +22,13 @@ pub bounds-layers-step : goal.bounds-layers-step
 bounds-layers-step c =
     let n = ap (λ (q : List TypePath). length q) c.paths-path-items.ensures in
     let t = total_length c.args.goal.now in let m = c.requires.as_many in let h = c.loop-step-test.true in omega arith
+
+pub offset_bounds-layers-step : goal.offset_bounds-layers-step
+offset_bounds-layers-step c =
+    let n = ap (λ (q : List TypePath). length q) c.paths-path-items.ensures in
+    let t = total_length c.args.goal.now in
+    let within : c.loop-step.step < length c.args.layers.now = (let m = c.requires.as_many in let k = c.loop-step-test.true in omega arith) in
+    search rules
 
 pub all_step-requires-clause-suits : goal.all_step-requires-clause-suits
 all_step-requires-clause-suits c =

@@ -10,6 +10,6 @@ loop-numeral-preserved c =
     let digits = c.in-Some.numeral.text.now in
     let found = in_range digits c.in-Some-value.number c.in-Some-value.ensures.0 c.in-Some-value.ensures.1 in
     record {
-      read = read_next full rest others digits c.in-Some.ensures c.loop-numeral.numbers.items c.push.new.self.items c.in-Some-value.number c.in_ok-push.ensures.items found c.loop-numeral.invariant.read;
+      read = read_next full rest others digits c.in-Some.ensures c.loop-numeral.numbers c.push.new.self c.in-Some-value.number c.in_ok-push.ensures found c.loop-numeral.invariant.read;
       left = left_next full rest others digits c.in-Some.ensures c.loop-numeral.invariant.left;
     }

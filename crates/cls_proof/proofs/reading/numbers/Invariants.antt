@@ -5,7 +5,7 @@ use Rattle.cls_proof.proofs.reading.numbers.Given as goal
 
 abbrev pub invariant-loop-numeral : goal.invariant-loop-numeral
 invariant-loop-numeral l = record {
-  read : (ns : List ℕ) → AreNumbers (numerals_of l.rest) ns → AreNumbers (numerals_of l.numerals) (l.numbers.items ++ ns);
+  read : (ns : List ℕ) → AreNumbers (numerals_of l.rest) ns → AreNumbers (numerals_of l.numerals) (l.numbers ++ ns);
   left : (ns : List ℕ) → AreNumbers (numerals_of l.numerals) ns → (rest : List ℕ) × AreNumbers (numerals_of l.rest) rest;
 }
 
