@@ -142,10 +142,10 @@ impl Serving {
         text
     }
 
-    /// Gives what is written if no line follows.
-    pub fn finish(mut self, alloc: Global) -> Result<String, OutOfMemory>
-        requires { length self.held < 2 ^ 32 }
-        ensures { IfOk result (λ text. Ends self (string_bytes text)) }
+    /// Gives what is written if no line follows. After it no further line is to be fed.
+    pub fn finish(&mut self, alloc: Global) -> Result<String, OutOfMemory>
+        requires { length self.old.held < 2 ^ 32 }
+        ensures { IfOk result (λ text. Ends self.old (string_bytes text)) }
     {
         match self.held.take() {
             Some(held) => self.verify(alloc, &held.line, &held.inside),

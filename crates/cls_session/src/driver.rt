@@ -14,6 +14,7 @@ use crate::status::Status;
 use cls_base::{Failed, Gate, OutOfMemory, Sink};
 use cls_lexer::{Line, LineReader};
 use std::alloc::Global;
+use std::mem;
 use std::sync::Wait;
 use std::thread::Threads;
 
@@ -181,7 +182,7 @@ pub fn answer_last<R: Threads + Wait + Sync, K: Sink, G: Gate + Sync>(
     }
 }
 
-/// Answers what is left at the end of the input, and ends the output.
+/// Answers what is left at the end of the input, and ends the output. The memory of the session is left to the end of the process.
 pub fn finish<R: Threads + Wait + Sync, K: Sink, G: Gate + Sync>(
     rt: &R,
     alloc: Global,
@@ -200,6 +201,8 @@ pub fn finish<R: Threads + Wait + Sync, K: Sink, G: Gate + Sync>(
 {
     answer_last(rt, alloc, &mut session, reader, sink, gate)?;
     let outcome = session.finish(alloc)?;
+    // The process ends with the run, and with it all memory goes back at once. To drop it piece by piece takes long.
+    mem::forget(session);
     write_all(sink, outcome.text.as_bytes())?;
     Ok(outcome.status)
 }

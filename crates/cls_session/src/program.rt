@@ -42,7 +42,8 @@ impl From<Stop> for Status {
 }
 
 /// Runs clsynth: reads the source, and answers its lines one after another into the sink. If the words ask for the
-/// generator, the lines of its text are answered, and the source isn't read.
+/// generator, the lines of its text are answered, and the source isn't read. What the run keeps in memory is left to the end of
+/// the process.
 pub fn run<R: Threads + Wait + Sync, S: Source, K: Sink, G: Gate + Sync>(
     rt: &R,
     alloc: Global,

@@ -119,24 +119,20 @@ impl Session {
         }
     }
 
-    /// Ends the output if no further line comes: a repository without the line `end` is refused.
-    pub fn finish(self, alloc: Global) -> Result<Outcome, OutOfMemory>
-        requires few_lines { lines_of_session self < 2 ^ 32 }
+    /// Ends the output if no further line comes: a repository without the line `end` is refused. After it no further line is
+    /// to be fed.
+    pub fn finish(&mut self, alloc: Global) -> Result<Outcome, OutOfMemory>
+        requires few_lines { lines_of_session self.old < 2 ^ 32 }
         ensures { IfOk result (λ outcome. (o : Options) (lines : List (List ℕ)) (written : List ℕ)
-            → Stands o lines written self → Ending o lines (written ++ string_bytes outcome.text) outcome.status) }
+            → Stands o lines written self.old → Ending o lines (written ++ string_bytes outcome.text) outcome.status) }
     {
-        let Session {
-            options: _,
-            reader,
-            serving,
-        } = self;
-        match serving {
+        match &mut self.serving {
             Some(serving) => Ok(Outcome {
                 text: serving.finish(alloc)?,
                 status: Status::Done,
             }),
             None => Ok(Outcome {
-                text: refused(alloc, reader.lines(), "no-end")?,
+                text: refused(alloc, self.reader.lines(), "no-end")?,
                 status: Status::Refused,
             }),
         }
