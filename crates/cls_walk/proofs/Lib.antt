@@ -16,11 +16,13 @@ pub mod PageFronts
 pub mod Pools
 pub mod RefusalSteps
 pub mod Repeats
+pub mod Replays
 pub mod Rounds
 pub mod RunSteps
 pub mod Runs
 pub mod Sizes
 pub mod Stacks
+pub mod Stretches
 pub mod Sure
 pub mod Tables
 pub mod Walks

@@ -16,6 +16,7 @@ pub mod Runs
 pub mod Sizes
 pub mod Stacks
 pub mod Stages
+pub mod Stretches
 pub mod Tables
 pub mod Totals
 pub mod Walks

@@ -6,6 +6,7 @@ use Rattle.cls_enum.specs.Members.{IsIn}
 use Rattle.cls_walk.specs.Counts.{HeadRule}
 use Rattle.cls_walk.specs.Filled.{code_size, IsFilled}
 use Rattle.cls_walk.specs.Fronts.{IsFront}
+use Rattle.cls_walk.specs.Stretches.{Remembers}
 use Rattle.cls_walk.specs.declared.cursor.Cursor.{Cursor}
 use Rattle.cls_walk.specs.declared.plan.Plan.{Plan}
 use Rattle.cls_walk.specs.declared.walk.Walk.{Walk}
@@ -33,12 +34,13 @@ module _ (plan : Plan) where
   abbrev pub IsWantedByOne : List HeadRule → List ℕ → ℕ → Cursor → List ℕ → Type 0
   IsWantedByOne hs ns size cursor w = (h : HeadRule) × IsIn hs h × IsWantedBy h ns size cursor w
 
-  -- The walk is back, and whether it is to go on: it is, unless the list is full.
+  -- The walk is back, and whether it is to go on: it is, unless the list is full. What was known stays right.
   pub record IsBack (old new : Walk) (going : Bool) : Type 0 where
     pub awaited : new.awaited.items ≡ old.awaited.items
     pub code : new.code.items ≡ old.code.items
     pub few : going ≡ true → length new.codes ≤ plan.take
     pub full : going ≡ false → plan.take < length new.codes
+    pub remembers : Remembers plan old → Remembers plan new
 
 -- It listed the codes with P in their order, each behind the code so far. If it isn't to go on, some of the last ones
 -- may be missing.

@@ -14,6 +14,7 @@ ghost use Rattle.cls_walk.specs.Attempts.{AreDueCodes, AreKnown, IsStart};
 ghost use Rattle.cls_walk.specs.Bounds.{HasUpper};
 ghost use Rattle.cls_walk.specs.Filled.{EachRise};
 ghost use Rattle.cls_walk.specs.PageFronts.{IsDueCode};
+ghost use Rattle.cls_walk.specs.Stretches.{Remembers};
 ghost use Rattle.cls_walk.specs.Walks.{IsBack, IsBehind, Lists};
 
 use crate::build::{each_rises, forms_of};
@@ -72,6 +73,7 @@ fn walk_size(
     requires start { IsStart (cost_of plan.now.costs.now) (option_copied after) from code.now }
     requires resting { (walk.old.awaited.items ≡ []) × (walk.old.code.items ≡ []) }
     requires few { length walk.old.codes ≤ plan.now.take }
+    requires known { Remembers plan.now walk.old }
     requires rising { plan.now.is_rising ≡ true → EachRise plan.now.forms.now }
     ensures back { IfOk result (IsBack plan.now walk.old walk.new) }
     ensures listed { (book : List (List (Rule ℕ))) (last max : ℕ)
@@ -103,6 +105,7 @@ fn walk_sizes(
     requires short { last ≤ max_term_length }
     requires start { IsStart (cost_of plan.now.costs.now) (option_copied after) from code.now }
     requires resting { (walk.old.awaited.items ≡ []) × (walk.old.code.items ≡ []) × (walk.old.codes ≡ []) }
+    requires known { Remembers plan.now walk.old }
     requires rising { plan.now.is_rising ≡ true → EachRise plan.now.forms.now }
     ensures within { IfOk result (λ size. size ≤ last) }
     ensures ends { IfOk result (λ size. (plan.now.take < length walk.new.codes) ⊎ (size ≡ last)) }

@@ -1,6 +1,7 @@
 //! The codes of one size.
 ghost use Rattle.std.specs.Prelude.{◌≡◌, true, ◌≤◌, [], ◌∷◌, length, IfOk};
 ghost use Rattle.cls_walk.specs.Filled.{EachRise};
+ghost use Rattle.cls_walk.specs.Stretches.{Remembers};
 ghost use Rattle.cls_walk.specs.Walks.{IsBack, IsWanted, Lists};
 
 use crate::cursor::Cursor;
@@ -8,7 +9,7 @@ use crate::fault::WalkFault;
 use crate::fork::fork;
 use crate::least::number_of;
 use crate::plan::Plan;
-use crate::walk::{Walk, each_form};
+use crate::walk::{Walk, each_form, recall};
 use std::alloc::Global;
 
 /// Lists the codes of terms of node 0 that have this size, and says whether to go on. Where forms of a node may begin
@@ -23,6 +24,7 @@ pub(crate) fn list_size(
     requires none { walk.old.awaited.items ≡ [] }
     requires rising { plan.now.is_rising ≡ true → EachRise plan.now.forms.now }
     requires few { length walk.old.codes ≤ plan.now.take }
+    requires known { Remembers plan.now walk.old }
     ensures back { IfOk result (IsBack plan.now walk.old walk.new) }
     ensures listed { IfOk result (Lists (IsWanted plan.now (0 ∷ []) size cursor.entry) walk.old walk.new) }
 {
@@ -32,6 +34,9 @@ pub(crate) fn list_size(
     let least = number_of(plan.least, 0);
     if size < least {
         return Ok(true);
+    }
+    if size > least && cursor.passed {
+        return Ok(recall(plan, walk, 0, size - least, cursor)?);
     }
     Ok(each_form(plan, walk, 0, size - least, cursor)?)
 }

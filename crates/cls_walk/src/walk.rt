@@ -1,8 +1,9 @@
 //! The walk: codes are written from the left in their order, by depth-first search over the forms of the node that is
 //! awaited next. A form that comes to more than is left is passed over, and so is one before the cursor.
-ghost use Rattle.std.specs.Prelude.{◌≡◌, ℕ, ◌+◌, ◌≤◌, [], ◌∷◌, ◌++◌, IfOk, OnOk, List, length, reverse};
+ghost use Rattle.std.specs.Prelude.{◌≡◌, ℕ, ◌+◌, ◌≤◌, [], ◌∷◌, ◌++◌, true, IfOk, OnOk, List, length, reverse};
 ghost use Rattle.cls_term.specs.Costs.{cost_of};
 ghost use Rattle.cls_walk.specs.Filled.{form_size, needs, EachRise};
+ghost use Rattle.cls_walk.specs.Stretches.{Remembers};
 ghost use Rattle.cls_walk.specs.Tables.{capped};
 ghost use Rattle.cls_walk.specs.Walks.{IsWanted, IsWantedBy, IsBack, Lists};
 
@@ -11,28 +12,34 @@ use crate::form::Form;
 use crate::least::{left_behind, number_of};
 use crate::numbers::number_in;
 use crate::plan::Plan;
+use crate::replay::replay;
+use crate::stretch::{Stretch, Stretches};
 use cls_base::{NumberLists, OutOfMemory};
 use std::alloc::Global;
 
-/// The nodes of which terms are awaited, from the last to the next, the code so far, and the codes that are listed.
+/// The nodes of which terms are awaited, from the last to the next, the code so far, the codes that are listed, and
+/// where those of one node are known to stand.
 #[derive(Drop)]
 pub(crate) struct Walk {
     pub(crate) awaited: Vec<u32>,
     pub(crate) code: Vec<u32>,
     pub(crate) codes: NumberLists,
+    pub(crate) known: Stretches,
 }
 
 impl Walk {
-    /// Nothing is awaited, written or listed.
+    /// Nothing is awaited, written, listed or known.
     pub(crate) fn new(alloc: Global) -> Walk
         ensures awaited { result.awaited.items ≡ [] }
         ensures code { result.code.items ≡ [] }
         ensures codes { result.codes ≡ [] }
+        ensures known { result.known ≡ [] }
     {
         Walk {
             awaited: Vec::new(alloc),
             code: Vec::new(alloc),
             codes: NumberLists::new(alloc),
+            known: Stretches::new(alloc),
         }
     }
 }
@@ -41,6 +48,7 @@ impl Walk {
 fn emit(plan: &Plan, walk: &mut Walk, slack: u32, cursor: Cursor) -> Result<bool, OutOfMemory>
     requires none { walk.old.awaited.items ≡ [] }
     requires few { length walk.old.codes ≤ plan.now.take }
+    requires known { Remembers plan.now walk.old }
     ensures back { IfOk result (IsBack plan.now walk.old walk.new) }
     ensures listed { IfOk result (Lists (IsWanted plan.now [] slack cursor.entry) walk.old walk.new) }
 {
@@ -66,6 +74,7 @@ fn await_nodes(awaited: &mut Vec<u32>, nodes: &[u32]) -> Result<(), OutOfMemory>
 fn go(plan: &Plan, walk: &mut Walk, slack: u32, cursor: Cursor) -> Result<bool, OutOfMemory>
     requires rising { EachRise plan.now.forms.now }
     requires few { length walk.old.codes ≤ plan.now.take }
+    requires known { Remembers plan.now walk.old }
     ensures back { IfOk result (IsBack plan.now walk.old walk.new) }
     ensures listed { let ns = reverse walk.old.awaited.items in
         let size = needs plan.now.least.now ns + slack in
@@ -74,12 +83,53 @@ fn go(plan: &Plan, walk: &mut Walk, slack: u32, cursor: Cursor) -> Result<bool, 
     let Some(node) = walk.awaited.pop() else {
         return emit(plan, walk, slack, cursor);
     };
-    let going = each_form(plan, walk, node, slack, cursor)?;
+    // Terms of the node's least size are as soon walked as copied.
+    let going = if slack > 0 && cursor.passed && walk.awaited.is_empty() {
+        recall(plan, walk, node, slack, cursor)?
+    } else {
+        each_form(plan, walk, node, slack, cursor)?
+    };
     walk.awaited.push(node)?;
     Ok(going)
 }
 
-/// The same, where this node is awaited before the others.
+/// The same, where this node alone is awaited and the cursor is passed: what is listed depends on the node and the slack
+/// alone. So the codes are copied from where they stand, if that is known. If they are listed whole for the first time,
+/// it is known from then on.
+#[cycle(descend)]
+pub(crate) fn recall(
+    plan: &Plan,
+    walk: &mut Walk,
+    node: u32,
+    slack: u32,
+    cursor: Cursor,
+) -> Result<bool, OutOfMemory>
+    requires rising { EachRise plan.now.forms.now }
+    requires few { length walk.old.codes ≤ plan.now.take }
+    requires known { Remembers plan.now walk.old }
+    requires alone { walk.old.awaited.items ≡ [] }
+    requires passed { cursor.passed ≡ true }
+    ensures back { IfOk result (IsBack plan.now walk.old walk.new) }
+    ensures listed { let size = needs plan.now.least.now (node ∷ []) + slack in
+        IfOk result (Lists (IsWanted plan.now (node ∷ []) size cursor.entry) walk.old walk.new) }
+{
+    if let Some(stretch) = walk.known.find(node, slack) {
+        return replay(plan, walk, stretch);
+    }
+    let start = walk.codes.len();
+    let going = each_form(plan, walk, node, slack, cursor)?;
+    if going {
+        let stretch = Stretch {
+            start,
+            end: walk.codes.len(),
+            from: walk.code.len(),
+        };
+        walk.known.keep(node, slack, stretch)?;
+    }
+    Ok(going)
+}
+
+/// The same, where this node is awaited before the others, by one of its forms after another.
 #[cycle(descend)]
 pub(crate) fn each_form(
     plan: &Plan,
@@ -90,6 +140,7 @@ pub(crate) fn each_form(
 ) -> Result<bool, OutOfMemory>
     requires rising { EachRise plan.now.forms.now }
     requires few { length walk.old.codes ≤ plan.now.take }
+    requires known { Remembers plan.now walk.old }
     ensures back { IfOk result (IsBack plan.now walk.old walk.new) }
     ensures listed { let ns = node ∷ reverse walk.old.awaited.items in
         let size = needs plan.now.least.now ns + slack in
@@ -122,6 +173,7 @@ fn follow(
 ) -> Result<bool, OutOfMemory>
     requires rising { EachRise plan.now.forms.now }
     requires few { length walk.old.codes ≤ plan.now.take }
+    requires known { Remembers plan.now walk.old }
     requires size { size ≡ capped (form_size (cost_of plan.now.costs.now) plan.now.least.now form.now) }
     requires least { least ≤ form_size (cost_of plan.now.costs.now) plan.now.least.now form.now }
     ensures back { IfOk result (IsBack plan.now walk.old walk.new) }

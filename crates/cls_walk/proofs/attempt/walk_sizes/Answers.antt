@@ -17,6 +17,7 @@ loop-size-init c =
       awaited = c.requires.resting.0;
       code = c.requires.resting.1;
       few = omega (arith, ap (λ (ws : List (List ℕ)). length ws) c.requires.resting.2);
+      known = c.requires.known;
       listed = λ book max forms l. ([], c.requires.resting.2, front-start (IsDue (IsGenerated book 0) (request plan.costs.now (option_copied c.args.after) max plan.take)) (cost_of plan.costs.now) plan.positive);
     }
 
@@ -38,6 +39,7 @@ loop-size-preserved c =
       awaited = c.in_ok-walk_size.ensures.back.awaited ∙ c.loop-size.invariant.awaited;
       code = c.in_ok-walk_size.ensures.back.code ∙ c.loop-size.invariant.code;
       few = c.in_ok-walk_size.ensures.back.few c.if-not-branch.false;
+      known = c.in_ok-walk_size.ensures.back.remembers c.loop-size.invariant.known;
       listed = λ book max forms l.
           let r = request plan.costs.now (option_copied c.args.after) max plan.take in
           let Due : Applicative → Type 0 = IsDue (IsGenerated book 0) r in

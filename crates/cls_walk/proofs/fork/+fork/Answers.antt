@@ -29,6 +29,7 @@ go_of-loop-opening-init t c = record {
   awaited = refl;
   code = refl;
   few = c.requires.few;
+  remembers = λ m. m;
   listed = to-start c.args.plan.now c.args.stacks.now c.args.first c.args.size c.args.cursor c.args.walk.now;
 }
 
@@ -47,6 +48,7 @@ go_of-loop-opening-preserved t c =
       awaited = back.awaited ∙ inv.awaited;
       code = back.code ∙ inv.code;
       few = back.few c.if-not-branch.false;
+      remembers = λ m. back.remembers (inv.remembers m);
       listed = back-next plan stacks c.loop-opening.stacks c.args.first c.args.size c.args.cursor inv.stacks c.loop-opening.last o old c.loop-opening.walk new c.in_ok-open_with.field-0 true c.if-not-branch.false inv.code c.in-Some.ensures inv.listed c.in_ok-open_with.ensures.listed;
     }
 
@@ -71,7 +73,7 @@ open_with-returns-clause-listed t c =
     let next = c.in-Some.next in
     let later = c.gather.new.stacks in
     let left = c.args.size - c.cost_at-cost.result in
-    let begun : Walk = record { awaited = old.awaited; code = c.push-2.new.self; codes = old.codes } in
+    let begun : Walk = record { awaited = old.awaited; code = c.push-2.new.self; codes = old.codes; known = old.known } in
     let P : ℕ → Type 0 = λ k. Lists (IsWantedOf plan later k left next) begun c.go_of.new.walk c.in_ok-going.going in
     lists-with plan stacks c.args.first c.args.size c.args.cursor o left next later old c.go_of.new.walk begun c.go_of.new.walk c.in_ok-going.going
     (omega (arith, c.if-size-cost.false, c.cost_at-cost.ensures))

@@ -1,5 +1,6 @@
 use Rattle.std.proofs.Common.{◌≡◌, ◌+◌, ◌*◌, ◌<◌, ◌≤◌, true, length}
 use Rattle.cls_walk.specs.Stacks.{IsWantedTo}
+use Rattle.cls_walk.specs.Stretches.{Remembers}
 use Rattle.cls_walk.specs.Walks.{Lists}
 use Rattle.cls_walk.proofs.Forks.{openings_left}
 use Rattle.cls_walk.proofs.fork.+fork.Given as goal
@@ -20,5 +21,6 @@ invariant-go_of-loop-opening l = record {
   awaited : l.walk.awaited.items ≡ l.fn.walk.awaited.items;
   code : l.walk.code.items ≡ l.fn.walk.code.items;
   few : length l.walk.codes ≤ l.plan.take;
+  remembers : Remembers l.plan l.fn.walk → Remembers l.plan l.walk;
   listed : Lists (IsWantedTo l.plan l.last l.fn.stacks l.first l.size l.cursor) l.fn.walk l.walk true;
 }
