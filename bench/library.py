@@ -4,8 +4,8 @@
     bench/library.py [--runs N] [--instructions] [WORD ..]
 
 With words only the cases whose name has one of them are run. With --instructions callgrind counts the instructions of the program,
-which other work on the machine doesn't change. No program of the repository reads a library yet, so this builds
-one in a folder of its own, which proves it first. Times are those of the adds; the memory is that of the whole program."""
+which other work on the machine doesn't change. The cases are no texts of repositories, so this builds a program in a folder of
+its own, which proves it first. Times are those of the adds; the memory is that of the whole program."""
 import argparse
 import subprocess
 import tempfile

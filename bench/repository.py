@@ -3,8 +3,8 @@
 
     bench/repository.py [--runs N] [--instructions] FILE ..
 
-A file is an input of clsynth, of which the lines `kind` and `comp` count. No program of the repository reads these yet, so this
-builds one in a folder of its own, which proves it first. A time is that of one call of `Library::build`, the best of some runs.
+A file is an input of clsynth, of which the lines `kind` and `comp` count. A run of clsynth does more than that, so this builds a
+program in a folder of its own, which proves it first. A time is that of one call of `Library::build`, the best of some runs.
 With --instructions callgrind counts the instructions of the call, and those of reading the types."""
 import argparse
 import os
