@@ -9,7 +9,6 @@ use Rattle.cls_proof.specs.Certificates.{ProofRow, Block, Member, Certificate}
 use Rattle.cls_proof.specs.Statements.{Statement, row, empty, member, block, set, qed, layer_statements, block_statements, member_statements, statements_of, is_qed}
 use Rattle.cls_proof.specs.Blocks.{block_of}
 use Rattle.cls_proof.specs.Members.{member_of}
-use Rattle.cls_proof.specs.Rows.{row_of}
 use Rattle.cls_proof.specs.Seen.{certificate_of}
 use Rattle.cls_proof.specs.declared.certificate.Certificate as code
 use Rattle.cls_proof.specs.declared.draft.Draft.{Draft}
@@ -51,7 +50,7 @@ by_members ms said e = record { certificate = certificate.empty ms; more = qed �
 
 pub begun : (d : Draft) → Begun (said_in d)
 begun drafts.Start = record { certificate = certificate.inhabited []; more = statements_of (certificate.inhabited []); begins = refl }
-begun (drafts.Rows rows) = record { certificate = certificate.inhabited (map row_of rows.items); more = qed ∷ []; begins = refl }
+begun (drafts.Rows rows) = record { certificate = certificate.inhabited rows; more = qed ∷ []; begins = refl }
 begun drafts.Empty = by_members [] (members_said []) refl
 begun (drafts.Member before goal) = by_members (map member_of before.items ++ record { goal = type_of goal; blocks = [] } ∷ []) (said_in (drafts.Member before goal)) (last_member (map member_of before.items) (type_of goal) [])
 begun (drafts.Block m c n) =
@@ -98,7 +97,7 @@ block_leads b =
 
 pub draft_run : (d : Draft) → run_from (Some at_start) (said_in d) ≡ Some (place_in d)
 draft_run drafts.Start = refl
-draft_run (drafts.Rows rows) = rows_run (map row_of rows.items)
+draft_run (drafts.Rows rows) = rows_run rows
 draft_run drafts.Empty = refl
 draft_run (drafts.Member before goal) =
     let ms : List Member = map member_of before.items in
@@ -153,7 +152,7 @@ no_block b = no_both (member_said b.of) (block b.component b.n ∷ flat_map laye
 -- `qed` stands at the end of a whole certificate alone
 pub unfinished : (d : Draft) → ((c : code.Certificate) → d ≡ drafts.Whole c → ⊥) → list_any is_qed (said_in d) ≡ false
 unfinished drafts.Start h = refl
-unfinished (drafts.Rows rows) h = no_rows (map row_of rows.items)
+unfinished (drafts.Rows rows) h = no_rows rows
 unfinished drafts.Empty h = refl
 unfinished (drafts.Member before goal) h = no_both (members_said (map member_of before.items)) (member (type_of goal) ∷ []) (no_members (map member_of before.items)) refl
 unfinished (drafts.Block m c n) h = no_both (member_said m) (block c n ∷ []) (no_member m) refl

@@ -1,8 +1,8 @@
 -- What lines say, one after another.
 use Rattle.std.proofs.Common.{◌≡◌, ℕ, ◌+◌, ◌<◌, ◌≤◌, List, [], ◌∷◌, ◌++◌, Option, Some, None, length, map, take, drop, get_or, refl, ap, sym, ◌∙◌, subst, arith, append_assoc, append-nil, inl, inr, rules, add-one, take-append-drop, drop-cons}
 use Rattle.std.specs.List.{flat_map, list_any, AllByRecursion}
-use Rattle.std.proofs.lemmas.List.{length-take-le}
-use Rattle.std.specs.Prelude.{Result, Ok, Err, false}
+use Rattle.std.proofs.lemmas.List.{get_or_default, length-take-le}
+use Rattle.std.specs.Prelude.{Result, Ok, Err, false, slice_index_or}
 use Rattle.cls_base.specs.Types as types
 use Rattle.cls_base.specs.Types.{ClosedType}
 use Rattle.cls_lexer.specs.Names.{number_of, with_text, with_texts}
@@ -298,6 +298,9 @@ whole_lines components old lines names ss c r e = record { names = r.texts; numb
 pub record StandsAt (lines : List (List ℕ)) (i : ℕ) (line : List ℕ) : Type 0 where
   pub within : i < length lines
   pub is : line ≡ get_or lines i line
+
+pub stands_at : (lines : List (List ℕ)) (i : ℕ) (line : List ℕ) → i < length lines → line ≡ slice_index_or lines i [] → StandsAt lines i line
+stands_at lines i line l e = record { within = l; is = e ∙ get_or_default lines i [] line l }
 
 drop_next : (lines : List (List ℕ)) (i : ℕ) (d : List ℕ) → i < length lines → drop i lines ≡ get_or lines i d ∷ drop (i + 1) lines
 drop_next lines i d l = rw add-one (drop-cons lines i d l)

@@ -10,7 +10,6 @@ use Rattle.cls_proof.specs.declared.draft.LayerDraft.{LayerDraft}
 use Rattle.cls_proof.specs.Certificates.{ProofRow, Member}
 use Rattle.cls_proof.specs.Blocks.{block_of}
 use Rattle.cls_proof.specs.Members.{member_of}
-use Rattle.cls_proof.specs.Rows.{row_of}
 use Rattle.cls_proof.specs.Seen.{certificate_of}
 use Rattle.cls_proof.specs.Statements.{Statement, inhabited, row, empty, member, block, layer, set, qed, layer_statements, block_statements, member_statements, statements_of}
 
@@ -69,7 +68,7 @@ rows_said rows = inhabited ∷ map (λ r. row r) rows
 
 abbrev pub said_in : Draft → List Statement
 said_in drafts.Start = []
-said_in (drafts.Rows rows) = rows_said (map row_of rows.items)
+said_in (drafts.Rows rows) = rows_said rows
 said_in drafts.Empty = members_said []
 said_in (drafts.Member before goal) = members_said (map member_of before.items) ++ member (type_of goal) ∷ []
 said_in (drafts.Block m component n) = member_said m ++ block component n ∷ []

@@ -2,6 +2,7 @@
 -- value is seen as a certificate. The other modules say the same of its parts, are marked internal, or serve the prover.
 pub mod Blocks
 pub mod Certificates
+pub mod Columns
 pub mod Drafts
 pub mod Forms
 pub mod Layers

@@ -3,7 +3,6 @@ ghost use Rattle.std.specs.Prelude.{◌≡◌, [], false, IfOk, MatchOption, map
 ghost use Rattle.std.specs.List.{list_any};
 ghost use Rattle.cls_proof.specs.Drafts.{GoesOn, said_in, place_in, members_said, member_said, block_said, layer_said, rows_said, at_start, in_rows, in_members, in_member, in_block, in_layer};
 ghost use Rattle.cls_proof.specs.Members.{member_of};
-ghost use Rattle.cls_proof.specs.Rows.{row_of};
 ghost use Rattle.cls_proof.specs.Said.{statement_of};
 ghost use Rattle.cls_proof.specs.Seen.{certificate_of};
 ghost use Rattle.cls_proof.specs.Statements.{statements_of, is_qed};
@@ -13,7 +12,7 @@ use crate::certificate::Certificate;
 use crate::layer::{Layer, Layers};
 use crate::member::{Member, Members};
 use crate::positions::Positions;
-use crate::row::{ProofRow, ProofRows};
+use crate::row::ProofRows;
 use crate::statement::Statement;
 use cls_base::{OutOfMemory, Ty};
 use std::alloc::Global;
@@ -24,7 +23,7 @@ pub(crate) enum Draft {
     /// Up to no line.
     Start,
     /// Up to `inhabited`, or the last of these rows.
-    Rows(Vec<ProofRow>),
+    Rows(ProofRows),
     /// Up to `empty`.
     Empty,
     /// Up to a member with this goal, with the members before it.
@@ -162,24 +161,21 @@ fn begun(alloc: Global, statement: &Statement) -> Option<Draft>
     ensures { GoesOn [] at_start (statement_of statement.now) result }
 {
     match statement {
-        Statement::Inhabited => Some(Draft::Rows(Vec::new(alloc))),
+        Statement::Inhabited => Some(Draft::Rows(ProofRows::new(alloc))),
         Statement::Empty => Some(Draft::Empty),
         _ => None,
     }
 }
 
-fn after_rows(mut rows: Vec<ProofRow>, statement: Statement) -> Result<Option<Draft>, OutOfMemory>
-    ensures { IfOk result (GoesOn (rows_said (map row_of rows.items)) in_rows (statement_of statement)) }
+fn after_rows(mut rows: ProofRows, statement: Statement) -> Result<Option<Draft>, OutOfMemory>
+    ensures { IfOk result (GoesOn (rows_said rows) in_rows (statement_of statement)) }
 {
     match statement {
         Statement::Row(row) => {
             rows.push(row)?;
             Ok(Some(Draft::Rows(rows)))
         }
-        Statement::Qed => {
-            let certificate = Certificate::Inhabited(ProofRows::new(rows));
-            Ok(Some(Draft::Whole(certificate)))
-        }
+        Statement::Qed => Ok(Some(Draft::Whole(Certificate::Inhabited(rows)))),
         _ => Ok(None),
     }
 }

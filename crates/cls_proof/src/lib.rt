@@ -2,7 +2,7 @@
 //!
 //! - [`Certificate`] is a list of [`ProofRow`]s or a list of [`Member`]s. A row says of its goal that some term has it,
 //!   by the goals of rows before it. A member says of its goal that no term has it, and its [`Block`]s show why.
-//! - [`print_certificate`] gives the lines of a certificate, and [`read_certificate`] reads them.
+//! - [`print_certificate`] gives the lines of a certificate, and [`read_certificate`] reads them from [`HeldLines`].
 //! - [`laws`] holds what is true of all lines.
 //! - `specs/` defines certificates and their lines. What one must meet is defined where it is checked.
 #![tactic(auto)]
@@ -12,6 +12,7 @@ mod certificate;
 mod draft;
 pub mod laws;
 mod layer;
+mod lines;
 mod member;
 mod positions;
 mod print;
@@ -25,9 +26,10 @@ mod statement_form;
 pub use block::{Block, Blocks};
 pub use certificate::Certificate;
 pub use layer::{Layer, Layers};
+pub use lines::HeldLines;
 pub use member::{Member, Members};
 pub use positions::Positions;
 pub use print::print_certificate;
 pub use proof_fault::ProofFault;
 pub use read::read_certificate;
-pub use row::{ProofRow, ProofRows};
+pub use row::{ProofRow, ProofRows, RowRef};

@@ -3,7 +3,7 @@ ghost use Rattle.std.specs.Prelude.{◌≡◌, ◌++◌, decimal, map, string_by
 ghost use Rattle.std.specs.List.{flat_map};
 ghost use Rattle.cls_proof.specs.Blocks.{block_of};
 ghost use Rattle.cls_proof.specs.Members.{member_of};
-ghost use Rattle.cls_proof.specs.Rows.{row_of};
+ghost use Rattle.cls_proof.specs.Rows.{row_seen};
 ghost use Rattle.cls_proof.specs.Seen.{certificate_of};
 ghost use Rattle.cls_proof.specs.Texts.{certificate_text, row_text, member_text, block_text, layer_text, set_text, numbers_text};
 
@@ -12,7 +12,7 @@ use crate::certificate::Certificate;
 use crate::layer::Layer;
 use crate::member::Member;
 use crate::positions::Positions;
-use crate::row::ProofRow;
+use crate::row::{ProofRows, RowRef};
 use cls_base::{Name, OutOfMemory};
 use cls_lexer::Names;
 use cls_syntax::write_type;
@@ -34,7 +34,7 @@ pub fn print_certificate(
     match certificate {
         Certificate::Inhabited(rows) => {
             text.push_str("inhabited\n")?;
-            write_rows(names, components, rows.as_slice(), &mut text)?;
+            write_rows(names, components, rows, &mut text)?;
         }
         Certificate::Empty(members) => {
             text.push_str("empty\n")?;
@@ -50,14 +50,14 @@ pub fn print_certificate(
 fn write_rows(
     names: &Names,
     components: &Names,
-    rows: &[ProofRow],
+    rows: &ProofRows,
     text: &mut String,
 ) -> Result<(), OutOfMemory>
     ensures { OnOk result (string_bytes text.new
-        ≡ string_bytes text.old ++ flat_map (row_text names.now components.now) (map row_of rows.now)) }
+        ≡ string_bytes text.old ++ flat_map (row_text names.now components.now) rows.now) }
 {
-    for row in rows {
-        write_row(names, components, row, text)?;
+    for i in 0..rows.len() {
+        write_row(names, components, rows.get(i), text)?;
     }
     Ok(())
 }
@@ -67,20 +67,20 @@ fn write_rows(
 fn write_row(
     names: &Names,
     components: &Names,
-    row: &ProofRow,
+    row: RowRef,
     text: &mut String,
 ) -> Result<(), OutOfMemory>
     ensures { OnOk result (string_bytes text.new
-        ≡ string_bytes text.old ++ row_text names.now components.now (row_of row.now)) }
+        ≡ string_bytes text.old ++ row_text names.now components.now (row_seen row.entry)) }
 {
     text.push_str("row ")?;
-    write_type(text, names, &row.goal)?;
+    write_type(text, names, row.goal)?;
     text.push_str(" by ")?;
     text.push_str(components.text(Name(row.component)))?;
     text.push(' ')?;
     write_number(text, row.n)?;
     text.push_str(" :")?;
-    write_numbers(text, row.cover.as_slice())?;
+    write_numbers(text, row.cover)?;
     text.push('\n')?;
     Ok(())
 }

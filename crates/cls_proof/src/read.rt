@@ -6,9 +6,10 @@ ghost use Rattle.cls_proof.specs.Texts.{IsHeld};
 
 use crate::certificate::Certificate;
 use crate::draft::Draft;
+use crate::lines::HeldLines;
 use crate::proof_fault::ProofFault;
 use crate::reading::{ReadLine, read_line};
-use cls_lexer::{Line, Names};
+use cls_lexer::Names;
 use std::alloc::Global;
 
 /// The certificate that the lines say, up to `qed`: a line after it that isn't skipped is bad. The constructors of its types
@@ -20,7 +21,7 @@ pub fn read_certificate(
     alloc: Global,
     names: &mut Names,
     components: &Names,
-    lines: &[Line],
+    lines: &HeldLines,
 ) -> Result<Certificate, ProofFault>
     requires { length lines.now < 2 ^ 32 }
     ensures exact { MatchResult result
@@ -43,7 +44,7 @@ fn read_lines(
     alloc: Global,
     names: &mut Names,
     components: &Names,
-    lines: &[Line],
+    lines: &HeldLines,
 ) -> Result<Certificate, ProofFault>
     requires { length lines.now < 2 ^ 32 }
     ensures exact { MatchResult result
@@ -55,9 +56,10 @@ fn read_lines(
 {
     let mut draft = Draft::Start;
     let mut number = 0;
-    for line in lines {
+    for i in 0..lines.len() {
+        let line = lines.get(i);
         number += 1;
-        let statement = match read_line(alloc, names, components, line)? {
+        let statement = match read_line(alloc, names, components, &line)? {
             ReadLine::Skipped => continue,
             ReadLine::Bad => return Err(ProofFault::BadLine(number)),
             ReadLine::Says(statement) => statement,

@@ -1,8 +1,9 @@
-ghost use Rattle.std.specs.Prelude.{◌≡◌, map};
-ghost use Rattle.cls_proof.specs.Rows.{row_of};
+ghost use Rattle.std.specs.Prelude.{◌≡◌, ◌<◌, [], ◌∷◌, ◌++◌, Some, length, slice_get, OnOk};
+ghost use Rattle.cls_proof.specs.Rows.{row_of, row_seen};
 
 use crate::positions::Positions;
-use cls_base::Ty;
+use cls_base::{NumberLists, OutOfMemory, Ty};
+use std::alloc::Global;
 use std::marker::Model;
 
 /// A goal, with the positions of arrows of a component by which some term has it.
@@ -18,45 +19,95 @@ pub struct ProofRow {
     pub cover: Positions,
 }
 
-/// A list of rows, seen as that list. It is made from a `Vec` and gives it back. Neither takes memory.
+/// A row of [`ProofRows`], which keep its goal and its positions.
+#[derive(Clone, Copy)]
+pub struct RowRef<'a> {
+    /// The type that some term has.
+    pub goal: &'a Ty,
+    /// The number of the component at the head of the term.
+    pub component: u32,
+    /// How many arguments the arrows take.
+    pub n: u32,
+    /// The positions among the arrows that take n arguments.
+    pub cover: &'a [u32],
+}
+
+/// Whose arrows a row is about.
+#[derive(Clone, Copy)]
+pub(crate) struct RowPlace {
+    component: u32,
+    n: u32,
+}
+
+/// A list of rows, seen as that list. It is kept in columns, so that a short row takes little memory.
 #[derive(Drop)]
 pub struct ProofRows {
-    items: Vec<ProofRow>,
+    goals: Vec<Ty>,
+    places: Vec<RowPlace>,
+    covers: NumberLists,
 }
 
 impl Model for ProofRows {
-    ghost use Rattle.std.specs.Prelude.{List, map};
+    ghost use Rattle.std.specs.Prelude.{List, length};
     ghost use Rattle.std.specs.Coded.{coded_list};
     ghost use Rattle.cls_proof.specs.Certificates as certificates;
-    ghost use Rattle.cls_proof.specs.Rows.{row_of};
+    ghost use Rattle.cls_proof.specs.Columns.{rows_of, HaveOneLength};
     ghost use Rattle.cls_proof.specs.Stored.{coded_row};
 
     ghost Value = { List certificates.ProofRow };
 
     ghost coded = { coded_list coded_row };
 
-    ghost view = { λ r. map row_of r.items.items };
+    ghost view = { λ r. rows_of r.goals.items r.places.items r.covers };
+
+    ghost invariant = { λ r. HaveOneLength r.goals.items r.places.items r.covers };
 }
 
 impl ProofRows {
-    /// The list of these rows.
-    pub fn new(items: Vec<ProofRow>) -> ProofRows
-        ensures { result ≡ map row_of items.items }
+    /// No row. It takes no memory.
+    pub fn new(alloc: Global) -> ProofRows
+        ensures { result ≡ [] }
     {
-        ProofRows { items }
+        ProofRows {
+            goals: Vec::new(alloc),
+            places: Vec::new(alloc),
+            covers: NumberLists::new(alloc),
+        }
     }
 
-    /// The rows as a slice.
-    pub fn as_slice(&self) -> &[ProofRow]
-        ensures { map row_of result.now ≡ self.now }
+    /// The number of rows.
+    pub fn len(&self) -> usize
+        ensures { result ≡ length self.now }
     {
-        self.items.as_slice()
+        self.goals.len()
     }
 
-    /// The vector of the rows.
-    pub fn into_vec(self) -> Vec<ProofRow>
-        ensures { map row_of result.items ≡ self }
+    /// The row at a place.
+    pub fn get(&self, i: usize) -> RowRef<'_>
+        requires { i < length self.now }
+        ensures { slice_get self.now i ≡ Some (row_seen result) }
     {
-        self.items
+        let place = self.places[i];
+        RowRef {
+            goal: &self.goals[i],
+            component: place.component,
+            n: place.n,
+            cover: self.covers.get(i),
+        }
+    }
+
+    /// Puts a row last. The only error is out of memory.
+    pub fn push(&mut self, row: ProofRow) -> Result<(), OutOfMemory>
+        ensures { OnOk result (self.new ≡ self.old ++ row_of row ∷ []) }
+    {
+        self.goals.reserve(1)?;
+        self.places.reserve(1)?;
+        self.covers.push(row.cover.as_slice())?;
+        self.goals.push(row.goal)?;
+        self.places.push(RowPlace {
+            component: row.component,
+            n: row.n,
+        })?;
+        Ok(())
     }
 }
