@@ -25,7 +25,7 @@ pub fn check(alloc: Global, lib: &Library, goal: &Nf, cert: &Certificate) -> Res
     ensures refused { IfErr result (IsRefusedAs lib.now (type_of_paths (listed goal.now)) (certificate_of cert.now)) }
 {
     match cert {
-        Certificate::Inhabited(rows) => check_rows(alloc, lib, goal, rows.as_slice()),
+        Certificate::Inhabited(rows) => check_rows(alloc, lib, goal, rows),
         Certificate::Empty(members) => check_members(alloc, lib, goal, members.as_slice()),
     }
 }

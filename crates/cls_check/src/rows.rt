@@ -1,11 +1,11 @@
 //! The rows of a certificate.
-ghost use Rattle.std.specs.Prelude.{ℕ, ◌<◌, ◌↔◌, ◌^◌, length, map, IfOk, OnOk, IfErr, IsTrue};
+ghost use Rattle.std.specs.Prelude.{ℕ, ◌<◌, ◌↔◌, ◌^◌, length, IfOk, OnOk, IfErr, IsTrue};
 ghost use Rattle.cls_base.specs.Lists.{AreBelow};
 ghost use Rattle.cls_base.specs.Ty.{type_of};
 ghost use Rattle.cls_path.specs.Paths.{listed, type_of_paths, SuitsAll};
 ghost use Rattle.cls_library.specs.Libraries.{variances_in};
 ghost use Rattle.cls_proof.specs.Certificates.{inhabited};
-ghost use Rattle.cls_proof.specs.Rows.{row_of};
+ghost use Rattle.cls_proof.specs.Rows.{row_seen};
 ghost use Rattle.cls_check.specs.Arguments.{argument_type};
 ghost use Rattle.cls_check.specs.Checking.{Accepts, EndsBelow, IsForm};
 ghost use Rattle.cls_check.specs.Goals.{IsAboveGoal, AllSuit};
@@ -23,7 +23,7 @@ use cls_base::OutOfMemory;
 use cls_library::Library;
 use cls_norm::normal;
 use cls_path::Nf;
-use cls_proof::ProofRow;
+use cls_proof::{ProofRows, RowRef};
 use std::alloc::Global;
 
 /// Tests the rows in order, and then that the goal of the last one is below the asked one.
@@ -31,18 +31,19 @@ pub(crate) fn check_rows(
     alloc: Global,
     lib: &Library,
     asked: &Nf,
-    rows: &[ProofRow],
+    rows: &ProofRows,
 ) -> Result<(), CheckFault>
     requires suits { SuitsAll (variances_in lib.now.taxonomy) (listed asked.now) }
     requires few { length rows.now < 2 ^ 32 }
     ensures accepted { OnOk result
-        (Accepts lib.now (type_of_paths (listed asked.now)) (inhabited (map row_of rows.now))) }
+        (Accepts lib.now (type_of_paths (listed asked.now)) (inhabited rows.now)) }
     ensures refused { IfErr result
-        (IsRefusedAs lib.now (type_of_paths (listed asked.now)) (inhabited (map row_of rows.now))) }
+        (IsRefusedAs lib.now (type_of_paths (listed asked.now)) (inhabited rows.now)) }
 {
     let mut goals = Goals::new(alloc);
-    for (i, row) in rows.iter().enumerate() {
-        let goal = normal(alloc, lib.taxonomy(), &row.goal)?;
+    for i in 0..rows.len() {
+        let row = rows.get(i);
+        let goal = normal(alloc, lib.taxonomy(), row.goal)?;
         match row_fault(alloc, lib, &goals, row, &goal)? {
             Some(reason) => {
                 return Err(CheckFault::Refused {
@@ -67,18 +68,18 @@ fn row_fault(
     alloc: Global,
     lib: &Library,
     goals: &Goals,
-    row: &ProofRow,
+    row: RowRef,
     goal: &Nf,
 ) -> Result<Option<Reason>, OutOfMemory>
     requires goals { AllSuit lib.now goals.now }
-    requires form { IsForm lib.now (type_of row.now.goal) (listed goal.now) }
-    ensures { IfOk result (TellsRow lib.now goals.now (row_of row.now)) }
+    requires form { IsForm lib.now (type_of row.goal.now) (listed goal.now) }
+    ensures { IfOk result (TellsRow lib.now goals.now (row_seen row.entry)) }
 {
     let place = Place {
         component: row.component,
         n: row.n,
     };
-    let positions = row.cover.as_slice();
+    let positions = row.cover;
     if !place.stands(lib) || !are_positions(positions, place.arrows(lib).len()) {
         return Ok(Some(Reason::Arrow));
     }
@@ -119,15 +120,16 @@ fn ends_below(
     alloc: Global,
     lib: &Library,
     asked: &Nf,
-    rows: &[ProofRow],
+    rows: &ProofRows,
 ) -> Result<bool, OutOfMemory>
     requires { SuitsAll (variances_in lib.now.taxonomy) (listed asked.now) }
     ensures { IfOk result (λ ends. IsTrue ends
-        ↔ EndsBelow lib.now (map row_of rows.now) (type_of_paths (listed asked.now))) }
+        ↔ EndsBelow lib.now rows.now (type_of_paths (listed asked.now))) }
 {
-    let Some(row) = rows.last() else {
+    let count = rows.len();
+    if count == 0 {
         return Ok(false);
-    };
-    let goal = normal(alloc, lib.taxonomy(), &row.goal)?;
+    }
+    let goal = normal(alloc, lib.taxonomy(), rows.get(count - 1).goal)?;
     Ok(goal.le(lib.taxonomy(), asked))
 }

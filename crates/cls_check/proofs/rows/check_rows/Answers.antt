@@ -1,51 +1,49 @@
-use Rattle.std.proofs.Common.{ℕ, ◌≡◌, length, map, sym, subst, ap, ◌∙◌, inl, inr, arith, Option, []}
-use Rattle.std.proofs.lemmas.List.{length-map}
+use Rattle.std.proofs.Common.{ℕ, sym, subst, ap, ◌∙◌, inl, inr, arith, Option, []}
+use Rattle.std.proofs.lemmas.Option.{slice_get_within, get_or_from_slice_get}
 use Rattle.cls_base.specs.Ty.{type_of}
 use Rattle.cls_path.specs.Paths.{listed}
-use Rattle.cls_proof.specs.Rows.{row_of}
+use Rattle.cls_proof.specs.Rows.{row_seen}
 use Rattle.cls_check.specs.declared.fault.Reason.{Reason}
 use Rattle.cls_check.specs.declared.fault.Reason.TheVariants.{Goal}
 use Rattle.cls_check.specs.Checking.{by_rows}
 use Rattle.cls_check.specs.Tests.{TellsRow}
-use Rattle.cls_check.proofs.Loops.{image_is, differs}
+use Rattle.cls_check.proofs.Loops.{differs}
 use Rattle.cls_check.proofs.Order.{form_by}
 use Rattle.cls_check.proofs.RowLaws.{rows_fail, rows_next, rows_done}
 use Rattle.cls_check.proofs.Verdicts.{rows-pass}
 use Rattle.cls_check.proofs.rows.check_rows.Goals as goal
 
 pub row_fault-requires-clause-form : goal.row_fault-requires-clause-form
-row_fault-requires-clause-form c = form_by c.args.lib.now c.taxonomy.result.now c.taxonomy.ensures (type_of c.index-rows-i.result.goal) (listed c.in_ok-goal.goal) c.in_ok-goal.ensures.form
+row_fault-requires-clause-form c = form_by c.args.lib.now c.taxonomy.result.now c.taxonomy.ensures (type_of c.get-row.result.goal.now) (listed c.in_ok-goal.goal) c.in_ok-goal.ensures.form
 
 pub returns-in-Some-clause-refused : goal.returns-in-Some-clause-refused
 returns-in-Some-clause-refused c =
     let l = c.args.lib.now in
     let rows = c.args.rows.now in
-    let n : length (map row_of rows) ≡ length rows = length-map rows row_of in
-    let is = image_is row_of rows c.loop-i.i c.index-rows-i.result c.index-rows-i.is c.loop-i-test.true in
-    let tells = subst (λ (o : Option Reason). TellsRow l c.loop-i.goals (row_of c.index-rows-i.result) o) c.in-Some.is c.in_ok-reason.ensures in
-    inl (rows_fail l (map row_of rows) c.loop-i.goals c.loop-i.i c.loop-i.invariant (row_of c.index-rows-i.result) is (let m = c.loop-i-test.true in omega arith) c.in-Some.reason tells)
+    let r = row_seen c.get-row.result in
+    let is = sym (get_or_from_slice_get rows c.loop-i.i r r c.get-row.ensures) in
+    let tells = subst (λ (o : Option Reason). TellsRow l c.loop-i.goals r o) c.in-Some.is c.in_ok-reason.ensures in
+    inl (rows_fail l rows c.loop-i.goals c.loop-i.i c.loop-i.invariant r is (slice_get_within rows c.loop-i.i r c.get-row.ensures) c.in-Some.reason tells)
 
 pub loop-i-preserved : goal.loop-i-preserved
 loop-i-preserved c =
     let l = c.args.lib.now in
     let rows = c.args.rows.now in
-    let n : length (map row_of rows) ≡ length rows = length-map rows row_of in
-    let is = image_is row_of rows c.loop-i.i c.index-rows-i.result c.index-rows-i.is c.loop-i-test.true in
-    let tells = subst (λ (o : Option Reason). TellsRow l c.loop-i.goals (row_of c.index-rows-i.result) o) c.in-None.is c.in_ok-reason.ensures in
-    let form = form_by l c.taxonomy.result.now c.taxonomy.ensures (type_of c.index-rows-i.result.goal) (listed c.in_ok-goal.goal) c.in_ok-goal.ensures.form in
-    rows_next l (map row_of rows) c.loop-i.goals c.loop-i.i c.loop-i.invariant (row_of c.index-rows-i.result) is (let m = c.loop-i-test.true in omega arith) c.in_ok-goal.goal form c.put.new.self c.in_ok-put-in-None.ensures tells
+    let r = row_seen c.get-row.result in
+    let is = sym (get_or_from_slice_get rows c.loop-i.i r r c.get-row.ensures) in
+    let tells = subst (λ (o : Option Reason). TellsRow l c.loop-i.goals r o) c.in-None.is c.in_ok-reason.ensures in
+    let form = form_by l c.taxonomy.result.now c.taxonomy.ensures (type_of c.get-row.result.goal.now) (listed c.in_ok-goal.goal) c.in_ok-goal.ensures.form in
+    rows_next l rows c.loop-i.goals c.loop-i.i c.loop-i.invariant r is (slice_get_within rows c.loop-i.i r c.get-row.ensures) c.in_ok-goal.goal form c.put.new.self c.in_ok-put-in-None.ensures tells
 
 pub returns-then-not-branch-clause-refused : goal.returns-then-not-branch-clause-refused
 returns-then-not-branch-clause-refused c =
     let l = c.args.lib.now in
     let rows = c.args.rows.now in
-    let n : length (map row_of rows) ≡ length rows = length-map rows row_of in
-    let pass = rows_done l (map row_of rows) c.loop-i.goals c.loop-i.i (omega arith) c.loop-i.invariant in
-    inr (rows-pass l [] (map row_of rows) pass, inl ((λ h. differs (sym c.if-not-branch.true ∙ c.in_ok-ends_below.ensures.1 h)), ap (λ (k : ℕ). (k, Goal)) (sym n)))
+    let pass = rows_done l rows c.loop-i.goals c.loop-i.i (omega arith) c.loop-i.invariant in
+    inr (rows-pass l [] rows pass, inl ((λ h. differs (sym c.if-not-branch.true ∙ c.in_ok-ends_below.ensures.1 h)), ap (λ (k : ℕ). (k, Goal)) c.len.ensures))
 
 pub returns-clause-accepted : goal.returns-clause-accepted
 returns-clause-accepted c =
     let l = c.args.lib.now in
     let rows = c.args.rows.now in
-    let n : length (map row_of rows) ≡ length rows = length-map rows row_of in
-    by_rows (rows_done l (map row_of rows) c.loop-i.goals c.loop-i.i (omega arith) c.loop-i.invariant) (c.in_ok-ends_below.ensures.0 c.if-not-branch.false)
+    by_rows (rows_done l rows c.loop-i.goals c.loop-i.i (omega arith) c.loop-i.invariant) (c.in_ok-ends_below.ensures.0 c.if-not-branch.false)
