@@ -1,15 +1,13 @@
 -- The rows of a certificate, rank after rank and goal after goal.
-use Rattle.std.proofs.Common.{ℕ, ◌≡◌, ◌+◌, ◌<◌, refl, sym, ◌∙◌, subst, ap, ◌⊎◌, inl, inr, List, [], ◌∷◌, ◌++◌, map, arith, Contains}
+use Rattle.std.proofs.Common.{ℕ, ◌≡◌, ◌+◌, ◌<◌, refl, sym, subst, ◌⊎◌, inl, inr, List, [], ◌∷◌, ◌++◌, arith, Contains}
 use Rattle.std.proofs.lemmas.List.Elements.{Contains-push, Contains-push_cases, Contains-append_left}
 use Rattle.cls_base.specs.declared.rule.Rule.{Rule}
 use Rattle.cls_base.specs.Languages.{NodeRule}
-use Rattle.cls_base.proofs.Lists.{Contains-nil, map_last}
+use Rattle.cls_base.proofs.Lists.{Contains-nil}
 use Rattle.cls_expand.specs.Listing.{all_last}
 use Rattle.cls_path.specs.Paths.{Paths}
 use Rattle.cls_grammar.specs.Ranks.{IsRank}
 use Rattle.cls_library.specs.Libraries.{Library}
-use Rattle.cls_proof.specs.Rows.{row_of}
-use Rattle.cls_proof.specs.declared.row.ProofRow as code
 use Rattle.cls_proof.specs.Certificates.{ProofRow}
 use Rattle.cls_cert.specs.Making.{Ranked, ComesEarlier, IsRanked, IsRowFor, AreRows}
 use Rattle.cls_cert.specs.Building.{AreRowsTo}
@@ -110,10 +108,3 @@ module _ (l : Library) (goals : List Paths) (book : List (List (Rule ℕ))) wher
       to : (d : Ranked) → IsTo rank [] d → d.rank < rank
       to d (inl k) = k
       to d (inr k) = absurd (Contains-nil d.number k.1)
-
-  -- the rows that are pushed
-  pub row_added : (rank x : ℕ) (done : List ℕ) (old new : List code.ProofRow) (row : code.ProofRow) → new ≡ old ++ row ∷ [] → Is (ranked x rank) → ((d : ℕ) → Contains done d → d < x) → IsRowFor l goals book (ranked x rank) (row_of row) → AreRowsTo l goals book rank done (map row_of old) → AreRowsTo l goals book rank (done ++ x ∷ []) (map row_of new)
-  row_added rank x done old new row e r f h a = rows_step rank x done (map row_of old) (map row_of new) (row_of row) (ap (map row_of) e ∙ map_last row_of old row) r f h a
-
-  pub last_added : (rank : ℕ) (old new : List code.ProofRow) (row : code.ProofRow) → new ≡ old ++ row ∷ [] → IsRank ℕ (NodeRule book) 0 rank → IsRowFor l goals book (ranked 0 rank) (row_of row) → AreRowsTo l goals book rank [] (map row_of old) → AreRows l goals book (map row_of new)
-  last_added rank old new row e r h a = rows_whole rank (map row_of old) (map row_of new) (row_of row) (ap (map row_of) e ∙ map_last row_of old row) r h a

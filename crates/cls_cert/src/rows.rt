@@ -1,5 +1,5 @@
 //! The rows of a certificate: the goals whose rank is less than that of goal 0, and then goal 0.
-ghost use Rattle.std.specs.Prelude.{◌≡◌, ◌+◌, [], IfOk, OnOk, Some, length, map, slice_get};
+ghost use Rattle.std.specs.Prelude.{◌≡◌, ◌+◌, [], IfOk, OnOk, Some, length, slice_get};
 ghost use Rattle.cls_grammar.specs.Grammars.{book_of};
 ghost use Rattle.cls_grammar.specs.Ranks.{AreRanks};
 ghost use Rattle.cls_proof.specs.Rows.{row_of};
@@ -67,14 +67,14 @@ fn add_rows(
     ranks: &[Option<u32>],
     numbers: &[u32],
     rank: u32,
-    rows: &mut Vec<ProofRow>,
+    rows: &mut ProofRows,
 ) -> Result<(), OutOfMemory>
     requires grammar { IsGrammarOf lib.now grammar.now }
     requires ranks { AreRanks (book_of grammar.now) ranks.now }
     requires bucket { IsBucketTo ranks.now (length ranks.now) rank numbers.now }
     ensures { OnOk result
-        (AreRowsTo lib.now (forms_of grammar.now) (book_of grammar.now) rank [] (map row_of rows.old.items)
-        → AreRowsTo lib.now (forms_of grammar.now) (book_of grammar.now) (rank + 1) [] (map row_of rows.new.items)) }
+        (AreRowsTo lib.now (forms_of grammar.now) (book_of grammar.now) rank [] rows.old
+        → AreRowsTo lib.now (forms_of grammar.now) (book_of grammar.now) (rank + 1) [] rows.new) }
 {
     for number in numbers {
         rows.push(row(alloc, lib, grammar, ranks, *number, rank)?)?;
@@ -98,11 +98,11 @@ pub(crate) fn rows(
     // For the prover: the number of goals is one of 32 bits.
     let _count = grammar.count();
     let buckets = by_rank(alloc, ranks, rank)?;
-    let mut rows = Vec::new(alloc);
+    let mut rows = ProofRows::new(alloc);
     for lower in 0..rank {
         let numbers = buckets[lower as usize].as_slice();
         add_rows(alloc, lib, grammar, ranks, numbers, lower, &mut rows)?;
     }
     rows.push(row(alloc, lib, grammar, ranks, 0, rank)?)?;
-    Ok(ProofRows::new(rows))
+    Ok(rows)
 }

@@ -1,15 +1,13 @@
-use Rattle.std.proofs.Common.{ℕ, ◌≡◌, [], List, length, map, ap, sym, ◌∙◌, subst, arith}
+use Rattle.std.proofs.Common.{ℕ, ◌≡◌, [], List, length, sym, ◌∙◌, subst, arith}
 use Rattle.std.proofs.lemmas.List.{length-map, get_or_default}
 use Rattle.cls_path.specs.Paths.{TypePath}
 use Rattle.cls_core.specs.Arguments.{rules_of}
 use Rattle.cls_core.specs.Rows.{Row}
 use Rattle.cls_grammar.specs.Grammars.{book_of}
 use Rattle.cls_proof.specs.Rows.{row_of}
-use Rattle.cls_proof.specs.Certificates.{ProofRow}
 use Rattle.cls_cert.specs.Conditions.{forms_of}
-use Rattle.cls_cert.specs.Making.{AreRows}
 use Rattle.cls_cert.specs.Building.{IsBucketTo, AreRowsTo}
-use Rattle.cls_cert.proofs.RowLaws.{no_rows, last_added}
+use Rattle.cls_cert.proofs.RowLaws.{no_rows, rows_whole}
 use Rattle.cls_cert.proofs.RowMaking.{rank_of_number}
 use Rattle.cls_cert.proofs.rows.rows.Goals as goal
 
@@ -21,7 +19,7 @@ by_rank-requires c =
     omega arith
 
 pub loop-lower-init : goal.loop-lower-init
-loop-lower-init c = no_rows c.args.lib.now (forms_of c.args.grammar.now) (book_of c.args.grammar.now) (map row_of c.new-rows.result.items) (ap (map row_of) c.new-rows.ensures.items)
+loop-lower-init c = no_rows c.args.lib.now (forms_of c.args.grammar.now) (book_of c.args.grammar.now) c.new-rows.result c.new-rows.ensures
 
 pub loop-lower-preserved : goal.loop-lower-preserved
 loop-lower-preserved c = c.in_ok-add_rows.ensures c.loop-lower.invariant
@@ -42,7 +40,6 @@ returns c =
     let goals = forms_of c.args.grammar.now in
     let book = book_of c.args.grammar.now in
     let e : c.loop-lower.lower ≡ c.args.rank = (let t = c.loop-lower-test.false in let u = c.loop-lower.auto.lower-end in omega arith) in
-    subst (λ (rs : List ProofRow). AreRows l goals book rs) (sym c.new.ensures)
-    (last_added l goals book c.args.rank c.loop-lower.rows.items c.push.new.self.items c.in_ok-row.field-0 c.in_ok-push.ensures.items
+    rows_whole l goals book c.args.rank c.loop-lower.rows c.push.new.self (row_of c.in_ok-row.field-0) c.in_ok-push.ensures
     (rank_of_number l c.args.grammar.now c.requires.grammar c.args.ranks.now c.requires.ranks 0 c.args.rank c.requires.ranked) c.in_ok-row.ensures
-    (subst (λ (rank : ℕ). AreRowsTo l goals book rank [] (map row_of c.loop-lower.rows.items)) e c.loop-lower.invariant))
+    (subst (λ (rank : ℕ). AreRowsTo l goals book rank [] c.loop-lower.rows) e c.loop-lower.invariant)
