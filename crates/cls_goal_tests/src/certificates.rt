@@ -1,5 +1,5 @@
 //! Certificates from texts, and what is found of them.
-ghost use Rattle.std.specs.Prelude.{◌≡◌, ◌<◌, ◌≤◌, ◌^◌, length, IfOk, vec_len};
+ghost use Rattle.std.specs.Prelude.{◌≡◌, ◌<◌, ◌≤◌, ◌^◌, length, IfOk};
 ghost use Rattle.cls_proof.specs.Seen.{certificate_of};
 ghost use Rattle.cls_proof.specs.Texts.{IsHeld};
 ghost use Rattle.cls_check.specs.Verdicts.{rows_in};
@@ -8,7 +8,7 @@ use crate::comparisons::are_same;
 use crate::goals::{declared, goal};
 use cls_check::{CheckFault, Reason, check};
 use cls_lexer::{Line, Names};
-use cls_proof::{Certificate, ProofFault, print_certificate, read_certificate};
+use cls_proof::{Certificate, HeldLines, ProofFault, print_certificate, read_certificate};
 use std::alloc::Global;
 use std::test::Fail;
 
@@ -36,16 +36,16 @@ fn certificate(
         IsHeld (length names.new) (length components.now) (certificate_of certificate))) }
 {
     let lines = lines(alloc, text)?;
-    Ok(read_certificate(alloc, names, components, lines.as_slice()))
+    Ok(read_certificate(alloc, names, components, &lines))
 }
 
 /// The lines of the text.
-fn lines(alloc: Global, text: &str) -> Result<Vec<Line>, Fail>
-    ensures { IfOk result (λ lines. vec_len lines ≤ 1000) }
+fn lines(alloc: Global, text: &str) -> Result<HeldLines, Fail>
+    ensures { IfOk result (λ lines. length lines ≤ 1000) }
 {
-    let mut lines = Vec::new(alloc);
+    let mut lines = HeldLines::new(alloc);
     for line in text.lines() {
-        lines.push(Line::new(line.as_bytes()))?;
+        lines.push(&Line::new(line.as_bytes()))?;
     }
     if lines.len() > 1_000 {
         return Err("too long".into());
@@ -58,7 +58,7 @@ fn size(certificate: &Certificate) -> usize
     ensures { result ≡ rows_in (certificate_of certificate.now) }
 {
     match certificate {
-        Certificate::Inhabited(rows) => rows.as_slice().len(),
+        Certificate::Inhabited(rows) => rows.len(),
         Certificate::Empty(members) => members.as_slice().len(),
     }
 }

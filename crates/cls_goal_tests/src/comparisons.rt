@@ -1,12 +1,12 @@
 //! Whether two certificates are the same.
 use cls_base::Numbers;
-use cls_proof::{Block, Certificate, Layer, Member, Positions, ProofRow};
+use cls_proof::{Block, Certificate, Layer, Member, Positions, ProofRows, RowRef};
 
 /// Whether the certificates are the same.
 pub fn are_same(one: &Certificate, other: &Certificate) -> bool {
     match one {
         Certificate::Inhabited(one) => match other {
-            Certificate::Inhabited(other) => have_same_rows(one.as_slice(), other.as_slice()),
+            Certificate::Inhabited(other) => have_same_rows(one, other),
             Certificate::Empty(_) => false,
         },
         Certificate::Empty(one) => match other {
@@ -16,23 +16,23 @@ pub fn are_same(one: &Certificate, other: &Certificate) -> bool {
     }
 }
 
-fn have_same_rows(one: &[ProofRow], other: &[ProofRow]) -> bool {
+fn have_same_rows(one: &ProofRows, other: &ProofRows) -> bool {
     if one.len() != other.len() {
         return false;
     }
-    for (i, row) in one.iter().enumerate() {
-        if !is_same_row(row, &other[i]) {
+    for i in 0..one.len() {
+        if !is_same_row(one.get(i), other.get(i)) {
             return false;
         }
     }
     true
 }
 
-fn is_same_row(one: &ProofRow, other: &ProofRow) -> bool {
-    one.goal.order(&other.goal).is_eq()
+fn is_same_row(one: RowRef, other: RowRef) -> bool {
+    one.goal.order(other.goal).is_eq()
         && one.component == other.component
         && one.n == other.n
-        && one.cover.as_slice() == other.cover.as_slice()
+        && one.cover == other.cover
 }
 
 fn have_same_members(one: &[Member], other: &[Member]) -> bool {
