@@ -12,13 +12,20 @@ use Rattle.cls_enum.specs.Requests.{request}
 use Rattle.cls_enum.specs.declared.listed.Page.{Page}
 use Rattle.cls_library.specs.Typing.{HasTypeIn}
 use Rattle.cls_replies.specs.LineKinds.{Opens, IsSingle}
-use Rattle.cls_replies.specs.Serving.{Serving}
+use Rattle.cls_replies.specs.Answering.{Verified}
+use Rattle.cls_replies.specs.Serving.{Serving, holding}
 use Rattle.cls_replies.specs.Texts.{error_line, fault_words}
 
 -- the lines that are held
 abbrev pub held_lines : Option Held → List (List ℕ)
 held_lines None = []
-held_lines (Some h) = h.line ∷ h.inside.items
+held_lines (Some h) = h.line ∷ h.inside
+
+-- What is written for these lines, of which the first opened a certificate, and what queries are answered by after it. For
+-- none nothing is written.
+abbrev pub Concludes : Serving → List (List ℕ) → List ℕ → Serving → Type 0
+Concludes s [] text s' = text ≡ []
+Concludes s (first ∷ inside) text s' = Verified (holding s []) first inside text s'
 
 -- what is said of a line outside of a certificate
 abbrev pub IsOfKind : List ℕ → LineKind → Type 0

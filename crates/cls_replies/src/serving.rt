@@ -7,6 +7,7 @@ ghost use Rattle.cls_replies.specs.Answering.{Answered};
 ghost use Rattle.cls_replies.specs.LineKinds.{IsSingle};
 ghost use Rattle.cls_replies.specs.Lines.{Goes, Ends};
 ghost use Rattle.cls_replies.specs.Serving.{serving_of};
+ghost use Rattle.cls_replies.specs.Steps.{Concludes};
 
 use crate::certificates::{LineKind, is_qed, kind_of};
 use crate::faults::line_fault;
@@ -14,6 +15,7 @@ use cls_assemble::Templates;
 use cls_base::{Gate, OutOfMemory};
 use cls_engine::{Engine, Options};
 use cls_lexer::{Line, Names};
+use cls_proof::HeldLines;
 use cls_query::read_query;
 use cls_repo::Repository;
 use std::alloc::Global;
@@ -29,7 +31,7 @@ const MAX_ROOM_BYTES: usize = 1_048_576;
 #[derive(Drop)]
 struct Held {
     line: Line<'static>,
-    inside: Vec<Line<'static>>,
+    inside: HeldLines,
 }
 
 /// Answers the lines after a repository. It is seen as what it keeps: the names of constructors so far, the names and
@@ -114,11 +116,11 @@ impl Serving {
             return self.feed_free(rt, alloc, line, gate);
         };
         let ends = is_qed(alloc, &line)?;
-        held.inside.push(line.into_owned(alloc)?)?;
-        if ends {
-            return self.verify(alloc, &held.line, &held.inside);
-        }
+        held.inside.push(&line)?;
         self.held = Some(held);
+        if ends {
+            return self.answer_held(alloc);
+        }
         Ok(String::new(alloc))
     }
 
@@ -147,6 +149,15 @@ impl Serving {
         requires { length self.old.held < 2 ^ 32 }
         ensures { IfOk result (λ text. Ends self.old (string_bytes text)) }
     {
+        self.answer_held(alloc)
+    }
+
+    /// What is written for the lines that are held, which are held no longer.
+    fn answer_held(&mut self, alloc: Global) -> Result<String, OutOfMemory>
+        requires few { length self.old.held < 2 ^ 32 }
+        ensures concludes { IfOk result (λ text. Concludes self.old self.old.held (string_bytes text) self.new) }
+        ensures free { OnOk result (self.new.held ≡ []) }
+    {
         match self.held.take() {
             Some(held) => self.verify(alloc, &held.line, &held.inside),
             None => Ok(String::new(alloc)),
@@ -170,7 +181,7 @@ impl Serving {
             LineKind::Opening => {
                 self.held = Some(Held {
                     line: line.into_owned(alloc)?,
-                    inside: Vec::new(alloc),
+                    inside: HeldLines::new(alloc),
                 });
                 Ok(String::new(alloc))
             }

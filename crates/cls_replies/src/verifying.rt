@@ -7,7 +7,7 @@ use crate::faults::{line_fault, proof_fault};
 use crate::serving::Serving;
 use cls_base::OutOfMemory;
 use cls_lexer::Line;
-use cls_proof::read_certificate;
+use cls_proof::{HeldLines, read_certificate};
 use cls_query::{Query, read_query};
 use std::alloc::Global;
 
@@ -17,7 +17,7 @@ impl Serving {
         &mut self,
         alloc: Global,
         line: &Line,
-        certificate: &[Line],
+        certificate: &HeldLines,
     ) -> Result<String, OutOfMemory>
         requires opens { Opens line.now }
         requires few { length certificate.now < 2 ^ 32 }
