@@ -126,16 +126,16 @@ impl Session {
         ensures { IfOk result (λ outcome. (o : Options) (lines : List (List ℕ)) (written : List ℕ)
             → Stands o lines written self.old → Ending o lines (written ++ string_bytes outcome.text) outcome.status) }
     {
-        match &mut self.serving {
-            Some(serving) => Ok(Outcome {
+        if let Some(serving) = &mut self.serving {
+            return Ok(Outcome {
                 text: serving.finish(alloc)?,
                 status: Status::Done,
-            }),
-            None => Ok(Outcome {
-                text: refused(alloc, self.reader.lines(), "no-end")?,
-                status: Status::Refused,
-            }),
+            });
         }
+        Ok(Outcome {
+            text: refused(alloc, self.reader.lines(), "no-end")?,
+            status: Status::Refused,
+        })
     }
 
     /// Takes a line of the repository. The line `end` opens it. The fault may be out of memory.
