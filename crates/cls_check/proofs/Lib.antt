@@ -1,6 +1,7 @@
 pub mod Arguments
 pub mod Arrows
 pub mod BlockLaws
+pub mod Codes
 pub mod Deciding
 pub mod DecidingSteps
 pub mod Finding
@@ -17,7 +18,6 @@ pub mod RowLaws
 pub mod Sets
 pub mod Sound
 pub mod Stepping
-pub mod Terms
 pub mod Typing
 pub mod Verdicts
 pub mod Walking

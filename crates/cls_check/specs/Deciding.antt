@@ -1,6 +1,6 @@
 -- internal: which arrows of a term's head are kept while its arguments are looked at one after another
-use Rattle.std.specs.Prelude.{ℕ, ◌<◌, List, [], map, Contains, slice_index_or}
-use Rattle.cls_base.specs.Terms.{Applicative, component}
+use Rattle.std.specs.Prelude.{ℕ, ◌≡◌, ◌<◌, List, [], ◌++◌, length, map, Contains, slice_index_or}
+use Rattle.cls_base.specs.Terms.{Applicative, component, code_of, IsTermOver}
 use Rattle.cls_path.specs.Paths.{TypePath, Paths, none, unit, InPaths, listed, type_of_path, type_of_paths, Suits, SuitsAll}
 use Rattle.cls_library.specs.Arrows.{MultiArrow}
 use Rattle.cls_library.specs.Libraries.{Library, variances_in}
@@ -61,6 +61,17 @@ module _ (l : Library) where
     pub suits : AllSuitIn had
     pub sound : (q : TypePath) → SuitIn q → SomeBelow had q → HasTypeIn l e (type_of_path q)
     pub complete : (q : TypePath) → IsWanted goals q → HasTypeIn l e (type_of_path q) → SomeBelow had q
+
+  -- The numbers are the code of a term and those behind it, and the paths are what the term has, as far as the goals ask.
+  pub record IsDecided (goals : List Paths) (code behind : List ℕ) (had : Paths) : Type 0 where
+    pub term : Applicative
+    pub begins : code ≡ code_of term ++ behind
+    pub known : KnowsPaths term goals had
+
+  -- the numbers begin with the code of a term over the library's components
+  abbrev pub BeginsWithTermIn : List ℕ → Type 0
+  BeginsWithTermIn code =
+      (e : Applicative) × IsTermOver (length l.components) e × (behind : List ℕ) × (code ≡ code_of e ++ behind)
 
   -- the first k terms have what the arrow takes
   abbrev pub HaveFirst : List Applicative → ℕ → MultiArrow → Type 0

@@ -8,7 +8,7 @@ ghost use Rattle.cls_path.specs.NormalForms.{IsNormal};
 ghost use Rattle.cls_library.specs.Libraries.{below_in, variances_in};
 ghost use Rattle.cls_library.specs.Typing.{HasTypeIn};
 ghost use Rattle.cls_check.specs.Asking.{goals_of};
-ghost use Rattle.cls_check.specs.Deciding.{AllSuitIn, KnowsPaths, targets_of};
+ghost use Rattle.cls_check.specs.Deciding.{AllSuitIn, BeginsWithTermIn, IsDecided, targets_of};
 
 use crate::asked::Asked;
 use crate::kept::KeptArrows;
@@ -16,45 +16,54 @@ use crate::reaching::{are_above, keep_with_source, leading};
 use cls_base::OutOfMemory;
 use cls_library::Library;
 use cls_path::Nf;
-use cls_term::Term;
+use cls_term::{CodedTerm, behind_terms};
 use std::alloc::Global;
 
 /// Whether the term has the type of the goal by the typing rules. The only error is out of memory.
-pub fn has_type(alloc: Global, lib: &Library, term: &Term, goal: &Nf) -> Result<bool, OutOfMemory>
+pub fn has_type(
+    alloc: Global,
+    lib: &Library,
+    term: &CodedTerm,
+    goal: &Nf,
+) -> Result<bool, OutOfMemory>
     requires declared { IsTermOver (length lib.now.components) term.now }
     requires normal { IsNormal (below_in lib.now.taxonomy) (variances_in lib.now.taxonomy) (listed goal.now) }
     ensures { IfOk result (λ answer. IsTrue answer ↔ HasTypeIn lib.now term.now (type_of_paths (listed goal.now))) }
 {
     // For the prover: what holds of each library.
     let _count = lib.count();
-    let had = arrows_had(alloc, lib, term, &Asked::Goal(goal))?;
+    let (had, _rest) = arrows_had(alloc, lib, term.code(), &Asked::Goal(goal))?;
     Ok(are_above(lib, &had, goal))
 }
 
-/// Arrows of the term's head by whose targets it has what is asked of it. The only error is out of memory.
-fn arrows_had<'l>(
+/// Arrows by whose targets the term with whose code the numbers begin has what is asked of it, and the numbers behind
+/// it. The only error is out of memory.
+fn arrows_had<'l, 'c>(
     alloc: Global,
     lib: &'l Library,
-    term: &Term,
+    code: &'c [u32],
     asked: &Asked<'_>,
-) -> Result<KeptArrows<'l>, OutOfMemory>
-    requires declared { IsTermOver (length lib.now.components) term.now }
+) -> Result<(KeptArrows<'l>, &'c [u32]), OutOfMemory>
+    requires declared { BeginsWithTermIn lib.now code.now }
     requires suits { (n : Paths) → Contains (goals_of asked.now) n → AllSuitIn lib.now n }
-    ensures { IfOk result (λ had. KnowsPaths lib.now term.now (goals_of asked.now) (targets_of had)) }
+    ensures { IfOk result (λ r. IsDecided lib.now (goals_of asked.now) code.now r.1.now (targets_of r.0)) }
 {
-    let count = term.args.len();
+    let (head, count) = (code[0], code[1]);
+    let mut rest = &code[2..];
     // For the prover: what holds of each library.
     let _components = lib.count();
-    if count > lib.arity(term.head) as usize {
-        return Ok(KeptArrows::none(alloc, lib.arrows(term.head, 0)));
+    if count > lib.arity(head) {
+        let none = KeptArrows::none(alloc, lib.arrows(head, 0));
+        return Ok((none, behind_terms(rest, count)));
     }
-    let mut kept = leading(alloc, lib, lib.arrows(term.head, count as u32), asked)?;
-    for (place, arg) in term.args.as_slice().iter().enumerate() {
+    let mut kept = leading(alloc, lib, lib.arrows(head, count), asked)?;
+    for place in 0..count {
         if kept.is_empty() {
-            return Ok(kept);
+            return Ok((kept, behind_terms(rest, count - place)));
         }
-        let had = arrows_had(alloc, lib, arg, &Asked::Sources(&kept, place))?;
-        keep_with_source(lib, &mut kept, place, &had);
+        let (had, behind) = arrows_had(alloc, lib, rest, &Asked::Sources(&kept, place as usize))?;
+        keep_with_source(lib, &mut kept, place as usize, &had);
+        rest = behind;
     }
-    Ok(kept)
+    Ok((kept, rest))
 }

@@ -12,7 +12,7 @@ use cls_base::Ty;
 use cls_base::limits::MAX_TYPE_SPREAD;
 use cls_check::has_type;
 use cls_norm::subtype;
-use cls_term::Term;
+use cls_term::CodedTerm;
 use std::alloc::Global;
 
 impl Engine {
@@ -30,7 +30,7 @@ impl Engine {
     }
 
     /// Whether the term has the type by the typing rules.
-    pub fn typed(&self, alloc: Global, term: &Term, ty: &Ty) -> Result<bool, EngineFault>
+    pub fn typed(&self, alloc: Global, term: &CodedTerm, ty: &Ty) -> Result<bool, EngineFault>
         requires declared { IsTermOver (length self.now.library.components) term.now }
         ensures exact { IfOk result (λ yes. IsTrue yes ↔ HasTypeIn self.now.library term.now (type_of ty.now)) }
         ensures silent { OnOk result (AreSilent (compare_faults (type_of ty.now ∷ []))) }

@@ -1,4 +1,4 @@
-ghost use Rattle.std.specs.Prelude.{◌<◌, ◌^◌, length, IfOk};
+ghost use Rattle.std.specs.Prelude.{◌≡◌, ◌<◌, ◌^◌, length, IfOk};
 ghost use Rattle.cls_base.specs.Terms.{IsTermOver};
 
 use crate::certificates::{Finding, found, is_said, printed_again};
@@ -9,7 +9,7 @@ use cls_cert::certify;
 use cls_check::{Reason, has_type};
 use cls_finite::{FiniteAnswer, finite};
 use cls_lexer::Names;
-use cls_term::{Term, Terms, TokenFault, read_token};
+use cls_term::{CodedTerm, Term, Terms, TokenFault, read_token};
 use std::alloc::Global;
 use std::sync::Wait;
 use std::test::Fail;
@@ -62,6 +62,13 @@ fn nested(alloc: Global, count: u32) -> Result<Term, Fail>
     Ok(term)
 }
 
+// The term by its code.
+fn coded(alloc: Global, term: &Term) -> Result<CodedTerm, Fail>
+    ensures { IfOk result (λ coded. coded ≡ term.now) }
+{
+    Ok(CodedTerm::from_vec(term.code(alloc)?.into_vec()))
+}
+
 // Whether that term has the type by two components with these types.
 fn is_typed(alloc: Global, types: (&str, &str), count: u32, ty: &str) -> Result<bool, Fail>
     requires { length ty.now < 2 ^ 32 }
@@ -71,7 +78,8 @@ fn is_typed(alloc: Global, types: (&str, &str), count: u32, ty: &str) -> Result<
     if given.library.count() != 2 {
         return Err("not two components".into());
     }
-    Ok(has_type(alloc, &given.library, &nested(alloc, count)?, &goal)?)
+    let term = coded(alloc, &nested(alloc, count)?)?;
+    Ok(has_type(alloc, &given.library, &term, &goal)?)
 }
 
 #[test]

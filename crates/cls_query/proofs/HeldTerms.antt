@@ -1,10 +1,8 @@
 -- A term of which no component's number is beyond the table has no name that isn't in the table.
-use Rattle.std.proofs.Common.{◌≡◌, ℕ, zero, suc, ◌+◌, ◌<◌, ◌≤◌, get_or, Bool, true, false, cond, not, List, [], ◌∷◌, length, refl, ap, sym, ◌∙◌, subst, arith}
+use Rattle.std.proofs.Common.{◌≡◌, ℕ, ◌+◌, ◌<◌, Bool, true, false, cond, not, List, [], ◌∷◌, length, refl, ap, sym, ◌∙◌, subst, arith}
 use Rattle.std.specs.Prelude.{Option, Some, None, IfSome, ◌||◌, position}
 use Rattle.std.specs.List.{list_any}
 use Rattle.std.specs.Str.{bytes_eq}
-use Rattle.cls_base.specs.Spines.{lengths_of}
-use Rattle.cls_base.specs.Terms.{Applicative, length_of}
 use Rattle.cls_lexer.specs.Names.{number_of}
 use Rattle.cls_lexer.specs.Words.{Word, sign}
 use Rattle.cls_lexer.specs.declared.token.TokenKind.TheVariants.{Close, Comma}
@@ -24,12 +22,6 @@ use Rattle.cls_query.specs.QueryErrors.{is_absent, is_unknown_in_term}
 use Rattle.cls_query.specs.QueryForms.{query_rows}
 use Rattle.cls_query.proofs.CodeForms.{sub_placed, one_placed, typed_placed, plain_placed, cursor_placed}
 use Rattle.cls_query.proofs.Searches.{both_none, place_none, behind}
-
--- a term among others is no longer than these together
-pub item_short : (es : List Applicative) (i : ℕ) (e : Applicative) → e ≡ get_or es i e → i < length es → length_of e ≤ lengths_of es
-item_short [] i e h l = absurd (omega (arith, l))
-item_short (f ∷ es) zero e h l = omega (arith, ap length_of h)
-item_short (f ∷ es) (suc i) e h l = omega (arith, item_short es i e h (omega (arith, l)))
 
 -- a name with a number of the table is in the table
 below_held : (table : List (List ℕ)) (x : List ℕ) → number_of table x < length table → is_absent table x ≡ false

@@ -2,6 +2,7 @@ pub mod ClosedTypes
 pub mod CodeForms
 pub mod FirstErrors
 pub mod FormParts
+pub mod GreatestNumbers
 pub mod HeldTerms
 pub mod LineSteps
 pub mod Numbering

@@ -19,7 +19,7 @@ use crate::query::{Listing, Query};
 use cls_base::{OutOfMemory, Ty};
 use cls_lexer::Names;
 use cls_syntax::SpelledType;
-use cls_term::Term;
+use cls_term::{CodedTerm, Term};
 use std::alloc::Global;
 
 impl QueryForm<'_, '_> {
@@ -30,7 +30,7 @@ impl QueryForm<'_, '_> {
         alloc: Global,
         constructors: &mut Names,
         components: &Names,
-        term: Option<Term>,
+        term: Option<CodedTerm>,
     ) -> Result<Query, OutOfMemory>
         requires closed { AllByRecursion (λ t. HasNoDollar (type_words t)) (row_types query_rows (form_says self.now)) }
         requires in_range { list_any is_outside (row_parts query_rows (form_says self.now)) ≡ false }
@@ -51,8 +51,18 @@ impl QueryForm<'_, '_> {
                 let Some(term) = term else { unreachable!() };
                 Ok(Query::Typed(term, goal.ty(alloc, constructors)?))
             }
-            QueryForm::Asks(form) => Ok(form.query(alloc, constructors, term)?),
+            QueryForm::Asks(form) => Ok(form.query(alloc, constructors, tree(alloc, term)?)?),
         }
+    }
+}
+
+/// The term as a tree, if there is one. The only error is out of memory.
+fn tree(alloc: Global, term: Option<CodedTerm>) -> Result<Option<Term>, OutOfMemory>
+    ensures { IfOk result (λ tree. tree ≡ term) }
+{
+    match term {
+        Some(term) => Ok(Some(term.term(alloc)?)),
+        None => Ok(None),
     }
 }
 

@@ -26,7 +26,7 @@ use crate::line::CutLine;
 use cls_base::limits::{MAX_PAGE_TERMS, MAX_TERM_SIZE};
 use cls_lexer::{Names, Numeral};
 use cls_syntax::{SpelledTerm, SpelledType, first_variable};
-use cls_term::{Term, first_unknown, spelled_term};
+use cls_term::{CodedTerm, first_unknown, spelled_term};
 use std::alloc::Global;
 
 impl<'t, 'a> QueryForm<'t, 'a> {
@@ -53,7 +53,7 @@ impl<'t, 'a> QueryForm<'t, 'a> {
         alloc: Global,
         components: &Names,
         line: &CutLine<'t, 'a>,
-    ) -> Result<Option<Term>, LineFault<'a>>
+    ) -> Result<Option<CodedTerm>, LineFault<'a>>
         requires { Says (row_words query_rows) (RowStands query_rows)
             (form_says self.now) (words_of line.now.text.now) }
         ensures tested { Tests (value_errors line.now.text.now components.now) result }

@@ -1,27 +1,20 @@
 //! The greatest number of a component that occurs in a term.
 ghost use Rattle.std.specs.Prelude.{◌≡◌};
-ghost use Rattle.cls_term.specs.Components.{greatest_of, greatest_in};
+ghost use Rattle.cls_term.specs.Components.{greatest_of};
 
-use cls_term::Term;
+use cls_term::CodedTerm;
 
-/// The greatest number of a component in the term. The calls nest as deep as the term.
-#[cycle(greatest)]
-#[tactic(auto, using(cls_term::proofs::Steps::texts))]
-pub fn greatest(term: &Term) -> u32
+/// The greatest number of a component in the term.
+#[tactic(auto, using(crate::proofs::GreatestNumbers::steps))]
+pub fn greatest(term: &CodedTerm) -> u32
     ensures { result ≡ greatest_of term.now }
 {
-    term.head.max(greatest_among(term.args.as_slice()))
-}
-
-/// Likewise among the terms, or 0 if there are none.
-#[cycle(greatest)]
-#[tactic(auto, using(cls_term::proofs::Steps::texts))]
-fn greatest_among(terms: &[Term]) -> u32
-    ensures { result ≡ greatest_in terms.now }
-{
+    let mut rest = term.code();
     let mut most = 0;
-    for term in terms {
-        most = most.max(greatest(term));
+    // In a code each component stands before the number of its arguments.
+    while rest.len() >= 2 {
+        most = most.max(rest[0]);
+        rest = &rest[2..];
     }
     most
 }

@@ -1,5 +1,5 @@
 use cls_base::{Name, Ty};
-use cls_term::Term;
+use cls_term::{CodedTerm, Term};
 
 /// A page that is asked for.
 #[derive(Drop)]
@@ -22,7 +22,7 @@ pub enum Query {
     /// `paths NAME`: the paths of the component.
     Paths(Name),
     /// `typed TERM : TYPE`: whether the term has the type.
-    Typed(Term, Ty),
+    Typed(CodedTerm, Ty),
     /// `inhabit TYPE`: whether a term has the type.
     Inhabit(Ty),
     /// `grammar TYPE`: the tree grammar of the terms of the type.

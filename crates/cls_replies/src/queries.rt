@@ -25,7 +25,7 @@ use cls_engine::EngineFault;
 use cls_enum::Page;
 use cls_proof::{Certificate, print_certificate};
 use cls_query::{Listing, Query};
-use cls_term::Term;
+use cls_term::CodedTerm;
 use std::alloc::Global;
 use std::sync::Wait;
 use std::thread::Threads;
@@ -76,7 +76,7 @@ impl Serving {
         print_paths(alloc, &self.names, self.engine.library().paths(component.0))
     }
 
-    fn typed(&self, alloc: Global, term: &Term, ty: &Ty) -> Result<String, OutOfMemory>
+    fn typed(&self, alloc: Global, term: &CodedTerm, ty: &Ty) -> Result<String, OutOfMemory>
         requires { IsTermOver (length self.now.components) term.now }
         ensures { IfOk result (λ text. Answers self.now (typed term.now (type_of ty.now)) (string_bytes text)) }
     {

@@ -51,6 +51,12 @@ read-codes lists es p = ap (map term_in) p ∙ terms-of_codes es
 pub are-codes : (lists : List (List ℕ)) (es : List Applicative) → lists ≡ map code_of es → lists ≡ map code_of (map term_in lists)
 are-codes lists es p = p ∙ ap (map code_of) (sym (read-codes lists es p))
 
+pub are-code : (code : List ℕ) (e : Applicative) → code ≡ code_of e → code ≡ code_of (term_in code)
+are-code code e p = p ∙ ap code_of (sym (ap (λ (w : List ℕ). term_in w) p ∙ term_in-code_of e))
+
+pub read-code : (code : List ℕ) (e : Applicative) → code ≡ code_of e → term_in code ≡ e
+read-code code e p = ap (λ (w : List ℕ). term_in w) p ∙ term_in-code_of e
+
 map-push : {A B : Type 0} (f : A → B) (xs : List A) (x : A) → map f (xs ++ x ∷ []) ≡ map f xs ++ f x ∷ []
 map-push f [] x = refl
 map-push f (y ∷ xs) x = ap (λ ys. f y ∷ ys) (map-push f xs x)
@@ -82,5 +88,7 @@ read-at lists i h l = ap (λ (ws : List (List ℕ)). slice_index_or ws i []) h �
 -- a whole code begins with its term
 pub begins-whole : (code : List ℕ) (e : Applicative) → code ≡ code_of e → BeginsWithTerm code
 begins-whole code e p = (e, [], p ∙ sym (append-nil (code_of e)))
+
+pub ruleset codes = (read-code, are-code, begins-whole)
 
 pub ruleset lists = (read-codes, are-codes, read-push, are-push, length-read, read-at, begins-whole)

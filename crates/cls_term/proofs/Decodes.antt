@@ -1,11 +1,11 @@
 -- Steps of reading a term from its code.
-use Rattle.std.proofs.Common.{◌≡◌, ℕ, zero, suc, ◌+◌, ◌-◌, ◌<◌, ◌≤◌, List, [], ◌∷◌, ◌++◌, length, length-append, take, drop, refl, sym, ap, ◌∙◌, subst, arith, append-nil, append_assoc}
+use Rattle.std.proofs.Common.{◌≡◌, ℕ, zero, suc, ◌+◌, ◌*◌, ◌-◌, ◌<◌, ◌≤◌, List, [], ◌∷◌, ◌++◌, length, length-append, take, drop, refl, sym, ap, ◌∙◌, subst, arith, append-nil, append_assoc}
 use Rattle.std.specs.Prelude.{slice_index_or}
 use Rattle.cls_base.specs.Terms.{Applicative, component, code_of}
 use Rattle.cls_base.specs.Spines.{spine, codes_of}
 use Rattle.cls_term.proofs.Codes.{IsCodes-code_of, codes_cancel, code_of-no_prefix}
 use Rattle.cls_term.proofs.Spines.{code_of-spine, each_term_is_a_spine, codes_of-append}
-use Rattle.cls_term.specs.Decodes.{BeginsWithTerm, BeginsWithTerms}
+use Rattle.cls_term.specs.Decodes.{ArePassed, BeginsWithTerm, BeginsWithTerms}
 
 -- a term's code is a component, a number, and the codes of as many arguments
 pub parts : (code : List ℕ) → BeginsWithTerm code → (x k : ℕ) × (tail : List ℕ) × (code ≡ x ∷ k ∷ tail) × BeginsWithTerms k tail
@@ -92,3 +92,62 @@ fewer-terms m k code after t p h c =
 
 pub after-shorter : (code after : List ℕ) (t : Applicative) → code ≡ code_of t ++ after → length after ≤ length code
 after-shorter code after t p = let a = ap (λ (w : List ℕ). length w) p in omega (arith, a, length-append (code_of t) after)
+
+-- So many terms were to be passed, and so many are left, or their arguments, whose codes begin the rest.
+pub record IsPassing (count : ℕ) (code : List ℕ) (left : ℕ) (rest : List ℕ) : Type 0 where
+  pub terms : List Applicative
+  pub others : List Applicative
+  pub tail : List ℕ
+  pub many : length terms ≡ count
+  pub begins : code ≡ codes_of terms ++ tail
+  pub fewer : length others ≡ left
+  pub begun : rest ≡ codes_of others ++ tail
+  pub shorter : length rest ≤ length code
+
+two-each : (es : List Applicative) → 2 * length es ≤ length (codes_of es)
+two-each [] = omega arith
+two-each (e ∷ es) = omega (arith, two-each es, length-append (code_of e) (codes_of es))
+
+pub passing-first : (count : ℕ) (code : List ℕ) → BeginsWithTerms count code → IsPassing count code count code
+passing-first count code (es, tail, p, q) = record { terms = es; others = es; tail = tail; many = p; begins = q; fewer = p; begun = q; shorter = omega arith }
+
+pub passing-room : (count left : ℕ) (code rest : List ℕ) → IsPassing count code left rest → 2 * left ≤ length rest
+passing-room count left code rest h =
+    omega (arith, h.fewer, two-each h.others, length-append (codes_of h.others) h.tail, ap (λ (w : List ℕ). length w) h.begun)
+
+pub passing-last : (count : ℕ) (code rest : List ℕ) → IsPassing count code 0 rest → ArePassed count code rest
+passing-last count code rest h =
+    (elim h.others as (λ es. length es ≡ 0 → rest ≡ codes_of es ++ h.tail → ArePassed count code rest) [
+      | [] ↦ λ p q. (h.terms, h.many, h.begins ∙ ap (λ (w : List ℕ). codes_of h.terms ++ w) (sym q))
+      | e ∷ es ↦ λ p q. absurd (omega (arith, p))
+    ]) h.fewer h.begun
+
+passing-step : (count left : ℕ) (code rest : List ℕ) → IsPassing count code (suc left) rest → IsPassing count code (left + slice_index_or rest 1 0) (take (length rest - 2) (drop 2 rest))
+passing-step count left code rest h =
+    (elim h.others as (λ es. length es ≡ suc left → rest ≡ codes_of es ++ h.tail → IsPassing count code (left + slice_index_or rest 1 0) (take (length rest - 2) (drop 2 rest))) [
+      | [] ↦ λ p q. absurd (omega (arith, p))
+      | e ∷ es ↦ λ p q.
+          let s = each_term_is_a_spine e in
+          let x = s.0 in
+          let args = s.1 in
+          let t : rest ≡ x ∷ length args ∷ (codes_of args ++ (codes_of es ++ h.tail)) =
+          q ∙ append_assoc (code_of e) (codes_of es) h.tail
+          ∙ ap (λ (w : List ℕ). w ++ (codes_of es ++ h.tail)) (ap code_of (sym s.2) ∙ code_of-spine x args) in
+          record {
+            terms = h.terms;
+            others = args ++ es;
+            tail = h.tail;
+            many = h.many;
+            begins = h.begins;
+            fewer = omega (arith, length-append args es, p, second-of rest (codes_of args ++ (codes_of es ++ h.tail)) x (length args) t);
+            begun = tail-of rest (codes_of args ++ (codes_of es ++ h.tail)) x (length args) t ∙ sym (append_assoc (codes_of args) (codes_of es) h.tail) ∙ ap (λ (w : List ℕ). w ++ h.tail) (sym (codes_of-append args es));
+            shorter = omega (arith, h.shorter, ap (λ (w : List ℕ). length w) t, ap (λ (w : List ℕ). length w) (tail-of rest (codes_of args ++ (codes_of es ++ h.tail)) x (length args) t));
+          }
+    ]) h.fewer h.begun
+
+pub passing-next : (count left : ℕ) (code rest : List ℕ) → 0 < left → IsPassing count code left rest → IsPassing count code (left - 1 + slice_index_or rest 1 0) (take (length rest - 2) (drop 2 rest))
+passing-next count zero code rest l h = absurd (omega arith)
+passing-next count (suc left) code rest l h =
+    let P : ℕ → Type 0 = λ k. IsPassing count code (k + slice_index_or rest 1 0) (take (length rest - 2) (drop 2 rest)) in
+    let e : left ≡ suc left - 1 = omega arith in
+    subst P e (passing-step count left code rest h)

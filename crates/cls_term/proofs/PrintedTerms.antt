@@ -1,5 +1,5 @@
 -- The text of a term is read as that term.
-use Rattle.std.proofs.Common.{◌≡◌, ℕ, ◌<◌, Bool, true, false, not, List, [], ◌∷◌, ◌++◌, refl, ap, sym, ◌∙◌, subst, length, get_or, max, append_assoc, append-nil, arith}
+use Rattle.std.proofs.Common.{◌≡◌, ℕ, ◌<◌, Bool, true, false, not, List, [], ◌∷◌, ◌++◌, refl, ap, sym, ◌∙◌, length, get_or, append_assoc, append-nil, arith}
 use Rattle.std.specs.Prelude.{Result, Ok, ◌||◌}
 use Rattle.std.specs.List.{list_any, IsDistinct}
 use Rattle.std.specs.Str.{bytes_eq}
@@ -8,12 +8,10 @@ use Rattle.cls_base.specs.Terms.{Applicative, component, apply}
 use Rattle.cls_base.specs.Spines.{spine}
 use Rattle.cls_lexer.specs.declared.token.TokenKind.TheVariants.{Open, Close, Comma}
 use Rattle.cls_lexer.specs.Names.{number_of}
-use Rattle.cls_lexer.specs.Words.{Word, name, number, sign, words_of}
-use Rattle.cls_lexer.specs.Words as word
+use Rattle.cls_lexer.specs.Words.{Word, name, sign, words_of}
 use Rattle.cls_syntax.specs.Faults.{Stop}
 use Rattle.cls_syntax.specs.TermTexts.{TermText, TermList, named, applied, last, more, term_words, terms_words}
 use Rattle.cls_syntax.specs.TermReading.{term_front}
-use Rattle.cls_syntax.specs.RoundTrips.{IsProperName}
 use Rattle.cls_syntax.proofs.ItemFronts.{term_again}
 use Rattle.cls_syntax.proofs.ReadBack.{number_back, same_bytes}
 use Rattle.cls_syntax.proofs.TypeBytes.{words_from, Stops, at_open, at_comma, at_close, at_name, words_are, no_words}

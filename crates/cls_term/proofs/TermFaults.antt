@@ -1,6 +1,6 @@
 -- Texts that are a term, and texts that aren't.
-use Rattle.std.proofs.Common.{Contains, slice_get, suc, zero, ◌≡◌, ℕ, ◌+◌, ◌-◌, ◌<◌, ◌≤◌, Bool, true, false, cond, not, List, [], ◌∷◌, ◌++◌, refl, ap, sym, ◌∙◌, subst, length, append-nil, arith}
-use Rattle.std.specs.Prelude.{Option, Some, None, Result, Ok, Err, IsTrue, ◌&&◌, ◌||◌, if◌then◌else◌, position, is_none, IsNone, IfSome}
+use Rattle.std.proofs.Common.{Contains, slice_get, suc, zero, ◌≡◌, ℕ, ◌+◌, ◌-◌, ◌≤◌, Bool, true, false, cond, not, List, [], ◌∷◌, refl, ap, sym, ◌∙◌, subst, length, append-nil, arith}
+use Rattle.std.specs.Prelude.{Option, Some, None, Ok, Err, ◌&&◌, ◌||◌, if◌then◌else◌, position, is_none, IsNone, IfSome}
 use Rattle.std.specs.Str.{bytes_eq}
 use Rattle.std.proofs.lemmas.Slice.Eq.{bytes_eq-Decides}
 use Rattle.std.proofs.lemmas.Bool.{false_from_ne_true}
@@ -16,7 +16,7 @@ use Rattle.cls_lexer.specs.Words.{Word, name, number, sign, word_from, words_of,
 use Rattle.cls_lexer.specs.Words.{words, reserved_name}
 use Rattle.cls_lexer.specs.Tokens.{tokens_of}
 use Rattle.cls_syntax.specs.Sorts.{begins_reserved, is_name}
-use Rattle.cls_syntax.specs.Faults.{Stop, stop, Always}
+use Rattle.cls_syntax.specs.Faults.{stop, Always}
 use Rattle.cls_lexer.specs.Tokens.{byte_at}
 use Rattle.cls_syntax.specs.TermTexts.{TermText, term_words}
 use Rattle.cls_syntax.specs.Forms.{a_term, nothing, ◌⨾◌}

@@ -11,6 +11,10 @@ abbrev pub BeginsWithTerms : ℕ → List ℕ → Type 0
 BeginsWithTerms count code =
     (es : List Applicative) × (rest : List ℕ) × (length es ≡ count) × (code ≡ codes_of es ++ rest)
 
+-- the rest stands behind the codes of so many terms
+abbrev pub ArePassed : ℕ → List ℕ → List ℕ → Type 0
+ArePassed count code rest = (es : List Applicative) × (length es ≡ count) × (code ≡ codes_of es ++ rest)
+
 -- the terms whose codes the numbers are, read from the last to the first: a component takes as many of the terms behind
 -- it as its number of arguments says
 abbrev pub decoded : List ℕ → List Applicative

@@ -1,5 +1,5 @@
 -- When a text is a term over the components of a table, and otherwise why it isn't.
-use Rattle.std.specs.Prelude.{ℕ, ◌≡◌, Bool, true, false, not, List, Some, position}
+use Rattle.std.specs.Prelude.{ℕ, ◌≡◌, Bool, false, not, List, Some, position}
 use Rattle.std.specs.List.{list_any}
 use Rattle.std.specs.Str.{bytes_eq}
 use Rattle.cls_lexer.specs.Words as word

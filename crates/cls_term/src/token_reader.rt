@@ -12,8 +12,9 @@ ghost use Rattle.cls_syntax.specs.SpelledTerms.{term_text};
 ghost use Rattle.cls_term.specs.TermReadings.{term_of};
 ghost use Rattle.cls_term.specs.TokenFaults.{IsWholeTerm, IsTermIn, is_unknown, IsNoTerm};
 
+use crate::code_builder::build;
+use crate::coded_term::CodedTerm;
 use crate::term::Term;
-use crate::term_builder::build;
 use crate::token_fault::TokenFault;
 use cls_base::OutOfMemory;
 use cls_lexer::{Names, Token, byte_at, tokens};
@@ -31,7 +32,7 @@ pub fn read_token(alloc: Global, components: &Names, text: &str) -> Result<Term,
     if let Some(place) = first_unknown(components, &tokens) {
         return Err(TokenFault::UnknownComponent(byte_at(text, &tokens, place)));
     }
-    let term = spelled_term(alloc, components, &spelled)?;
+    let term = spelled_term(alloc, components, &spelled)?.term(alloc)?;
     Ok(term)
 }
 
@@ -40,13 +41,10 @@ pub fn spelled_term(
     alloc: Global,
     components: &Names,
     spelled: &SpelledTerm,
-) -> Result<Term, OutOfMemory>
+) -> Result<CodedTerm, OutOfMemory>
     ensures { IfOk result (λ e. e ≡ term_of (number_of components.now) (term_text spelled.now)) }
 {
-    match build(alloc, components, spelled.as_slice())? {
-        Some(term) => Ok(term),
-        None => unreachable!(),
-    }
+    Ok(CodedTerm::from_vec(build(alloc, components, spelled)?))
 }
 
 /// The term that the tokens of the text spell.

@@ -1,6 +1,6 @@
 use Rattle.std.proofs.Common.{◌≡◌, sym, ap, ◌∙◌, subst, List, rules, false}
 use Rattle.std.specs.List.{list_any}
-use Rattle.cls_lexer.specs.Words.{Word, words_of}
+use Rattle.cls_lexer.specs.Words.{Word}
 use Rattle.cls_lexer.specs.Words.{words}
 use Rattle.cls_term.specs.TokenFaults.{is_unknown}
 use Rattle.cls_term.proofs.TermFaults.{all_known}
