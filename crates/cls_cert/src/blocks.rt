@@ -12,7 +12,7 @@ ghost use Rattle.cls_cert.specs.Building.{AreCoversOfFronts, HasFirstFamily, Add
 ghost use Rattle.cls_cert.specs.Making.{HasFirst, AreLayers};
 
 use crate::forced::{forced_with, put};
-use cls_base::{Numbers, OutOfMemory};
+use cls_base::{NumberLists, Numbers, OutOfMemory};
 use cls_cover::{CoverFault, covers};
 use cls_library::{Families, Finder, Library, Place};
 use cls_path::Nf;
@@ -23,12 +23,12 @@ use std::alloc::Global;
 const MAX_COVERS: u32 = 1024;
 
 /// The covers as a certificate has them.
-fn positions_of(alloc: Global, covers: &[Numbers]) -> Result<Vec<Positions>, OutOfMemory>
+fn positions_of(alloc: Global, covers: &NumberLists) -> Result<Vec<Positions>, OutOfMemory>
     ensures { IfOk result (λ sets. sets.items ≡ covers.now) }
 {
     let mut sets = Vec::with_capacity(alloc, covers.len())?;
-    for cover in covers {
-        sets.push(Positions::from_slice(alloc, cover.as_slice())?)?;
+    for place in 0..covers.len() {
+        sets.push(Positions::from_slice(alloc, covers.get(place))?)?;
     }
     Ok(sets)
 }
@@ -40,7 +40,7 @@ pub(crate) fn few_covers(alloc: Global, families: &[Numbers]) -> Result<Vec<Posi
     ensures { IfOk result (λ list. AreCovers families.now list.items) }
 {
     match covers(alloc, families, MAX_COVERS) {
-        Ok(list) => positions_of(alloc, list.as_slice()),
+        Ok(list) => positions_of(alloc, &list),
         Err(CoverFault::TooManyCovers(_)) => unreachable!(),
         Err(CoverFault::OutOfMemory) => Err(OutOfMemory),
     }

@@ -6,7 +6,7 @@ use Rattle.std.proofs.lemmas.List.Sorted.{Contains-permutation, IsPermutation-sy
 use Rattle.cls_base.proofs.Lists.{take_whole}
 use Rattle.cls_cover.specs.Members.{Member, first, later, Ascending, Differ}
 use Rattle.cls_cover.specs.Groups.{together, row_at, HasRowOf, IsAlike, AreRuns, AreGroups}
-use Rattle.cls_cover.proofs.Lists.{contains_member, member_contains, differ_by_length, member_append, member_append_left, member_append_right, get_any, get_member}
+use Rattle.cls_cover.proofs.Lists.{contains_member, member_contains, differ_by_length, member_append, member_append_left, member_append_right, get_member}
 
 pub together-append : (gs hs : List (List ℕ)) → together (gs ++ hs) ≡ together gs ++ together hs
 together-append [] hs = refl
@@ -185,6 +185,3 @@ module _ (rows : List (List ℕ)) (family : List ℕ) (groups : List (List ℕ))
 -- the item that is read at a place
 pub item_member : {A : Type 0} (xs : List A) (n : ℕ) (x : A) → n < length xs → x ≡ get_or xs n x → Member xs x
 item_member xs n x l e = subst (λ y. Member xs y) (sym e) (get_member xs n x l)
-
-pub at_item : {A : Type 0} (xs : List A) (n : ℕ) (x y : A) → n < length xs → y ≡ x → x ≡ get_or xs n x → y ≡ get_or xs n y
-at_item xs n x y l d e = d ∙ (e ∙ get_any xs n x y l)

@@ -1,5 +1,5 @@
 -- Sets of positions below 128, each as a number of 128 bits.
-use Rattle.std.specs.Prelude.{ℕ, zero, suc, ◌≡◌, ◌-◌, ◌<◌, ◌↔◌, List, [], ◌∷◌, length, slice_index, cond}
+use Rattle.std.specs.Prelude.{ℕ, zero, suc, ◌≡◌, ◌+◌, ◌-◌, ◌<◌, ◌↔◌, List, [], ◌∷◌, length, map, slice_index, cond}
 use Rattle.std.specs.Int.{bit_at}
 use Rattle.cls_cover.specs.Flags.{is_one}
 use Rattle.cls_cover.specs.Members.{Member}
@@ -17,6 +17,11 @@ lowest set (suc n) = cond (is_one (bit_at set n)) ((127 - n) ∷ lowest set n) (
 -- the positions of the set, ascending
 unfoldable pub members : ℕ → List ℕ
 members set = lowest set 128
+
+-- The positions that a half of a set stands for, ascending, where its first one is given. By itself the half is a set
+-- of positions from 64 on.
+abbrev pub members_of_half : ℕ → ℕ → List ℕ
+members_of_half half first = map (λ x. x + first - 64) (members half)
 
 -- the number is the set of the positions
 abbrev pub IsSetOf : List ℕ → ℕ → Type 0

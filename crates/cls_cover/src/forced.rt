@@ -4,8 +4,7 @@ ghost use Rattle.cls_cover.specs.Growing.{single};
 ghost use Rattle.cls_cover.specs.Forced.{IsForced};
 
 use crate::cover::place_of;
-use crate::list::Covers;
-use cls_base::{Numbers, OutOfMemory};
+use cls_base::{NumberLists, Numbers, OutOfMemory};
 use std::alloc::Global;
 
 /// The only cover of the families, if each has a single position.
@@ -55,10 +54,10 @@ fn stands_at(positions: &[u32], place: usize, x: u32) -> bool
 }
 
 /// The list of one cover.
-pub(crate) fn only(alloc: Global, cover: Vec<u32>) -> Result<Covers, OutOfMemory>
+pub(crate) fn only(alloc: Global, cover: Vec<u32>) -> Result<NumberLists, OutOfMemory>
     ensures { IfOk result (λ list. list ≡ cover.items ∷ []) }
 {
-    let mut items = Vec::with_capacity(alloc, 1)?;
-    items.push(Numbers::new(cover))?;
-    Ok(Covers::new(items))
+    let mut lists = NumberLists::new(alloc);
+    lists.push(&cover)?;
+    Ok(lists)
 }

@@ -3,18 +3,16 @@ ghost use Rattle.std.specs.List.Sorted.{IsPermutation};
 ghost use Rattle.cls_cover.specs.Members.{Member, Ascending};
 ghost use Rattle.cls_cover.specs.Groups.{HasRowOf, AreRuns, AreGroups};
 
-use crate::list::Covers;
 use crate::rows::{Row, hash_at};
-use cls_base::{Numbers, OutOfMemory};
+use cls_base::{NumberLists, Numbers, OutOfMemory};
 use std::alloc::Global;
-use std::mem;
 
 /// The positions of the family in groups. Those of a group stand in the same families: what is found of one holds of all.
 pub(crate) fn groups_of(
     alloc: Global,
     rows: &[Row],
     family: &Numbers,
-) -> Result<Covers, OutOfMemory>
+) -> Result<NumberLists, OutOfMemory>
     requires ascending { Ascending family.now }
     requires below { (x : ℕ) → Member family.now x → x < length rows.now }
     ensures { IfOk result (λ groups. AreGroups rows.now family.now groups) }
@@ -33,20 +31,21 @@ fn arranged(alloc: Global, rows: &[Row], family: &Numbers) -> Result<Vec<u32>, O
 }
 
 /// The positions in groups of equal rows that stand beside one another.
-fn runs(alloc: Global, rows: &[Row], positions: &[u32]) -> Result<Covers, OutOfMemory>
+fn runs(alloc: Global, rows: &[Row], positions: &[u32]) -> Result<NumberLists, OutOfMemory>
     requires { (x : ℕ) → Member positions.now x → x < length rows.now }
     ensures { IfOk result (λ groups. AreRuns rows.now positions.now groups) }
 {
-    let mut groups = Vec::new(alloc);
-    let mut group = Vec::new(alloc);
+    let mut groups = NumberLists::new(alloc);
+    let mut group: Vec<u32> = Vec::new(alloc);
     for x in positions {
         if !belongs(rows, group.as_slice(), *x) {
-            groups.push(Numbers::new(mem::replace(&mut group, Vec::new(alloc))))?;
+            groups.push(&group)?;
+            group.clear();
         }
         group.push(*x)?;
     }
-    groups.push(Numbers::new(group))?;
-    Ok(Covers::new(groups))
+    groups.push(&group)?;
+    Ok(groups)
 }
 
 /// Whether the position has the row of the group's first one. Each position belongs to an empty group.

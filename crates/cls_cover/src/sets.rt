@@ -1,6 +1,6 @@
 //! Sets of positions below 128, each as a number of 128 bits. Position 0 is the greatest bit.
-ghost use Rattle.std.specs.Prelude.{◌≡◌, ℕ, ◌<◌, ◌↔◌, IfOk, IfSome, IsTrue, length};
-ghost use Rattle.cls_cover.specs.Sets.{IsIn, members, IsSetOf, IsSingle, AreSetsOf, MeetsAlone};
+ghost use Rattle.std.specs.Prelude.{◌≡◌, ℕ, ◌<◌, ◌≤◌, ◌↔◌, ◌++◌, IfOk, IfSome, OnOk, IsTrue, length};
+ghost use Rattle.cls_cover.specs.Sets.{IsIn, members, members_of_half, IsSetOf, IsSingle, AreSetsOf, MeetsAlone};
 ghost use Rattle.cls_cover.specs.Forced.{IsForced};
 
 use cls_base::{Numbers, OutOfMemory};
@@ -8,6 +8,12 @@ use std::alloc::Global;
 
 /// The set of position 0 alone.
 const FIRST: u128 = 1 << 127;
+
+/// The positions of the lower half of a set.
+const LOWER_HALF: u128 = 0xffff_ffff_ffff_ffff;
+
+/// Position 0 of a half of a set, which has 64 positions.
+const FIRST_OF_HALF: u64 = 1 << 63;
 
 /// The set of one position.
 pub(crate) fn alone(x: u32) -> u128
@@ -64,13 +70,31 @@ pub(crate) fn members_of(alloc: Global, set: u128) -> Result<Vec<u32>, OutOfMemo
     ensures { IfOk result (λ list. list.items ≡ members set) }
 {
     let mut list = Vec::with_capacity(alloc, set.count_ones() as usize)?;
-    let mut rest = set;
+    put_members(set, &mut list)?;
+    Ok(list)
+}
+
+/// Puts the positions of the set last, ascending.
+pub(crate) fn put_members(set: u128, list: &mut Vec<u32>) -> Result<(), OutOfMemory>
+    ensures { OnOk result (list.new.items ≡ list.old.items ++ members set) }
+{
+    put_half((set >> 64) as u64, 0, list)?;
+    put_half((set & LOWER_HALF) as u64, 64, list)?;
+    Ok(())
+}
+
+/// Puts the positions of a half of a set last, ascending. The first position that the half can have is given.
+fn put_half(half: u64, first: u32, list: &mut Vec<u32>) -> Result<(), OutOfMemory>
+    requires { first ≤ 64 }
+    ensures { OnOk result (list.new.items ≡ list.old.items ++ members_of_half half first) }
+{
+    let mut rest = half;
     while rest != 0 {
         let x = rest.leading_zeros();
-        list.push(x)?;
-        rest &= !(FIRST >> x);
+        list.push(first + x)?;
+        rest &= !(FIRST_OF_HALF >> x);
     }
-    Ok(list)
+    Ok(())
 }
 
 /// Whether the set has one position.

@@ -12,11 +12,11 @@ ghost use Rattle.cls_cover.specs.Sets.{members, IsSetOf, AreSetsOf};
 ghost use Rattle.cls_cover.specs.Choosing.{IsBegun, next_of, IsCoverBefore, IsCoverAfter, Misses, IsFree};
 ghost use Rattle.cls_cover.specs.Choosing.{IsGiven, AreGiven, AreCoversOf, AreApart};
 
-use crate::list::Covers;
 use crate::minimal::CoverFault;
-use crate::sets::{alone, each_meets_alone, members_of};
-use cls_base::{Numbers, OutOfMemory};
+use crate::sets::{alone, each_meets_alone, put_members};
+use cls_base::{NumberLists, Numbers, OutOfMemory};
 use std::alloc::Global;
+use std::mem;
 
 /// The families with their sets, and how many of them come before the next one: the positions of these are seen.
 #[derive(Clone, Copy)]
@@ -90,25 +90,21 @@ fn add(begun: &Begun, cover: u128, list: &mut Vec<u128>) -> Result<(), OutOfMemo
     add_joined(begun, cover, list)
 }
 
-/// What the covers give with the next family. The list may lack some where it is longer than the limit.
-fn grown(
-    alloc: Global,
-    begun: &Begun,
-    covers: &[u128],
-    limit: u32,
-) -> Result<Vec<u128>, OutOfMemory>
+/// Makes the list what the covers give with the next family. It may lack some where it is longer than the limit. What
+/// it held before is dropped, and its memory used again.
+fn grow(begun: &Begun, covers: &[u128], limit: u32, list: &mut Vec<u128>) -> Result<(), OutOfMemory>
     requires begun { IsBegun begun.now }
     requires covers { AreCoversOf begun.now.families.now begun.now.count (map members covers.now) }
     requires differ { Differ (next_of begun.now) }
-    ensures { IfOk result (λ list. AreGiven begun.now limit covers.now list.items) }
+    ensures { OnOk result (AreGiven begun.now limit covers.now list.new.items) }
 {
-    let mut list = Vec::with_capacity(alloc, covers.len())?;
+    list.clear();
     for cover in covers {
         if list.len() <= limit as usize {
-            add(begun, *cover, &mut list)?;
+            add(begun, *cover, list)?;
         }
     }
-    Ok(list)
+    Ok(())
 }
 
 /// The list of the empty set.
@@ -121,18 +117,21 @@ fn empty_set(alloc: Global) -> Result<Vec<u128>, OutOfMemory>
 }
 
 /// The sets as lists, the greatest one first.
-fn from_greatest(alloc: Global, mut sets: Vec<u128>) -> Result<Covers, OutOfMemory>
+fn from_greatest(alloc: Global, mut sets: Vec<u128>) -> Result<NumberLists, OutOfMemory>
     ensures { IfOk result (λ all. all ≡ map members (reverse sets.items)) }
 {
-    let mut items = Vec::with_capacity(alloc, sets.len())?;
+    let mut lists = NumberLists::new(alloc);
+    let mut members = Vec::new(alloc);
     while let Some(set) = sets.pop() {
-        items.push(Numbers::new(members_of(alloc, set)?))?;
+        members.clear();
+        put_members(set, &mut members)?;
+        lists.push(&members)?;
     }
-    Ok(Covers::new(items))
+    Ok(lists)
 }
 
 /// The sets as lists, in lexicographic order.
-fn in_order(alloc: Global, mut sets: Vec<u128>) -> Result<Covers, OutOfMemory>
+fn in_order(alloc: Global, mut sets: Vec<u128>) -> Result<NumberLists, OutOfMemory>
     requires differ { Differ (map members sets.items) }
     requires apart { AreApart (map members sets.items) }
     ensures rises { IfOk result (λ all. Rises Precedes all) }
@@ -153,7 +152,7 @@ pub(crate) fn small_covers(
     families: &[Numbers],
     sets: &[u128],
     limit: u32,
-) -> Result<Covers, CoverFault>
+) -> Result<NumberLists, CoverFault>
     requires ascending { All IsAscending families.now }
     requires sets { AreSetsOf families.now sets.now }
     requires positive { 0 < limit }
@@ -162,6 +161,7 @@ pub(crate) fn small_covers(
     ensures fault { IfErr result (HasCause families.now limit) }
 {
     let mut list = empty_set(alloc)?;
+    let mut next = Vec::new(alloc);
     let mut seen = 0;
     for count in 0..families.len() {
         let begun = Begun {
@@ -170,7 +170,8 @@ pub(crate) fn small_covers(
             seen,
             count,
         };
-        list = grown(alloc, &begun, list.as_slice(), limit)?;
+        grow(&begun, list.as_slice(), limit, &mut next)?;
+        mem::swap(&mut list, &mut next);
         if list.len() > limit as usize {
             return Err(CoverFault::TooManyCovers(count + 1));
         }

@@ -79,6 +79,13 @@ module _ (l : Library) (law : IsLibrary l) where
             go (inl k) = let f = same in omega arith
             go (inr k) = let f = size in let g : c.places < n = k.1 in omega arith
 
+    -- the first rule of so many arguments
+    pub lone_step : (old new : List (Rule (List TypePath))) (s : List ℕ) (args : List (List TypePath)) → map rule_of old ≡ rules → IsRuleFor l (choice_at x n s) (Head x (map listed args)) → new ≡ old ++ Head x args ∷ [] → PutsNew (map rule_of old) (Head x (map listed args)) (map rule_of old) (map rule_of new)
+    lone_step old new s args e r u = inr (
+      (λ m. none_before s (map listed args) r (subst (λ (rs : List (Rule Paths)). Contains rs (Head x (map listed args))) e m)),
+      ap (map rule_of) u ∙ map_last rule_of old (Head x args),
+    )
+
     -- what is looked for among the rules from `begin` on alone
     pub few_step : (begin : ℕ) (start old new : List (Rule (List TypePath))) (s : List ℕ) (args : List (List TypePath)) → map rule_of start ≡ rules → take begin old ≡ start
         → IsRuleFor l (choice_at x n s) (Head x (map listed args)) → PutsNew (drop begin old) (Head x args) old new → PutsNew (map rule_of old) (Head x (map listed args)) (map rule_of old) (map rule_of new)

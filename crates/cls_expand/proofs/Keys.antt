@@ -1,8 +1,9 @@
 -- Spines as keys, and the steps of making the rules of covers.
-use Rattle.std.proofs.Common.{ℕ, ◌≡◌, ◌+◌, ◌<◌, refl, sym, ◌∙◌, subst, ap, ◌⊎◌, inl, inr, List, [], ◌∷◌, ◌++◌, length, get_or, take, Bool, true, false, Contains}
-use Rattle.std.specs.Prelude.{map, if◌then◌else◌, ◌&&◌, ◌||◌}
+use Rattle.std.proofs.Common.{ℕ, ◌≡◌, ◌+◌, ◌<◌, refl, sym, ◌∙◌, subst, ap, ◌⊎◌, inl, inr, List, [], ◌∷◌, ◌++◌, length, take, Bool, true, false, Contains}
+use Rattle.std.specs.Prelude.{map, if◌then◌else◌, ◌&&◌, ◌||◌, slice_index_or}
 use Rattle.std.specs.List.{list_any}
 use Rattle.std.specs.Cmp.Lexicographic.{pointwise}
+use Rattle.std.proofs.lemmas.List.{get_or_default}
 use Rattle.std.proofs.lemmas.Slice.Eq.{slice_eq-Decides}
 use Rattle.std.proofs.lemmas.Bool.Decides.{Decides-eqb}
 use Rattle.std.specs.Ordering.{eq_by_cmp}
@@ -111,12 +112,17 @@ module _ (l : Library) where
         unfit = u.2;
       })
 
-  pub cover_step : (x n : ℕ) (covers : List (List ℕ)) (i : ℕ) (s slice : List ℕ) (goal : Paths) (from : ℕ) (old new : List (Rule Paths)) (args : List Paths) → i < length covers → s ≡ get_or covers i s → slice ≡ s
+  pub cover_step : (x n : ℕ) (covers : List (List ℕ)) (i : ℕ) (slice : List ℕ) (goal : Paths) (from : ℕ) (old new : List (Rule Paths)) (args : List Paths) → i < length covers → slice ≡ slice_index_or covers i []
       → IsRuleFor l (choice_at x n slice) (Head x args) → ((m : Paths) → Contains args m → IsFit (type_of_paths m))
       → PutsNew old (Head x args) old new → AreBegun l goal from x n (take i covers) old → AreBegun l goal from x n (take (i + 1) covers) new
-  cover_step x n covers i s slice goal from old new args m g e rule fit k h =
-      let cut : take (i + 1) covers ≡ take i covers ++ s ∷ [] = take_next covers i s m ∙ ap (λ (t : List ℕ). take i covers ++ t ∷ []) (sym g) in
+  cover_step x n covers i slice goal from old new args m e rule fit k h =
+      let s = slice_index_or covers i [] in
+      let cut : take (i + 1) covers ≡ take i covers ++ s ∷ [] = take_next covers i [] m in
       let made : IsRuleFor l (choice_at x n s) (Head x args) = subst (λ (t : List ℕ). IsRuleFor l (choice_at x n t) (Head x args)) e rule in
       let all : (m : Paths) → Contains made.arguments m → IsFit (type_of_paths m) = λ m j. fit m (subst (λ (ns : List Paths). Contains ns m) (arguments_are (choice_at x n s) x args made) j) in
       subst (λ (list : List (List ℕ)). AreBegun l goal from x n list new) (sym cut)
       (begun_cover l goal from x n (take i covers) old s (Head x args) new h made (not_large goal (choice_at x n s) (Head x args) made all) k)
+
+-- the cover at a place
+pub cover_at : (covers : List (List ℕ)) (i : ℕ) → i < length covers → Contains covers (slice_index_or covers i [])
+cover_at covers i m = (i, m, get_or_default covers i (slice_index_or covers i []) [] m)

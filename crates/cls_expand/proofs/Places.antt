@@ -1,5 +1,5 @@
 -- Steps of the expander.
-use Rattle.std.proofs.Common.{ℕ, zero, suc, ◌≡◌, ◌+◌, ◌<◌, ◌≤◌, refl, sym, ◌∙◌, subst, ap, List, [], ◌∷◌, ◌++◌, length, get_or, take, arith, rules, Bool, true, false, Result, Ok, Err, All, Contains}
+use Rattle.std.proofs.Common.{ℕ, zero, suc, ◌≡◌, ◌+◌, ◌<◌, ◌≤◌, refl, sym, ◌∙◌, subst, ap, List, [], ◌∷◌, ◌++◌, length, get_or, take, arith, Bool, true, false, Result, Ok, Err, All, Contains}
 use Rattle.std.specs.Prelude.{map, MatchBool, IfOk, OnOk, slice_get, IsSomeAnd}
 use Rattle.std.specs.Bool.{◌==◌}
 use Rattle.std.proofs.lemmas.List.Elements.{All-get_or}
@@ -49,16 +49,9 @@ when_false {b} A {B} e h = subst (λ c. MatchBool c A B) e h
 pub when_true : {b : Bool} {A : Type 0} (B : Type 0) → b ≡ true → MatchBool b A B → A
 when_true {b} {A} B e h = subst (λ c. MatchBool c A B) e h
 
-not_none : (n : ℕ) → (suc n == 0) ≡ false
-not_none n = search rules
-
 pub parts : (goal ps : List TypePath) (b : Bool) → ps ≡ goal → b ≡ (length ps == 0) → b ≡ false → (q : TypePath) × (rest : Paths) × (listed goal ≡ more q rest)
 parts [] ps b e f g = absurd (let k : (length ps == 0) ≡ true = ap (λ (xs : List TypePath). length xs == 0) e in let m : true ≡ false = sym k ∙ (sym f ∙ g) in cc)
 parts (q ∷ goal) ps b e f g = (q, listed goal, refl)
-
-pub no_parts : (goal ps : List TypePath) (b : Bool) → ps ≡ goal → b ≡ (length ps == 0) → b ≡ true → listed goal ≡ none
-no_parts [] ps b e f g = refl
-no_parts (q ∷ goal) ps b e f g = absurd (let k : (length ps == 0) ≡ false = ap (λ (xs : List TypePath). length xs == 0) e ∙ not_none (length goal) in let m : false ≡ true = sym k ∙ (sym f ∙ g) in cc)
 
 -- the rules of omega
 from_last : (x k : ℕ) → numbers_from x (suc k) ≡ numbers_from x k ++ (x + k) ∷ []
@@ -210,13 +203,6 @@ next_added l goal begin from p old new narrow path after b h a =
 
 pub arity_within : (l : Library) (x : ℕ) → IsLibrary l → x < length l.components → arity_of (paths_at l x) ≤ 32
 arity_within l x h d = (All-get_or (IsWithinLimits l.taxonomy) l.components x no_component d h.each).arity
-
-pub rules_by_none : (l : Library) (x : ℕ) (goal : Paths) (rs : List (Rule Paths)) → goal ≡ none → rs ≡ Head x [] ∷ [] → (IsWideBy l x goal → ⊥) × IsRulesBy l x goal rs
-rules_by_none l x goal rs e f =
-    subst (λ (p : Paths). (IsWideBy l x p → ⊥) × IsRulesBy l x p rs) (sym e) (not_wide, f)
-  where
-    not_wide : IsWideBy l x none → ⊥
-    not_wide w = elim w [ ]
 
 -- keys that are put behind others where they aren't among them
 abbrev pub spine_same : Spine → Spine → Bool

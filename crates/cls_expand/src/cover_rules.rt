@@ -1,6 +1,6 @@
 //! The rules that a component makes by covers of one number of arguments. They differ from those of other components and
 //! of other numbers, so equal ones are looked for among themselves alone.
-ghost use Rattle.std.specs.Prelude.{◌≡◌, ℕ, ◌<◌, ◌≤◌, ◌↔◌, ◌++◌, Contains, IfOk, OnOk, IsTrue, MatchBool, List, [], length, map, drop};
+ghost use Rattle.std.specs.Prelude.{◌≡◌, ℕ, ◌<◌, ◌≤◌, ◌↔◌, ◌++◌, ◌∷◌, Contains, IfOk, OnOk, IsTrue, MatchBool, List, [], length, map, drop};
 ghost use Rattle.cls_base.specs.declared.rule.Rule.TheVariants.{Head};
 ghost use Rattle.cls_path.specs.Paths.{TypePath, Paths, more};
 ghost use Rattle.cls_library.specs.Arrows.{arity_of};
@@ -11,7 +11,7 @@ ghost use Rattle.cls_expand.specs.Making.{AreBegun, PutsNew, rule_of_spine, choi
 
 use crate::arguments::{all_fit, arguments};
 use crate::spine::Spine;
-use cls_base::{Goals, Numbers, OutOfMemory, Rule};
+use cls_base::{Goals, NumberLists, OutOfMemory, Rule};
 use cls_library::Library;
 use cls_path::Nf;
 use indexmap::IndexSet;
@@ -20,13 +20,41 @@ use std::alloc::Global;
 /// The rules of so many covers are compared one by one.
 const FEW: usize = 8;
 
+/// Adds the rule of a cover that is the only one, and answers whether it is fit.
+pub(crate) fn add_lone(
+    alloc: Global,
+    lib: &Library,
+    x: u32,
+    n: u32,
+    cover: &[u32],
+    rules: &mut Vec<Rule<Nf>>,
+) -> Result<bool, OutOfMemory>
+    requires declared { x < length lib.now.components }
+    requires within { n ≤ arity_of (paths_at lib.now x) }
+    requires below { (i : ℕ) → Contains cover.now i → i < length (arrows_at lib.now x n) }
+    requires library { IsLibrary lib.now }
+    ensures { IfOk result (λ narrow. (q : TypePath) (rest : Paths) (from : ℕ) → from ≤ x
+        → IsChoice lib.now (more q rest) (choice_at x n cover.now)
+        → AreBegun lib.now (more q rest) from x n [] (map rule_of rules.old.items)
+        → MatchBool narrow (AreBegun lib.now (more q rest) from x n (cover.now ∷ []) (map rule_of rules.new.items))
+        (IsWideBy lib.now x (more q rest))) }
+{
+    let args = arguments(alloc, lib, x, n, cover)?;
+    if !all_fit(alloc, args.as_slice())? {
+        return Ok(false);
+    }
+    let args = Goals::new(args);
+    rules.push(Rule::Head { component: x, args })?;
+    Ok(true)
+}
+
 /// Adds the rule of each cover, and answers whether all are fit.
 pub(crate) fn add_covers(
     alloc: Global,
     lib: &Library,
     x: u32,
     n: u32,
-    covers: &[Numbers],
+    covers: &NumberLists,
     rules: &mut Vec<Rule<Nf>>,
 ) -> Result<bool, OutOfMemory>
     requires declared { x < length lib.now.components }
@@ -52,7 +80,7 @@ fn add_few(
     lib: &Library,
     x: u32,
     n: u32,
-    covers: &[Numbers],
+    covers: &NumberLists,
     rules: &mut Vec<Rule<Nf>>,
 ) -> Result<bool, OutOfMemory>
     requires declared { x < length lib.now.components }
@@ -67,8 +95,8 @@ fn add_few(
         (IsWideBy lib.now x (more q rest))) }
 {
     let begin = rules.len();
-    for cover in covers {
-        let args = arguments(alloc, lib, x, n, cover.as_slice())?;
+    for place in 0..covers.len() {
+        let args = arguments(alloc, lib, x, n, covers.get(place))?;
         if !all_fit(alloc, args.as_slice())? {
             return Ok(false);
         }
@@ -126,7 +154,7 @@ fn add_many(
     lib: &Library,
     x: u32,
     n: u32,
-    covers: &[Numbers],
+    covers: &NumberLists,
     rules: &mut Vec<Rule<Nf>>,
 ) -> Result<bool, OutOfMemory>
     requires declared { x < length lib.now.components }
@@ -141,8 +169,8 @@ fn add_many(
         (IsWideBy lib.now x (more q rest))) }
 {
     let mut spines = IndexSet::with_capacity(alloc, covers.len())?;
-    for cover in covers {
-        let args = arguments(alloc, lib, x, n, cover.as_slice())?;
+    for place in 0..covers.len() {
+        let args = arguments(alloc, lib, x, n, covers.get(place))?;
         if !all_fit(alloc, args.as_slice())? {
             return Ok(false);
         }

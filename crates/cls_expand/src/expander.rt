@@ -10,7 +10,7 @@ ghost use Rattle.cls_library.specs.Rules.{omega_rules};
 ghost use Rattle.cls_expand.specs.Answers.{IsAnswer, IsAnswerBy, IsReady, rule_of};
 ghost use Rattle.cls_expand.specs.Making.{AddsPlace, AreRulesBetween, IsNextBefore};
 
-use crate::cover_rules::add_covers;
+use crate::cover_rules::{add_covers, add_lone};
 use cls_base::{Goals, Numbers, OutOfMemory, Rule, Rules};
 use cls_core::{Answer, Expand, TypedExpand};
 use cls_cover::{CoverFault, covers, lone_cover};
@@ -141,8 +141,11 @@ fn rules_between(
     requires within { end ≤ length lib.now.components }
     ensures { IfOk result (AreRulesBetween lib.now goal.now begin end) }
 {
-    let mut finder = Finder::new(alloc, lib, goal)?;
     let mut rules = Vec::new(alloc);
+    if Finder::finds_nothing(lib, goal) {
+        return Ok(Answer::Rules(Rules::new(rules)));
+    }
+    let mut finder = Finder::new(alloc, lib, goal)?;
     let mut from = Place {
         component: begin,
         count: 0,
@@ -190,10 +193,10 @@ fn add_place(
     match finder.families(alloc, place)? {
         Families::Single(positions) => {
             let cover = lone_cover(alloc, positions.as_slice())?;
-            add_covers(alloc, lib, component, count, &[cover], rules)
+            add_lone(alloc, lib, component, count, cover.as_slice(), rules)
         }
         Families::Several(families) => match covers(alloc, families.as_slice(), MAX_COVERS) {
-            Ok(list) => add_covers(alloc, lib, component, count, list.as_slice(), rules),
+            Ok(list) => add_covers(alloc, lib, component, count, &list, rules),
             Err(CoverFault::TooManyCovers(_)) => Ok(false),
             Err(CoverFault::OutOfMemory) => Err(OutOfMemory),
         },

@@ -1,13 +1,19 @@
 -- Places that are passed, component after component.
-use Rattle.std.proofs.Common.{◌≡◌, ℕ, ◌+◌, ◌<◌, ◌≤◌, inl, inr, List, [], ◌∷◌, length, map, get_or, Option, Some, refl, sym, subst, ◌∙◌, arith}
-use Rattle.cls_path.specs.Paths.{listed}
+use Rattle.std.proofs.Common.{◌≡◌, ℕ, ◌+◌, ◌<◌, ◌≤◌, inl, inr, List, [], ◌∷◌, length, map, get_or, Option, None, Some, refl, sym, subst, ap, ◌∙◌, arith}
+use Rattle.std.specs.Prelude.{slice_get}
+use Rattle.std.specs.Borrow.{Bor}
+use Rattle.std.proofs.lemmas.Option.{slice_get_within}
+use Rattle.cls_path.specs.Paths.{TypePath, Paths, more, listed}
+use Rattle.cls_library.specs.declared.index.Entry.{Entry}
 use Rattle.cls_library.specs.declared.lead.Lead.{Lead}
 use Rattle.cls_library.specs.declared.place.Place.{Place}
 use Rattle.cls_library.specs.declared.sought.Sought.{Sought}
 use Rattle.cls_library.specs.Arrows.{arity_of}
+use Rattle.cls_library.specs.Endings.{IsSought}
 use Rattle.cls_library.specs.Families.{IsBefore, IsNext, IsPlace}
-use Rattle.cls_library.specs.Leads.{AreLeads, IsLead, IsNextCount, IsNextFor, NoneLeads, path_of, place_at}
+use Rattle.cls_library.specs.Leads.{AreLeads, AreNone, AreSoughtEntries, IsFirstFrom, IsIdle, IsLead, IsNextCount, IsNextFor, NoneLeads, path_of, place_at}
 use Rattle.cls_library.specs.Libraries.{Library, paths_at}
+use Rattle.cls_library.proofs.Leading.{next-none}
 use Rattle.cls_library.proofs.Orders.{less-or-not, same_place}
 
 module _ (l : Library) (s : Sought) (from : Place) where
@@ -60,3 +66,22 @@ first-next l (x ∷ leads) hints lead from next h w e found =
     let at : IsNextFor l x.sought from next = subst (λ (y : Lead). IsNextFor l y.sought from next) e found in
     let is : IsLead l x = h.each 0 x (omega arith) in
     at (path_of x) (listed (map path_of leads)) is.sought
+
+-- what no arrow may lead to has no next place
+idle-next : (l : Library) (s : Sought) (q : TypePath) (rest : Paths) (from : Place) (entries : Option (Bor (List Entry))) → IsSought l.taxonomy q s → AreSoughtEntries l s entries → AreNone entries → IsNext l (more q rest) from None
+idle-next l s q rest from None sought kept empty = absurd empty
+idle-next l s q rest from (Some entries) sought kept empty =
+    let z : length entries.now ≡ 0 = ap length empty in
+    let first : IsFirstFrom entries.now from 0 = record {
+      within = omega arith;
+      before = λ k t m e. absurd (omega arith);
+      from = λ t e before. absurd (let m = slice_get_within entries.now 0 t e in omega arith);
+    } in
+    next-none l q s sought kept.0 entries.now kept.1 from 0 first rest (omega arith)
+
+-- no place is found for a goal whose first path is that of an idle lead
+pub idle-goal : (l : Library) (goal : List TypePath) (lead : Lead) (from : Place) → Some lead.path.now ≡ slice_get goal 0 → IsLead l lead → IsIdle lead → IsNext l (listed goal) from None
+idle-goal l [] lead from e is idle = cc
+idle-goal l (q ∷ rest) lead from e is idle =
+    let same : lead.path.now ≡ q = cc in
+    idle-next l lead.sought q (listed rest) from lead.entries (subst (λ (p : TypePath). IsSought l.taxonomy p lead.sought) same is.sought) is.entries idle

@@ -22,6 +22,15 @@ pub record IsLead (l : Library) (lead : Lead) : Type 0 where
   pub sought : IsSought l.taxonomy lead.path.now lead.sought
   pub entries : AreSoughtEntries l lead.sought lead.entries
 
+-- the arrows that are kept are none
+abbrev pub AreNone : Option (Bor (List Entry)) → Type 0
+AreNone None = ⊥
+AreNone (Some entries) = entries.now ≡ []
+
+-- it has the arrows that may lead to the path, and there is none
+abbrev pub IsIdle : Lead → Type 0
+IsIdle lead = AreNone lead.entries
+
 abbrev pub path_of : Lead → TypePath
 path_of lead = lead.path.now
 

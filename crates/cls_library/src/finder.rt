@@ -1,6 +1,7 @@
 //! Finds the places whose arrows may lead to a goal, in order, and there the families of the goal's paths.
-ghost use Rattle.std.specs.Prelude.{◌≡◌, ◌<◌, ℕ, List, IfOk, length};
+ghost use Rattle.std.specs.Prelude.{◌≡◌, ◌<◌, ℕ, List, None, IfOk, IsTrue, length};
 ghost use Rattle.cls_path.specs.Paths.{listed, SuitsAll};
+ghost use Rattle.cls_library.specs.declared.place.Place.{Place};
 ghost use Rattle.cls_library.specs.Families.{AreFamiliesAt, IsNext, IsPlace, families_in};
 ghost use Rattle.cls_library.specs.Leads.{AreCut, IsCut};
 ghost use Rattle.cls_library.specs.Libraries.{variances_in};
@@ -66,6 +67,17 @@ fn cut(alloc: Global, positions: &[u32], ends: &[usize]) -> Result<Vec<Numbers>,
 }
 
 impl<'a> Finder<'a> {
+    /// Whether the index of the library says that no arrow leads to the goal's first path, so that no place is found.
+    /// It is asked before a finder is made, since most goals are arguments that no component makes. It takes no memory.
+    pub fn finds_nothing(lib: &Library, goal: &Nf) -> bool
+        ensures { IsTrue result → (from : Place) → IsNext lib.now (listed goal.now) from None }
+    {
+        match goal.paths().first() {
+            Some(path) => Lead::new(lib, path).is_idle(),
+            None => false,
+        }
+    }
+
     /// What finds the goal's rules in the library. The only error is out of memory.
     pub fn new(alloc: Global, lib: &'a Library, goal: &'a Nf) -> Result<Finder<'a>, OutOfMemory>
         ensures { IfOk result (λ f. f ≡ record { library = lib.entry.now; goal = goal.entry.now }) }

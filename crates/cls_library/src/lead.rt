@@ -7,7 +7,7 @@ ghost use Rattle.cls_taxon.specs.Orders.{class_by};
 ghost use Rattle.cls_library.specs.Endings.{ending_of, is_alone};
 ghost use Rattle.cls_library.specs.Families.{IsPlace};
 ghost use Rattle.cls_library.specs.Index.{AreInOrder, EndsIn};
-ghost use Rattle.cls_library.specs.Leads.{AreBefore, AreSoughtEntries, AreOnward, IsFirstFrom, IsLead, IsNextFor, IsNextWithin, Leads, PutsFamily};
+ghost use Rattle.cls_library.specs.Leads.{AreBefore, AreSoughtEntries, AreOnward, IsFirstFrom, IsIdle, IsLead, IsNextFor, IsNextWithin, Leads, PutsFamily};
 ghost use Rattle.cls_library.specs.Libraries.{IsLibrary, variances_in};
 
 use crate::ending::is_bare;
@@ -43,6 +43,16 @@ impl<'a> Lead<'a> {
             path,
             sought,
             entries: entries_of(lib, sought),
+        }
+    }
+
+    /// Whether it has the arrows that may lead to the path, and there is none.
+    pub fn is_idle(&self) -> bool
+        ensures { IsTrue result ↔ IsIdle self.now }
+    {
+        match self.entries {
+            Some(entries) => entries.is_empty(),
+            None => false,
         }
     }
 

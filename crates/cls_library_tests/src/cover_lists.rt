@@ -1,7 +1,7 @@
 ghost use Rattle.std.specs.Prelude.{IsTrue, All};
 ghost use Rattle.cls_cover.specs.Lists.{IsAscending};
 
-use cls_base::Numbers;
+use cls_base::{NumberLists, Numbers};
 use cls_cover::covers;
 use std::alloc::Global;
 use std::test::Fail;
@@ -46,12 +46,12 @@ fn are_ascending(families: &[Numbers]) -> bool
     true
 }
 
-fn are_equal(some: &[Numbers], others: &[Numbers]) -> bool {
+fn are_equal(some: &NumberLists, others: &[Numbers]) -> bool {
     if some.len() != others.len() {
         return false;
     }
     for i in 0..some.len() {
-        if some[i].as_slice() != others[i].as_slice() {
+        if some.get(i) != others[i].as_slice() {
             return false;
         }
     }
@@ -65,7 +65,7 @@ fn have_covers(alloc: Global, families: &str, wanted: &str) -> Result<bool, Fail
         return Err("not ascending".into());
     }
     let list = covers(alloc, &families, 10)?;
-    Ok(are_equal(list.as_slice(), &lists(alloc, wanted)?))
+    Ok(are_equal(&list, &lists(alloc, wanted)?))
 }
 
 /// In the second case the positions 0 and 4 stand in the first family alone, 1 and 3 in the second one. Those of the third

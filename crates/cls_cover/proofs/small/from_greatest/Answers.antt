@@ -5,21 +5,20 @@ use Rattle.cls_cover.proofs.SetOrder.{taken_last}
 use Rattle.cls_cover.proofs.small.from_greatest.Goals as goal
 
 pub loop-set-init : goal.loop-set-init
-loop-set-init c = ap (λ (l : List (List ℕ)). l ++ map members (reverse c.args.sets.items)) c.in_ok-items.ensures.items
+loop-set-init c = ap (λ (l : List (List ℕ)). l ++ map members (reverse c.args.sets.items)) c.new-lists.ensures
 
 pub loop-set-preserved : goal.loop-set-preserved
 loop-set-preserved c =
-    let e : c.new.result ≡ members c.in-Some.set = c.new.ensures ∙ c.in_ok-members_of.ensures in
-    ap (λ (l : List (List ℕ)). l ++ map members (reverse c.pop.new.self.items)) (c.in_ok-push.ensures.items ∙ ap (λ (s : List ℕ). c.loop-set.items.items ++ s ∷ []) e)
-    ∙ taken_last c.loop-set.items.items _ c.loop-set.sets.items c.pop.new.self.items c.in-Some.set c.in-Some.ensures.items c.loop-set.invariant
+    let e : c.deref.result.now ≡ members c.in-Some.set = c.deref.ensures.value ∙ (c.in_ok-put_members.ensures ∙ ap (λ (s : List ℕ). s ++ members c.in-Some.set) c.clear.ensures.items) in
+    ap (λ (l : List (List ℕ)). l ++ map members (reverse c.pop.new.self.items)) (c.in_ok-push.ensures.ok ∙ ap (λ (s : List ℕ). c.loop-set.lists ++ s ∷ []) e)
+    ∙ taken_last c.loop-set.lists _ c.loop-set.sets.items c.pop.new.self.items c.in-Some.set c.in-Some.ensures.items c.loop-set.invariant
 
 pub returns : goal.returns
 returns c =
     let z : length c.loop-set.sets.items ≡ 0 = omega (arith, c.in_default.ensures.cases.0) in
     let e : c.loop-set.sets.items ≡ [] = nothing c.loop-set.sets.items z in
-    c.new-2.ensures
-    ∙ (sym (append_none c.loop-set.items.items)
-    ∙ subst (λ (l : List ℕ). c.loop-set.items.items ++ map members (reverse l) ≡ map members (reverse c.args.sets.items)) e c.loop-set.invariant)
+    sym (append_none c.loop-set.lists)
+    ∙ subst (λ (l : List ℕ). c.loop-set.lists ++ map members (reverse l) ≡ map members (reverse c.args.sets.items)) e c.loop-set.invariant
   where
     nothing : (xs : List ℕ) → length xs ≡ 0 → xs ≡ []
     nothing [] e = refl

@@ -9,14 +9,19 @@ use Rattle.cls_cover.proofs.Choosing.{all_start, few_start, all_more, few_more, 
 use Rattle.cls_cover.proofs.Testing.{seen_none, seen_more}
 use Rattle.cls_cover.proofs.small.small_covers.Goals as goal
 
-pub grown-requires-clause-begun : goal.grown-requires-clause-begun
-grown-requires-clause-begun c = record { sets = c.requires.sets; more = c.loop-count-test.true; seen = c.loop-count.invariant.seen }
+given : {families : List (List ℕ)} {j limit : ℕ} {slice olds news made : List ℕ} → slice ≡ olds → news ≡ made → IsGivenBy families j limit (map members slice) (map members made) → IsGivenBy families j limit (map members olds) (map members news)
+given {families} {j} {limit} {slice} {olds} {news} {made} e f g =
+    subst (λ (l : List ℕ). IsGivenBy families j limit (map members olds) (map members l)) (sym f)
+    (subst (λ (l : List ℕ). IsGivenBy families j limit (map members l) (map members made)) e g)
 
-pub grown-requires-clause-covers : goal.grown-requires-clause-covers
-grown-requires-clause-covers c = subst (λ (l : List ℕ). AreCoversOf c.args.families.now c.loop-count.count (map members l)) (sym c.as_slice.ensures.value) c.loop-count.invariant.found.covers
+pub grow-requires-clause-begun : goal.grow-requires-clause-begun
+grow-requires-clause-begun c = record { sets = c.requires.sets; more = c.loop-count-test.true; seen = c.loop-count.invariant.seen }
 
-pub grown-requires-clause-differ : goal.grown-requires-clause-differ
-grown-requires-clause-differ c = ascending_differ _ (ascending_at c.args.families.now c.loop-count.count c.requires.ascending c.loop-count-test.true)
+pub grow-requires-clause-covers : goal.grow-requires-clause-covers
+grow-requires-clause-covers c = subst (λ (l : List ℕ). AreCoversOf c.args.families.now c.loop-count.count (map members l)) (sym c.as_slice.ensures.value) c.loop-count.invariant.found.covers
+
+pub grow-requires-clause-differ : goal.grow-requires-clause-differ
+grow-requires-clause-differ c = ascending_differ _ (ascending_at c.args.families.now c.loop-count.count c.requires.ascending c.loop-count-test.true)
 
 pub in_order-requires-clause-differ : goal.in_order-requires-clause-differ
 in_order-requires-clause-differ c = c.loop-count.invariant.found.covers.differ
@@ -39,11 +44,11 @@ loop-count-preserved c =
     let fs = c.args.families.now in
     let j = c.loop-count.count in
     let olds = map members c.loop-count.list.items in
-    let news = map members c.in_ok-list-2.list.items in
-    let e = length-map c.in_ok-list-2.list.items members in
+    let news = map members c.swap.new.x.items in
+    let e = length-map c.swap.new.x.items members in
     let w : length news ≤ c.args.limit = omega arith in
     let f = all_more fs j c.loop-count-test.true c.args.limit olds news c.loop-count.invariant.found
-    (subst (λ (l : List ℕ). IsGivenBy fs j c.args.limit (map members l) news) c.as_slice.ensures.value c.in_ok-list-2.ensures) w in
+    (given c.as_slice.ensures.value (ap (λ v. v.items) c.swap.ensures.x_after) c.in_ok-grow.ensures) w in
     record {
       found = f;
       within = few_more fs c.args.limit j news c.loop-count.invariant.within f w;
@@ -55,12 +60,12 @@ returns-then-len-limit-clause-fault c =
     let fs = c.args.families.now in
     let j = c.loop-count.count in
     let olds = map members c.loop-count.list.items in
-    let news = map members c.in_ok-list-2.list.items in
-    let e = length-map c.in_ok-list-2.list.items members in
+    let news = map members c.swap.new.x.items in
+    let e = length-map c.swap.new.x.items members in
     let w : c.args.limit < length news = omega arith in
     to_too_many fs c.args.limit (j + 1) (record {
       within = omega arith;
-      over = many_given fs j c.loop-count-test.true c.args.limit olds news (subst (λ (l : List ℕ). IsGivenBy fs j c.args.limit (map members l) news) c.as_slice.ensures.value c.in_ok-list-2.ensures) w;
+      over = many_given fs j c.loop-count-test.true c.args.limit olds news (given c.as_slice.ensures.value (ap (λ v. v.items) c.swap.ensures.x_after) c.in_ok-grow.ensures) w;
       least = (λ i h m. c.loop-count.invariant.within.few i (omega arith) m);
     })
 

@@ -1,5 +1,6 @@
 use Rattle.std.proofs.Common.{ℕ, ◌∙◌, ◌∷◌, [], List, ap, sym, subst, Contains, arith}
 use Rattle.std.specs.Prelude.{map}
+use Rattle.cls_base.proofs.Lists.{Contains-here}
 use Rattle.cls_path.specs.Paths.{Paths}
 use Rattle.cls_cover.specs.declared.minimal.CoverFault.{CoverFault}
 use Rattle.cls_cover.specs.Faults.{AreTooMany, HasCause}
@@ -11,18 +12,8 @@ use Rattle.cls_expand.proofs.FamilyCovers.{many_from}
 use Rattle.cls_expand.proofs.Places.{if_ok_map, families_ascend, cover_below, families_at, covers_added, some_parts}
 use Rattle.cls_expand.proofs.expander.add_place.Goals as goal
 
-pub add_covers-requires-clause-below : goal.add_covers-requires-clause-below
-add_covers-requires-clause-below c = λ s m i k.
-    let l = c.args.lib.now in
-    let goal = c.args.finder.now.goal in
-    let p = c.args.place in
-    let fs = map alone c.as_slice.result.now in
-    let h = families_at c.args.finder.now.library l goal p (families_in c.in_ok-positions.field-0) fs c.requires.library
-    (ap families_in c.in-Single.is ∙ sym (ap (map alone) c.as_slice.ensures)) c.in_ok-positions.ensures.families in
-    cover_below l (arrows_at l p.component p.count) goal fs h s ((c.in_ok-cover-in-Single.ensures.covers.exactly s).0 m) i k
-
-pub returns-in-Single-clause-rules : goal.returns-in-Single-clause-rules
-returns-in-Single-clause-rules c =
+pub add_lone-requires-clause-below : goal.add_lone-requires-clause-below
+add_lone-requires-clause-below c = λ i k.
     let l = c.args.lib.now in
     let goal = c.args.finder.now.goal in
     let p = c.args.place in
@@ -30,9 +21,22 @@ returns-in-Single-clause-rules c =
     let cover = c.in_ok-cover-in-Single.cover in
     let h = families_at c.args.finder.now.library l goal p (families_in c.in_ok-positions.field-0) fs c.requires.library
     (ap families_in c.in-Single.is ∙ sym (ap (map alone) c.as_slice.ensures)) c.in_ok-positions.ensures.families in
-    if_ok_map c.add_covers.result _ _
-    (λ narrow f. covers_added l goal p fs (cover ∷ []) c.args.rules.now.items c.add_covers.new.rules.items narrow c.requires.path c.requires.place h
-    c.in_ok-cover-in-Single.ensures.covers (c.in_ok-cover-in-Single.ensures.within 1024 (omega arith)) f) c.add_covers.ensures
+    cover_below l (arrows_at l p.component p.count) goal fs h cover ((c.in_ok-cover-in-Single.ensures.covers.exactly cover).0 (Contains-here cover [])) i
+    (subst (λ (s : List ℕ). Contains s i) c.as_slice-in-Single.ensures k)
+
+pub returns-in-Single-clause-rules : goal.returns-in-Single-clause-rules
+returns-in-Single-clause-rules c =
+    let l = c.args.lib.now in
+    let goal = c.args.finder.now.goal in
+    let p = c.args.place in
+    let fs = map alone c.as_slice.result.now in
+    let h = families_at c.args.finder.now.library l goal p (families_in c.in_ok-positions.field-0) fs c.requires.library
+    (ap families_in c.in-Single.is ∙ sym (ap (map alone) c.as_slice.ensures)) c.in_ok-positions.ensures.families in
+    let m = subst (λ (s : List ℕ). AreMinimal (MeetsEach fs) (s ∷ [])) (sym c.as_slice-in-Single.ensures) c.in_ok-cover-in-Single.ensures.covers in
+    let slice = c.as_slice-in-Single.result.now in
+    if_ok_map c.add_lone.result _ _
+    (λ narrow f. covers_added l goal p fs (slice ∷ []) c.args.rules.now.items c.add_lone.new.rules.items narrow c.requires.path c.requires.place h
+    m (c.in_ok-cover-in-Single.ensures.within 1024 (omega arith)) (λ q rest begin le choice b. f q rest begin le (choice slice (Contains-here slice [])) b)) c.add_lone.ensures
 
 pub covers-requires : goal.covers-requires
 covers-requires c =
@@ -44,8 +48,8 @@ covers-requires c =
     (ap families_in c.in-Several.is ∙ sym c.as_slice-in-Several.ensures.value) c.in_ok-positions.ensures.families in
     record { ascending = families_ascend l (arrows_at l p.component p.count) goal fs h }
 
-pub add_covers-requires-in-Ok-clause-below : goal.add_covers-requires-in-Ok-clause-below
-add_covers-requires-in-Ok-clause-below c = λ s m i k.
+pub add_covers-requires-clause-below : goal.add_covers-requires-clause-below
+add_covers-requires-clause-below c = λ s m i k.
     let l = c.args.lib.now in
     let goal = c.args.finder.now.goal in
     let p = c.args.place in
@@ -53,7 +57,7 @@ add_covers-requires-in-Ok-clause-below c = λ s m i k.
     let h = families_at c.args.finder.now.library l goal p (families_in c.in_ok-positions.field-0) fs c.requires.library
     (ap families_in c.in-Several.is ∙ sym c.as_slice-in-Several.ensures.value) c.in_ok-positions.ensures.families in
     cover_below l (arrows_at l p.component p.count) goal fs h s
-    ((c.in-Ok.ensures.covers.exactly s).0 (subst (λ (list : List (List ℕ)). Contains list s) c.as_slice-in-Ok.ensures m)) i k
+    ((c.in-Ok.ensures.covers.exactly s).0 m) i k
 
 pub returns-in-Ok-clause-rules : goal.returns-in-Ok-clause-rules
 returns-in-Ok-clause-rules c =
@@ -63,10 +67,9 @@ returns-in-Ok-clause-rules c =
     let fs = c.as_slice-in-Several.result.now in
     let h = families_at c.args.finder.now.library l goal p (families_in c.in_ok-positions.field-0) fs c.requires.library
     (ap families_in c.in-Several.is ∙ sym c.as_slice-in-Several.ensures.value) c.in_ok-positions.ensures.families in
-    let m = subst (λ (list : List (List ℕ)). AreMinimal (MeetsEach fs) list) (sym c.as_slice-in-Ok.ensures) c.in-Ok.ensures.covers in
-    if_ok_map c.add_covers-in-Ok.result _ _
-    (λ narrow f. covers_added l goal p fs c.as_slice-in-Ok.result.now c.args.rules.now.items c.add_covers-in-Ok.new.rules.items narrow c.requires.path
-    c.requires.place h m c.in-Ok.ensures.within f) c.add_covers-in-Ok.ensures
+    if_ok_map c.add_covers.result _ _
+    (λ narrow f. covers_added l goal p fs c.in-Ok.list c.args.rules.now.items c.add_covers.new.rules.items narrow c.requires.path
+    c.requires.place h c.in-Ok.ensures.covers c.in-Ok.ensures.within f) c.add_covers.ensures
 
 pub returns-in-Err-TooManyCovers-clause-rules : goal.returns-in-Err-TooManyCovers-clause-rules
 returns-in-Err-TooManyCovers-clause-rules c = λ begin le b.

@@ -1,8 +1,9 @@
-use Rattle.std.proofs.Common.{◌≡◌, ◌∙◌, ◌≤◌, inl, [], List, length, sym, subst, arith}
+use Rattle.std.proofs.Common.{◌≡◌, ◌∙◌, ap, ◌≤◌, inl, [], List, length, sym, subst, arith}
 use Rattle.std.specs.Prelude.{None, Some, map}
 use Rattle.cls_base.specs.declared.rule.Rule.{Rule}
-use Rattle.cls_path.specs.Paths.{TypePath, listed}
+use Rattle.cls_path.specs.Paths.{TypePath, Paths, listed}
 use Rattle.cls_core.specs.declared.answer.Answer.TheVariants.{Rules}
+use Rattle.cls_library.specs.declared.place.Place.{Place}
 use Rattle.cls_library.specs.Arrows.{arity_of}
 use Rattle.cls_library.specs.Families.{Finder}
 use Rattle.cls_library.specs.Libraries.{paths_at}
@@ -12,6 +13,17 @@ use Rattle.cls_expand.proofs.Making.{begun_none}
 use Rattle.cls_expand.proofs.Places.{when_false, when_true, some_parts, next_added, arity_within}
 use Rattle.cls_expand.proofs.Unreached.{reached, reached_at_most, reached_start, begun_before, fewer_left}
 use Rattle.cls_expand.proofs.expander.rules_between.Goals as goal
+
+pub returns-then-finds_nothing : goal.returns-then-finds_nothing
+returns-then-finds_nothing c =
+    let l = c.args.lib.now in
+    let goal = c.args.goal.now in
+    let q = some_parts goal c.requires.path in
+    let from : Place = record { component = c.args.begin; count = 0 } in
+    let rules = ap (map rule_of) (c.new.ensures ∙ c.new-rules.ensures.items) in
+    subst (λ (rs : List (Rule Paths)). AreBegun l (listed goal) c.args.begin c.args.end 0 [] rs) (sym rules)
+    (begun_before l (listed goal) q.0 q.1 q.2 c.args.begin from [] (begun_none l (listed goal) c.args.begin) c.args.end c.requires.within
+    (reached_start c.args.begin c.args.end c.requires.order) (λ p place later before. c.finds_nothing.ensures c.if-finds_nothing.true from p place later))
 
 pub loop-place-init : goal.loop-place-init
 loop-place-init c = record {
@@ -80,5 +92,5 @@ returns c =
     let inv = c.loop-place.invariant in
     let h = subst (λ (f : Finder). IsNextBefore f.library (listed f.goal) from c.args.end None) inv.finder c.in_default.ensures.next in
     let q = some_parts goal c.requires.path in
-    subst (λ (rs : List (Rule (List TypePath))). AreRulesBetween l goal c.args.begin c.args.end (Rules rs)) (sym c.new-2.ensures)
+    subst (λ (rs : List (Rule (List TypePath))). AreRulesBetween l goal c.args.begin c.args.end (Rules rs)) (sym c.new-3.ensures)
     (begun_before l (listed goal) q.0 q.1 q.2 c.args.begin from (map rule_of c.loop-place.rules.items) inv.begun c.args.end c.requires.within inv.left h)

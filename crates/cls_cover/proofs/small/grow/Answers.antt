@@ -4,8 +4,8 @@ use Rattle.cls_base.proofs.Lists.{take_whole}
 use Rattle.cls_cover.specs.Sets.{members}
 use Rattle.cls_cover.specs.Choosing.{IsGivenBy}
 use Rattle.cls_cover.proofs.Choosing.{by_none, place_cover, place_free, place_more, place_full}
-use Rattle.cls_cover.proofs.small.grown.Goals as goal
-use Rattle.cls_cover.proofs.small.grown.Goals.{then-len-limit+in_ok-add, else-len-limit}
+use Rattle.cls_cover.proofs.small.grow.Goals as goal
+use Rattle.cls_cover.proofs.small.grow.Goals.{then-len-limit+in_ok-add, else-len-limit}
 
 pub add-requires-clause-minimal : goal.add-requires-clause-minimal
 add-requires-clause-minimal c =
@@ -20,7 +20,7 @@ add-requires-clause-free c =
 pub loop-cover-init : goal.loop-cover-init
 loop-cover-init c =
     let b = c.args.begun.now in
-    subst (λ (l : List ℕ). IsGivenBy b.families.now b.count c.args.limit [] (map members l)) (sym c.in_ok-list.ensures.items) (by_none b.families.now b.count c.requires.begun.more c.args.limit)
+    subst (λ (l : List ℕ). IsGivenBy b.families.now b.count c.args.limit [] (map members l)) (sym c.clear.ensures.items) (by_none b.families.now b.count c.requires.begun.more c.args.limit)
 
 pub loop-cover-preserved : goal.loop-cover-preserved
 loop-cover-preserved c =
