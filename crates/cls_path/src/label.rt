@@ -175,7 +175,11 @@ impl GroupKey {
 pub(crate) fn head_class<T: Taxa>(taxa: &T, path: &Path) -> u64
     ensures { result ≡ (head_of (T.class taxa.now) path.now).low }
 {
-    head(taxa, path).low
+    // Most paths are names over omega, and need no call.
+    match &path.form {
+        Form::Atom(name) => taxa.class(*name),
+        _ => head(taxa, path).low,
+    }
 }
 
 fn names<T: Taxa>(taxa: &T, path: &Path) -> Span

@@ -36,8 +36,23 @@ impl Path {
         self.order_by_kind(other)
     }
 
+    #[inline]
     #[cycle(order)]
     pub(crate) fn order_by_kind(&self, other: &Path) -> Ordering
+        ensures { result ≡ path_order self.now other.now }
+    {
+        // Most paths that are compared are names over omega, and need no call.
+        match (&self.form, &other.form) {
+            (Form::Atom(c), Form::Atom(d)) => c.0.cmp(&d.0),
+            _ => self.order_deep(other),
+        }
+    }
+
+    /// The same, part by part.
+    // Not inlined: a frame is cleared whenever its function is called, and this one's is large.
+    #[inline(never)]
+    #[cycle(order)]
+    fn order_deep(&self, other: &Path) -> Ordering
         ensures { result ≡ path_order self.now other.now }
     {
         match (&self.form, &other.form) {

@@ -16,17 +16,17 @@ Nf::order_by_path-returns t c =
     let e = exhausted c.loop-i.i xs ys c.loop-i.invariant.in_one c.loop-i.invariant.in_two over in
     search rules
 
-pub Path::order_by_kind-returns-then-is_ne-2 : goal.Path::order_by_kind-returns-then-is_ne-2
-Path::order_by_kind-returns-then-is_ne-2 t c =
+pub Path::order_deep-returns-then-is_ne-2 : goal.Path::order_deep-returns-then-is_ne-2
+Path::order_deep-returns-then-is_ne-2 t c =
     let e = paths_order-listed c.in-Arrow-Arrow.a.value.source c.in-Arrow-Arrow.b.value.source in
     search rules
 
-pub Path::order_by_kind-returns-else-is_ne-2 : goal.Path::order_by_kind-returns-else-is_ne-2
-Path::order_by_kind-returns-else-is_ne-2 t c =
+pub Path::order_deep-returns-else-is_ne-2 : goal.Path::order_deep-returns-else-is_ne-2
+Path::order_deep-returns-else-is_ne-2 t c =
     let e = paths_order-listed c.in-Arrow-Arrow.a.value.source c.in-Arrow-Arrow.b.value.source in
     search rules
 
-pub Path::order_by_kind-returns-else-is_ne-3 : goal.Path::order_by_kind-returns-else-is_ne-3
-Path::order_by_kind-returns-else-is_ne-3 t c =
+pub Path::order_deep-returns-else-is_ne-3 : goal.Path::order_deep-returns-else-is_ne-3
+Path::order_deep-returns-else-is_ne-3 t c =
     let e = paths_order-listed c.in-Sealed-Sealed.n.value c.in-Sealed-Sealed.m.value in
     search rules

@@ -1,13 +1,17 @@
-use Rattle.std.proofs.Common.{◌≡◌, ◌-◌, ◌≤◌, drop, length}
+-- The size is doubled, so that the comparing of two paths part by part is below that of the paths.
+use Rattle.std.proofs.Common.{◌≡◌, ◌+◌, ◌*◌, ◌-◌, ◌≤◌, drop, length}
 use Rattle.cls_path.specs.PathOrder.{list_order}
 use Rattle.cls_path.specs.Sizes.{size_of, list_size}
 use Rattle.cls_path.proofs.path.+order.Given as goal
 
 abbrev pub decreases-Path::order_by_kind : goal.decreases-Path::order_by_kind
-decreases-Path::order_by_kind l = size_of l.self.now
+decreases-Path::order_by_kind l = 2 * size_of l.self.now + 1
+
+abbrev pub decreases-Path::order_deep : goal.decreases-Path::order_deep
+decreases-Path::order_deep l = 2 * size_of l.self.now
 
 abbrev pub decreases-Nf::order_by_path : goal.decreases-Nf::order_by_path
-decreases-Nf::order_by_path l = list_size l.self.now
+decreases-Nf::order_by_path l = 2 * list_size l.self.now
 
 abbrev pub invariant-Nf::order_by_path-loop-i : goal.invariant-Nf::order_by_path-loop-i
 invariant-Nf::order_by_path-loop-i l = record {
