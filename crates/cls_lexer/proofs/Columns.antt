@@ -64,7 +64,7 @@ pub texts_take : (bytes : List ℕ) (places : List Place) (n m : ℕ) (d : Place
 texts_take bytes places n m d h within is = texts-front bytes 0 places n m d h within is ∙ sym (take-map (text_at bytes) n places)
 
 -- one text more
-boundary-more : (bytes text : List ℕ) (i : ℕ) → IsUtf8 text → IsCharBoundary bytes i → IsCharBoundary (bytes ++ text) i
+pub boundary-more : (bytes text : List ℕ) (i : ℕ) → IsUtf8 text → IsCharBoundary bytes i → IsCharBoundary (bytes ++ text) i
 boundary-more bytes text i utf8 h =
     let long = length-append bytes text in
     let a = h.0 in

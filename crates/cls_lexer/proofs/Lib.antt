@@ -1,6 +1,7 @@
-mod Columns
+pub mod Columns
 pub mod Feeds
 mod KeyedTexts
+pub mod FirstBytes
 pub mod LineEndings
 pub mod LinePieces
 pub mod Numerals

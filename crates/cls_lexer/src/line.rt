@@ -1,8 +1,7 @@
-ghost use Rattle.std.specs.Prelude.{◌≡◌, ℕ, ◌<◌, ◌≤◌, ◌↔◌, List, length, Ok, Err, IsOk, IfOk, IfSome, IsNone, IsUtf8, find, not};
+ghost use Rattle.std.specs.Prelude.{◌≡◌, ℕ, ◌<◌, ◌≤◌, ◌↔◌, List, length, Ok, Err, IsOk, IfOk, IfSome, IsNone, IsUtf8};
 ghost use Rattle.cls_base.specs.Limits.{max_line_bytes};
-ghost use Rattle.cls_lexer.specs.Characters.{is_blank};
 ghost use Rattle.cls_lexer.specs.Lines.{without_return};
-ghost use Rattle.cls_lexer.specs.Skipped.{says_nothing, IsText, IsSkipped};
+ghost use Rattle.cls_lexer.specs.Skipped.{first_byte, says_nothing, IsText, IsSkipped};
 
 use crate::characters::is_blank;
 use cls_base::OutOfMemory;
@@ -70,6 +69,20 @@ impl<'a> Line<'a> {
         }
     }
 
+    /// The line of this text, whose bytes needn't be tested again.
+    pub fn from_text(text: &'a str) -> Line<'a>
+        ensures { result ≡ text.now }
+    {
+        if text.len() > MAX_LINE_BYTES {
+            return Line {
+                content: Content::Unread(CowSlice::Borrowed(text.as_bytes())),
+            };
+        }
+        Line {
+            content: Content::Text(CowStr::Borrowed(text)),
+        }
+    }
+
     /// The line that these bytes are, of which one carriage return at the end belongs to the ending.
     pub(crate) fn ended(bytes: &'a [u8]) -> Line<'a>
         ensures { result ≡ without_return bytes.now }
@@ -132,6 +145,13 @@ impl<'a> Line<'a> {
         }
     }
 
+    /// The first byte that isn't blank.
+    pub fn first_byte(&self) -> Option<u8>
+        ensures { result ≡ first_byte self.now }
+    {
+        first_not_blank(self.as_bytes())
+    }
+
     /// The line as a text.
     ///
     /// The error is `TooLong` for a line of more than [`MAX_LINE_BYTES`] bytes, otherwise `NotUtf8` for one that isn't
@@ -178,7 +198,7 @@ fn says_nothing(bytes: &[u8]) -> bool
 }
 
 fn first_not_blank(bytes: &[u8]) -> Option<u8>
-    ensures { result ≡ find (λ b. not (is_blank b)) bytes.now }
+    ensures { result ≡ first_byte bytes.now }
 {
     bytes.iter().copied().find(|byte| !is_blank(*byte))
 }

@@ -1,5 +1,5 @@
 -- Internal: certificates that are read up to some line, and which statements may come next.
-use Rattle.std.specs.Prelude.{◌≡◌, List, [], ◌∷◌, ◌++◌, Option, Some, None, MatchOption, map}
+use Rattle.std.specs.Prelude.{◌≡◌, Bool, true, false, List, [], ◌∷◌, ◌++◌, Option, Some, None, MatchOption, map}
 use Rattle.std.specs.List.{flat_map}
 use Rattle.cls_base.specs.Ty.{type_of}
 use Rattle.cls_proof.specs.declared.draft.Draft.{Draft}
@@ -87,3 +87,8 @@ place_in (drafts.Whole c) = at_end
 -- The draft goes on with the statement, or it isn't allowed there.
 abbrev pub GoesOn : List Statement → Place → Statement → Option Draft → Type 0
 GoesOn said place s next = MatchOption next (after s place ≡ None) (λ d. said_in d ≡ said ++ s ∷ [])
+
+-- The statement is put behind what was said, or it isn't allowed there.
+abbrev pub IsAdded : List Statement → Place → Statement → List Statement → Bool → Type 0
+IsAdded said place s now true = now ≡ said ++ s ∷ []
+IsAdded said place s now false = after s place ≡ None

@@ -15,4 +15,5 @@ pub mod Said
 pub mod Seen
 pub mod Statements
 pub mod Stored
+pub mod TextEnds
 pub mod Texts

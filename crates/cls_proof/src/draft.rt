@@ -1,7 +1,7 @@
 //! A certificate that is read up to some line, and grows by a statement at a time.
 ghost use Rattle.std.specs.Prelude.{◌≡◌, [], false, IfOk, MatchOption, map};
 ghost use Rattle.std.specs.List.{list_any};
-ghost use Rattle.cls_proof.specs.Drafts.{GoesOn, said_in, place_in, members_said, member_said, block_said, layer_said, rows_said, at_start, in_rows, in_members, in_member, in_block, in_layer};
+ghost use Rattle.cls_proof.specs.Drafts.{GoesOn, IsAdded, said_in, place_in, members_said, member_said, block_said, layer_said, rows_said, at_start, in_rows, in_members, in_member, in_block, in_layer};
 ghost use Rattle.cls_proof.specs.Members.{member_of};
 ghost use Rattle.cls_proof.specs.Said.{statement_of};
 ghost use Rattle.cls_proof.specs.Seen.{certificate_of};
@@ -16,6 +16,7 @@ use crate::row::ProofRows;
 use crate::statement::Statement;
 use cls_base::{OutOfMemory, Ty};
 use std::alloc::Global;
+use std::mem::replace;
 
 /// A certificate up to some line.
 #[derive(Drop)]
@@ -103,6 +104,32 @@ impl Draft {
             Draft::Layer(layer) => after_layer(alloc, layer, statement),
             Draft::Whole(_) => Ok(None),
         }
+    }
+
+    /// Puts the statement last, and tells whether it is allowed there. Where it isn't, and after an error, the draft may say
+    /// anything.
+    ///
+    /// Nearly every statement is a row behind rows, or a set behind a layer or its sets: these are put in place.
+    pub(crate) fn add(&mut self, alloc: Global, statement: Statement) -> Result<bool, OutOfMemory>
+        ensures { IfOk result (λ allowed.
+            IsAdded (said_in self.old) (place_in self.old) (statement_of statement) (said_in self.new) allowed) }
+    {
+        let statement = match (&mut *self, statement) {
+            (Draft::Rows(rows), Statement::Row(row)) => {
+                rows.push(row)?;
+                return Ok(true);
+            }
+            (Draft::Layer(layer), Statement::Set(set)) => {
+                layer.sets.push(set)?;
+                return Ok(true);
+            }
+            (_, other) => other,
+        };
+        let Some(next) = replace(self, Draft::Start).with(alloc, statement)? else {
+            return Ok(false);
+        };
+        *self = next;
+        Ok(true)
     }
 
     /// The certificate, if the draft is up to `qed`.

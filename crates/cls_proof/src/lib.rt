@@ -12,6 +12,7 @@ mod certificate;
 mod draft;
 pub mod laws;
 mod layer;
+mod line_columns;
 mod lines;
 mod member;
 mod positions;

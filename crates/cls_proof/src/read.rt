@@ -64,10 +64,9 @@ fn read_lines(
             ReadLine::Bad => return Err(ProofFault::BadLine(number)),
             ReadLine::Says(statement) => statement,
         };
-        let Some(next) = draft.with(alloc, statement)? else {
+        if !draft.add(alloc, statement)? {
             return Err(ProofFault::BadLine(number));
-        };
-        draft = next;
+        }
     }
     draft.finish().ok_or(ProofFault::NoQed)
 }

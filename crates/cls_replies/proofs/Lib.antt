@@ -2,5 +2,6 @@ pub mod Asking
 pub mod Counting
 pub mod Faulting
 pub mod Holding
+pub mod LastLines
 pub mod Telling
 pub mod Terms

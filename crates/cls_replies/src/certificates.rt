@@ -38,17 +38,15 @@ pub(crate) fn kind_of(alloc: Global, line: &Line) -> Result<LineKind, OutOfMemor
 }
 
 /// Whether the line ends a certificate.
+#[tactic(auto, using(crate::proofs::LastLines::not_qed))]
 pub(crate) fn is_qed(alloc: Global, line: &Line) -> Result<bool, OutOfMemory>
     ensures { IfOk result (λ yes. IsTrue yes ↔ IsQed line.now) }
 {
     let Ok(text) = line.text() else {
         return Ok(false);
     };
-    // Most lines begin with another word, and the tokens behind it needn't be known.
-    let Some(first) = first_token(text) else {
-        return Ok(false);
-    };
-    if word_at(&[first], "qed").is_err() {
+    // Most lines begin with another byte, and their tokens needn't be known.
+    if line.first_byte() != Some(b'q') {
         return Ok(false);
     }
     match word_at(&tokens(alloc, text)?, "qed") {

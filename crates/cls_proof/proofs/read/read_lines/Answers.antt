@@ -1,8 +1,7 @@
-use Rattle.std.proofs.Common.{◌≡◌, ◌++◌, ◌∷◌, [], arith, refl, subst}
-use Rattle.std.proofs.lemmas.Option.{MatchOption-at_none, MatchOption-at_some}
+use Rattle.std.proofs.Common.{◌≡◌, ◌++◌, ◌∷◌, [], Bool, arith, refl, subst}
 use Rattle.std.specs.Prelude.{None}
 use Rattle.cls_proof.specs.declared.reading.ReadLine.{ReadLine}
-use Rattle.cls_proof.specs.Drafts.{after, said_in, place_in}
+use Rattle.cls_proof.specs.Drafts.{after, said_in, place_in, IsAdded}
 use Rattle.cls_proof.specs.Said.{statement_of, IsReadAs}
 use Rattle.cls_proof.proofs.SaidLines.{StandsAt, stands_at, none_read, next_skipped, next_said, bad_nothing, bad_place, grown_on, kept_front}
 use Rattle.cls_proof.proofs.WholeLines.{read_whole, answer, answer_held}
@@ -31,9 +30,9 @@ loop-i-preserved c =
     let s = statement_of c.in-Says.statement in
     let at : StandsAt c.args.lines.now l.i line = stands_at c.args.lines.now l.i line (omega (arith, c.loop-i-test.true, c.len-i-end.ensures)) c.get-line.ensures in
     let said = subst (λ (r : ReadLine). IsReadAs c.args.components.now l.names new line r) c.in-Says.is c.in_ok-read_line.ensures.read in
-    let joined = MatchOption-at_some _ (λ d. said_in d ≡ said_in l.draft ++ s ∷ []) c.in-Some.next c.in-Some.is c.in_ok-next.ensures in
+    let joined : said_in c.add.new.self ≡ said_in l.draft ++ s ∷ [] = subst (λ (b : Bool). IsAdded (said_in l.draft) (place_in l.draft) s (said_in c.add.new.self) b) c.if-not-branch.false c.in_ok-add.ensures in
     record {
-      so_far = next_said c.args.components.now c.args.names.now c.args.lines.now l.names new l.i line (said_in l.draft) (said_in c.in-Some.next) s said.0 at l.invariant.so_far said.1 said.2 said.3 joined;
+      so_far = next_said c.args.components.now c.args.names.now c.args.lines.now l.names new l.i line (said_in l.draft) (said_in c.add.new.self) s said.0 at l.invariant.so_far said.1 said.2 said.3 joined;
       counted = omega (arith, l.invariant.counted);
     }
 
@@ -45,15 +44,15 @@ returns-in-Bad-clause-exact c =
     let nothing = subst (λ (r : ReadLine). IsReadAs c.args.components.now l.names c.read_line.new.names line r) c.in-Bad.is c.in_ok-read_line.ensures.read in
     bad_nothing c.args.components.now c.args.names.now c.args.lines.now l.names l.i _ line l.draft at l.invariant.so_far (omega (arith, l.invariant.counted)) nothing
 
-pub returns-in_default-clause-exact : goal.returns-in_default-clause-exact
-returns-in_default-clause-exact c =
+pub returns-then-not-branch-clause-exact : goal.returns-then-not-branch-clause-exact
+returns-then-not-branch-clause-exact c =
     let l = c.loop-i in
     let new = c.read_line.new.names in
     let line = c.get-line.result in
     let s = statement_of c.in-Says.statement in
     let at : StandsAt c.args.lines.now l.i line = stands_at c.args.lines.now l.i line (omega (arith, c.loop-i-test.true, c.len-i-end.ensures)) c.get-line.ensures in
     let said = subst (λ (r : ReadLine). IsReadAs c.args.components.now l.names new line r) c.in-Says.is c.in_ok-read_line.ensures.read in
-    let refused = MatchOption-at_none (after s (place_in l.draft) ≡ None) _ c.in_default.is c.in_ok-next.ensures in
+    let refused : after s (place_in l.draft) ≡ None = subst (λ (b : Bool). IsAdded (said_in l.draft) (place_in l.draft) s (said_in c.add.new.self) b) c.if-not-branch.true c.in_ok-add.ensures in
     bad_place c.args.components.now c.args.names.now c.args.lines.now l.names new l.i _ line l.draft s said.0 at l.invariant.so_far (omega (arith, l.invariant.counted)) said.1 said.2 refused
 
 pub returns-in_err-read_line-clause-kept : goal.returns-in_err-read_line-clause-kept
@@ -66,13 +65,13 @@ returns-in-Bad-clause-kept c =
     let l = c.loop-i in
     kept_front c.args.names.now c.read_line.new.names (grown_on c.args.names.now l.names c.read_line.new.names l.invariant.so_far.texts l.invariant.so_far.numbered c.read_line.ensures.grown)
 
-pub returns-in_err-next-clause-kept : goal.returns-in_err-next-clause-kept
-returns-in_err-next-clause-kept c =
+pub returns-in_err-add-clause-kept : goal.returns-in_err-add-clause-kept
+returns-in_err-add-clause-kept c =
     let l = c.loop-i in
     kept_front c.args.names.now c.read_line.new.names (grown_on c.args.names.now l.names c.read_line.new.names l.invariant.so_far.texts l.invariant.so_far.numbered c.read_line.ensures.grown)
 
-pub returns-in_default-clause-kept : goal.returns-in_default-clause-kept
-returns-in_default-clause-kept c =
+pub returns-then-not-branch-clause-kept : goal.returns-then-not-branch-clause-kept
+returns-then-not-branch-clause-kept c =
     let l = c.loop-i in
     kept_front c.args.names.now c.read_line.new.names (grown_on c.args.names.now l.names c.read_line.new.names l.invariant.so_far.texts l.invariant.so_far.numbered c.read_line.ensures.grown)
 
