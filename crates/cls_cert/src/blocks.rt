@@ -57,11 +57,11 @@ fn one_set(alloc: Global, set: &[u32]) -> Result<Layer, OutOfMemory>
 fn covers_of_front(
     alloc: Global,
     front: &[Numbers],
-    forced: &Option<Vec<u32>>,
+    forced: &Option<Positions>,
 ) -> Result<Layer, OutOfMemory>
     requires ascending { All IsAscending front.now }
     requires few { AreWithinLimit front.now max_covers }
-    requires forced { IfSome forced.now (λ cover. IsForced front.now cover.items) }
+    requires forced { IfSome forced.now (IsForced front.now) }
     ensures { IfOk result (AreCovers front.now) }
 {
     match forced {
@@ -78,7 +78,7 @@ fn front_covers(alloc: Global, families: &[Numbers]) -> Result<Layers, OutOfMemo
     ensures { IfOk result (AreCoversOfFronts families.now) }
 {
     let mut layers = Vec::with_capacity(alloc, families.len())?;
-    let mut forced = Some(Vec::new(alloc));
+    let mut forced = Some(Positions::new(alloc));
     for j in 0..families.len() {
         forced = forced_with(forced, families[j].as_slice())?;
         let (front, _) = families.split_at(j + 1);
@@ -92,10 +92,10 @@ fn lone_covers(alloc: Global, positions: &[u32]) -> Result<Layers, OutOfMemory>
     ensures { IfOk result (AreCoversOfFronts (map alone positions.now)) }
 {
     let mut layers = Vec::with_capacity(alloc, positions.len())?;
-    let mut cover = Vec::with_capacity(alloc, positions.len())?;
+    let mut cover = Positions::new(alloc);
     for position in positions {
         put(&mut cover, *position)?;
-        layers.push(one_set(alloc, &cover)?)?;
+        layers.push(one_set(alloc, cover.as_slice())?)?;
     }
     Ok(Layers::new(layers))
 }

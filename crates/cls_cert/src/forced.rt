@@ -4,13 +4,14 @@ ghost use Rattle.cls_cover.specs.Members.{Member, Ascending};
 ghost use Rattle.cls_cover.specs.Forced.{IsForced};
 
 use cls_base::OutOfMemory;
+use cls_proof::Positions;
 
 /// Puts a position among ascending ones, unless it is there.
-pub(crate) fn put(positions: &mut Vec<u32>, x: u32) -> Result<(), OutOfMemory>
-    requires { Ascending positions.old.items }
-    ensures ascending { OnOk result (Ascending positions.new.items) }
+pub(crate) fn put(positions: &mut Positions, x: u32) -> Result<(), OutOfMemory>
+    requires { Ascending positions.old }
+    ensures ascending { OnOk result (Ascending positions.new) }
     ensures members { OnOk result
-        ((y : ℕ) → Member positions.new.items y ↔ (Member positions.old.items y ⊎ (y ≡ x))) }
+        ((y : ℕ) → Member positions.new y ↔ (Member positions.old y ⊎ (y ≡ x))) }
 {
     match positions.as_slice().binary_search(&x) {
         Ok(_) => {}
@@ -22,12 +23,12 @@ pub(crate) fn put(positions: &mut Vec<u32>, x: u32) -> Result<(), OutOfMemory>
 /// The only minimal cover of some families and this one behind them, made from that of the families before it. There is none
 /// to give as soon as a family doesn't have a single position.
 pub(crate) fn forced_with(
-    cover: Option<Vec<u32>>,
+    cover: Option<Positions>,
     family: &[u32],
-) -> Result<Option<Vec<u32>>, OutOfMemory>
-    requires { IfSome cover (λ c. Ascending c.items) }
+) -> Result<Option<Positions>, OutOfMemory>
+    requires { IfSome cover Ascending }
     ensures { IfOk result (λ next. IfSome next (λ n. MatchOption cover ⊥ (λ c. (families : List (List ℕ))
-        → IsForced families c.items → IsForced (families ++ family.now ∷ []) n.items))) }
+        → IsForced families c → IsForced (families ++ family.now ∷ []) n))) }
 {
     match (cover, family) {
         (Some(mut positions), [x]) => {

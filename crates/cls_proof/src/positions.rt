@@ -1,4 +1,4 @@
-ghost use Rattle.std.specs.Prelude.{◌≡◌, [], ◌∷◌, ◌++◌, IfOk, OnOk};
+ghost use Rattle.std.specs.Prelude.{◌≡◌, ◌≤◌, [], ◌∷◌, ◌++◌, IfOk, OnOk, insert, length};
 
 use cls_base::OutOfMemory;
 use smallvec::SmallVec;
@@ -43,6 +43,15 @@ impl Positions {
         ensures { OnOk result (self.new ≡ self.old ++ position ∷ []) }
     {
         self.items.push(position)?;
+        Ok(())
+    }
+
+    /// Puts a position at a place, before those from there on.
+    pub fn insert(&mut self, place: usize, position: u32) -> Result<(), OutOfMemory>
+        requires { place ≤ length self.old }
+        ensures { OnOk result (self.new ≡ insert self.old place position) }
+    {
+        self.items.insert(place, position)?;
         Ok(())
     }
 

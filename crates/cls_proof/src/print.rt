@@ -1,5 +1,5 @@
 //! The text of a certificate.
-ghost use Rattle.std.specs.Prelude.{◌≡◌, ◌++◌, decimal, map, string_bytes, IfOk, OnOk};
+ghost use Rattle.std.specs.Prelude.{◌≡◌, ◌<◌, ◌∷◌, ◌++◌, decimal, map, string_bytes, IfOk, OnOk};
 ghost use Rattle.std.specs.List.{flat_map};
 ghost use Rattle.cls_proof.specs.Blocks.{block_of};
 ghost use Rattle.cls_proof.specs.Members.{member_of};
@@ -153,10 +153,33 @@ fn write_numbers(text: &mut String, numbers: &[u32]) -> Result<(), OutOfMemory>
     ensures { OnOk result (string_bytes text.new ≡ string_bytes text.old ++ numbers_text numbers.now) }
 {
     for number in numbers {
-        text.push(' ')?;
-        write_number(text, *number)?;
+        if *number < 10 {
+            text.push_str(spaced_digit(*number))?;
+        } else {
+            text.push(' ')?;
+            write_number(text, *number)?;
+        }
     }
     Ok(())
+}
+
+/// A space and the digit, as one text: so it is written at once.
+fn spaced_digit(digit: u32) -> &'static str
+    requires { digit < 10 }
+    ensures { result.now ≡ 32 ∷ decimal digit }
+{
+    match digit {
+        0 => " 0",
+        1 => " 1",
+        2 => " 2",
+        3 => " 3",
+        4 => " 4",
+        5 => " 5",
+        6 => " 6",
+        7 => " 7",
+        8 => " 8",
+        _ => " 9",
+    }
 }
 
 /// Writes the number at the end. Most have one digit.

@@ -9,4 +9,4 @@ abbrev pub invariant-loop-position : goal.invariant-loop-position
 invariant-loop-position l =
     let families = map alone l.positions in
     (length l.layers.items ≡ l.position-index) × ((k : ℕ) → k < l.position-index → AreCovers (take (suc k) families) (get_or l.layers.items k []))
-    × IsForced (take l.position-index families) l.cover.items
+    × IsForced (take l.position-index families) l.cover
