@@ -52,7 +52,8 @@ fn add_head(
     })
 }
 
-/// At most four head rules, and in one of four nodes a pair of the node itself and another one.
+/// At most four head rules, in one of four nodes a pair of the node itself and another one, and in one of four a pair of
+/// any nodes.
 fn rules(
     alloc: Global,
     random: &mut Random,
@@ -68,6 +69,12 @@ fn rules(
     if random.below(4) == 0 {
         rules.push(RuleRef::Any {
             left: node,
+            right: random.below(count),
+        })?;
+    }
+    if random.below(4) == 0 {
+        rules.push(RuleRef::Any {
+            left: random.below(count),
             right: random.below(count),
         })?;
     }

@@ -1,10 +1,11 @@
 -- A walk from size to size.
 use Rattle.std.proofs.Common.{◌≡◌, ℕ, suc, ◌+◌, ◌-◌, ◌<◌, ◌≤◌, List, [], ◌∷◌, ◌++◌, length, map, take, refl, sym, ap, ◌∙◌, subst, inl, inr, arith, Bool, true, false}
-use Rattle.std.specs.Prelude.{◌⊎◌, ◌↔◌, nat_lt, Option, IfSome, Result, Ok, Err, IfOk}
+use Rattle.std.specs.Prelude.{◌⊎◌, ◌↔◌, nat_lt, slice_index, Option, IfSome, Result, Ok, Err, IfOk}
 use Rattle.std.proofs.lemmas.List.{map-append}
 use Rattle.cls_base.specs.Terms.{Applicative, size_of, code_of, Before}
 use Rattle.cls_base.specs.declared.rule.Rule.{Rule}
 use Rattle.cls_base.specs.Languages.{IsGenerated}
+use Rattle.cls_base.specs.Limits.{max_term_length}
 use Rattle.cls_base.specs.Pages.{Request, IsDue, IsPage}
 use Rattle.cls_base.specs.Pools.{IsEnough}
 use Rattle.cls_base.proofs.Lists.{Contains-nil}
@@ -19,18 +20,21 @@ use Rattle.cls_walk.specs.Bounds.{HasUpper}
 use Rattle.cls_walk.specs.Counts.{total_below, up_below, AreTerms}
 use Rattle.cls_walk.specs.Filled.{forms_at}
 use Rattle.cls_walk.specs.Forms.{AreForms}
+use Rattle.cls_walk.specs.FrameGuides.{IsGuide}
+use Rattle.cls_walk.specs.FramePlans.{IsPlan}
+use Rattle.cls_walk.specs.FrameWalks.{IsDueOn}
 use Rattle.cls_walk.specs.Fronts.{IsFront}
 use Rattle.cls_walk.specs.PageFronts.{IsDueFront, IsDueCode}
 use Rattle.cls_walk.specs.Tables.{capped, number_at, Holds}
 use Rattle.cls_walk.specs.Totals.{total_held}
 use Rattle.cls_walk.specs.Walks.{IsBehind, IsWanted, Lists}
 use Rattle.cls_walk.specs.declared.cursor.Cursor.{Cursor}
-use Rattle.cls_walk.specs.declared.fault.WalkFault.{WalkFault}
 use Rattle.cls_walk.specs.declared.plan.Plan.{Plan}
 use Rattle.cls_walk.specs.declared.walk.Walk.{Walk}
 use Rattle.cls_walk.proofs.Counts.{at_most}
 use Rattle.cls_walk.proofs.Capped.{capped-plus, capped-total}
-use Rattle.cls_walk.proofs.Filled.{filled-one, one-filled}
+use Rattle.cls_walk.proofs.Filled.{filled-least, filled-one, one-filled}
+use Rattle.cls_walk.proofs.FrameWalks.{due-listed}
 use Rattle.cls_walk.proofs.PageFronts.{front-size, front_decides, front_is_page}
 use Rattle.cls_walk.proofs.Pools.{accepted}
 use Rattle.cls_walk.proofs.Sure.{length-size}
@@ -79,13 +83,48 @@ module _ (book : List (List (Rule ℕ))) (plan : Plan) (after : Option Applicati
   lists-due : (cursor : Cursor) (old new : Walk) (going : Bool) → ((e : Applicative) → size_of cost e ≡ size → IfSome after (λ a. Before cost a e) ↔ IsBehind cursor (code_of e)) → Lists (IsWanted plan (0 ∷ []) size cursor) old new going → Lists Code old new going
   lists-due cursor old new going c l = lists-same (IsWanted plan (0 ∷ []) size cursor) Code old new going (wanted-due cursor c) l
 
-  pub ok-due : (cursor : Cursor) (old new : Walk) (r : Result Bool WalkFault) → ((e : Applicative) → size_of cost e ≡ size → IfSome after (λ a. Before cost a e) ↔ IsBehind cursor (code_of e)) → IfOk r (Lists (IsWanted plan (0 ∷ []) size cursor) old new) → IfOk r (Lists Code old new)
+  pub ok-due : {E : Type 0} (cursor : Cursor) (old new : Walk) (r : Result Bool E) → ((e : Applicative) → size_of cost e ≡ size → IfSome after (λ a. Before cost a e) ↔ IsBehind cursor (code_of e)) → IfOk r (Lists (IsWanted plan (0 ∷ []) size cursor) old new) → IfOk r (Lists Code old new)
   ok-due cursor old new (Ok going) c l = lists-due cursor old new going c l
   ok-due cursor old new (Err e) c l = tt
 
   -- terms of the size come before the cursor
   pub none-due : (old : Walk) → ((e : Applicative) → size_of cost e ≡ size → IfSome after (λ a. Before cost a e) → ⊥) → Lists Code old old true
   none-due old n = lists-none Code old (λ w h. n h.0 h.2 h.1.later)
+
+-- terms of node 0 are greater
+pub too-small : (plan : Plan) (size : ℕ) (cursor : Cursor) (a : Walk) → size < slice_index plan.least.now 0 → Lists (IsWanted plan (0 ∷ []) size cursor) a a true
+too-small plan size cursor a l = lists-none (IsWanted plan (0 ∷ []) size cursor) a (λ w h.
+    let k = filled-least plan.forms.now (cost_of plan.costs.now) plan.least.now plan.least_sizes (0 ∷ []) w h.filled in
+    let s = h.sized in
+    omega (arith, k, s, l))
+
+-- a plan goes by forms or by frames
+forms-or-frames : (b : Bool) → (b ≡ true) ⊎ (b ≡ false)
+forms-or-frames true = inl refl
+forms-or-frames false = inr refl
+
+-- what is listed of a size over frames
+pub framed-due : {E : Type 0} (book : List (List (Rule ℕ))) (plan : Plan) (after : Option Applicative) (max size : ℕ) → size ≤ max → (cursor : Cursor) (old new : Walk) (answer : Result Bool E)
+    → let r = request plan.costs.now after max plan.take in
+    ((e : Applicative) → size_of r.cost e ≡ size → IfSome after (λ a. Before r.cost a e) ↔ IsBehind cursor (code_of e))
+    → IfOk answer (Lists (IsDueOn book r.cost 0 [] size max_term_length cursor) old new) → IfOk answer (Lists (IsDueCode (IsDue (IsGenerated book 0) r) r.cost size) old new)
+framed-due book plan after max size least cursor old new (Ok going) c l = due-listed book (request plan.costs.now after max plan.take) size least cursor c old new going l
+framed-due book plan after max size least cursor old new (Err e) c l = tt
+
+-- what is listed of a size
+pub planned-due : {E : Type 0} (book : List (List (Rule ℕ))) (plan : Plan) (after : Option Applicative) (max last size : ℕ) → IsPlan book last plan → 1 ≤ size → size ≤ last → size ≤ max → size ≤ 64 → (cursor : Cursor) (old new : Walk) (answer : Result Bool E)
+    → let r = request plan.costs.now after max plan.take in
+    ((e : Applicative) → size_of r.cost e ≡ size → IfSome after (λ a. Before r.cost a e) ↔ IsBehind cursor (code_of e))
+    → (plan.is_rising ≡ true → IfOk answer (Lists (IsWanted plan (0 ∷ []) size cursor) old new))
+    → (plan.is_rising ≡ false → (b : List (List (Rule ℕ))) → IsGuide b r.cost plan.guide → IfOk answer (Lists (IsDueOn b r.cost plan.guide.start [] size max_term_length cursor) old new))
+    → IfOk answer (Lists (IsDueCode (IsDue (IsGenerated book 0) r) r.cost size) old new)
+planned-due book plan after max last size known some within least short cursor old new answer c f g = elim (forms-or-frames plan.is_rising) [
+  | inl e ↦ ok-due book plan after max last size (known.forms e) some within least short cursor old new answer c (f e)
+  | inr e ↦
+      let r = request plan.costs.now after max plan.take in
+      let P : ℕ → Type 0 = λ n. IfOk answer (Lists (IsDueOn book r.cost n [] size max_term_length cursor) old new) in
+      framed-due book plan after max size least cursor old new answer c (subst P (known.start e) (g e book (known.guide e)))
+]
 
 -- no term is made that the upper bound rules out
 none-made : (book : List (List (Rule ℕ))) (cost : ℕ → ℕ) → ((x : ℕ) → 1 ≤ cost x) → (known size n : ℕ) → size < known → up_below book cost known size n ≡ 0 → (e : Applicative) → IsInCell book cost n size e → ⊥
@@ -107,12 +146,8 @@ none-of-size book plan after max last size upper within none old =
     lists-none (IsDueCode (IsDue (IsGenerated book 0) r) cost size) old (λ w h.
     none-made book cost plan.positive (last + 1) size 0 (omega (arith, within)) (omega (arith, a, none)) h.0 (h.1.typed, h.2, h.1.short))
 
--- what holds of an answer that is there
-pub ok-at : (P : ℕ → Type 0) (r : Result ℕ WalkFault) (s : ℕ) → r ≡ Ok s → IfOk r P → P s
-ok-at P r s p h = let Q : Result ℕ WalkFault → Type 0 = λ z. IfOk z P in subst Q p h
-
 -- the terms of codes
-terms-of : (ws : List (List ℕ)) → ((w : List ℕ) → IsIn ws w → (e : Applicative) × (w ≡ code_of e)) → (es : List Applicative) × (map code_of es ≡ ws)
+pub terms-of : (ws : List (List ℕ)) → ((w : List ℕ) → IsIn ws w → (e : Applicative) × (w ≡ code_of e)) → (es : List Applicative) × (map code_of es ≡ ws)
 terms-of [] f = ([], refl)
 terms-of (w ∷ ws) f =
     let h = f w (inl refl) in
@@ -164,7 +199,7 @@ module _ (Due : Applicative → Type 0) (cost : ℕ → ℕ) (positive : (x : �
     all = λ e t l. elim (h.all e t l) [ inl i ↦ inl i | inr j ↦ inr (f j.0, j.1) ];
   }
 
-same-long : (es : List Applicative) → length (map code_of es) ≡ length es
+pub same-long : (es : List Applicative) → length (map code_of es) ≡ length es
 same-long [] = refl
 same-long (e ∷ es) = ap suc (same-long es)
 

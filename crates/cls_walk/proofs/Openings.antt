@@ -1,19 +1,9 @@
 -- Steps to the earliest opening.
-use Rattle.std.proofs.Common.{◌≡◌, ℕ, ◌+◌, ◌<◌, ◌≤◌, List, [], ◌∷◌, ◌++◌, length, take, get_or, sym, ap, ◌∙◌, subst, inl, inr, arith}
-use Rattle.std.specs.Prelude.{◌⊎◌, Option, None, Some, slice_index_or}
+use Rattle.std.proofs.Common.{◌≡◌, ℕ, ◌+◌, ◌-◌, ◌*◌, ◌^◌, ◌<◌, ◌≤◌, sym, ◌∙◌, inl, inr, arith}
+use Rattle.std.specs.Prelude.{◌⊎◌, Option, None, Some}
 use Rattle.std.proofs.lemmas.Bool.{cases_lt}
-use Rattle.std.proofs.lemmas.List.{take_more}
-use Rattle.cls_base.proofs.Lists.{take_whole}
-use Rattle.cls_term.specs.Costs.{cost_of}
-use Rattle.cls_enum.specs.Members.{IsIn}
-use Rattle.cls_enum.proofs.Members.{in_cases}
-use Rattle.cls_walk.specs.Counts.{HeadRule}
-use Rattle.cls_walk.specs.Filled.{form_size, forms_at, needs}
-use Rattle.cls_walk.specs.Openings.{IsAtMost, ComesAfter, IsReached, IsDone, OpensOne}
-use Rattle.cls_walk.specs.Stacks.{Opens, OpensOf}
-use Rattle.cls_walk.specs.Tables.{capped}
+use Rattle.cls_walk.specs.Openings.{IsAtMost, ComesAfter, IsDone}
 use Rattle.cls_walk.specs.declared.opening.Opening.{Opening}
-use Rattle.cls_walk.specs.declared.plan.Plan.{Plan}
 
 -- three numbers in their order
 at-least : (x k y m : ℕ) → (x < y) ⊎ ((x ≡ y) × (k ≤ m)) ⊎ (y < x) ⊎ ((y ≡ x) × (m < k))
@@ -60,72 +50,26 @@ done-here o x k (inl d) (inr a) = absurd (let z = a.0 in omega arith)
 done-here o x k (inr d) (inl a) = absurd (let z = d.0 in omega arith)
 done-here o x k (inr d) (inr a) = (d.0, (let y = d.1 in let z = a.1 in omega arith))
 
--- the earlier of the best so far and this opening
-pub reached-earlier : (best : Option Opening) (o : Opening) (x k : ℕ) → (IsReached best o.component o.count → ⊥) → IsReached best x k → IsAtMost o x k
-reached-earlier None o x k n r = absurd r
-reached-earlier (Some b) o x k n r = elim (at-least b.component b.count o.component o.count) [
-  | inl l ↦ absurd (n (inl l))
-  | inr q ↦ elim q [
-    | inl e ↦ absurd (n (inr e))
-    | inr s ↦ later s r
-  ]
-]
-  where
-    later : (o.component < b.component) ⊎ ((o.component ≡ b.component) × (o.count < b.count)) → IsAtMost b x k → IsAtMost o x k
-    later (inl s) (inl r) = inl (omega arith)
-    later (inl s) (inr r) = inl (let z = r.0 in omega arith)
-    later (inr s) (inl r) = inl (let z = s.0 in omega arith)
-    later (inr s) (inr r) = inr (s.0 ∙ r.0, (let y = s.1 in let z = r.1 in omega arith))
+-- how many openings are still to come, at most
+pub openings_left : Option Opening → ℕ
+openings_left None = 2 ^ 64 + 1
+openings_left (Some o) = 2 ^ 64 - (o.component * 2 ^ 32 + o.count)
 
--- one form more
-pub opens-next : (size : HeadRule → ℕ) (most : ℕ) (fs : List HeadRule) (i : ℕ) (h : HeadRule) (x k : ℕ) → i < length fs → h ≡ get_or fs i h → OpensOne size most (take (i + 1) fs) x k → OpensOne size most (take i fs) x k ⊎ ((h.0 ≡ x) × (length h.1 ≡ k) × (size h ≤ most))
-opens-next size most fs i h x k l p o =
-    let e : take (i + 1) fs ≡ take i fs ++ h ∷ [] = take_more fs i h l ∙ ap (λ (z : HeadRule). take i fs ++ z ∷ []) (sym p) in
-    let P : List HeadRule → Type 0 = λ gs. IsIn gs o.0 in
-    elim (in_cases (take i fs) (h ∷ []) o.0 (subst P e o.1)) [
-      | inl j ↦ inl (o.0, j, o.2, o.3, o.4)
-      | inr j ↦ elim j [
-        | inl q ↦ inr (ap (λ (g : HeadRule). g.0) q ∙ o.2, ap (λ (g : HeadRule). length g.1) q ∙ o.3, (let m = o.4 in let s = ap size q in omega (arith, m, s)))
-        | inr z ↦ absurd z
-      ]
-    ]
-
-pub opens-whole : (size : HeadRule → ℕ) (most : ℕ) (fs gs : List HeadRule) (i : ℕ) (x k : ℕ) → length fs ≤ i → fs ≡ gs → OpensOne size most gs x k → OpensOne size most (take i fs) x k
-opens-whole size most fs gs i x k l p o = let P : List HeadRule → Type 0 = λ hs. OpensOne size most hs x k in subst P (sym (take_whole fs i l ∙ p)) o
-
--- the opening of a form is reached
-pub form-reached : (last best : Option Opening) (c n : ℕ) (h : HeadRule) (x k : ℕ) → c ≡ h.0 → n ≡ length h.1 → (ComesAfter last c n → IsReached best c n) → (h.0 ≡ x) × (length h.1 ≡ k) → ComesAfter last x k → IsReached best x k
-form-reached last best c n h x k v m f e a =
-    let P : ℕ → Type 0 = λ z. ComesAfter last z n → IsReached best z n in
-    let Q : ℕ → Type 0 = λ z. ComesAfter last x z → IsReached best x z in
-    subst Q (m ∙ e.1) (subst P (v ∙ e.0) f) a
-
-module _ (plan : Plan) (size : ℕ) where
-  abbrev own : HeadRule → ℕ
-  own = form_size (cost_of plan.costs.now) plan.least.now
-
-  -- of a stack with a next node, whose other nodes need so much
-  pub opens-first : (s : List ℕ) (n : ℕ) (ns : List ℕ) (need most x k : ℕ) → s ≡ n ∷ ns → need ≡ capped (needs plan.least.now ns) → most + need ≡ size → Opens plan size s x k → OpensOne own most (forms_at plan.forms.now n) x k
-  opens-first s n ns need most x k p q l o =
-      let P : List ℕ → Type 0 = λ zs. Opens plan size zs x k in
-      let r : Opens plan size (n ∷ ns) x k = subst P p o in
-      let m = r.4 in
-      (r.0, r.1, r.2, r.3, omega (arith, m, q, l))
-
-  -- where the other nodes need more, none opens
-  pub opens-none : (s : List ℕ) (n : ℕ) (ns : List ℕ) (need x k : ℕ) → s ≡ n ∷ ns → need ≡ capped (needs plan.least.now ns) → size < need → Opens plan size s x k → ⊥
-  opens-none s n ns need x k p q l o =
-      let P : List ℕ → Type 0 = λ zs. Opens plan size zs x k in
-      let r : Opens plan size (n ∷ ns) x k = subst P p o in
-      let m = r.4 in
-      omega (arith, m, q, l)
-
-  -- one stack more
-  pub opens-of-next : (stacks : List (List ℕ)) (first end x k : ℕ) → OpensOf plan size stacks first (end + 1) x k → OpensOf plan size stacks first end x k ⊎ Opens plan size (slice_index_or stacks end []) x k
-  opens-of-next stacks first end x k o = elim (cases_lt o.0 end) [
-    | inl l ↦ inl (o.0, o.1, l, o.3)
-    | inr l ↦
-        let e : o.0 ≡ end = let z = o.2 in omega arith in
-        let P : ℕ → Type 0 = λ j. Opens plan size (slice_index_or stacks j []) x k in
-        inr (subst P e o.3)
-  ]
+pub fewer-left : (last : Option Opening) (o : Opening) → ComesAfter last o.component o.count → openings_left (Some o) < openings_left last
+unfolding openings_left
+fewer-left None o h =
+    let goal : 2 ^ 64 - (o.component * 2 ^ 32 + o.count) < 2 ^ 64 + 1 = omega arith in
+    goal
+fewer-left (Some l) o (inl h) =
+    let a = l.small.1 in
+    let b = o.small.0 in
+    let c = o.small.1 in
+    let goal : 2 ^ 64 - (o.component * 2 ^ 32 + o.count) < 2 ^ 64 - (l.component * 2 ^ 32 + l.count) = omega (arith, a, b, c, h) in
+    goal
+fewer-left (Some l) o (inr h) =
+    let a = l.small.0 in
+    let b = o.small.1 in
+    let y = h.0 in
+    let z = h.1 in
+    let goal : 2 ^ 64 - (o.component * 2 ^ 32 + o.count) < 2 ^ 64 - (l.component * 2 ^ 32 + l.count) = omega (arith, a, b, y, z) in
+    goal

@@ -162,13 +162,14 @@ module _ (IsTerm : Applicative → Type 0) (r : Request) (some : 1 ≤ r.take) (
     )
   ]
 
+-- the code of a term of the list
+pub code-in : (es : List Applicative) (e : Applicative) → IsIn es e → IsIn (map code_of es) (code_of e)
+code-in [] e i = absurd i
+code-in (x ∷ es) e (inl p) = inl (ap code_of p)
+code-in (x ∷ es) e (inr i) = inr (code-in es e i)
+
 -- the terms whose codes are listed: one size more
 module _ (Due : Applicative → Type 0) (cost : ℕ → ℕ) where
-  code-in : (es : List Applicative) (e : Applicative) → IsIn es e → IsIn (map code_of es) (code_of e)
-  code-in [] e i = absurd i
-  code-in (x ∷ es) e (inl p) = inl (ap code_of p)
-  code-in (x ∷ es) e (inr i) = inr (code-in es e i)
-
   in-code : (es : List Applicative) (e : Applicative) → IsIn (map code_of es) (code_of e) → IsIn es e
   in-code [] e i = absurd i
   in-code (x ∷ es) e (inl p) = inl (code_of-one_to_one x e p)

@@ -21,29 +21,29 @@ use Rattle.cls_walk.proofs.Counts.{chosen, chosen_both, cell_below, once-below, 
 use Rattle.cls_walk.proofs.Lists.{once-map, once-over, length-over_most, length-over_least}
 use Rattle.cls_walk.proofs.Sure.{least-below}
 
-map_in : {A B : Type 0} (f : A → B) (xs : List A) (x : A) → IsIn xs x → IsIn (map f xs) (f x)
+pub map_in : {A B : Type 0} (f : A → B) (xs : List A) (x : A) → IsIn xs x → IsIn (map f xs) (f x)
 map_in f [] x i = absurd i
 map_in f (y ∷ xs) x (inl p) = inl (ap f p)
 map_in f (y ∷ xs) x (inr i) = inr (map_in f xs x i)
 
 -- the terms with their node
-abbrev Pair : Type 0
+abbrev pub Pair : Type 0
 Pair = ℕ × Applicative
 
-abbrev tagged : ℕ → List Applicative → List Pair
+abbrev pub tagged : ℕ → List Applicative → List Pair
 tagged n es = map (λ e. (n, e)) es
 
-length-tagged : (n : ℕ) (es : List Applicative) → length (tagged n es) ≡ length es
+pub length-tagged : (n : ℕ) (es : List Applicative) → length (tagged n es) ≡ length es
 length-tagged n [] = refl
 length-tagged n (e ∷ es) = omega (arith, length-tagged n es)
 
-in_tagged : (n : ℕ) (es : List Applicative) (p : Pair) → IsIn (tagged n es) p → (n ≡ p.0) × IsIn es p.1
+pub in_tagged : (n : ℕ) (es : List Applicative) (p : Pair) → IsIn (tagged n es) p → (n ≡ p.0) × IsIn es p.1
 in_tagged n es p i =
     let r = in_map (λ (e : Applicative). (n, e)) es p i in
     let P : Applicative → Type 0 = λ e. IsIn es e in
     (ap (λ (q : Pair). q.0) r.2, subst P (ap (λ (q : Pair). q.1) r.2) r.1)
 
-tagged-once : (n : ℕ) (es : List Applicative) → AreDistinct es → AreDistinct (tagged n es)
+pub tagged-once : (n : ℕ) (es : List Applicative) → AreDistinct es → AreDistinct (tagged n es)
 tagged-once n es h = once-map (λ (e : Applicative). (n, e)) es (λ e f p. ap (λ (q : Pair). q.1) p) h
 
 cursor-from : (cost : ℕ → ℕ) (o : Option Applicative) (e : Applicative) → IfSome o (λ a. Before cost a e) → cursor_size cost o ≤ size_of cost e

@@ -4,7 +4,6 @@ use Rattle.cls_base.specs.Terms.{Applicative, size_of, code_of}
 use Rattle.cls_base.specs.declared.rule.Rule.{Rule}
 use Rattle.cls_base.specs.Pages.{Request, IsDue}
 use Rattle.cls_base.specs.Languages.{IsGenerated}
-use Rattle.cls_walk.specs.Bounds.{HasUpper}
 use Rattle.cls_walk.specs.Counts.{HeadRule}
 use Rattle.cls_walk.specs.Forms.{AreForms}
 use Rattle.cls_walk.specs.PageFronts.{IsDueFront}
@@ -13,10 +12,6 @@ use Rattle.cls_walk.specs.Filled.{forms_at}
 -- the forms of each node with fewer arguments than `last`
 abbrev pub AreFormsUpTo : List (List (Rule ℕ)) → ℕ → List (List HeadRule) → Type 0
 AreFormsUpTo book last forms = (n most : ℕ) → most + 1 ≡ last → AreForms book most n (forms_at forms n)
-
--- and the upper bounds up to `last`
-abbrev pub AreKnown : List (List (Rule ℕ)) → (ℕ → ℕ) → ℕ → List (List HeadRule) → List (List ℕ) → Type 0
-AreKnown book cost last forms upper = AreFormsUpTo book last forms × HasUpper book cost (last + 1) upper
 
 -- the size and the code of the cursor, where there is one
 abbrev pub IsStart : (ℕ → ℕ) → Option Applicative → ℕ → List ℕ → Type 0

@@ -1,7 +1,5 @@
 -- How codes begin: with a component and its number of arguments.
-use Rattle.std.specs.Prelude.{ℕ, ◌≡◌, ◌<◌, ◌≤◌, ◌⊎◌, List, length, Option, None, Some, IfSome}
-use Rattle.cls_enum.specs.Members.{IsIn}
-use Rattle.cls_walk.specs.Counts.{HeadRule}
+use Rattle.std.specs.Prelude.{ℕ, ◌≡◌, ◌<◌, ◌≤◌, ◌⊎◌, Option, None, Some, IfSome}
 use Rattle.cls_walk.specs.declared.opening.Opening.{Opening}
 
 -- codes that begin with the opening come before those that begin with this component and number
@@ -25,10 +23,6 @@ IsReached (Some o) x k = IsAtMost o x k
 abbrev pub IsDone : Option Opening → ℕ → ℕ → Type 0
 IsDone None x k = ⊥
 IsDone (Some o) x k = (x < o.component) ⊎ ((x ≡ o.component) × (k ≤ o.count))
-
--- one of the forms that come to no more than `most` by this measure begins so
-abbrev pub OpensOne : (HeadRule → ℕ) → ℕ → List HeadRule → ℕ → ℕ → Type 0
-OpensOne size most hs x k = (h : HeadRule) × IsIn hs h × (h.0 ≡ x) × (length h.1 ≡ k) × (size h ≤ most)
 
 -- The opening comes after the last one, and none with P that comes after the last one is earlier. If it is missing, none
 -- with P comes after the last one.

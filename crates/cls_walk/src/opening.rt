@@ -1,7 +1,5 @@
 //! How codes begin.
-ghost use Rattle.std.specs.Prelude.{◌≡◌, ◌<◌, ◌^◌, length};
-
-use crate::form::Form;
+ghost use Rattle.std.specs.Prelude.{◌≡◌, ◌<◌, ◌^◌};
 
 /// A component and its number of arguments. That they are small is said for the prover alone: so the openings that come
 /// after one another end.
@@ -14,18 +12,10 @@ pub(crate) struct Opening {
 
 impl Opening {
     /// The opening of this component and number.
-    fn new(component: u32, count: u32) -> Opening
+    pub(crate) fn new(component: u32, count: u32) -> Opening
         ensures component { result.component ≡ component }
         ensures count { result.count ≡ count }
     {
         Opening { component, count }
     }
-}
-
-/// How the codes by the form begin.
-pub(crate) fn opening_of(form: &Form) -> Opening
-    ensures component { result.component ≡ form.now.0 }
-    ensures count { result.count ≡ length form.now.1 }
-{
-    Opening::new(form.component, form.count)
 }

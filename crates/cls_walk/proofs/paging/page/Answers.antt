@@ -1,16 +1,12 @@
 use Rattle.std.proofs.Common.{subst}
 use Rattle.std.specs.Prelude.{option_copied, IfSome}
-use Rattle.std.proofs.lemmas.Result.{IfOk-weaker}
+use Rattle.std.proofs.lemmas.Result.{IfOk-weaker, err_from_is_err_and}
 use Rattle.cls_term.specs.Costs.{cost_of}
 use Rattle.cls_enum.specs.Requests.{request}
 use Rattle.cls_enum.specs.States.{ExceedsPool, FitsPool}
+use Rattle.cls_enum.proofs.FillSteps.{IfTooMany-weaker}
 use Rattle.cls_walk.proofs.Endings.{page-up, fits-up, exceeds-up, too_many_weaker}
 use Rattle.cls_walk.proofs.paging.page.Goals as goal
-
-pub returns-then-branch-clause-over : goal.returns-then-branch-clause-over
-returns-then-branch-clause-over g c =
-    exceeds-up (g.B.RuleBook.book c.args.book.now) (cost_of c.args.costs.now) c.args.take (option_copied c.args.after) c.last_size-last.result c.args.max_size
-    c.last_size-last.ensures.within c.last_size-last.ensures.ends c.args.pool (c.in_ok-is_refused.ensures c.if-branch.true)
 
 pub returns-clause-page : goal.returns-clause-page
 returns-clause-page g c =
@@ -36,6 +32,15 @@ returns-clause-over g c =
     (exceeds-up book (cost_of costs) c.args.take after last c.args.max_size c.last_size-last.ensures.within c.last_size-last.ensures.ends c.args.pool)
     c.page.ensures.over
 
+pub returns-in_err-walked-clause-over : goal.returns-in_err-walked-clause-over
+returns-in_err-walked-clause-over g c =
+    let book = g.B.RuleBook.book c.args.book.now in
+    let last = c.last_size-last.result in
+    let p = err_from_is_err_and c.from_residual-in_err-walked.result c.from_residual-in_err-walked.ensures.1 in
+    rw (p.1, p.2) (IfTooMany-weaker _ _ _
+    (exceeds-up book (cost_of c.args.costs.now) c.args.take (option_copied c.args.after) last c.args.max_size c.last_size-last.ensures.within c.last_size-last.ensures.ends c.args.pool)
+    c.in_err-walked.ensures.over)
+
 pub returns-in-Some-clause-within : goal.returns-in-Some-clause-within
 returns-in-Some-clause-within g c =
     let book = g.B.RuleBook.book c.args.book.now in
@@ -43,4 +48,4 @@ returns-in-Some-clause-within g c =
     let after = option_copied c.args.after in
     let last = c.last_size-last.result in
     fits-up book (cost_of costs) c.args.take after last c.args.max_size c.last_size-last.ensures.within c.last_size-last.ensures.ends c.args.pool
-    (subst (λ o. IfSome o (λ _. FitsPool book (request costs after last c.args.take) c.args.pool)) c.in-Some.is c.in_ok-page.ensures.within)
+    (subst (λ o. IfSome o (λ _. FitsPool book (request costs after last c.args.take) c.args.pool)) c.in-Some.is c.in_ok-walked.ensures.within)
