@@ -1,5 +1,7 @@
 -- Bytes without a line feed, and the first line feed.
-use Rattle.std.proofs.Common.{◌≡◌, ℕ, ◌+◌, Bool, true, false, not, cond, eqb, List, [], ◌∷◌, ◌++◌, take, drop, append_assoc, Some, None, refl, ap, sym, ◌∙◌, subst}
+use Rattle.std.proofs.Common.{◌≡◌, ℕ, ◌+◌, ◌<◌, Bool, true, false, not, cond, eqb, List, [], ◌∷◌, ◌++◌, length, get_or, take, drop, append_assoc, Some, None, refl, ap, sym, ◌∙◌, subst, arith}
+use Rattle.std.specs.Str.{IsUtf8, IsCharBoundary}
+use Rattle.std.proofs.lemmas.Str.{IsCharBoundary-before_ascii, IsCharBoundary-after_ascii}
 use Rattle.std.specs.List.{position, prefix_len}
 use Rattle.std.proofs.lemmas.Bool.{eqb-true, eqb-false}
 use Rattle.std.proofs.lemmas.List.{take_all, take-append-drop, drop_more}
@@ -48,3 +50,20 @@ cut_at_feed held piece line n h at is = record {
   whole = ap (λ (xs : List ℕ). held ++ xs) (split_at_feed piece n at) ∙ sym (append_assoc held (take n piece) (10 ∷ drop (n + 1) piece));
   shown = is;
 }
+
+-- a line feed stands at the place
+pub feed_at : (p : List ℕ) (n : ℕ) → position is_feed p ≡ Some n → (n < length p) × (get_or p n 0 ≡ 10)
+feed_at p n h = let at = position-Some is_feed p n 0 h in (at.0, eqb-true _ _ at.1)
+
+-- it is a character by itself, so a text may be cut before it and behind it
+pub cut_before : (p : List ℕ) (n : ℕ) → position is_feed p ≡ Some n → IsCharBoundary p n
+cut_before p n h = let at = feed_at p n h in IsCharBoundary-before_ascii p n at.0 (subst (λ (b : ℕ). b < 128) (sym at.1) (omega arith))
+
+pub cut_behind : (p : List ℕ) (n : ℕ) → position is_feed p ≡ Some n → IsUtf8 (drop n p) → IsCharBoundary (drop n p) 1
+cut_behind p n h utf8 =
+    let at = feed_at p n h in
+    subst (λ (bs : List ℕ). IsCharBoundary bs 1) (sym (drop_more p n 0 at.0)) (IsCharBoundary-after_ascii (get_or p n 0 ∷ drop (n + 1) p) 0
+    (subst (λ (bs : List ℕ). IsUtf8 bs) (drop_more p n 0 at.0) utf8) (omega arith) (subst (λ (b : ℕ). b < 128) (sym at.1) (omega arith)))
+
+pub behind_feed : (p : List ℕ) (n : ℕ) → position is_feed p ≡ Some n → drop 1 (drop n p) ≡ drop (n + 1) p
+behind_feed p n h = ap (λ (bs : List ℕ). drop 1 bs) (drop_more p n 0 (feed_at p n h).0)

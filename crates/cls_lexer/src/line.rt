@@ -94,6 +94,17 @@ impl<'a> Line<'a> {
         Line::new(bytes)
     }
 
+    /// The line that this text is, of which one carriage return at the end belongs to the ending.
+    pub(crate) fn ended_text(text: &'a str) -> Line<'a>
+        ensures { result ≡ without_return text.now }
+    {
+        let count = text.len();
+        if count > 0 && text.as_bytes()[count - 1] == b'\r' {
+            return Line::from_text(&text[..count - 1]);
+        }
+        Line::from_text(text)
+    }
+
     /// The line that these bytes are, of which one carriage return at the end belongs to the ending.
     pub(crate) fn ended_owned(mut bytes: Vec<u8>) -> Line<'static>
         ensures { result ≡ without_return bytes.items }

@@ -1,9 +1,9 @@
-ghost use Rattle.std.specs.Prelude.{◌≡◌, ℕ, ◌↔◌, List, [], ◌++◌, IsNone, IfNone, IfSome, OnSome, IfOk, OnErr, ◌==◌, position, option_to_list};
+ghost use Rattle.std.specs.Prelude.{◌≡◌, ℕ, ◌↔◌, List, [], ◌++◌, IsNone, IfNone, IfSome, OnSome, IfOk, OnErr, option_to_list};
 ghost use Rattle.cls_lexer.specs.Lines.{lines_of, without_return, HasNoFeed, CutsLine};
 
 use crate::line::Line;
+use crate::piece::Piece;
 use cls_base::OutOfMemory;
-use memchr::memchr;
 use std::alloc::Global;
 use std::marker::Model;
 use std::mem;
@@ -40,28 +40,29 @@ impl LineReader {
     pub fn take<'a>(
         &mut self,
         alloc: Global,
-        piece: &'a [u8],
-    ) -> Result<(Option<Line<'a>>, &'a [u8]), OutOfMemory>
-        ensures line { IfOk result (λ r. IfSome r.0 (λ line. CutsLine (self.old ++ piece.now) line r.1.now)) }
+        piece: Piece<'a>,
+    ) -> Result<(Option<Line<'a>>, Piece<'a>), OutOfMemory>
+        ensures line { IfOk result (λ r. IfSome r.0 (λ line. CutsLine (self.old ++ piece.entry) line r.1)) }
         ensures fresh { IfOk result (λ r. OnSome r.0 (self.new ≡ [])) }
 
         // Without a line feed the piece is held.
-        ensures none { IfOk result (λ r. IfNone r.0 (HasNoFeed piece.now)) }
-        ensures held { IfOk result (λ r. IfNone r.0 (self.new ≡ self.old ++ piece.now)) }
-        ensures nothing_left { IfOk result (λ r. IfNone r.0 (r.1.now ≡ [])) }
+        ensures none { IfOk result (λ r. IfNone r.0 (HasNoFeed piece.entry)) }
+        ensures held { IfOk result (λ r. IfNone r.0 (self.new ≡ self.old ++ piece.entry)) }
+        ensures nothing_left { IfOk result (λ r. IfNone r.0 (r.1 ≡ [])) }
 
         ensures no_feed { HasNoFeed self.new }
         ensures err { OnErr result (self.new ≡ self.old) }
     {
-        let Some(place) = first_feed(piece) else {
-            self.bytes.extend_from_slice(piece)?;
-            return Ok((None, &piece[piece.len()..]));
+        let Some(place) = piece.first_feed() else {
+            self.bytes.extend_from_slice(piece.as_bytes())?;
+            return Ok((None, Piece::empty()));
         };
-        let (front, rest) = (&piece[..place], &piece[place + 1..]);
         if self.bytes.is_empty() {
-            return Ok((Some(Line::ended(front)), rest));
+            let (line, rest) = piece.cut(place);
+            return Ok((Some(line), rest));
         }
-        self.bytes.extend_from_slice(front)?;
+        self.bytes.extend_from_slice(&piece.as_bytes()[..place])?;
+        let (_, rest) = piece.cut(place);
         let bytes = mem::replace(&mut self.bytes, Vec::new(alloc));
         Ok((Some(Line::ended_owned(bytes)), rest))
     }
@@ -79,11 +80,4 @@ impl LineReader {
             Some(Line::ended_owned(bytes))
         }
     }
-}
-
-/// The place of the first line feed.
-fn first_feed(bytes: &[u8]) -> Option<usize>
-    ensures { result ≡ position (λ b. b == 10) bytes.now }
-{
-    memchr(b'\n', bytes)
 }

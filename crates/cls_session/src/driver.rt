@@ -12,7 +12,7 @@ use crate::output::{PendingReplies, write_all};
 use crate::session::{Answer, Session};
 use crate::status::Status;
 use cls_base::{Failed, Gate, OutOfMemory, Sink};
-use cls_lexer::{Line, LineReader};
+use cls_lexer::{Line, LineReader, Piece};
 use std::alloc::Global;
 use std::mem;
 use std::sync::Wait;
@@ -134,7 +134,7 @@ fn collect_replies<R: Threads + Wait + Sync, K: Sink, G: Gate + Sync>(
         ≤ lines_of_session session.old + length (reader.old ++ piece.now)) }
     ensures faults { CountsFaults result (K.seen sink.old) (K.seen sink.new) }
 {
-    let mut rest = piece;
+    let mut rest = Piece::new(piece);
     'lines: loop {
         let (line, after) = reader.take(alloc, rest)?;
         let Some(line) = line else {

@@ -1,4 +1,4 @@
-use cls_lexer::{Line, LineReader, Names};
+use cls_lexer::{Line, LineReader, Names, Piece};
 use std::test::Fail;
 
 #[test]
@@ -12,11 +12,11 @@ fn a_comment_after_blanks_is_skipped(rt: HostRuntime) -> Result<(), Fail> {
 #[test]
 fn a_line_ends_in_a_later_piece(rt: HostRuntime) -> Result<(), Fail> {
     let mut reader = LineReader::new(rt.alloc());
-    let (none, rest) = reader.take(rt.alloc(), b"comp f")?;
-    assert!(rt; none.is_none() && rest.is_empty());
-    let (line, rest) = reader.take(rt.alloc(), b" : a\r\nend")?;
+    let (none, rest) = reader.take(rt.alloc(), Piece::new(b"comp f"))?;
+    assert!(rt; none.is_none() && rest.as_bytes().is_empty());
+    let (line, rest) = reader.take(rt.alloc(), Piece::new(b" : a\r\nend"))?;
     assert!(rt; line.is_some_and(|line| line.as_bytes() == b"comp f : a".as_slice()));
-    assert_eq!(rt; rest, b"end".as_slice());
+    assert_eq!(rt; rest.as_bytes(), b"end".as_slice());
     Ok(())
 }
 

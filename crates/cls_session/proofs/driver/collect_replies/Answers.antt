@@ -6,8 +6,8 @@ use Rattle.cls_session.proofs.driver.collect_replies.Goals as goal
 
 pub lines-init : goal.lines-init
 lines-init g c = record {
-  answered = pending_none (g.K.Sink.seen c.args.sink.now) c.args.session.now (c.args.reader.now ++ c.args.piece.now) c.args.pending.now c.requires.none_pending;
-  few_lines = omega arith;
+  answered = rw c.new-rest.ensures (pending_none (g.K.Sink.seen c.args.sink.now) c.args.session.now (c.args.reader.now ++ c.args.piece.now) c.args.pending.now c.requires.none_pending);
+  few_lines = rw c.new-rest.ensures (omega arith);
   faults = refl;
 }
 
