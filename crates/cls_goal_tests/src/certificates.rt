@@ -36,7 +36,7 @@ fn certificate(
         IsHeld (length names.new) (length components.now) (certificate_of certificate))) }
 {
     let lines = lines(alloc, text)?;
-    Ok(read_certificate(alloc, names, components, &lines))
+    Ok(read_certificate(alloc, names, components, lines))
 }
 
 /// The lines of the text.
@@ -44,11 +44,13 @@ fn lines(alloc: Global, text: &str) -> Result<HeldLines, Fail>
     ensures { IfOk result (λ lines. length lines ≤ 1000) }
 {
     let mut lines = HeldLines::new(alloc);
+    let mut count = 0u32;
     for line in text.lines() {
+        if count == 1_000 {
+            return Err("too long".into());
+        }
         lines.push(&Line::new(line.as_bytes()))?;
-    }
-    if lines.len() > 1_000 {
-        return Err("too long".into());
+        count += 1;
     }
     Ok(lines)
 }

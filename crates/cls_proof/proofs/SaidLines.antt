@@ -1,7 +1,7 @@
 -- What lines say, one after another.
-use Rattle.std.proofs.Common.{◌≡◌, ℕ, ◌+◌, ◌<◌, ◌≤◌, List, [], ◌∷◌, ◌++◌, Option, Some, None, length, map, take, drop, get_or, refl, ap, sym, ◌∙◌, subst, arith, append_assoc, append-nil, inl, inr, rules, add-one, take-append-drop, drop-cons}
+use Rattle.std.proofs.Common.{◌≡◌, ℕ, ◌+◌, ◌<◌, ◌≤◌, List, [], ◌∷◌, ◌++◌, Option, Some, None, length, map, take, drop, get_or, refl, ap, sym, ◌∙◌, subst, arith, append_assoc, append-nil, inl, inr, rules, add-one, drop-cons}
 use Rattle.std.specs.List.{flat_map, list_any, AllByRecursion}
-use Rattle.std.proofs.lemmas.List.{get_or_default, length-take-le}
+use Rattle.std.proofs.lemmas.List.{get_or_default}
 use Rattle.std.specs.Prelude.{Result, Ok, Err, false, slice_index_or}
 use Rattle.cls_base.specs.Types as types
 use Rattle.cls_base.specs.Types.{ClosedType}
@@ -19,14 +19,15 @@ use Rattle.cls_proof.specs.Certificates.{ProofRow, Block, Member, Certificate}
 use Rattle.cls_proof.specs.Forms.{certificate_rows, Written, line_of}
 use Rattle.cls_proof.specs.Forms as written
 use Rattle.cls_proof.specs.Statements.{Statement, inhabited, row, empty, member, block, layer, set, qed, is_qed, block_statements, member_statements, statements_of}
-use Rattle.cls_proof.specs.Reading.{Means, SaysStatement, Says, no_statement, one_statement, LinesSay, SaysCertificate, BeginCertificate, IsFirstBad, LacksQed}
-use Rattle.cls_proof.specs.Drafts.{Place, at_start, in_rows, in_members, in_member, in_block, in_layer, at_end, after, said_in, place_in}
+use Rattle.cls_proof.specs.Reading.{Means, SaysStatement, Says, no_statement, one_statement, LinesSay, SaysCertificate, BeginCertificate, LacksQed}
+use Rattle.cls_proof.specs.Drafts.{Place, at_start, in_rows, in_members, in_member, in_block, in_layer, at_end, after, said_in}
+use Rattle.cls_proof.specs.Chunks.{AreRead}
 use Rattle.cls_proof.specs.Said.{HasGrown, IsStatementHeld}
 use Rattle.cls_proof.specs.Texts.{IsRowHeld, IsBlockHeld, IsMemberHeld, IsHeld}
 use Rattle.cls_proof.specs.declared.draft.Draft.{Draft}
 use Rattle.cls_base.proofs.Lists.{take_next}
 use Rattle.cls_proof.proofs.Allowed.{run_from, run_append, certificate_run}
-use Rattle.cls_proof.proofs.DraftLists.{begun, draft_run}
+use Rattle.cls_proof.proofs.DraftLists.{begun}
 use Rattle.cls_proof.proofs.GoalTexts.{longer}
 
 pub rows_good : IsGoodGrammar certificate_rows
@@ -217,13 +218,6 @@ pub texts_append : (table xs ys : List (List ℕ)) → with_texts table (xs ++ y
 texts_append table [] ys = refl
 texts_append table (x ∷ xs) ys = texts_append (with_text table x) xs ys
 
--- What the lines say by the table as it is, and by each later one. The table was `old` at the first line.
-pub record AreRead (components old lines names : List (List ℕ)) (ss : List Statement) : Type 0 where
-  pub texts : List (List ℕ)
-  pub numbered : names ≡ with_texts old texts
-  pub says : (later : List (List ℕ)) → LinesSay (number_of (with_texts names later)) components lines texts ss
-  pub held : AllByRecursion (IsStatementHeld (length names) (length components)) ss
-
 pub none_read : (components old : List (List ℕ)) → AreRead components old [] old []
 none_read components old = record { texts = []; numbered = refl; says = λ later. (refl, refl); held = tt }
 
@@ -302,44 +296,11 @@ pub record StandsAt (lines : List (List ℕ)) (i : ℕ) (line : List ℕ) : Type
 pub stands_at : (lines : List (List ℕ)) (i : ℕ) (line : List ℕ) → i < length lines → line ≡ slice_index_or lines i [] → StandsAt lines i line
 stands_at lines i line l e = record { within = l; is = e ∙ get_or_default lines i [] line l }
 
-drop_next : (lines : List (List ℕ)) (i : ℕ) (d : List ℕ) → i < length lines → drop i lines ≡ get_or lines i d ∷ drop (i + 1) lines
+pub drop_next : (lines : List (List ℕ)) (i : ℕ) (d : List ℕ) → i < length lines → drop i lines ≡ get_or lines i d ∷ drop (i + 1) lines
 drop_next lines i d l = rw add-one (drop-cons lines i d l)
 
-line_next : (lines : List (List ℕ)) (i : ℕ) (line : List ℕ) → StandsAt lines i line → take (i + 1) lines ≡ take i lines ++ line ∷ []
+pub line_next : (lines : List (List ℕ)) (i : ℕ) (line : List ℕ) → StandsAt lines i line → take (i + 1) lines ≡ take i lines ++ line ∷ []
 line_next lines i line at = take_next lines i line at.within ∙ ap (λ (x : List ℕ). take i lines ++ x ∷ []) (sym at.is)
-
-pub first_bad : (components lines : List (List ℕ)) (i n : ℕ) (line : List ℕ) → StandsAt lines i line → n ≡ i + 1 → BeginCertificate components (take i lines) → (BeginCertificate components (take i lines ++ line ∷ []) → ⊥) → IsFirstBad components lines n
-first_bad components lines i n line at e good bad = record {
-  before = take i lines;
-  line = line;
-  after = drop (i + 1) lines;
-  split = sym (take-append-drop i lines) ∙ (ap (λ (ls : List (List ℕ)). take i lines ++ ls) (drop_next lines i line at.within) ∙ ap (λ (x : List ℕ). take i lines ++ x ∷ drop (i + 1) lines) (sym at.is));
-  number = e ∙ ap (λ k. k + 1) (sym (length-take-le i lines (omega (arith, at.within))));
-  good = good;
-  bad = bad;
-}
-
--- the steps of the loop over the lines
-pub next_skipped : (components old lines names new : List (List ℕ)) (i : ℕ) (line : List ℕ) (ss : List Statement) → StandsAt lines i line → AreRead components old (take i lines) names ss → IsSkipped line → new ≡ names → AreRead components old (take (i + 1) lines) new ss
-next_skipped components old lines names new i line ss at r h e =
-    subst (λ (ls : List (List ℕ)). AreRead components old ls new ss) (sym (line_next lines i line at)) (skipped_read components old (take i lines) names new line ss r h e)
-
-pub next_said : (components old lines names new : List (List ℕ)) (i : ℕ) (line : List ℕ) (ss ts : List Statement) (s : Statement) (texts : List (List ℕ)) → StandsAt lines i line → AreRead components old (take i lines) names ss → new ≡ with_texts names texts → ((later : List (List ℕ)) → SaysStatement (number_of (with_texts new later)) components line texts s) → IsStatementHeld (length new) (length components) s → ts ≡ ss ++ s ∷ [] → AreRead components old (take (i + 1) lines) new ts
-next_said components old lines names new i line ss ts s texts at r e h held joined =
-    let q = said_read components old (take i lines) names new line ss s texts r e h held in
-    subst (λ (us : List Statement). AreRead components old (take (i + 1) lines) new us) (sym joined)
-    (subst (λ (ls : List (List ℕ)). AreRead components old ls new (ss ++ s ∷ [])) (sym (line_next lines i line at)) q)
-
--- the first bad line: one that says nothing, and one that isn't allowed at its place
-pub bad_nothing : (components old lines names : List (List ℕ)) (i n : ℕ) (line : List ℕ) (d : Draft) → StandsAt lines i line → AreRead components old (take i lines) names (said_in d) → n ≡ i + 1 → ((number : List ℕ → ℕ) (texts : List (List ℕ)) (ss : List Statement) → Says number components line texts ss → ⊥) → IsFirstBad components lines n
-bad_nothing components old lines names i n line d at r e h =
-    first_bad components lines i n line at e (good_lines components old (take i lines) names d r) (nothing_bad components (take i lines) line h)
-
-pub bad_place : (components old lines names new : List (List ℕ)) (i n : ℕ) (line : List ℕ) (d : Draft) (s : Statement) (texts : List (List ℕ)) → StandsAt lines i line → AreRead components old (take i lines) names (said_in d) → n ≡ i + 1 → new ≡ with_texts names texts → ((later : List (List ℕ)) → SaysStatement (number_of (with_texts new later)) components line texts s) → after s (place_in d) ≡ None → IsFirstBad components lines n
-bad_place components old lines names new i n line d s texts at r e f h refused =
-    let now : SaysStatement (number_of (with_texts names texts)) components line texts s = subst (λ (t : List (List ℕ)). SaysStatement (number_of t) components line texts s) f (h []) in
-    first_bad components lines i n line at e (good_lines components old (take i lines) names d r)
-    (place_bad (number_of (with_texts names texts)) components (take i lines) line r.texts texts (said_in d) s (place_in d) (r.says texts) (draft_run d) now refused)
 
 -- what the table of a read that is refused keeps
 kept_texts : (old table xs : List (List ℕ)) → take (length old) table ≡ old → take (length old) (with_texts table xs) ≡ old

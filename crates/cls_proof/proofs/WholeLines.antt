@@ -1,24 +1,20 @@
 -- The end of the lines: what is said when no line is left.
-use Rattle.std.proofs.Common.{◌≡◌, ℕ, ◌≤◌, List, length, take, sym, subst, Option, Some, None}
+use Rattle.std.proofs.Common.{◌≡◌, ℕ, List, length, sym, subst, Option, Some, None}
 use Rattle.std.specs.Prelude.{Result, false, MatchOption, MatchResult, ⊤}
 use Rattle.std.specs.Option.{ok_or}
 use Rattle.std.specs.List.{list_any, AllByRecursion}
-use Rattle.std.proofs.lemmas.List.{take_all}
 use Rattle.cls_proof.specs.declared.certificate.Certificate as code
 use Rattle.cls_proof.specs.declared.draft.Draft.{Draft}
 use Rattle.cls_proof.specs.declared.proof_fault.ProofFault.{ProofFault}
 use Rattle.cls_proof.specs.declared.proof_fault.ProofFault.TheVariants.{NoQed}
 use Rattle.cls_proof.specs.Drafts.{said_in}
+use Rattle.cls_proof.specs.Chunks.{AreRead}
 use Rattle.cls_proof.specs.Reading.{SaysCertificate, IsProofFault}
 use Rattle.cls_proof.specs.Said.{IsStatementHeld}
 use Rattle.cls_proof.specs.Seen.{certificate_of}
 use Rattle.cls_proof.specs.Statements.{Statement, statements_of, is_qed}
 use Rattle.cls_proof.specs.Texts.{IsHeld}
-use Rattle.cls_proof.proofs.SaidLines.{AreRead, lacks_qed, whole_lines, certificate_held}
-
--- all lines are read
-pub read_whole : (components old lines names : List (List ℕ)) (i : ℕ) (ss : List Statement) → length lines ≤ i → AreRead components old (take i lines) names ss → AreRead components old lines names ss
-read_whole components old lines names i ss l r = subst (λ (ls : List (List ℕ)). AreRead components old ls names ss) (take_all i lines l) r
+use Rattle.cls_proof.proofs.SaidLines.{lacks_qed, whole_lines, certificate_held}
 
 module _ (components old lines names : List (List ℕ)) (d : Draft) where
   abbrev pub Finished : Option code.Certificate → Type 0

@@ -7,6 +7,7 @@ pub mod Drafts
 pub mod Forms
 pub mod Layers
 pub mod Members
+pub mod Chunks
 pub mod ReadOnce
 pub mod Reading
 pub mod RoundTrips

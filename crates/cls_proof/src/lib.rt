@@ -9,6 +9,7 @@
 
 mod block;
 mod certificate;
+mod chunk;
 mod draft;
 pub mod laws;
 mod layer;

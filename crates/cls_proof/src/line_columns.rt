@@ -45,6 +45,13 @@ impl TextLines {
         self.ends.as_slice().len()
     }
 
+    /// The number of bytes that the lines have together.
+    pub(crate) fn bytes(&self) -> usize
+        ensures { result < 2 ^ 63 }
+    {
+        self.column.len()
+    }
+
     /// Puts a line last. The only error is out of memory. Where the lines would have more bytes than a `u32` counts, that is
     /// out of memory too.
     pub(crate) fn push(&mut self, line: &str) -> Result<(), OutOfMemory>
@@ -106,6 +113,13 @@ impl ByteLines {
     {
         // For the prover: a slice has few elements, so the numbers of lines of two columns may be added.
         self.ends.as_slice().len()
+    }
+
+    /// The number of bytes that the lines have together.
+    pub(crate) fn bytes(&self) -> usize
+        ensures { result < 2 ^ 63 }
+    {
+        self.column.len()
     }
 
     /// Puts a line last. The only error is out of memory. Where the lines would have more bytes than a `u32` counts, that is

@@ -1,26 +1,29 @@
-ghost use Rattle.std.specs.Prelude.{◌≡◌, ◌<◌, [], ◌∷◌, ◌++◌, length, slice_index_or, OnOk};
+//! The lines of a certificate, kept until it ends.
+ghost use Rattle.std.specs.Prelude.{◌≡◌, [], ◌∷◌, ◌++◌, IfOk, OnOk};
+ghost use Rattle.cls_proof.specs.Chunks.{lines_in};
 
-use crate::line_columns::{ByteLines, TextLines};
+use crate::chunk::Chunk;
 use cls_base::OutOfMemory;
 use cls_lexer::Line;
 use std::alloc::Global;
 use std::marker::Model;
+use std::mem::replace;
 
-/// Lines, kept one after another in columns, with the place where each ends. They are seen as the list of these lines.
+/// Lines, kept in chunks, so that a chunk is let go once its lines are read. They are seen as the list of these lines.
 #[derive(Drop)]
 pub struct HeldLines {
-    /// The lines before the first that isn't a text. Their bytes needn't be tested again.
-    texts: TextLines,
-    /// The lines from that one on.
-    others: ByteLines,
+    /// The chunks that take no further line.
+    full: Vec<Chunk>,
+    last: Chunk,
 }
 
 impl Model for HeldLines {
     ghost use Rattle.std.specs.Prelude.{ℕ, List, ◌++◌};
+    ghost use Rattle.cls_proof.specs.Chunks.{lines_in};
 
     ghost Value = { List (List ℕ) };
 
-    ghost view = { λ l. l.texts ++ l.others };
+    ghost view = { λ l. lines_in l.full.items ++ l.last };
 }
 
 impl HeldLines {
@@ -29,39 +32,28 @@ impl HeldLines {
         ensures { result ≡ [] }
     {
         HeldLines {
-            texts: TextLines::new(alloc),
-            others: ByteLines::new(alloc),
+            full: Vec::new(alloc),
+            last: Chunk::new(alloc),
         }
     }
 
-    /// The number of lines.
-    pub fn len(&self) -> usize
-        ensures { result ≡ length self.now }
-    {
-        self.texts.len() + self.others.len()
-    }
-
-    /// Puts a line last. The only error is out of memory. Where the lines would have more bytes than a `u32` counts, that is
-    /// out of memory too.
+    /// Puts a line last. The only error is out of memory, and after it lines may be lost.
     pub fn push(&mut self, line: &Line) -> Result<(), OutOfMemory>
         ensures { OnOk result (self.new ≡ self.old ++ line.now ∷ []) }
     {
-        match line.text() {
-            Ok(text) if self.others.len() == 0 => self.texts.push(text),
-            _ => self.others.push(line.as_bytes()),
+        if self.last.is_full_for(line) {
+            let next = Chunk::new(*self.full.allocator());
+            self.full.push(replace(&mut self.last, next))?;
         }
+        self.last.push(line)
     }
 
-    /// The line at a place.
-    pub fn get(&self, i: usize) -> Line<'_>
-        requires { i < length self.now }
-        ensures { result ≡ slice_index_or self.now i [] }
+    /// The chunks that the lines stand in.
+    pub(crate) fn into_chunks(self) -> Result<Vec<Chunk>, OutOfMemory>
+        ensures { IfOk result (λ chunks. lines_in chunks.items ≡ self) }
     {
-        let count = self.texts.len();
-        if i < count {
-            Line::from_text(self.texts.get(i))
-        } else {
-            Line::new(self.others.get(i - count))
-        }
+        let mut chunks = self.full;
+        chunks.push(self.last)?;
+        Ok(chunks)
     }
 }

@@ -159,7 +159,7 @@ impl Serving {
         ensures free { OnOk result (self.new.held ≡ []) }
     {
         match self.held.take() {
-            Some(held) => self.verify(alloc, &held.line, &held.inside),
+            Some(Held { line, inside }) => self.verify(alloc, &line, inside),
             None => Ok(String::new(alloc)),
         }
     }

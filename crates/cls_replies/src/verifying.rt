@@ -17,12 +17,12 @@ impl Serving {
         &mut self,
         alloc: Global,
         line: &Line,
-        certificate: &HeldLines,
+        certificate: HeldLines,
     ) -> Result<String, OutOfMemory>
         requires opens { Opens line.now }
-        requires few { length certificate.now < 2 ^ 32 }
+        requires few { length certificate < 2 ^ 32 }
         ensures verified { IfOk result (λ text.
-            Verified self.old line.now certificate.now (string_bytes text) self.new) }
+            Verified self.old line.now certificate (string_bytes text) self.new) }
         ensures same_held { OnOk result (self.new.held ≡ self.old.held) }
     {
         let goal = match read_query(alloc, &mut self.names, &self.components, line) {

@@ -23,14 +23,14 @@ returns-in-Err-clause-verified c =
     let i = c.self.inside in
     let s = serving_of i.names i.components i.templates i.engine (held_lines i.held) in
     let m = serving_of c.read_query.new.constructors i.components i.templates i.engine (held_lines i.held) in
-    subst (λ (z : Serving). IfOk c.line_fault.result (λ text. Verified z c.args.line.now c.args.certificate.now (string_bytes text) m)) c.self.view_is
-    (IfOk-weaker c.line_fault.result (λ text. option_map error_line (queries.fault_words c.in-Err.fault) ≡ Some (string_bytes text)) (λ text. Verified s c.args.line.now c.args.certificate.now (string_bytes text) m)
+    subst (λ (z : Serving). IfOk c.line_fault.result (λ text. Verified z c.args.line.now c.args.certificate (string_bytes text) m)) c.self.view_is
+    (IfOk-weaker c.line_fault.result (λ text. option_map error_line (queries.fault_words c.in-Err.fault) ≡ Some (string_bytes text)) (λ text. Verified s c.args.line.now c.args.certificate (string_bytes text) m)
     (λ text e. answering.Verified.misread (misreads s m c.args.line.now (string_bytes text) (queries.fault_words c.in-Err.fault) c.in-Err.ensures.fault e
     (λ k. serving_of (c.in-Err.ensures.stay k) i.components i.templates i.engine (held_lines i.held)))) c.line_fault.ensures)
 
 pub judge-requires : goal.judge-requires
 judge-requires c =
-    let h : rows_in (certificate_of c.in-Ok-read_certificate.read) ≤ length c.args.certificate.now = rows_few _ _ _ _ _ c.in-Ok-read_certificate.ensures.exact in
+    let h : rows_in (certificate_of c.in-Ok-read_certificate.read) ≤ length c.args.certificate = rows_few _ _ _ _ _ c.in-Ok-read_certificate.ensures.exact in
     omega (arith, h, c.requires.few)
 
 pub returns-in-Ok-read_certificate-clause-verified : goal.returns-in-Ok-read_certificate-clause-verified
@@ -42,8 +42,8 @@ returns-in-Ok-read_certificate-clause-verified c =
     let t = type_of c.in-Ok-Verify.goal in
     let p = certificate_of c.in-Ok-read_certificate.read in
     let reads : ReadsQuery (tables_in s) c.args.line.now (verify t) m.names = subst (λ (q : Query). ReadsQuery (tables_in s) c.args.line.now q m.names) (ap asked_of c.in-Ok-Verify.field-0-is) c.in-Ok-Verify.ensures.query in
-    subst (λ (z : Serving). IfOk c.judge.result (λ text. Verified z c.args.line.now c.args.certificate.now (string_bytes text) n)) c.self.view_is
-    (IfOk-weaker c.judge.result (λ text. Judges n t p (string_bytes text)) (λ text. Verified s c.args.line.now c.args.certificate.now (string_bytes text) n)
+    subst (λ (z : Serving). IfOk c.judge.result (λ text. Verified z c.args.line.now c.args.certificate (string_bytes text) n)) c.self.view_is
+    (IfOk-weaker c.judge.result (λ text. Judges n t p (string_bytes text)) (λ text. Verified s c.args.line.now c.args.certificate (string_bytes text) n)
     (λ text j. answering.Verified.asked t m (reads, refl) (answering.Verifies.read p c.in-Ok-read_certificate.ensures.exact refl j)) c.judge.ensures)
 
 pub returns-clause-verified : goal.returns-clause-verified
@@ -54,7 +54,7 @@ returns-clause-verified c =
     let n = serving_of c.read_certificate.new.names i.components i.templates i.engine (held_lines i.held) in
     let t = type_of c.in-Ok-Verify.goal in
     let reads : ReadsQuery (tables_in s) c.args.line.now (verify t) m.names = subst (λ (q : Query). ReadsQuery (tables_in s) c.args.line.now q m.names) (ap asked_of c.in-Ok-Verify.field-0-is) c.in-Ok-Verify.ensures.query in
-    subst (λ (z : Serving). IfOk c.proof_fault.result (λ text. Verified z c.args.line.now c.args.certificate.now (string_bytes text) n)) c.self.view_is
-    (IfOk-weaker c.proof_fault.result (λ text. option_map error_line (proof_words c.in-Err-read_certificate.fault) ≡ Some (string_bytes text)) (λ text. Verified s c.args.line.now c.args.certificate.now (string_bytes text) n)
-    (λ text e. answering.Verified.asked t m (reads, refl) (bads m n t c.args.certificate.now (string_bytes text) c.in-Err-read_certificate.fault (proof_words c.in-Err-read_certificate.fault) refl c.in-Err-read_certificate.ensures.exact e
+    subst (λ (z : Serving). IfOk c.proof_fault.result (λ text. Verified z c.args.line.now c.args.certificate (string_bytes text) n)) c.self.view_is
+    (IfOk-weaker c.proof_fault.result (λ text. option_map error_line (proof_words c.in-Err-read_certificate.fault) ≡ Some (string_bytes text)) (λ text. Verified s c.args.line.now c.args.certificate (string_bytes text) n)
+    (λ text e. answering.Verified.asked t m (reads, refl) (bads m n t c.args.certificate (string_bytes text) c.in-Err-read_certificate.fault (proof_words c.in-Err-read_certificate.fault) refl c.in-Err-read_certificate.ensures.exact e
     (λ k. serving_of (c.in-Err-read_certificate.ensures.names_stay k) i.components i.templates i.engine (held_lines i.held)))) c.proof_fault.ensures)
