@@ -35,6 +35,20 @@ impl NumberLists {
         }
     }
 
+    /// No lists, and room for so many, which have so many numbers together. The only error is out of memory.
+    pub fn with_room(
+        alloc: Global,
+        lists: usize,
+        numbers: usize,
+    ) -> Result<NumberLists, OutOfMemory>
+        ensures { IfOk result (λ l. l ≡ []) }
+    {
+        Ok(NumberLists {
+            numbers: Vec::with_capacity(alloc, numbers)?,
+            ends: Vec::with_capacity(alloc, lists)?,
+        })
+    }
+
     /// The same lists once more. The only error is out of memory.
     pub fn copy(&self, alloc: Global) -> Result<NumberLists, OutOfMemory>
         ensures { IfOk result (λ l. l ≡ self.now) }

@@ -129,6 +129,31 @@ fn number_rule<G: Key + Drop>(
     Ok(Some(()))
 }
 
+// The number of arguments of a rule.
+fn arity<G>(rule: &Rule<G>) -> usize
+    ensures { result ≡ length (arguments_of_rule rule.now) }
+{
+    match rule {
+        Rule::Head { component: _, args } => args.as_slice().len(),
+        Rule::Any { left: _, right: _ } => 2,
+    }
+}
+
+// The number of arguments of rules together. The only error is out of memory.
+fn argument_count<G>(rules: &[Rule<G>]) -> Result<usize, OutOfMemory>
+    ensures { IfOk result (λ n. n ≡ length (arguments_in rules.now)) }
+{
+    let mut count: usize = 0;
+    for rule in rules {
+        // More arguments than a number counts take more memory than there is.
+        let Some(sum) = count.checked_add(arity(rule)) else {
+            return Err(OutOfMemory);
+        };
+        count = sum;
+    }
+    Ok(count)
+}
+
 // Rules in numbers, one after the other. None comes if and only if there would be too many rows.
 #[tactic(auto, using(crate::proofs::Insertion::goes_same, crate::proofs::Insertion::goes_on))]
 fn number_rules<G: Key + Drop>(
@@ -147,8 +172,9 @@ fn number_rules<G: Key + Drop>(
     ensures few { IfOk result (λ r. IfSome r (λ _. length rows.new.keys ≤ most)) }
     ensures front { GoesOn rows.old.keys rows.new.keys }
 {
+    let arguments = argument_count(rules)?;
     let mut numbered = Numbered {
-        rules: NodeRules::new(alloc),
+        rules: NodeRules::with_room(alloc, rules.len(), arguments)?,
         arguments: Vec::new(alloc),
     };
     for rule in rules {

@@ -7,7 +7,7 @@ use Rattle.cls_base.specs.Languages.{rules_at}
 use Rattle.cls_base.specs.Lists.{AreBelow}
 use Rattle.cls_core.proofs.Columns.{get-some}
 use Rattle.cls_rulebook.specs.Arguments.{arguments_of_rule}
-use Rattle.cls_grammar.specs.declared.ranking.Waiting.{Waiting}
+use Rattle.cls_grammar.specs.declared.waiting.Waiting.{Waiting}
 use Rattle.cls_grammar.specs.Climbs.{State, with_rank, with_waiting, IsKnown, AllKnown, IsReady, IsKept}
 use Rattle.cls_grammar.proofs.Climbing.{first, arguments-within, argument-within, kept-known, kept-rank-new, kept-waiting}
 use Rattle.cls_rulebook.specs.Books.{HaveNodesBelow}

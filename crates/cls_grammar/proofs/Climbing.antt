@@ -13,7 +13,7 @@ use Rattle.cls_base.proofs.Lists.{Contains-nil, Contains-here, Contains-later, C
 use Rattle.cls_core.proofs.Columns.{get-set-same, get-set-other, get-some}
 use Rattle.cls_rulebook.specs.Arguments.{arguments_of_rule}
 use Rattle.cls_grammar.specs.Ranks.{HasTree, HaveTrees, head_tree, any_tree, no_trees, more_trees, IsRankIn, AreRanks}
-use Rattle.cls_grammar.specs.declared.ranking.Waiting.{Waiting}
+use Rattle.cls_grammar.specs.declared.waiting.Waiting.{Waiting}
 use Rattle.cls_grammar.specs.Climbs.{State, begun, with_rank, waits_at, with_waiting, without_waiting, IsKnown, AllKnown, known_count, wait, node_waits, all_waits, Stands, Waits, IsReady, IsCovered, settled, waits, pending, IsKept}
 use Rattle.cls_grammar.proofs.Trees.{tree_up}
 use Rattle.cls_grammar.specs.Grammars.{BookHasNodesBelow}
@@ -332,14 +332,14 @@ module _ (book : List (List (Rule ℕ))) where
         by i j r e (pending v p q there) = elim (Contains-cases w todo v there) [ inl m ↦ first_one i j r e v p q m | inr m ↦ pending v p q m ]
 
     abbrev now : ℕ → Waiting → List Waiting
-    now a v = waits_at s a ++ v ∷ []
+    now a v = v ∷ waits_at s a
 
     -- the rule waits for an argument that isn't known
     pub kept-waiting : (p a : ℕ) (v : Waiting) → v.node ≡ w.node → v.rule ≡ w.rule → v.argument ≡ p → slice_get (arguments_of_rule first.stands.rule) p ≡ Some a → AllKnown s.ranks height (take p (arguments_of_rule first.stands.rule)) → (IsKnown s.ranks height a → ⊥) → a < length s.waiting → IsKept book done height todo (with_waiting s a v)
     kept-waiting p a v same_node same_rule same_place at before unknown less = record {
       few = k.few;
       sized = k.sized;
-      queues = length-set s.waiting a (waits_at s a ++ v ∷ []) ∙ k.queues;
+      queues = length-set s.waiting a (v ∷ waits_at s a) ∙ k.queues;
       counted = k.counted;
       passed = k.passed;
       deep = k.deep;
@@ -369,15 +369,15 @@ module _ (book : List (List (Rule ℕ))) where
         waiting_by n u m (inr d) = k.waiting n u (subst (λ l. Contains l u) (waits-other s a n (now a v) d) m)
         waiting_by n u m (inl e) =
             let there : Contains (now a v) u = subst (λ l. Contains l u) (waits-same s a (now a v) less) (subst (λ x. Contains (get_or (set s.waiting a (now a v)) x []) u) e m) in
-            subst (Waits book s.ranks height u) (sym e) (old_or_new u (Contains-append_cases (waits_at s a) (v ∷ []) u there))
+            subst (Waits book s.ranks height u) (sym e) (old_or_new u (Contains-cases v (waits_at s a) u there))
           where
-            old_or_new : (u : Waiting) → Contains (waits_at s a) u ⊎ Contains (v ∷ []) u → Waits book s.ranks height u a
-            old_or_new u (inl h) = k.waiting a u h
-            old_or_new u (inr h) = elim (Contains-cases v [] u h) [ inl f ↦ subst (λ x. Waits book s.ranks height x a) (sym f) waits_new | inr f ↦ absurd (Contains-nil u f) ]
+            old_or_new : (u : Waiting) → (u ≡ v) ⊎ Contains (waits_at s a) u → Waits book s.ranks height u a
+            old_or_new u (inl f) = subst (λ x. Waits book s.ranks height x a) (sym f) waits_new
+            old_or_new u (inr h) = k.waiting a u h
 
         stays : (n : ℕ) (u : Waiting) → Contains (waits_at s n) u → (n ≡ a) ⊎ (n ≢ a) → Contains (get_or (set s.waiting a (now a v)) n []) u
         stays n u m (inr d) = subst (λ l. Contains l u) (sym (waits-other s a n (now a v) d)) m
-        stays n u m (inl e) = subst (λ x. Contains (get_or (set s.waiting a (now a v)) x []) u) (sym e) (subst (λ l. Contains l u) (sym (waits-same s a (now a v) less)) (Contains-append_left (waits_at s a) (v ∷ []) u (subst (λ x. Contains (waits_at s x) u) e m)))
+        stays n u m (inl e) = subst (λ x. Contains (get_or (set s.waiting a (now a v)) x []) u) (sym e) (subst (λ l. Contains l u) (sym (waits-same s a (now a v) less)) (Contains-later u v (waits_at s a) (subst (λ x. Contains (waits_at s x) u) e m)))
 
         unpassed : (q : ℕ) → q < done → slice_get s.known q ≢ Some a
         unpassed q l e = let u = k.listed q a e in unknown (u.0, u.1, k.low q a u.0 l e u.1)
@@ -387,7 +387,7 @@ module _ (book : List (List (Rule ℕ))) where
         by i j r e (waits n u p q m f) = waits n u p q (stays n u m (equal-or-not n a)) f
         by i j r e (pending u p q there) = elim (Contains-cases w todo u there) [
           | inr m ↦ pending u p q m
-          | inl m ↦ waits a v (same_node ∙ (ap (λ (x : Waiting). x.node) (sym m) ∙ p)) (same_rule ∙ (ap (λ (x : Waiting). x.rule) (sym m) ∙ q)) (subst (λ l. Contains l v) (sym (waits-same s a (now a v) less)) (Contains-append_right (waits_at s a) (v ∷ []) v (Contains-here v []))) unpassed
+          | inl m ↦ waits a v (same_node ∙ (ap (λ (x : Waiting). x.node) (sym m) ∙ p)) (same_rule ∙ (ap (λ (x : Waiting). x.rule) (sym m) ∙ q)) (subst (λ l. Contains l v) (sym (waits-same s a (now a v) less)) (Contains-here v (waits_at s a))) unpassed
         ]
 
   -- the next node has its turn

@@ -7,3 +7,4 @@ pub mod PrintedRows
 pub mod RowColumns
 pub mod Trees
 pub mod Trims
+pub mod Waits

@@ -4,7 +4,7 @@ use Rattle.cls_base.specs.declared.rule.Rule.{Rule}
 use Rattle.cls_base.specs.Languages.{NodeRule, rules_at}
 use Rattle.cls_rulebook.specs.Arguments.{arguments_of_rule}
 use Rattle.cls_grammar.specs.Ranks.{HasTree}
-use Rattle.cls_grammar.specs.declared.ranking.Waiting.{Waiting}
+use Rattle.cls_grammar.specs.declared.waiting.Waiting.{Waiting}
 
 -- the rank of each node if it is known, the nodes in the order in which it became known, and the rules that wait for
 -- each node
@@ -25,7 +25,7 @@ waits_at s node = slice_index_or s.waiting node []
 
 abbrev pub with_waiting : State → ℕ → Waiting → State
 with_waiting s node w =
-    record { ranks = s.ranks; known = s.known; waiting = slice_set s.waiting node (waits_at s node ++ w ∷ []) }
+    record { ranks = s.ranks; known = s.known; waiting = slice_set s.waiting node (w ∷ waits_at s node) }
 
 abbrev pub without_waiting : State → ℕ → State
 without_waiting s node = record { ranks = s.ranks; known = s.known; waiting = slice_set s.waiting node [] }

@@ -14,6 +14,7 @@ mod numbering;
 mod printing;
 mod ranking;
 mod trimming;
+mod waiting;
 
 pub use columns::{Flags, Ranks};
 pub use fault::GrammarFault;

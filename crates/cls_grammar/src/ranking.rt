@@ -12,57 +12,11 @@ ghost use Rattle.cls_grammar.specs.Ranks.{AreRanks, AreProductive};
 ghost use Rattle.cls_grammar.specs.Climbs.{IsKnown, AllKnown};
 
 use crate::columns::Flags;
+use crate::waiting::{Queue, Waiting, WaitingLists};
 use cls_base::OutOfMemory;
 use cls_rulebook::{RuleBook, RuleRef};
 use std::alloc::Global;
 use std::marker::Model;
-use std::mem;
-
-/// A rule of a node that waits for one of its arguments.
-#[derive(Clone, Copy, Drop)]
-pub(crate) struct Waiting {
-    pub(crate) node: u32,
-    pub(crate) rule: u32,
-    pub(crate) argument: u32,
-}
-
-/// Rules that wait, seen as the list of them.
-#[derive(Drop)]
-pub(crate) struct Queue {
-    items: Vec<Waiting>,
-}
-
-impl Model for Queue {
-    ghost use Rattle.std.specs.Prelude.{List};
-    ghost use Rattle.cls_grammar.specs.declared.ranking.Waiting.{Waiting};
-
-    ghost Value = { List Waiting };
-
-    ghost view = { λ q. q.items.items };
-}
-
-impl Queue {
-    fn new(alloc: Global) -> Queue
-        ensures { result ≡ [] }
-    {
-        Queue {
-            items: Vec::new(alloc),
-        }
-    }
-
-    fn push(&mut self, waiting: Waiting) -> Result<(), OutOfMemory>
-        ensures { OnOk result (self.new ≡ self.old ++ waiting ∷ []) }
-    {
-        self.items.push(waiting)?;
-        Ok(())
-    }
-
-    fn as_slice(&self) -> &[Waiting]
-        ensures { result.now ≡ self.now }
-    {
-        self.items.as_slice()
-    }
-}
 
 /// How far the ranks are known.
 #[derive(Drop)]
@@ -72,7 +26,7 @@ pub(crate) struct Climb {
     // The nodes whose rank is known, in the order in which it became known.
     known: Vec<u32>,
     // The rules that wait for each node.
-    waiting: Vec<Queue>,
+    waiting: WaitingLists,
 }
 
 impl Model for Climb {
@@ -80,7 +34,7 @@ impl Model for Climb {
 
     ghost Value = { State };
 
-    ghost view = { λ c. record { ranks = c.ranks.items; known = c.known.items; waiting = c.waiting.items } };
+    ghost view = { λ c. record { ranks = c.ranks.items; known = c.known.items; waiting = c.waiting } };
 }
 
 // Whether the rank of the node is known and no more than the height.
@@ -119,7 +73,7 @@ fn first_unknown(
 }
 
 impl Climb {
-    ghost use Rattle.cls_grammar.specs.declared.ranking.Waiting.{Waiting};
+    ghost use Rattle.cls_grammar.specs.declared.waiting.Waiting.{Waiting};
     ghost use Rattle.cls_grammar.specs.Climbs.{State, IsKept, begun, with_rank, with_waiting, without_waiting, waits_at, node_waits, all_waits};
 
     // Nothing is known.
@@ -127,15 +81,13 @@ impl Climb {
         ensures { IfOk result (λ climb. climb ≡ begun count) }
     {
         let mut ranks = Vec::with_capacity(alloc, count as usize)?;
-        let mut waiting = Vec::with_capacity(alloc, count as usize)?;
         for _ in 0..count {
             ranks.push(None)?;
-            waiting.push(Queue::new(alloc))?;
         }
         Ok(Climb {
             ranks,
             known: Vec::new(alloc),
-            waiting,
+            waiting: WaitingLists::new(alloc, count)?,
         })
     }
 
@@ -178,18 +130,16 @@ impl Climb {
         requires { node < length self.old.waiting }
         ensures { OnOk result (self.new ≡ with_waiting self.old node waiting) }
     {
-        let queue = &mut self.waiting[node as usize];
-        queue.push(waiting)?;
-        Ok(())
+        self.waiting.push(node, waiting)
     }
 
-    // The rules that wait for the node, which no longer do.
-    fn take_waiting(&mut self, alloc: Global, node: u32) -> Queue
+    // The rules that wait for the node, which no longer do, in place of those in the queue.
+    fn take_waiting(&mut self, node: u32, queue: &mut Queue) -> Result<(), OutOfMemory>
         requires { node < length self.old.waiting }
-        ensures result { result ≡ waits_at self.old node }
-        ensures after { self.new ≡ without_waiting self.old node }
+        ensures queue { OnOk result (queue.new ≡ waits_at self.old node) }
+        ensures after { OnOk result (self.new ≡ without_waiting self.old node) }
     {
-        mem::replace(&mut self.waiting[node as usize], Queue::new(alloc))
+        self.waiting.take(node, queue)
     }
 
     // The node has a derivation tree that is one higher than the height. Where its rank isn't known, it is this.
@@ -304,17 +254,17 @@ impl Climb {
     // The rules that wait for the node, which became known at the place, go on.
     fn rise<B: RuleBook>(
         &mut self,
-        alloc: Global,
         book: &B,
         place: usize,
         node: u32,
+        queue: &mut Queue,
     ) -> Result<(), OutOfMemory>
         requires node { slice_get self.old.known place ≡ Some node }
         requires kept { (height : ℕ) × IsKept (B.book book.now) place height [] self.old }
         ensures { OnOk result ((height : ℕ) × IsKept (B.book book.now) (place + 1) height [] self.new) }
     {
         let height = self.rank(node);
-        let queue = self.take_waiting(alloc, node);
+        self.take_waiting(node, queue)?;
         self.advance_all(book, queue.as_slice(), height)?;
         Ok(())
     }
@@ -340,9 +290,10 @@ pub(crate) fn ranks_of<B: RuleBook>(
 {
     let mut climb = Climb::begin(alloc, book.count())?;
     climb.start(book)?;
+    let mut queue = Queue::new(alloc);
     let mut place = 0;
     while let Some(node) = climb.known_at(place) {
-        climb.rise(alloc, book, place, node)?;
+        climb.rise(book, place, node, &mut queue)?;
         place += 1;
     }
     Ok(climb.into_ranks())

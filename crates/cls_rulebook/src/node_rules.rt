@@ -39,6 +39,20 @@ impl NodeRules {
         }
     }
 
+    /// No rules, and room for so many, which have so many arguments together. The only error is out of memory.
+    pub fn with_room(
+        alloc: Global,
+        rules: usize,
+        arguments: usize,
+    ) -> Result<NodeRules, OutOfMemory>
+        ensures { IfOk result (λ r. r ≡ []) }
+    {
+        Ok(NodeRules {
+            heads: Vec::with_capacity(alloc, rules)?,
+            args: NumberLists::with_room(alloc, rules, arguments)?,
+        })
+    }
+
     /// The same rules once more. The only error is out of memory.
     pub fn copy(&self, alloc: Global) -> Result<NodeRules, OutOfMemory>
         ensures { IfOk result (λ r. r ≡ self.now) }

@@ -1,5 +1,5 @@
 use Rattle.std.proofs.Common.{◌+◌, drop, subst}
-use Rattle.cls_grammar.specs.declared.ranking.Waiting.{Waiting}
+use Rattle.cls_grammar.specs.declared.waiting.Waiting.{Waiting}
 use Rattle.cls_grammar.specs.Climbs.{IsKept}
 use Rattle.cls_grammar.proofs.ranking.Climb.advance_all.Goals as goal
 use Rattle.cls_grammar.proofs.Climbing.{drop-front, drop-end}

@@ -7,8 +7,8 @@ use Rattle.cls_grammar.proofs.Climbing.{kept-next}
 pub rank-height-requires : goal.rank-height-requires
 rank-height-requires g c = let u = c.requires.kept.1.listed c.args.place c.args.node c.requires.node in (u.0, u.1)
 
-pub take_waiting-queue-requires : goal.take_waiting-queue-requires
-take_waiting-queue-requires g c = omega (arith, c.requires.kept.1.queues, c.requires.kept.1.sized, slice_get_within c.args.self.now.ranks c.args.node (Some c.rank-height.result) c.rank-height.ensures)
+pub take_waiting-requires : goal.take_waiting-requires
+take_waiting-requires g c = omega (arith, c.requires.kept.1.queues, c.requires.kept.1.sized, slice_get_within c.args.self.now.ranks c.args.node (Some c.rank-height.result) c.rank-height.ensures)
 
 pub advance_all-requires : goal.advance_all-requires
 advance_all-requires g c =
@@ -16,8 +16,8 @@ advance_all-requires g c =
     let old = c.args.self.now in
     let rank = c.rank-height.result in
     let next = kept-next book c.args.place c.requires.kept.0 c.args.node rank old c.requires.kept.1 c.requires.node c.rank-height.ensures in
-    let queue = subst (λ l. IsKept book (c.args.place + 1) rank l (without_waiting old c.args.node)) (sym (c.as_slice.ensures ∙ c.take_waiting-queue.ensures.result)) next in
-    (c.args.place + 1, subst (λ s. IsKept book (c.args.place + 1) rank c.as_slice.result.now s) (sym c.take_waiting-queue.ensures.after) queue)
+    let queue = subst (λ l. IsKept book (c.args.place + 1) rank l (without_waiting old c.args.node)) (sym (c.as_slice.ensures ∙ c.in_ok-take_waiting.ensures.queue)) next in
+    (c.args.place + 1, subst (λ s. IsKept book (c.args.place + 1) rank c.as_slice.result.now s) (sym c.in_ok-take_waiting.ensures.after) queue)
 
 pub returns : goal.returns
 returns g c =
@@ -25,5 +25,5 @@ returns g c =
     let old = c.args.self.now in
     let rank = c.rank-height.result in
     let next = kept-next book c.args.place c.requires.kept.0 c.args.node rank old c.requires.kept.1 c.requires.node c.rank-height.ensures in
-    let queue = subst (λ l. IsKept book (c.args.place + 1) rank l (without_waiting old c.args.node)) (sym (c.as_slice.ensures ∙ c.take_waiting-queue.ensures.result)) next in
-    (rank, c.in_ok-advance_all.ensures (c.args.place + 1) (subst (λ s. IsKept book (c.args.place + 1) rank c.as_slice.result.now s) (sym c.take_waiting-queue.ensures.after) queue))
+    let queue = subst (λ l. IsKept book (c.args.place + 1) rank l (without_waiting old c.args.node)) (sym (c.as_slice.ensures ∙ c.in_ok-take_waiting.ensures.queue)) next in
+    (rank, c.in_ok-advance_all.ensures (c.args.place + 1) (subst (λ s. IsKept book (c.args.place + 1) rank c.as_slice.result.now s) (sym c.in_ok-take_waiting.ensures.after) queue))
