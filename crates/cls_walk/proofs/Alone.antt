@@ -1,4 +1,4 @@
--- The ways in which a term of one node alone comes to a rest.
+-- The ways in which a term of one node alone comes to a rest, and those of a list of two nodes.
 use Rattle.std.proofs.Common.{◌≡◌, ℕ, ◌-◌, ◌^◌, ◌<◌, ◌≤◌, min, List, [], ◌∷◌, ◌++◌, length, sym, ap, ◌∙◌, subst, arith}
 use Rattle.cls_walk.specs.Counts.{ways}
 use Rattle.cls_walk.specs.Tables.{capped, AreWays}
@@ -17,6 +17,10 @@ one-whole count n x r q l = small-capped x l ∙ ap capped (q ∙ sym (ways-one 
 pub one-of : (count : ℕ → ℕ → ℕ) (ns : List ℕ) (n : ℕ) (others : List ℕ) (x r : ℕ) → ns ≡ n ∷ others → length others ≡ 0 → x ≡ count r n → x < 2 ^ 64 → x ≡ capped (ways count ns r)
 one-of count ns n [] x r p z q l = one-whole count n x r q l ∙ ap (λ (ms : List ℕ). capped (ways count ms r)) (sym p)
 one-of count ns n (m ∷ ms) x r p z q l = absurd (omega (arith, z))
+
+pub two-of : (count : ℕ → ℕ → ℕ) (ns : List ℕ) (n m : ℕ) (others further : List ℕ) (x r : ℕ) → ns ≡ n ∷ others → others ≡ m ∷ further → length further ≡ 0 → x ≡ capped (ways count (n ∷ m ∷ []) r) → x ≡ capped (ways count ns r)
+two-of count ns n m others [] x r p q z e = e ∙ ap (λ (ms : List ℕ). capped (ways count (n ∷ ms) r)) (sym q) ∙ ap (λ (ms : List ℕ). capped (ways count ms r)) (sym p)
+two-of count ns n m others (k ∷ ks) x r p q z e = absurd (omega (arith, z))
 
 -- one more rest of one node alone
 pub one-push : (count : ℕ → ℕ → ℕ) (n : ℕ) (list new : List ℕ) (x r : ℕ) → length list ≡ r → x ≡ count r n → x < 2 ^ 64 → new ≡ list ++ x ∷ [] → AreWays count (n ∷ []) list → AreWays count (n ∷ []) new

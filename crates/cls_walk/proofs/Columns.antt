@@ -1,14 +1,17 @@
 -- Steps of making the column of one size.
-use Rattle.std.proofs.Common.{◌≡◌, ℕ, ◌+◌, ◌<◌, List, [], ◌∷◌, ◌++◌, length, take, sym, ap, ◌∙◌, subst, inl, inr, arith}
-use Rattle.std.specs.Prelude.{Some, slice_get, slice_index}
+use Rattle.std.proofs.Common.{◌≡◌, ℕ, ◌+◌, ◌-◌, ◌<◌, ◌≤◌, List, [], ◌∷◌, ◌++◌, length, take, refl, sym, ap, ◌∙◌, subst, inl, inr, arith}
+use Rattle.std.specs.Prelude.{Some, slice_get, slice_index, nat_le}
+use Rattle.std.proofs.lemmas.Bool.Decides.{nat_tests}
 use Rattle.std.proofs.lemmas.Bool.{cases_lt}
 use Rattle.std.proofs.lemmas.List.{take_more, get_or_past}
 use Rattle.std.proofs.lemmas.Option.{get_or_from_slice_get, slice_get_within}
 use Rattle.cls_base.specs.declared.rule.Rule.{Rule}
+use Rattle.cls_base.specs.declared.rule.Rule.TheVariants.{Head, Any}
 use Rattle.cls_base.specs.Languages.{rules_at}
-use Rattle.cls_walk.specs.Counts.{rule_ways, all_ways}
+use Rattle.cls_walk.specs.Counts.{ways, head_ways, rule_ways, all_ways}
 use Rattle.cls_walk.specs.Tables.{capped}
 use Rattle.cls_walk.proofs.Capped.{capped-plus, get-push, get-last}
+use Rattle.cls_walk.proofs.Counts.{chosen}
 
 all_ways-push : (count : ℕ → ℕ → ℕ) (cost : ℕ → ℕ) (s : ℕ) (rs : List (Rule ℕ)) (r : Rule ℕ) → all_ways count cost s (rs ++ r ∷ []) ≡ all_ways count cost s rs + rule_ways count cost s r
 all_ways-push count cost s [] r = omega arith
@@ -46,3 +49,19 @@ column-whole f book column i z e d h n = elim (cases_lt n i) [
       let c : capped 0 ≡ 0 = omega arith in
       a ∙ sym c ∙ ap capped (sym z) ∙ ap (λ (rs : List (Rule ℕ)). capped (f rs)) (sym b)
 ]
+
+-- no rule makes a term of size 0
+none-at-0 : (count : ℕ → ℕ → ℕ) (cost : ℕ → ℕ) → ((x : ℕ) → 1 ≤ cost x) → (rs : List (Rule ℕ)) → all_ways count cost 0 rs ≡ 0
+none-at-0 count cost positive [] = refl
+none-at-0 count cost positive (Head x ns ∷ rs) =
+    let p = positive x in
+    let a : head_ways count cost 0 (x, ns) ≡ 0 = chosen (λ (n : ℕ). n ≡ 0) (nat_le (cost x) 0) (ways count ns (0 - cost x)) 0 (λ q. absurd (grind (arith, nat_tests))) (λ q. refl) in
+    let b = none-at-0 count cost positive rs in
+    omega (arith, a, b)
+none-at-0 count cost positive (Any l m ∷ rs) = let b = none-at-0 count cost positive rs in omega (arith, b)
+
+pub column-none : (count : ℕ → ℕ → ℕ) (cost : ℕ → ℕ) (s : ℕ) (book : List (List (Rule ℕ))) (column : List ℕ) → ((x : ℕ) → 1 ≤ cost x) → s ≡ 0 → column ≡ [] → (n : ℕ) → slice_index column n ≡ capped (all_ways count cost s (rules_at book n))
+column-none count cost s book column positive z p n =
+    let P : ℕ → Type 0 = λ k. 0 ≡ capped (all_ways count cost k (rules_at book n)) in
+    let e = none-at-0 count cost positive (rules_at book n) in
+    ap (λ (xs : List ℕ). slice_index xs n) p ∙ get_or_past [] n 0 (omega arith) ∙ subst P (sym z) (omega (arith, e))

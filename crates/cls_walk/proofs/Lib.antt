@@ -1,4 +1,5 @@
 pub mod Alone
+pub mod ApartCounts
 pub mod Attempts
 pub mod Building
 pub mod Capped

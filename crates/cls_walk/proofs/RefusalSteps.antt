@@ -9,7 +9,7 @@ use Rattle.cls_base.specs.Pages.{Request}
 use Rattle.cls_enum.specs.States.{ExceedsPool}
 use Rattle.cls_walk.specs.Counts.{total_below, with_size, up_below, lo_below, all_ways, sure_ways, up_to_64}
 use Rattle.cls_walk.specs.Orders.{IsOrdered}
-use Rattle.cls_walk.specs.Tables.{capped, number_at, Holds}
+use Rattle.cls_walk.specs.Tables.{capped, number_at}
 use Rattle.cls_walk.specs.Totals.{total_made, total_held, total_due, cursor_size}
 use Rattle.cls_walk.proofs.Capped.{total-same, total-step, capped-total}
 use Rattle.cls_walk.proofs.Counts.{chosen, chosen_both}
@@ -38,10 +38,10 @@ module _ (book : List (List (Rule ℕ))) (cost : ℕ → ℕ) (s : ℕ) where
   due-before from = total-same s (λ t. if nat_le from t then up_below book cost (s + 1) t 0 else 0) (λ t. if nat_le from t then up_below book cost s t 0 else 0) (λ t l.
       chosen_both (λ (a b : ℕ). a ≡ b) (nat_le from t) (up_below book cost (s + 1) t 0) 0 (up_below book cost s t 0) 0 (λ p. up-before t 0 l) (λ p. refl))
 
-  pub made-step : (width made x new : ℕ) (table : List (List ℕ)) → Holds (lo_below book cost (s + 1)) (s + 1) table → made ≡ capped (total_made (lo_below book cost s) width s) → x ≡ capped (total_below width (λ n. number_at table s n)) → new ≡ capped (made + x) → new ≡ capped (total_made (lo_below book cost (s + 1)) width (s + 1))
+  pub made-step : (width made x new : ℕ) (table : List (List ℕ)) → ((n : ℕ) → number_at table s n ≡ capped (lo_below book cost (s + 1) s n)) → made ≡ capped (total_made (lo_below book cost s) width s) → x ≡ capped (total_below width (λ n. number_at table s n)) → new ≡ capped (made + x) → new ≡ capped (total_made (lo_below book cost (s + 1)) width (s + 1))
   made-step width made x new table h p q r =
       let f : ℕ → ℕ = λ t. total_below width (λ n. lo_below book cost (s + 1) t n) in
-      let e : x ≡ capped (f s) = q ∙ capped-total width (λ n. number_at table s n) (λ n. lo_below book cost (s + 1) s n) (λ n l. ap capped (h.1 s n) ∙ capped-twice (lo_below book cost (s + 1) s n)) in
+      let e : x ≡ capped (f s) = q ∙ capped-total width (λ n. number_at table s n) (λ n. lo_below book cost (s + 1) s n) (λ n l. ap capped (h n) ∙ capped-twice (lo_below book cost (s + 1) s n)) in
       total-step s made new f (p ∙ ap capped (sym (made-before width))) (r ∙ ap (λ (k : ℕ). capped (made + k)) e)
 
   pub due-step : (from due x new : ℕ) (table : List (List ℕ)) → number_at table s 0 ≡ capped (up_below book cost (s + 1) s 0) → due ≡ capped (total_due (up_below book cost s) from s) → x ≡ (if nat_le from s then number_at table s 0 else 0) → new ≡ capped (due + x) → new ≡ capped (total_due (up_below book cost (s + 1)) from (s + 1))
@@ -64,13 +64,13 @@ few-of m due total take p l k = omega arith
 over-of : (m pool made x value a b : ℕ) → made ≡ min a m → x ≡ min b m → value ≡ min (made + x) m → pool < value → pool < a + b
 over-of m pool made x value a b p q r l = omega arith
 
-pub refused-here : (book : List (List (Rule ℕ))) (r : Request) → 0 < length book → ((x : ℕ) → 1 ≤ r.cost x) → IsOrdered book → (s pool made due x value : ℕ) (table : List (List ℕ)) → s ≤ r.max → Holds (lo_below book r.cost (s + 1)) (s + 1) table → made ≡ capped (total_made (lo_below book r.cost s) (length book) s) → due ≡ capped (total_due (up_below book r.cost s) (cursor_size r.cost r.after) s) → due ≤ r.take → r.take < 2 ^ 32 → x ≡ number_at table s 0 → value ≡ capped (made + x) → pool < value → ExceedsPool book r pool
+pub refused-here : (book : List (List (Rule ℕ))) (r : Request) → 0 < length book → ((x : ℕ) → 1 ≤ r.cost x) → IsOrdered book → (s pool made due x value : ℕ) (table : List (List ℕ)) → s ≤ r.max → number_at table s 0 ≡ capped (lo_below book r.cost (s + 1) s 0) → made ≡ capped (total_made (lo_below book r.cost s) (length book) s) → due ≡ capped (total_due (up_below book r.cost s) (cursor_size r.cost r.after) s) → due ≤ r.take → r.take < 2 ^ 32 → x ≡ number_at table s 0 → value ≡ capped (made + x) → pool < value → ExceedsPool book r pool
 refused-here book r some positive ordered s pool made due x value table m h p q few small e v over =
     let cap = 2 ^ 64 - 1 in
     let a : total_due (up_below book r.cost (s + 1)) (cursor_size r.cost r.after) s ≤ r.take =
     let z = few-of cap due (total_due (up_below book r.cost s) (cursor_size r.cost r.after) s) r.take q few (omega arith) in
     omega (arith, z, due-before book r.cost s (cursor_size r.cost r.after)) in
     let b : pool < total_made (lo_below book r.cost s) (length book) s + lo_below book r.cost (s + 1) s 0 =
-    over-of cap pool made x value (total_made (lo_below book r.cost s) (length book) s) (lo_below book r.cost (s + 1) s 0) p (e ∙ h.1 s 0) v over in
+    over-of cap pool made x value (total_made (lo_below book r.cost s) (length book) s) (lo_below book r.cost (s + 1) s 0) p (e ∙ h) v over in
     let c : pool < total_held (lo_below book r.cost (s + 1)) (length book) s = omega (arith, b, made-before book r.cost s (length book)) in
     refused book r positive (s + 1) some ordered s (omega arith) m pool a c

@@ -1,3 +1,4 @@
+pub mod Apart
 pub mod Attempts
 pub mod Bounds
 pub mod Counts

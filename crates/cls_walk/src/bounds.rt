@@ -1,5 +1,5 @@
 //! Bounds of the numbers of terms by size and node, by arithmetic over those of smaller terms.
-ghost use Rattle.std.specs.Prelude.{◌+◌, ◌<◌, ◌^◌, OnOk};
+ghost use Rattle.std.specs.Prelude.{ℕ, ◌+◌, ◌<◌, ◌≤◌, ◌^◌, OnOk};
 ghost use Rattle.cls_term.specs.Costs.{cost_of};
 ghost use Rattle.cls_walk.specs.Bounds.{HasLower, HasUpper};
 
@@ -20,6 +20,7 @@ pub(crate) fn add_upper<B: RuleBook>(
     size: u32,
 ) -> Result<(), OutOfMemory>
     requires small { size < 2 ^ 31 }
+    requires costs { (x : ℕ) → 1 ≤ cost_of costs.now x }
     requires upper { HasUpper (B.book book.now) (cost_of costs.now) size table.old }
     ensures { OnOk result (HasUpper (B.book book.now) (cost_of costs.now) (size + 1) table.new) }
 {

@@ -46,6 +46,39 @@ fn repeat_of(node: u32, rules: &NodeRules) -> Option<Option<u32>>
     Some(repeat)
 }
 
+/// Whether each head rule has a later component than the one before it, or the same one and more arguments. Else the
+/// forms don't rise.
+fn heads_rise(rules: &NodeRules) -> bool {
+    let mut component = 0;
+    let mut least = 0;
+    for place in 0..rules.len() {
+        let rule = rules.get(place);
+        if let RuleRef::Head {
+            component: next,
+            args,
+        } = rule
+        {
+            if next < component || (next == component && args.len() < least) {
+                return false;
+            }
+            component = next;
+            least = args.len().saturating_add(1);
+        }
+    }
+    true
+}
+
+/// Whether the book is as the head of this file says, and the forms of each node may rise, told before any is made.
+fn may_rise<B: RuleBook>(book: &B) -> bool {
+    for node in 0..book.count() {
+        let rules = book.rules(node);
+        if repeat_of(node, rules).is_none() || !heads_rise(rules) {
+            return false;
+        }
+    }
+    true
+}
+
 /// A head rule with so many arguments of a node more. A form of 2^32 arguments is refused as out of memory.
 fn form_with(
     alloc: Global,
@@ -155,6 +188,9 @@ pub(crate) fn forms_of<B: RuleBook>(
 ) -> Result<Option<Forms>, OutOfMemory>
     ensures { IfOk result (λ answer. IfSome answer (λ forms. AreFormsUpTo (B.book book.now) size forms)) }
 {
+    if !may_rise(book) {
+        return Ok(None);
+    }
     let mut nodes = Vec::new(alloc);
     for node in 0..book.count() {
         let rules = book.rules(node);

@@ -1,5 +1,5 @@
 //! Upper bounds, size after size, until they tell how far a walk has to go, or that it may hold too many terms.
-ghost use Rattle.std.specs.Prelude.{◌≡◌, true, ◌+◌, ◌≤◌, ◌<◌, ◌^◌, IfOk, IfSome, OnOk, option_copied};
+ghost use Rattle.std.specs.Prelude.{◌≡◌, ℕ, true, ◌+◌, ◌≤◌, ◌<◌, ◌^◌, IfOk, IfSome, OnOk, option_copied};
 ghost use Rattle.cls_base.specs.Limits.{max_term_length};
 ghost use Rattle.cls_base.specs.Terms.{length_of};
 ghost use Rattle.cls_term.specs.Costs.{cost_of};
@@ -35,6 +35,7 @@ pub(crate) fn count<B: RuleBook>(
     last: u32,
 ) -> Result<Counted, OutOfMemory>
     requires last { last ≤ max_term_length }
+    requires costs { (x : ℕ) → 1 ≤ cost_of costs.now x }
     requires token { IfSome (option_copied after) (λ a. length_of a < 2 ^ 32) }
     ensures within { IfOk result (λ counted. counted.last ≤ last) }
     ensures table { IfOk result (λ counted.
@@ -67,6 +68,7 @@ pub(crate) fn reach<B: RuleBook>(
 ) -> Result<(), OutOfMemory>
     requires small { size < 2 ^ 31 }
     requires next { size ≤ counted.old.last + 1 }
+    requires costs { (x : ℕ) → 1 ≤ cost_of costs.now x }
     requires upper { HasUpper (B.book book.now) (cost_of costs.now) (counted.old.last + 1) counted.old.table }
     ensures reached { OnOk result (size ≤ counted.new.last) }
     ensures upper { OnOk result

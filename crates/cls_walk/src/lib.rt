@@ -12,6 +12,7 @@
 
 mod aiming;
 mod aims;
+mod apart;
 mod attempt;
 mod begin;
 mod bounds;

@@ -13,7 +13,6 @@ use crate::attempt::walk_page;
 use crate::counted::{Counted, count, is_within};
 use crate::ends::last_size;
 use crate::exact::exact_page;
-use crate::order::is_ordered;
 use crate::refusal::is_refused;
 use cls_base::Numbers;
 use cls_base::limits::MAX_TERM_LENGTH;
@@ -90,9 +89,7 @@ fn walked<B: RuleBook>(
         if page.is_some() || counted.last == MAX_TERM_LENGTH as u32 {
             return Ok(page);
         }
-    } else if is_ordered(book)
-        && is_refused(alloc, book, costs, after, max_size, take, pool, counted)?
-    {
+    } else if is_refused(alloc, book, costs, after, max_size, take, pool, counted)? {
         return Err(PageFault::TooManyTerms);
     }
     exact_page(alloc, book, costs, after, max_size, take, pool)

@@ -111,7 +111,7 @@ fn add_head<'a>(heads: &mut Vec<Head<'a>>, rule: RuleRef<'a>) -> Result<(), OutO
 fn heads_in<'a>(alloc: Global, rules: &'a NodeRules) -> Result<Vec<Head<'a>>, OutOfMemory>
     ensures { IfOk result (λ heads. map head_of heads.items ≡ heads_of rules.now) }
 {
-    let mut heads = Vec::new(alloc);
+    let mut heads = Vec::with_capacity(alloc, rules.len())?;
     for place in 0..rules.len() {
         let rule = rules.get(place);
         add_head(&mut heads, rule)?;

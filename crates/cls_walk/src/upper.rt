@@ -1,6 +1,7 @@
 //! The upper bound of the number of terms of a node and size: in how many ways its rules make one.
-ghost use Rattle.std.specs.Prelude.{◌≡◌, [], IfOk};
+ghost use Rattle.std.specs.Prelude.{◌≡◌, ◌≤◌, ℕ, [], IfOk};
 ghost use Rattle.cls_rulebook.specs.Columns.{rule_of};
+ghost use Rattle.cls_term.specs.Costs.{cost_of};
 ghost use Rattle.cls_walk.specs.Stages.{head_count, rule_count, rules_count, IsColumn};
 
 use crate::numbers::{cost_at, plus};
@@ -70,9 +71,14 @@ pub(crate) fn upper_column<B: RuleBook>(
     stage: &Stage,
     book: &B,
 ) -> Result<Vec<u64>, OutOfMemory>
+    requires { (x : ℕ) → 1 ≤ cost_of stage.now.costs.now x }
     ensures { IfOk result (λ column. IsColumn (B.book book.now) (rules_count stage.now) column.items) }
 {
     let mut column = Vec::new(alloc);
+    // No term has size 0.
+    if stage.size == 0 {
+        return Ok(column);
+    }
     for node in 0..book.count() {
         column.push(all_ways_of(alloc, stage, book.rules(node))?)?;
     }

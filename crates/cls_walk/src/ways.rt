@@ -61,7 +61,21 @@ fn alone(alloc: Global, table: &Table, node: u32, greatest: u32) -> Result<Vec<u
     Ok(list)
 }
 
-/// In how many ways terms of the nodes in turn have sizes that come to `rest`.
+/// In how many ways a term of one node and a term of the other come to `rest`.
+fn two_ways(table: &Table, first: u32, second: u32, rest: u32) -> u64
+    requires small { rest < 2 ^ 31 }
+    ensures { result ≡ capped (ways (number_at table.now) (first ∷ second ∷ []) rest) }
+{
+    let mut total = 0;
+    for size in 0..rest + 1 {
+        let other = table.get(rest - size, second);
+        total = plus(total, times(table.get(size, first), other));
+    }
+    total
+}
+
+/// In how many ways terms of the nodes in turn have sizes that come to `rest`. For one or two nodes, as most rules have,
+/// it takes no memory.
 pub(crate) fn ways_of(
     alloc: Global,
     table: &Table,
@@ -77,6 +91,9 @@ pub(crate) fn ways_of(
     let Some((next, further)) = others.split_first() else {
         return Ok(table.get(rest, *node));
     };
+    if further.is_empty() {
+        return Ok(two_ways(table, *node, *next, rest));
+    }
     let known = by_rest(alloc, table, *next, further, rest)?;
     Ok(with_node(table, *node, known.as_slice(), rest))
 }

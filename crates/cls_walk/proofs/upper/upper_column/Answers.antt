@@ -5,7 +5,7 @@ use Rattle.cls_base.specs.Languages.{rules_at}
 use Rattle.cls_walk.specs.Counts.{all_ways}
 use Rattle.cls_walk.specs.Stages.{counts, costs}
 use Rattle.cls_walk.specs.Tables.{capped}
-use Rattle.cls_walk.proofs.Columns.{column-push, column-whole}
+use Rattle.cls_walk.proofs.Columns.{column-none, column-push, column-whole}
 use Rattle.cls_walk.proofs.upper.upper_column.Goals as goal
 
 pub loop-node-preserved : goal.loop-node-preserved
@@ -26,3 +26,9 @@ returns g c =
     let stage = c.args.stage.now in
     let f : List (Rule ℕ) → ℕ = all_ways (counts stage) (costs stage) stage.size in
     column-whole f book c.loop-node.column.items c.loop-node.node refl c.loop-node.invariant.long (omega (arith, c.loop-node-test.false, c.loop-node.auto.node-end, c.count-node-end.ensures.count)) c.loop-node.invariant.column
+
+pub returns-then-stage-eq0 : goal.returns-then-stage-eq0
+returns-then-stage-eq0 g c =
+    let book = g.B.RuleBook.book c.args.book.now in
+    let stage = c.args.stage.now in
+    column-none (counts stage) (costs stage) stage.size book c.new-column.result.items c.requires c.if-stage-eq0.true c.new-column.ensures.items

@@ -6,7 +6,7 @@ use Rattle.cls_walk.specs.Counts.{total_below, up_below}
 use Rattle.cls_walk.specs.Tables.{capped, number_at}
 use Rattle.cls_walk.specs.Totals.{total_due}
 use Rattle.cls_walk.proofs.RefusalSteps.{made-step, due-step, refused-here, up-known}
-use Rattle.cls_walk.proofs.refusal.is_refused.Goals as goal
+use Rattle.cls_walk.proofs.refusal.has_too_many.Goals as goal
 
 pub returns-then-plus-pool : goal.returns-then-plus-pool
 returns-then-plus-pool g c = λ _.
@@ -17,7 +17,7 @@ returns-then-plus-pool g c = λ _.
     (omega (arith, c.count-width.ensures.count, c.count-width.ensures.some))
     c.requires.costs c.requires.ordered s c.args.pool c.loop-size.made c.loop-size.due c.get.result c.plus.result c.add_lower.new.table
     (omega (arith, c.loop-size-test.true, c.loop-size.auto.size-end, c.last_sure-last.ensures))
-    c.in_ok-add_lower.ensures
+    (c.in_ok-add_lower.ensures.1 s 0)
     c.loop-size.invariant.made
     (c.loop-size.invariant.due ∙ ap (λ (k : ℕ). capped (total_due (up_below book cost s) k s)) c.size_of_cursor-from.ensures)
     c.loop-size.invariant.few
@@ -36,7 +36,7 @@ loop-size-preserved g c =
       up = c.in_ok-reach.ensures.upper;
       near = omega (arith, c.in_ok-reach.ensures.reached);
       lo = c.in_ok-add_lower.ensures;
-      made = made-step book cost s (length book) c.loop-size.made c.column_total.result c.plus-made.result lo c.in_ok-add_lower.ensures c.loop-size.invariant.made
+      made = made-step book cost s (length book) c.loop-size.made c.column_total.result c.plus-made.result lo (c.in_ok-add_lower.ensures.1 s) c.loop-size.invariant.made
           (c.column_total.ensures ∙ ap (λ (w : ℕ). capped (total_below w (λ n. number_at lo s n))) c.count-width.ensures.count)
           c.plus-made.ensures;
       due = due-step book cost s c.size_of_cursor-from.result c.loop-size.due c.due_of.result c.plus-due.result c.reach.new.counted.table
