@@ -25,7 +25,6 @@ pub mod TokenFronts
 pub mod TokenLists
 pub mod TypeBytes
 pub mod TypeFaults
-pub mod TypeListParts
 pub mod TypeListReads
 pub mod TypeListSpans
 pub mod TypeReads

@@ -4,7 +4,7 @@ use Rattle.cls_lexer.specs.Words.{words}
 use Rattle.cls_syntax.specs.SpelledTypes.{type_text, words_in}
 use Rattle.cls_syntax.specs.Stops.{stop_of}
 use Rattle.cls_syntax.specs.TypeSchemas.{constructors_in}
-use Rattle.cls_syntax.proofs.TypeListParts.{first_there, none_left}
+use Rattle.cls_repo.proofs.FirstTypes.{first_there, none_left}
 use Rattle.cls_repo.proofs.KindTypes.{front_closed, more_left}
 use Rattle.cls_repo.proofs.Tables.{kept_all}
 use Rattle.cls_repo.proofs.kind_types.first_type.Goals as goal

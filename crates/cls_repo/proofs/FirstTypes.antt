@@ -1,9 +1,9 @@
--- The first of the types that tokens spell.
-use Rattle.std.proofs.Common.{◌≡◌, List, [], ◌∷◌, false, refl, ap, sym, ◌∙◌, append-nil}
+-- The first of the types that tokens spell, and whether it is the last.
+use Rattle.std.proofs.Common.{◌≡◌, List, [], ◌∷◌, refl, ap, sym, ◌∙◌, append-nil}
 use Rattle.std.specs.Prelude.{Result, Ok, Err, IsTrue}
 use Rattle.cls_lexer.specs.declared.token.TokenKind.{TokenKind}
 use Rattle.cls_lexer.specs.Words.{Word, sign}
-use Rattle.cls_syntax.specs.Faults.{Stop, stop}
+use Rattle.cls_syntax.specs.Faults.{Stop}
 use Rattle.cls_syntax.specs.TypeTexts.{TypeText, type_words, TypeList, last, more}
 use Rattle.cls_syntax.specs.TypeReading.{type_front}
 use Rattle.cls_syntax.specs.TypeLists.{types_words, types_front}
@@ -11,7 +11,7 @@ use Rattle.cls_syntax.specs.Spans.{is_whole, read_or, omega_text, types_in}
 use Rattle.cls_syntax.specs.Forms.{the_sign}
 use Rattle.cls_syntax.specs.GoodForms.{EndsType}
 use Rattle.cls_syntax.specs.LineReading.{item_front}
-use Rattle.cls_syntax.proofs.ItemFronts.{type_again, types_ok, types_again, type_halts, item_again}
+use Rattle.cls_syntax.proofs.ItemFronts.{type_again, types_ok, type_halts, item_again}
 
 -- what is whole is its words
 whole_words : (kind : TokenKind) (ws : List Word) (r : Result (TypeList × List Word) Stop) → EndsType kind → types_front kind ws ≡ r → IsTrue (is_whole r) → ws ≡ types_words kind (read_or (last omega_text) r)
@@ -48,29 +48,3 @@ module _ (kind : TokenKind) (ws : List Word) (e : EndsType kind) (h : IsTrue (is
         (let left : sign kind ∷ types_words kind us ≡ rest = (same_pair {A = TypeText} {B = List Word} u t (sign kind ∷ types_words kind us) rest (sym r ∙ f)).1 in
         let both : Path (Result (Unit {0} × List Word) Stop) (Ok (tt, types_words kind us)) (Err s) = sym (item_again (the_sign kind) tt (types_words kind us) tt tt) ∙ (ap (item_front (the_sign kind)) left ∙ g) in cc)
   ]
-
-  -- what follows the sign is the rest of the list
-  record IsRest (t : TypeText) (next : List Word) : Type 0 where
-    others : TypeList
-    list : types_in kind ws ≡ more t others
-    read : types_front kind next ≡ Ok (others, [])
-
-  rest_is : (t : TypeText) (rest next : List Word) → type_front ws ≡ Ok (t, rest) → item_front (the_sign kind) rest ≡ Ok (tt, next) → IsRest t next
-  rest_is t rest next f g = elim (types_begin kind ws e h) [
-    | one u is r ↦
-        (let left : [] ≡ rest = (same_pair {A = TypeText} {B = List Word} u t [] rest (sym r ∙ f)).1 in
-        let both : Path (Result (Unit {0} × List Word) Stop) (Err (stop [] false)) (Ok (tt, next)) = ap (item_front (the_sign kind)) left ∙ g in cc)
-    | many u us is r ↦
-        (let p = same_pair {A = TypeText} {B = List Word} u t (sign kind ∷ types_words kind us) rest (sym r ∙ f) in
-        let both : Path (Result (Unit {0} × List Word) Stop) (Ok (tt, types_words kind us)) (Ok (tt, next)) = sym (item_again (the_sign kind) tt (types_words kind us) tt tt) ∙ (ap (item_front (the_sign kind)) p.1 ∙ g) in
-        let said : types_words kind us ≡ next = (same_pair {A = Unit {0}} {B = List Word} tt tt (types_words kind us) next both).1 in
-        record { others = us; list = is ∙ ap (λ x. more x us) p.0; read = ap (types_front kind) (sym said ∙ sym (append-nil (types_words kind us))) ∙ types_again kind e us [] tt })
-  ]
-
-  pub others_there : (t : TypeText) (rest next : List Word) (s : Stop) → type_front ws ≡ Ok (t, rest) → item_front (the_sign kind) rest ≡ Ok (tt, next) → types_front kind next ≡ Err s → ⊥
-  others_there t rest next s f g k = let r = rest_is t rest next f g in let both : Path (Result (TypeList × List Word) Stop) (Ok (r.others, [])) (Err s) = sym r.read ∙ k in cc
-
-  pub some_left : (t : TypeText) (rest next after : List Word) (ts : TypeList) → type_front ws ≡ Ok (t, rest) → item_front (the_sign kind) rest ≡ Ok (tt, next) → types_front kind next ≡ Ok (ts, after) → types_in kind ws ≡ more t ts
-  some_left t rest next after ts f g k = let r = rest_is t rest next f g in r.list ∙ ap (more t) (same_pair {A = TypeList} {B = List Word} r.others ts [] after (sym r.read ∙ k)).0
-
-pub ruleset parts = (first_there, none_left, others_there, some_left)
