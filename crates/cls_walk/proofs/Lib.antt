@@ -14,7 +14,7 @@ pub mod FrameAims
 pub mod FrameBegins
 pub mod FrameColumns
 pub mod FrameCounts
-pub mod FrameEarliest
+pub mod FrameGathered
 pub mod FrameEnds
 pub mod FrameExamples
 pub mod FrameHeaps
@@ -38,6 +38,7 @@ pub mod Openings
 pub mod OrderSteps
 pub mod PageFronts
 pub mod Pools
+pub mod PutOffers
 pub mod RefusalSteps
 pub mod Repeats
 pub mod Replays

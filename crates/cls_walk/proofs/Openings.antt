@@ -1,8 +1,8 @@
--- Steps to the earliest opening.
-use Rattle.std.proofs.Common.{◌≡◌, ℕ, ◌+◌, ◌-◌, ◌*◌, ◌^◌, ◌<◌, ◌≤◌, sym, ◌∙◌, inl, inr, arith}
+-- Openings in their order.
+use Rattle.std.proofs.Common.{◌≡◌, ℕ, ◌<◌, ◌≤◌, sym, ◌∙◌, inl, inr, arith}
 use Rattle.std.specs.Prelude.{◌⊎◌, Option, None, Some}
 use Rattle.std.proofs.lemmas.Bool.{cases_lt}
-use Rattle.cls_walk.specs.Openings.{IsAtMost, ComesAfter, IsDone}
+use Rattle.cls_walk.specs.Openings.{ComesAfter, IsAtMost, IsBelow, IsDone}
 use Rattle.cls_walk.specs.declared.opening.Opening.{Opening}
 
 -- three numbers in their order
@@ -50,26 +50,25 @@ done-here o x k (inl d) (inr a) = absurd (let z = a.0 in omega arith)
 done-here o x k (inr d) (inl a) = absurd (let z = d.0 in omega arith)
 done-here o x k (inr d) (inr a) = (d.0, (let y = d.1 in let z = a.1 in omega arith))
 
--- how many openings are still to come, at most
-pub openings_left : Option Opening → ℕ
-openings_left None = 2 ^ 64 + 1
-openings_left (Some o) = 2 ^ 64 - (o.component * 2 ^ 32 + o.count)
+pub below-then : (a b : Opening) (x k : ℕ) → IsBelow a b.component b.count → IsBelow b x k → IsBelow a x k
+below-then a b x k (inl p) (inl q) = inl (omega (arith, p, q))
+below-then a b x k (inl p) (inr q) = inl (let e = q.0 in omega (arith, p, e))
+below-then a b x k (inr p) (inl q) = inl (let e = p.0 in omega (arith, q, e))
+below-then a b x k (inr p) (inr q) = inr (p.0 ∙ q.0, (let m = p.1 in let n = q.1 in omega (arith, m, n)))
 
-pub fewer-left : (last : Option Opening) (o : Opening) → ComesAfter last o.component o.count → openings_left (Some o) < openings_left last
-unfolding openings_left
-fewer-left None o h =
-    let goal : 2 ^ 64 - (o.component * 2 ^ 32 + o.count) < 2 ^ 64 + 1 = omega arith in
-    goal
-fewer-left (Some l) o (inl h) =
-    let a = l.small.1 in
-    let b = o.small.0 in
-    let c = o.small.1 in
-    let goal : 2 ^ 64 - (o.component * 2 ^ 32 + o.count) < 2 ^ 64 - (l.component * 2 ^ 32 + l.count) = omega (arith, a, b, c, h) in
-    goal
-fewer-left (Some l) o (inr h) =
-    let a = l.small.0 in
-    let b = o.small.1 in
-    let y = h.0 in
-    let z = h.1 in
-    let goal : 2 ^ 64 - (o.component * 2 ^ 32 + o.count) < 2 ^ 64 - (l.component * 2 ^ 32 + l.count) = omega (arith, a, b, y, z) in
-    goal
+pub most-below : (a b : Opening) (x k : ℕ) → IsAtMost a b.component b.count → IsBelow b x k → IsBelow a x k
+most-below a b x k (inl p) (inl q) = inl (omega (arith, p, q))
+most-below a b x k (inl p) (inr q) = inl (let e = q.0 in omega (arith, p, e))
+most-below a b x k (inr p) (inl q) = inl (let e = p.0 in omega (arith, q, e))
+most-below a b x k (inr p) (inr q) = inr (p.0 ∙ q.0, (let m = p.1 in let n = q.1 in omega (arith, m, n)))
+
+pub below-most : (a : Opening) (x k : ℕ) → IsBelow a x k → IsAtMost a x k
+below-most a x k (inl p) = inl p
+below-most a x k (inr p) = inr (p.0, (let m = p.1 in omega (arith, m)))
+
+-- what is below isn't reached
+pub below-done : (o : Opening) (x k : ℕ) → IsBelow o x k → IsDone (Some o) x k → ⊥
+below-done o x k (inl p) (inl q) = omega (arith, p, q)
+below-done o x k (inl p) (inr q) = let e = q.0 in omega (arith, p, e)
+below-done o x k (inr p) (inl q) = let e = p.0 in omega (arith, q, e)
+below-done o x k (inr p) (inr q) = let m = p.1 in let n = q.1 in omega (arith, m, n)

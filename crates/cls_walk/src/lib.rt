@@ -10,6 +10,7 @@
 //! - [`laws`] says what the bounds are good for.
 #![tactic(auto)]
 
+mod ahead;
 mod aiming;
 mod aims;
 mod apart;
@@ -19,7 +20,6 @@ mod bounds;
 mod build;
 mod counted;
 mod cursor;
-mod earliest;
 mod ends;
 mod exact;
 mod form;

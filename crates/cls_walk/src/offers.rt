@@ -1,25 +1,23 @@
 //! Which openings are offered by aims: their openings in rising order, each once.
-ghost use Rattle.std.specs.Prelude.{◌≡◌, ℕ, true, ◌+◌, ◌≤◌, ◌<◌, ◌↔◌};
-ghost use Rattle.std.specs.Prelude.{IfSome, IsTrue, List, length, map, slice_index_or};
-ghost use Rattle.std.specs.Option.{IsNone};
+ghost use Rattle.std.specs.Prelude.{◌≡◌, ℕ, ◌+◌, ◌≤◌, ◌<◌, ◌↔◌, IsTrue, List, OnOk, length, map};
 ghost use Rattle.cls_base.specs.declared.rule.Rule.{Rule};
 ghost use Rattle.cls_walk.specs.Counts.{HeadRule};
-ghost use Rattle.cls_walk.specs.FrameBegins.{aim_of, heads_in, no_head, AreBefore, AreFrom, AreSized, StandsBefore};
+ghost use Rattle.cls_walk.specs.FrameBegins.{aim_of, heads_in, AreBefore, AreFrom, AreSized, StandsBefore};
 ghost use Rattle.cls_walk.specs.FrameColumns.{head_of};
 ghost use Rattle.cls_walk.specs.FrameGuides.{least_of, IsGuide};
 ghost use Rattle.cls_walk.specs.FrameLevels.{levels_of, AreLevelColumns};
-ghost use Rattle.cls_walk.specs.FrameOffered.{AreReachedAt, AreReachedBy};
+ghost use Rattle.cls_walk.specs.FrameOffered.{AreGatheredAt, AreGatheredBy};
 ghost use Rattle.cls_walk.specs.FrameWalks.{IsOffered};
-ghost use Rattle.cls_walk.specs.Openings.{ComesAfter, IsEarliest, IsReached};
+ghost use Rattle.cls_walk.specs.Openings.{AreRising, ArePut, IsGathered};
 ghost use Rattle.cls_walk.specs.Orders.{InOrder};
-ghost use Rattle.cls_walk.specs.Tables.{capped};
 
+use crate::ahead::put_offer;
 use crate::aims::{Aim, Levels};
-use crate::earliest::{earlier, is_after};
 use crate::guide::Guide;
-use crate::numbers::{number_in, plus};
+use crate::numbers::number_in;
 use crate::opening::Opening;
 use crate::rules::Head;
+use cls_base::OutOfMemory;
 
 /// Whether the head rule stands before those with this component and so many arguments.
 fn is_earlier(head: Head, component: u32, count: usize) -> bool
@@ -48,121 +46,102 @@ pub(crate) fn first_from(heads: &[Head], component: u32, count: usize) -> usize
     low
 }
 
-/// Where head rules begin whose opening, with so many pairs, comes after the last one.
-fn first_after(guide: Guide, heads: &[Head], pairs: usize, last: Option<Opening>) -> usize
-    requires { guide.is_ordered ≡ true → InOrder (map head_of heads.now) }
-    ensures within { result ≤ length heads.now }
-    ensures before { (i : ℕ) → i < result
-        → let head = slice_index_or heads.now i no_head in
-        ComesAfter last head.component (length head.nodes.now + pairs) → ⊥ }
-{
-    if !guide.is_ordered {
-        return 0;
-    }
-    match last {
-        None => 0,
-        Some(opening) => {
-            let count = (opening.count as usize + 1).saturating_sub(pairs);
-            first_from(heads, opening.component, count)
-        }
-    }
-}
-
-/// The opening of a head rule that comes to this size, where it is offered by the aim with so many pairs.
-fn offered_by(
+/// Puts the opening of a head rule with so many pairs among those from `first` on, if it has no more arguments than
+/// there are to spare.
+fn gather_one(
     head: Head,
-    total: u64,
-    aim: Aim,
     pairs: usize,
-    size: u32,
     spare: u32,
-) -> Option<Opening>
-    ensures some { IfSome result (λ o. (o.component ≡ head.entry.component)
-        × (o.count ≡ length head.entry.nodes.now + pairs)) }
-    ensures none { (own : HeadRule → ℕ) → total ≡ capped (own (head_of head.entry)) → IsNone result
-        → own (head_of head.entry) + aim.behind ≤ size → length head.entry.nodes.now + pairs ≤ spare → ⊥ }
+    first: usize,
+    offers: &mut Vec<Opening>,
+) -> Result<(), OutOfMemory>
+    requires within { first ≤ length offers.old.items }
+    requires rising { AreRising first offers.old.items }
+    ensures put { OnOk result (ArePut first offers.old.items offers.new.items) }
+    ensures here { let count = length head.entry.nodes.now + pairs in
+        count ≤ spare → OnOk result (IsGathered first offers.new.items head.entry.component count) }
 {
     let count = head.nodes.len().saturating_add(pairs);
-    if count > spare as usize || plus(total, aim.behind) > u64::from(size) {
-        return None;
+    if count > spare as usize {
+        return Ok(());
     }
-    Some(Opening::new(head.component, count as u32))
+    put_offer(offers, first, Opening::new(head.component, count as u32))
 }
 
-/// The earliest opening after the last one, where head rules of the node of this aim are met after others.
-fn earliest_by(
+/// The same for the head rules of the node of this aim that come to no more than the size.
+fn gather_by(
     guide: Guide,
     aim: Aim,
     pairs: usize,
     size: u32,
     spare: u32,
-    last: Option<Opening>,
-    best: Option<Opening>,
-) -> Option<Opening>
-    ensures taken { (x k : ℕ) → IsReached best x k → IsReached result x k }
-    ensures after { IfSome best (λ b. ComesAfter last b.component b.count)
-        → IfSome result (λ b. ComesAfter last b.component b.count) }
-    ensures reached { (own : HeadRule → ℕ) → AreSized own guide.entry.rules.now guide.entry.sizes.now
+    first: usize,
+    offers: &mut Vec<Opening>,
+) -> Result<(), OutOfMemory>
+    requires within { first ≤ length offers.old.items }
+    requires rising { AreRising first offers.old.items }
+    ensures put { OnOk result (ArePut first offers.old.items offers.new.items) }
+    ensures gathered { (own : HeadRule → ℕ) → AreSized own guide.entry.rules.now guide.entry.sizes.now
         → let heads = map head_of (heads_in guide.entry.rules.now aim.node) in
-        AreReachedBy own size spare last aim.behind pairs heads result }
+        OnOk result (AreGatheredBy own size spare first aim.behind pairs heads offers.new.items) }
 {
+    if aim.behind > u64::from(size) {
+        return Ok(());
+    }
+    let left = u64::from(size) - aim.behind;
     let heads = guide.rules.heads_of(aim.node);
     let sizes = guide.sizes.column(aim.node);
-    let mut earliest = best;
-    for index in first_after(guide, heads, pairs, last)..heads.len() {
-        let total = number_in(sizes, index);
-        if let Some(opening) = offered_by(heads[index], total, aim, pairs, size, spare) {
-            earliest = earlier(last, earliest, opening);
-            if guide.is_ordered && is_after(last, opening) {
-                return earliest;
-            }
+    for index in 0..heads.len() {
+        if number_in(sizes, index) <= left {
+            gather_one(heads[index], pairs, spare, first, offers)?;
         }
     }
-    earliest
+    Ok(())
 }
 
 /// The same for each aim of a level.
-fn earliest_at(
+fn gather_at(
     guide: Guide,
     level: &[Aim],
     pairs: usize,
     size: u32,
     spare: u32,
-    last: Option<Opening>,
-    best: Option<Opening>,
-) -> Option<Opening>
-    ensures taken { (x k : ℕ) → IsReached best x k → IsReached result x k }
-    ensures after { IfSome best (λ b. ComesAfter last b.component b.count)
-        → IfSome result (λ b. ComesAfter last b.component b.count) }
-    ensures reached { (own : HeadRule → ℕ) → AreSized own guide.entry.rules.now guide.entry.sizes.now
-        → AreReachedAt own size spare last guide.entry.rules.now pairs (map aim_of level.now) result }
+    first: usize,
+    offers: &mut Vec<Opening>,
+) -> Result<(), OutOfMemory>
+    requires within { first ≤ length offers.old.items }
+    requires rising { AreRising first offers.old.items }
+    ensures put { OnOk result (ArePut first offers.old.items offers.new.items) }
+    ensures gathered { (own : HeadRule → ℕ) → AreSized own guide.entry.rules.now guide.entry.sizes.now
+        → let aims = map aim_of level.now in
+        OnOk result (AreGatheredAt own size spare first guide.entry.rules.now pairs aims offers.new.items) }
 {
-    let mut earliest = best;
     for aim in level {
-        earliest = earliest_by(guide, *aim, pairs, size, spare, last, earliest);
+        gather_by(guide, *aim, pairs, size, spare, first, offers)?;
     }
-    earliest
+    Ok(())
 }
 
-/// The earliest opening after the last one that is offered on a stack within the size.
-pub(crate) fn next_offer(
+/// Puts behind the openings those that are offered on a stack within the size, in rising order, each once.
+pub(crate) fn gather(
     guide: Guide,
     levels: &Levels,
     top: usize,
     size: u32,
     spare: u32,
-    last: Option<Opening>,
-) -> Option<Opening>
+    offers: &mut Vec<Opening>,
+) -> Result<(), OutOfMemory>
     requires columns { AreLevelColumns levels.now }
-    ensures after { IfSome result (λ b. ComesAfter last b.component b.count) }
-    ensures earliest { (book : List (List (Rule ℕ))) (cost : ℕ → ℕ) → IsGuide book cost guide.entry
+    ensures put { OnOk result (ArePut (length offers.old.items) offers.old.items offers.new.items) }
+    ensures gathered { (book : List (List (Rule ℕ))) (cost : ℕ → ℕ) → IsGuide book cost guide.entry
         → let IsOpening = IsOffered book (least_of guide.entry) cost (levels_of levels.now top) size spare in
-        IsEarliest IsOpening last result }
+        OnOk result ((x k : ℕ) → IsOpening x k
+        → IsGathered (length offers.old.items) offers.new.items x k) }
 {
-    let mut earliest = None;
+    let first = offers.len();
     for pairs in 0..levels.height(top) {
         let level = levels.level(top, pairs);
-        earliest = earliest_at(guide, level, pairs, size, spare, last, earliest);
+        gather_at(guide, level, pairs, size, spare, first, offers)?;
     }
-    earliest
+    Ok(())
 }

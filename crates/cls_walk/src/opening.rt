@@ -1,13 +1,11 @@
 //! How codes begin.
-ghost use Rattle.std.specs.Prelude.{◌≡◌, ◌<◌, ◌^◌};
+ghost use Rattle.std.specs.Prelude.{◌≡◌};
 
-/// A component and its number of arguments. That they are small is said for the prover alone: so the openings that come
-/// after one another end.
+/// A component and its number of arguments.
 #[derive(Clone, Copy)]
 pub(crate) struct Opening {
     pub(crate) component: u32,
     pub(crate) count: u32,
-    pub ghost small: { (component < 2 ^ 32) × (count < 2 ^ 32) },
 }
 
 impl Opening {

@@ -12,12 +12,12 @@ ghost use Rattle.cls_walk.specs.FrameWalks.{BeginsWith, IsDueOn};
 ghost use Rattle.cls_walk.specs.Frames.{await_count, AreAsking, Frame};
 ghost use Rattle.cls_walk.specs.Walks.{IsBack, Lists};
 
+use crate::ahead::Ahead;
 use crate::aiming::{aim_on, aim_start};
-use crate::aims::Levels;
 use crate::begin::begin;
 use crate::cursor::Cursor;
 use crate::numbers::cost_at;
-use crate::offers::next_offer;
+use crate::offers::gather;
 use crate::opening::Opening;
 use crate::places::is_complete;
 use crate::plan::Plan;
@@ -57,7 +57,7 @@ fn emit(
 fn go_on<'a>(
     plan: &Plan<'_, 'a>,
     frames: &mut Frames<'a>,
-    levels: &mut Levels,
+    ahead: &mut Ahead,
     walk: &mut Walk,
     top: usize,
     size: u32,
@@ -65,30 +65,32 @@ fn go_on<'a>(
     cursor: Cursor,
 ) -> Result<bool, OutOfMemory>
     requires frames { AreFrames frames.old }
-    requires columns { AreLevelColumns levels.old }
+    requires columns { AreLevelColumns ahead.old.levels }
     requires within { top ≤ length frames.old.marks.items }
-    requires top { length levels.old.stacks.items ≡ top + 1 }
+    requires top { length ahead.old.levels.stacks.items ≡ top + 1 }
     requires few { length walk.old.codes ≤ plan.now.take }
     ensures frames { OnOk result (AreSameFrames frames.old frames.new) }
-    ensures levels { OnOk result (AreSameLevels levels.old levels.new) }
+    ensures levels { OnOk result (AreSameLevels ahead.old.levels ahead.new.levels) }
+    ensures offers { OnOk result (ahead.new.offers.items ≡ ahead.old.offers.items) }
     ensures back { IfOk result (IsBack plan.now walk.old walk.new) }
     ensures listed { (book : List (List (Rule ℕ))) (most : ℕ) → let cost = cost_of plan.now.costs.now in
         let stack = stack_of frames.old top in
-        IsGuide book cost plan.now.guide → AreAimed book plan.now.guide frames.old levels.old
-        → IsAimed book plan.now.guide frames.old levels.old top most → spare ≤ most → AreAsking stack
+        IsGuide book cost plan.now.guide → AreAimed book plan.now.guide frames.old ahead.old.levels
+        → IsAimed book plan.now.guide frames.old ahead.old.levels top most → spare ≤ most → AreAsking stack
         → let room = spare + await_count stack in
         let IsListed = IsDueOn book cost plan.now.guide.start stack size room cursor.entry in
         IfOk result (Lists IsListed walk.old walk.new) }
 {
-    let mut last = None;
-    while let Some(opening) = next_offer(plan.guide, levels, top, size, spare, last) {
-        if !open_on(
-            plan, frames, levels, walk, top, size, spare, opening, cursor,
-        )? {
+    let first = ahead.offers.len();
+    gather(plan.guide, &ahead.levels, top, size, spare, &mut ahead.offers)?;
+    for index in first..ahead.offers.len() {
+        let opening = ahead.offers[index];
+        if !open_on(plan, frames, ahead, walk, top, size, spare, opening, cursor)? {
+            ahead.offers.truncate(first);
             return Ok(false);
         }
-        last = Some(opening);
     }
+    ahead.offers.truncate(first);
     Ok(true)
 }
 
@@ -97,7 +99,7 @@ fn go_on<'a>(
 fn open_on<'a>(
     plan: &Plan<'_, 'a>,
     frames: &mut Frames<'a>,
-    levels: &mut Levels,
+    ahead: &mut Ahead,
     walk: &mut Walk,
     top: usize,
     size: u32,
@@ -106,17 +108,18 @@ fn open_on<'a>(
     cursor: Cursor,
 ) -> Result<bool, OutOfMemory>
     requires frames { AreFrames frames.old }
-    requires columns { AreLevelColumns levels.old }
+    requires columns { AreLevelColumns ahead.old.levels }
     requires within { top ≤ length frames.old.marks.items }
-    requires top { length levels.old.stacks.items ≡ top + 1 }
+    requires top { length ahead.old.levels.stacks.items ≡ top + 1 }
     requires few { length walk.old.codes ≤ plan.now.take }
     ensures frames { OnOk result (AreSameFrames frames.old frames.new) }
-    ensures levels { OnOk result (AreSameLevels levels.old levels.new) }
+    ensures levels { OnOk result (AreSameLevels ahead.old.levels ahead.new.levels) }
+    ensures offers { OnOk result (ahead.new.offers.items ≡ ahead.old.offers.items) }
     ensures back { IfOk result (IsBack plan.now walk.old walk.new) }
     ensures listed { (book : List (List (Rule ℕ))) (most : ℕ) → let cost = cost_of plan.now.costs.now in
         let stack = stack_of frames.old top in
-        IsGuide book cost plan.now.guide → AreAimed book plan.now.guide frames.old levels.old
-        → IsAimed book plan.now.guide frames.old levels.old top most → spare ≤ most → AreAsking stack
+        IsGuide book cost plan.now.guide → AreAimed book plan.now.guide frames.old ahead.old.levels
+        → IsAimed book plan.now.guide frames.old ahead.old.levels top most → spare ≤ most → AreAsking stack
         → let room = spare + await_count stack in
         let IsListed = IsDueOn book cost plan.now.guide.start stack size room cursor.entry in
         IfOk result (Lists (BeginsWith IsListed opening) walk.old walk.new) }
@@ -131,13 +134,13 @@ fn open_on<'a>(
     let marks = frames.marks.len();
     let places = frames.places.len();
     let length = walk.code.len();
-    let begun = begin(plan.guide, frames, levels, top, opening, size)?;
+    let begun = begin(plan.guide, frames, &ahead.levels, top, opening, size)?;
     let now = settle(plan.guide.rules, frames, begun)?;
     walk.code.push(opening.component)?;
     walk.code.push(opening.count)?;
     let left = size - cost;
     let spare = spare - opening.count;
-    let going = descend(plan, frames, levels, walk, now, left, spare, next)?;
+    let going = descend(plan, frames, ahead, walk, now, left, spare, next)?;
     walk.code.truncate(length);
     frames.places.truncate(places);
     frames.marks.truncate(marks);
@@ -150,7 +153,7 @@ fn open_on<'a>(
 fn descend<'a>(
     plan: &Plan<'_, 'a>,
     frames: &mut Frames<'a>,
-    levels: &mut Levels,
+    ahead: &mut Ahead,
     walk: &mut Walk,
     top: usize,
     size: u32,
@@ -158,17 +161,18 @@ fn descend<'a>(
     cursor: Cursor,
 ) -> Result<bool, OutOfMemory>
     requires frames { AreFrames frames.old }
-    requires columns { AreLevelColumns levels.old }
+    requires columns { AreLevelColumns ahead.old.levels }
     requires some { 1 ≤ top }
     requires within { top ≤ length frames.old.marks.items }
-    requires top { length levels.old.stacks.items ≤ top }
+    requires top { length ahead.old.levels.stacks.items ≤ top }
     requires few { length walk.old.codes ≤ plan.now.take }
     ensures frames { OnOk result (AreSameFrames frames.old frames.new) }
-    ensures levels { OnOk result (AreSameLevels levels.old levels.new) }
+    ensures levels { OnOk result (AreSameLevels ahead.old.levels ahead.new.levels) }
+    ensures offers { OnOk result (ahead.new.offers.items ≡ ahead.old.offers.items) }
     ensures back { IfOk result (IsBack plan.now walk.old walk.new) }
     ensures listed { (book : List (List (Rule ℕ))) → let cost = cost_of plan.now.costs.now in
         let stack = stack_of frames.old top in
-        IsGuide book cost plan.now.guide → AreAimed book plan.now.guide frames.old levels.old → IsSettled stack
+        IsGuide book cost plan.now.guide → AreAimed book plan.now.guide frames.old ahead.old.levels → IsSettled stack
         → let room = spare + await_count stack in
         let IsListed = IsDueOn book cost plan.now.guide.start stack size room cursor.entry in
         IfOk result (Lists IsListed walk.old walk.new) }
@@ -177,11 +181,11 @@ fn descend<'a>(
     if mark.left == 0 {
         return emit(plan, frames, walk, top, size, cursor);
     }
-    let reach = levels.reach();
+    let reach = ahead.levels.reach();
     let places = places_on(frames.marks.as_slice(), frames.places.as_slice(), top);
-    aim_on(plan.guide, levels, places, mark, top, spare)?;
-    let going = go_on(plan, frames, levels, walk, top, size, spare, cursor)?;
-    levels.cut(reach);
+    aim_on(plan.guide, &mut ahead.levels, places, mark, top, spare)?;
+    let going = go_on(plan, frames, ahead, walk, top, size, spare, cursor)?;
+    ahead.levels.cut(reach);
     Ok(going)
 }
 
@@ -201,7 +205,7 @@ pub(crate) fn stroll(
         IfOk result (Lists IsListed walk.old walk.new) }
 {
     let mut frames = Frames::new(alloc);
-    let mut levels = Levels::new(alloc);
-    aim_start(plan.guide, &mut levels, 63)?;
-    go_on(plan, &mut frames, &mut levels, walk, 0, size, 63, cursor)
+    let mut ahead = Ahead::new(alloc);
+    aim_start(plan.guide, &mut ahead.levels, 63)?;
+    go_on(plan, &mut frames, &mut ahead, walk, 0, size, 63, cursor)
 }
