@@ -24,7 +24,6 @@ use Rattle.cls_walk.proofs.FrameHeaps.{frame_at, stacks-same, top-stack}
 use Rattle.cls_walk.proofs.FramePlans.{all-here, aimed-begun, aimed-here, aimed-settled, asking-first, settled-ready}
 use Rattle.cls_walk.proofs.FrameSettling.{count-some, settled-count, spare-opened}
 use Rattle.cls_walk.proofs.FrameStacks.{stack-none}
-use Rattle.cls_walk.proofs.FrameLevels.{levels-same}
 use Rattle.cls_walk.proofs.FrameWalks.{due-begins, due-offered, due-opened, due-settled, emit-due, emit-undue, to-end, to-next, to-stop, to-with}
 use Rattle.cls_walk.proofs.Walks.{lists-none}
 
@@ -48,6 +47,9 @@ module _ (book : List (List (Rule ℕ))) (cost : ℕ → ℕ) (g : Guide) (right
   pub stroll-stop : (last : Option Opening) (a c : Walk) → Lists (BeginsTo Due last) a c false → Lists Due a c false
   stroll-stop last a c h = to-stop Due Offered due-first due-offers last a c h
 
+  pub stroll-end : (last : Option Opening) (a c : Walk) (going : Bool) → IsEarliest Offered last None → Lists (BeginsTo Due last) a c going → Lists Due a c going
+  stroll-end last a c going e k = to-end Due Offered due-first due-offers last a c going e k
+
   -- the openings that aren't listed
   due-with : (o : Opening) (w : List ℕ) → BeginsWith Due o w → (v : List ℕ) × Due (o.component ∷ o.count ∷ v)
   due-with o w q = (q.rest, subst Due q.begins q.wanted)
@@ -66,18 +68,7 @@ module _ (book : List (List (Rule ℕ))) (cost : ℕ → ℕ) (g : Guide) (right
     abbrev Here : List ℕ → Type 0
     Here = DueOn book cost g.start (stack_of here top) size spare cursor
 
-    abbrev OfferedHere : ℕ → ℕ → Type 0
-    OfferedHere = IsOffered book (least_of g) cost (levels_of there top) size spare
-
-    earliest-here : (last best : Option Opening) → IsEarliest OfferedHere last best → IsEarliest Offered last best
-    earliest-here last best e =
-        let P : (ℕ → List Aim) → Type 0 = λ ls. IsEarliest (IsOffered book (least_of g) cost ls size spare) last best in
-        let now : ℕ → List Aim = λ q. levels_of there top q in
-        let was : ℕ → List Aim = λ q. levels_of l top q in
-        let w : now ≡ was = λ i q. levels-same l there top q same i in
-        subst P w e
-
-    pub stroll-next : (last : Option Opening) (o : Opening) (a b c : Walk) (going goes : Bool) → going ≡ goes → b.code.items ≡ a.code.items → IsEarliest OfferedHere last (Some o) → Lists (BeginsTo Due last) a b true
+    pub stroll-next : (last : Option Opening) (o : Opening) (a b c : Walk) (going goes : Bool) → going ≡ goes → b.code.items ≡ a.code.items → IsEarliest Offered last (Some o) → Lists (BeginsTo Due last) a b true
         → AreAimed book g f l → (AreAimed book g here there → IsAimed book g here there top most → spare ≤ most → AreAsking (stack_of here top) → Lists (BeginsWith Here o) b c going)
         → Lists (BeginsTo Due (Some o)) a c goes
     stroll-next last o a b c going goes t p e k all opened =
@@ -86,10 +77,7 @@ module _ (book : List (List (Rule ℕ))) (cost : ℕ → ℕ) (g : Guide) (right
         let B : List Frame → Type 0 = λ fs. Lists (BeginsWith (DueOn book cost g.start fs size spare cursor) o) b c going in
         let R : Bool → Type 0 = λ z. Lists (BeginsTo Due (Some o)) a c z in
         let w = opened (all-here book g f here l there back same all) (aimed-here book g f here l there top most back same aimed) few (subst A (sym s) asks) in
-        subst R t (to-next Due Offered due-first due-offers last o a b c going (earliest-here last (Some o) e) p k (subst B s w))
-
-    pub stroll-end : (last : Option Opening) (a c : Walk) (going : Bool) → IsEarliest OfferedHere last None → Lists (BeginsTo Due last) a c going → Lists Due a c going
-    stroll-end last a c going e k = to-end Due Offered due-first due-offers last a c going (earliest-here last None e) k
+        subst R t (to-next Due Offered due-first due-offers last o a b c going e p k (subst B s w))
 
   -- the step into an opening, where its frame is begun and arguments end
   module _ (o : Opening) (left : ℕ) (next : Cursor) (begun ended : Frames) (first now : ℕ) (b : Begins book (least_of g) (levels_of l top) f begun top left o.component o.count first) (s : Settled g.rules.now begun ended first now) where

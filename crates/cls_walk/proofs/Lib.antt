@@ -5,6 +5,7 @@ pub mod Building
 pub mod Capped
 pub mod Columns
 pub mod Counts
+pub mod Earliest
 pub mod Endings
 pub mod ExactCounts
 pub mod Filled

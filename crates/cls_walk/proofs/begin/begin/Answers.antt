@@ -55,12 +55,12 @@ returns-clause-begun c = λ book cost right cheap.
     let i = c.loop-pairs.pairs in
     let most = c.min-pairs-end.ensures in
     let sum = c.saturating_add.ensures in
-    let small = c.args.opening.small.1 in
+    let tall = c.height.type_inv in
     let end = c.loop-pairs-test.false in
-    let upto : i ≤ k + 1 = omega (arith, c.loop-pairs.auto.pairs-end, most, sum, small) in
+    let upto : i ≤ k + 1 = omega (arith, c.loop-pairs.auto.pairs-end, most, sum, tall) in
     let rest : (p : ℕ) → p < k + 1 → (p < i) ⊎ (levels p ≡ []) = λ p l. elim (cases_lt p i) [
       | inl m ↦ inl m
-      | inr m ↦ inr (c.height.ensures p (omega (arith, l, m, end, most, sum, small)))
+      | inr m ↦ inr (c.height.ensures p (omega (arith, l, m, end, most, sum, tall)))
     ] in
     let o = begun-offered book cost c.args.guide right levels x k size cheap i made upto rest (c.loop-pairs.invariant.grows (own_size cost c.args.guide) right.sized) in
     if-ok c.close.result (Begins book (least_of c.args.guide) levels old new c.args.top (size - cost x) x k) _ _ c.close.ensures.standings c.close.ensures.top (λ w t e.
