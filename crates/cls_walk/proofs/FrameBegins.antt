@@ -16,12 +16,9 @@ use Rattle.cls_walk.specs.declared.rules.Head.{Head}
 use Rattle.cls_walk.specs.declared.rules.Rules.{Rules}
 use Rattle.cls_walk.proofs.FrameColumns.{grows-none, grows-push, grows-on, grows-by, more-to, more-old, more-new}
 
--- a capped sum is small if and only if the sum is
+-- a sum is small if the capped one is
 pub small-sum : (a t b s : ℕ) → t ≡ capped a → s < 2 ^ 32 → capped (t + b) ≤ s → a + b ≤ s
 small-sum a t b s e f l = omega (arith, e, f, l)
-
-pub sum-small : (a t b s : ℕ) → t ≡ capped a → a + b ≤ s → capped (t + b) ≤ s
-sum-small a t b s e l = omega (arith, e, l)
 
 -- the head rules, and where each stands
 pub head-at : (heads : List Head) (k : ℕ) → k < length heads → IsIn (map head_of heads) (head_of (get_or heads k no_head))
@@ -72,7 +69,7 @@ module _ (own : HeadRule → ℕ) (a : ℕ × ℕ) (x j size : ℕ) where
 
 -- head rules in order
 
-pub order-at : (heads : List Head) (i k : ℕ) → InOrder (map head_of heads) → i < k → k < length heads → NotAfter (head_of (get_or heads i no_head)) (head_of (get_or heads k no_head))
+order-at : (heads : List Head) (i k : ℕ) → InOrder (map head_of heads) → i < k → k < length heads → NotAfter (head_of (get_or heads i no_head)) (head_of (get_or heads k no_head))
 order-at [] i k o l m = absurd (omega arith)
 order-at (h ∷ heads) zero zero o l m = absurd (omega arith)
 order-at (h ∷ heads) zero (suc k) o l m = o.0 (head_of (get_or heads k no_head)) (head-at heads k (omega arith))

@@ -41,10 +41,6 @@ module _ (Wanted : List ℕ → Type 0) (Offered : ℕ → ℕ → Type 0) (begi
   abbrev Later : Option Opening → List ℕ → Type 0
   Later last w = (x : ℕ) × (k : ℕ) × (v : List ℕ) × ((w ≡ x ∷ k ∷ v) × ComesAfter last x k) × Wanted w
 
-  -- before the first opening there is nothing
-  pub to-start : (a : Walk) → Lists (To None) a a true
-  to-start a = lists-none (To None) a (λ w h. h.done)
-
   -- the codes with the next opening
   pub to-next : (last : Option Opening) (o : Opening) (a b c : Walk) (going : Bool) → IsEarliest Offered last (Some o) → b.code.items ≡ a.code.items → Lists (To last) a b true → Lists (With o) b c going → Lists (To (Some o)) a c going
   to-next last o a b c going e p l k = lists-same (λ w. To last w ⊎ With o w) (To (Some o)) a c going

@@ -3,11 +3,11 @@ use Rattle.std.proofs.Common.{◌≡◌, ℕ, ◌+◌, ◌-◌, ◌<◌, ◌≤�
 use Rattle.std.specs.Prelude.{Some}
 use Rattle.std.specs.List.{insert}
 use Rattle.std.proofs.lemmas.Bool.{cases_lt}
-use Rattle.std.proofs.lemmas.List.{length-take-le, take-append-drop, take-append-le, take_all, drop_all}
+use Rattle.std.proofs.lemmas.List.{length-take-le, take-append-drop, take-append-le}
 use Rattle.std.proofs.lemmas.List.Edits.{get_or-insert_above, get_or-insert_at, get_or-insert_below, length-insert}
 use Rattle.cls_walk.specs.Openings.{no_opening, AreRising, ArePut, IsAtMost, IsBelow, IsGathered}
 use Rattle.cls_walk.specs.declared.opening.Opening.{Opening}
-use Rattle.cls_walk.proofs.Openings.{below-most, below-then, done-here, most-below}
+use Rattle.cls_walk.proofs.Openings.{below-most, below-then, most-below}
 
 abbrev pub at : List Opening → ℕ → Opening
 at os i = get_or os i no_opening
@@ -53,10 +53,6 @@ module _ (first : ℕ) (os : List Opening) (rising : AreRising first os) (o : Op
         let P : ℕ → Type 0 = λ z. IsAtMost o (at os z).component (at os z).count in
         subst P e b
   ]
-
-  -- the opening that is there
-  pub put-there : (p : ℕ) → first ≤ p → p < length os → IsAtMost (at os p) o.component o.count → IsAtMost o (at os p).component (at os p).count → IsGathered first os o.component o.count
-  put-there p f l a b = let e = done-here o (at os p).component (at os p).count a b in record { place = p; from = f; within = l; component = e.0; count = e.1 }
 
   -- at a place that is after those before it, and before those from it on
   module _ (p : ℕ) (from : first ≤ p) (within : p ≤ length os) (before : (i : ℕ) → first ≤ i → i < p → IsBelow (at os i) o.component o.count) (behind : p < length os → IsBelow o (at os p).component (at os p).count) where
@@ -128,9 +124,3 @@ module _ (first : ℕ) (os : List Opening) (rising : AreRising first os) (o : Op
 
     pub here-at : IsGathered first new o.component o.count
     here-at = let n = long in gathered-same first p new o o.component o.count from (omega (arith, n, within)) (new-at p refl) refl refl
-
--- behind all openings
-pub insert-end : (os : List Opening) (o : Opening) → os ++ o ∷ [] ≡ insert os (length os) o
-insert-end os o =
-    ap (λ (xs : List Opening). xs ++ o ∷ []) (sym (take_all (length os) os (omega arith)))
-    ∙ ap (λ (xs : List Opening). take (length os) os ++ o ∷ xs) (sym (drop_all (length os) os (omega arith)))

@@ -48,6 +48,16 @@ fn is_last(offers: &[Opening], first: usize, opening: Opening) -> bool
     end <= first || is_before(offers[end - 1], opening)
 }
 
+/// Whether this opening is the last one, and stands at `first` or behind it.
+fn ends_with(offers: &[Opening], first: usize, opening: Opening) -> bool
+    ensures { result ≡ true → IsGathered first offers.now opening.component opening.count }
+{
+    let end = offers.len();
+    end > first
+        && offers[end - 1].component == opening.component
+        && offers[end - 1].count == opening.count
+}
+
 /// The place among the openings from `first` on, which rise, before which they are before this one.
 fn place_from(offers: &[Opening], first: usize, opening: Opening) -> usize
     requires within { first ≤ length offers.now }
@@ -86,6 +96,9 @@ pub(crate) fn put_offer(
 {
     if is_last(offers.as_slice(), first, opening) {
         return Ok(offers.push(opening)?);
+    }
+    if ends_with(offers.as_slice(), first, opening) {
+        return Ok(());
     }
     let place = place_from(offers.as_slice(), first, opening);
     if place == offers.len() || is_before(opening, offers[place]) {

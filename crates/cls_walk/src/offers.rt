@@ -65,7 +65,11 @@ fn gather_one(
     if count > spare as usize {
         return Ok(());
     }
-    put_offer(offers, first, Opening::new(head.component, count as u32))
+    let opening = Opening {
+        component: head.component,
+        count: count as u32,
+    };
+    put_offer(offers, first, opening)
 }
 
 /// The same for the head rules of the node of this aim that come to no more than the size.

@@ -2,7 +2,7 @@ use Rattle.std.proofs.Common.{◌≡◌, ℕ, ◌≤◌, ◌<◌, ◌+◌, ◌�
 use Rattle.cls_walk.specs.Openings.{no_opening, ArePut, IsBelow, IsGathered}
 use Rattle.cls_walk.specs.declared.opening.Opening.{Opening}
 use Rattle.std.proofs.lemmas.List.{get_or_read}
-use Rattle.cls_walk.proofs.PutOffers.{here-at, insert-end, put-at, put-none, put-there}
+use Rattle.cls_walk.proofs.PutOffers.{here-at, put-at}
 use Rattle.cls_walk.proofs.ahead.put_offer.Goals as goal
 use Rattle.cls_walk.proofs.ahead.put_offer.Goals.{then-place-len-via-then-place-len, then-place-len-via-else-place-len+then-is_before}
 
@@ -10,7 +10,7 @@ use Rattle.cls_walk.proofs.ahead.put_offer.Goals.{then-place-len-via-then-place-
 before-place : (c : goal.In_ok-insert) → (i : ℕ) → c.args.first ≤ i → i < c.place_from-place.result → IsBelow (get_or c.args.offers.now.items i no_opening) c.args.opening.component c.args.opening.count
 before-place c =
     let P : List Opening → Type 0 = λ os. (i : ℕ) → c.args.first ≤ i → i < c.place_from-place.result → IsBelow (get_or os i no_opening) c.args.opening.component c.args.opening.count in
-    subst P c.as_slice-2.ensures.value c.place_from-place.ensures.before
+    subst P c.as_slice-3.ensures.value c.place_from-place.ensures.before
 
 behind-place : (c : goal.In_ok-insert) → let p = c.place_from-place.result in let os = c.args.offers.now.items in p < length os → IsBelow c.args.opening (get_or os p no_opening).component (get_or os p no_opening).count
 behind-place c l =
@@ -24,7 +24,7 @@ behind-place c l =
     ]
 
 within-place : (c : goal.In_ok-insert) → c.place_from-place.result ≤ length c.args.offers.now.items
-within-place c = let e = ap (λ (os : List Opening). length os) c.as_slice-2.ensures.value in let w = c.place_from-place.ensures.within in omega (arith, e, w)
+within-place c = let e = ap (λ (os : List Opening). length os) c.as_slice-3.ensures.value in let w = c.place_from-place.ensures.within in omega (arith, e, w)
 
 pub returns-in_ok-insert-clause-put : goal.returns-in_ok-insert-clause-put
 returns-in_ok-insert-clause-put c =
