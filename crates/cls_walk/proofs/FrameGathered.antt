@@ -1,6 +1,5 @@
 -- The openings that are gathered have those that are offered.
 use Rattle.std.proofs.Common.{◌≡◌, ℕ, ◌+◌, ◌-◌, ◌<◌, ◌≤◌, List, [], length, map, take, get_or, subst, inl, inr, arith}
-use Rattle.std.specs.Prelude.{None, Some}
 use Rattle.std.proofs.lemmas.Bool.{cases_lt}
 use Rattle.cls_base.specs.declared.rule.Rule.{Rule}
 use Rattle.cls_enum.specs.Members.{IsIn}

@@ -4,7 +4,6 @@ use Rattle.std.specs.Prelude.{◌⊎◌, ◌↔◌, IfOk, Option, None, Some, Re
 use Rattle.cls_base.specs.Limits.{max_term_length}
 use Rattle.cls_base.specs.declared.rule.Rule.{Rule}
 use Rattle.cls_enum.specs.Members.{IsIn}
-use Rattle.cls_walk.specs.FrameAims.{Aim}
 use Rattle.cls_walk.specs.FrameGuides.{least_of, IsGuide}
 use Rattle.cls_walk.specs.FrameHeaps.{no_mark, stack_of, standings_of, AreFrames, AreGrown, AreSameFrames, Settled}
 use Rattle.cls_walk.specs.FrameLevels.{levels_of, AreSameLevels}

@@ -21,7 +21,7 @@ use Rattle.cls_walk.proofs.FrameSettling.{settled-lists}
 use Rattle.cls_walk.proofs.FrameSizes.{lists-ended}
 use Rattle.cls_walk.proofs.Fronts.{earlier, front-none}
 use Rattle.cls_walk.proofs.Openings.{done-before, done-here, done-later, done-or-after}
-use Rattle.cls_walk.proofs.Walks.{true_no_false, lists-behind, lists-full, lists-more, lists-none, lists-same}
+use Rattle.cls_walk.proofs.Walks.{true_no_false, lists-behind, lists-full, lists-more, lists-same}
 
 -- codes up to an opening come before those behind it
 in-order : (x k y m : ℕ) (s t v w : List ℕ) → v ≡ x ∷ k ∷ s → w ≡ y ∷ m ∷ t → (x < y) ⊎ ((x ≡ y) × (k < m)) → Precedes v w

@@ -8,8 +8,8 @@ use crate::opening::Opening;
 use cls_base::OutOfMemory;
 use std::alloc::Global;
 
-/// The levels of the stacks, and the openings that are offered on each stack that is gone through, those of one stack
-/// behind those of another.
+/// The levels of the stacks, and the openings that are offered on the stacks that are being gone through: those of a
+/// stack rise, and stand behind those of the stack before it.
 #[derive(Drop)]
 pub(crate) struct Ahead {
     pub(crate) levels: Levels,
@@ -58,7 +58,7 @@ fn ends_with(offers: &[Opening], first: usize, opening: Opening) -> bool
         && offers[end - 1].count == opening.count
 }
 
-/// The place among the openings from `first` on, which rise, before which they are before this one.
+/// The first place from `first` on whose opening isn't before this one, where they rise, or the end.
 fn place_from(offers: &[Opening], first: usize, opening: Opening) -> usize
     requires within { first ≤ length offers.now }
     requires rising { AreRising first offers.now }

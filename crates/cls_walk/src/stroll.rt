@@ -82,7 +82,14 @@ fn go_on<'a>(
         IfOk result (Lists IsListed walk.old walk.new) }
 {
     let first = ahead.offers.len();
-    gather(plan.guide, &ahead.levels, top, size, spare, &mut ahead.offers)?;
+    gather(
+        plan.guide,
+        &ahead.levels,
+        top,
+        size,
+        spare,
+        &mut ahead.offers,
+    )?;
     for index in first..ahead.offers.len() {
         let opening = ahead.offers[index];
         if !open_on(plan, frames, ahead, walk, top, size, spare, opening, cursor)? {

@@ -1,4 +1,4 @@
-use Rattle.std.proofs.Common.{◌≡◌, ℕ, ◌≤◌, ◌<◌, ◌+◌, ◌∷◌, ◌++◌, [], List, length, get_or, ap, sym, subst, ◌∙◌, arith}
+use Rattle.std.proofs.Common.{ℕ, ◌≤◌, ◌<◌, List, length, get_or, ap, sym, subst, arith}
 use Rattle.cls_walk.specs.Openings.{no_opening, ArePut, IsBelow, IsGathered}
 use Rattle.cls_walk.specs.declared.opening.Opening.{Opening}
 use Rattle.std.proofs.lemmas.List.{get_or_read}

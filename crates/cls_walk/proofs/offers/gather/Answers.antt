@@ -1,4 +1,4 @@
-use Rattle.std.proofs.Common.{◌≡◌, ◌≤◌, ℕ, List, length, subst, arith}
+use Rattle.std.proofs.Common.{◌≡◌, ℕ, List, length, subst, arith}
 use Rattle.cls_walk.specs.FrameAims.{Aim}
 use Rattle.cls_walk.specs.FrameGuides.{own_size, least_of}
 use Rattle.cls_walk.specs.FrameLevels.{levels_of}

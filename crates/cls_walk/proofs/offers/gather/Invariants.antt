@@ -1,4 +1,4 @@
-use Rattle.std.proofs.Common.{ℕ, ◌<◌, length}
+use Rattle.std.proofs.Common.{ℕ, ◌<◌}
 use Rattle.cls_walk.specs.Counts.{HeadRule}
 use Rattle.cls_walk.specs.FrameBegins.{AreSized}
 use Rattle.cls_walk.specs.FrameLevels.{levels_of}

@@ -1,7 +1,7 @@
-use Rattle.std.proofs.Common.{◌≡◌, ◌+◌, ◌∙◌, ℕ, List, ap, get_or, length, map, sym, subst, arith}
+use Rattle.std.proofs.Common.{◌≡◌, ◌+◌, ◌∙◌, ℕ, List, ap, map, sym, subst, arith}
 use Rattle.std.specs.Prelude.{Vec}
 use Rattle.std.specs.Global.{Global}
-use Rattle.cls_walk.specs.FrameBegins.{heads_in, no_head, AreTotals}
+use Rattle.cls_walk.specs.FrameBegins.{heads_in, AreTotals}
 use Rattle.cls_walk.specs.FrameColumns.{head_of}
 use Rattle.cls_walk.specs.FrameOffered.{AreGatheredBy, AreGatheredTo}
 use Rattle.cls_walk.specs.Openings.{ArePut}
