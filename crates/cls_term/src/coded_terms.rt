@@ -1,11 +1,12 @@
-ghost use Rattle.std.specs.Prelude.{◌≡◌, ℕ, ◌<◌, [], ◌∷◌, ◌++◌, IfOk, List, OnOk, OnErr, length, map, string_bytes};
+ghost use Rattle.std.specs.Prelude.{◌≡◌, ℕ, ◌<◌, [], ◌∷◌, ◌++◌, IfOk, List, OnOk, OnErr, flat_map, length, map, string_bytes};
 ghost use Rattle.cls_base.specs.Terms.{Applicative, code_of};
 ghost use Rattle.cls_term.specs.Banks.{at};
-ghost use Rattle.cls_term.specs.Texts.{name_at, text_of};
+ghost use Rattle.cls_term.specs.Texts.{line_of, name_at, text_of};
 
 use crate::Term;
 use crate::code_text::write_term;
 use crate::decode::decode;
+use crate::lines::Line;
 use cls_base::{NumberLists, OutOfMemory};
 use cls_lexer::Names;
 use std::alloc::Global;
@@ -102,6 +103,31 @@ impl CodedTerms {
             ≡ string_bytes text.old ++ text_of (name_at components.now) (at self.now place)) }
     {
         write_term(self.code(place), components, text)?;
+        Ok(())
+    }
+
+    /// Writes a line for each term at the end: the word, the text of the term as [`Term::print`] gives it, and a line
+    /// feed. The only error is out of memory.
+    #[tactic(auto, using(crate::proofs::CodeLists::lists))]
+    pub fn write_lines(
+        &self,
+        alloc: Global,
+        word: &str,
+        components: &Names,
+        text: &mut String,
+    ) -> Result<(), OutOfMemory>
+        ensures { OnOk result (string_bytes text.new
+            ≡ string_bytes text.old ++ flat_map (line_of word.now (name_at components.now)) self.now) }
+    {
+        let mut line = Line::new(alloc, word)?;
+        let mut before: &[u32] = &[];
+        for place in 0..self.len() {
+            let code = self.code(place);
+            line.write(before, code, components)?;
+            text.push_str(line.as_str())?;
+            text.push('\n')?;
+            before = code;
+        }
         Ok(())
     }
 }

@@ -1,0 +1,164 @@
+-- What stands behind the components of a line: kept when it is cut, and one more when it grows.
+use Rattle.std.proofs.Common.{◌≡◌, ℕ, ◌+◌, ◌-◌, ◌*◌, ◌≤◌, ◌<◌, List, [], ◌∷◌, ◌++◌, length, take, get_or, refl, sym, ap, ◌∙◌, subst, arith, append_assoc, length-append, below_more}
+use Rattle.std.specs.Prelude.{IsUtf8, codes, string_bytes}
+use Rattle.std.specs.String.Boundary.{IsSplitPoint}
+use Rattle.std.proofs.Math.Seq.{take-append_seam, get_or-append_seam}
+use Rattle.std.proofs.lemmas.List.{get_or-take, get_or_append_left, length-take-le}
+use Rattle.std.proofs.lemmas.Str.{IsUtf8-string_bytes, IsCharBoundary-from_take}
+use Rattle.cls_term.specs.Lines.{close_text, close_stack, mark_text, mark_stack, text_behind, stack_behind, standing_at, AreOpen, IsAtEnd, IsClosed, IsGrown, IsStanding, IsLine}
+use Rattle.cls_term.specs.declared.lines.Line.{Line}
+use Rattle.cls_term.specs.declared.lines.Standing.{Standing}
+use Rattle.cls_term.proofs.LineTexts.{starts, same-text, same-stack, text-more, stack-more}
+
+-- the standings up to k say which lists are open behind k components
+pub open-same : (old new : List Standing) (k : ℕ) (stack : List ℕ) → ((j : ℕ) → j ≤ k → standing_at new j ≡ standing_at old j) → AreOpen old k stack → AreOpen new k stack
+open-same old new k [] h o = ap (λ (s : Standing). s.left) (h k (omega arith)) ∙ o
+open-same old new k (more ∷ stack) h o =
+    let P : Standing → Type 0 = λ s. (s.left ≡ more + 1) × (s.outer < k) × AreOpen new s.outer stack in
+    subst P (sym (h k (omega arith))) (o.0, o.1, open-same old new (standing_at old k).outer stack (λ j l. h j (omega (arith, o.1))) o.2)
+
+standing-same :
+    (name : ℕ → List ℕ) (word code : List ℕ) (old new : List Standing) (k : ℕ)
+    → ((j : ℕ) → j ≤ k → standing_at new j ≡ standing_at old j) → IsStanding name word code old k → IsStanding name word code new k
+standing-same name word code old new k h s = record {
+  end = ap (λ (t : Standing). t.end) (h k (omega arith)) ∙ s.end;
+  lists = open-same old new k (stack_behind [] k code) h s.lists;
+  utf8 = s.utf8;
+}
+
+-- the lists that are open at the end of the line
+pub at-end : (name : ℕ → List ℕ) (word code : List ℕ) (k : ℕ) (line : Line) → IsLine name word code k line → IsAtEnd line.standings.items (stack_behind [] k code)
+at-end name word code k line h =
+    let P : ℕ → Type 0 = λ j. AreOpen line.standings.items j (stack_behind [] k code) in
+    let e : k ≡ length line.standings.items - 1 = omega (arith, h.many) in
+    record { some = omega (arith, h.many); lists = subst P e (h.each k (omega arith)).lists }
+
+-- the innermost list that is open ends
+list-ends :
+    (standings : List Standing) (place : ℕ) (stack : List ℕ) → AreOpen standings place stack → (standing_at standings place).left ≡ 1
+    → (rest : List ℕ) × (stack ≡ 0 ∷ rest) × ((standing_at standings place).outer < place) × AreOpen standings (standing_at standings place).outer rest
+list-ends standings place [] o e = absurd (omega (arith, o, e))
+list-ends standings place (more ∷ stack) o e =
+    let m : more ≡ 0 = omega (arith, o.0, e) in
+    (stack, ap (λ (n : ℕ). n ∷ stack) m, o.1, o.2)
+
+pub closed-first : (standings : List Standing) (stack old : List ℕ) → IsAtEnd standings stack → IsClosed standings stack old old (length standings - 1)
+closed-first standings stack old h = record {
+  rest = stack;
+  within = omega (arith, h.some);
+  lists = h.lists;
+  text = refl;
+  stack_then = refl;
+}
+
+pub closed-next :
+    (standings : List Standing) (stack old new last : List ℕ) (place : ℕ) → IsClosed standings stack old new place → (standing_at standings place).left ≡ 1 → last ≡ new ++ codes ")"
+    → IsClosed standings stack old last (standing_at standings place).outer
+closed-next standings stack old new last place h e m =
+    let r = list-ends standings place h.rest h.lists e in
+    record {
+      rest = r.0;
+      within = omega (arith, h.within, r.2);
+      lists = r.3;
+      text = ap (λ (v : List ℕ). v ++ close_text r.0) m ∙ append_assoc new (codes ")") (close_text r.0) ∙ ap (λ (s : List ℕ). new ++ close_text s) (sym r.1) ∙ h.text;
+      stack_then = ap close_stack (sym r.1) ∙ h.stack_then;
+    }
+
+pub closed-falls :
+    (standings : List Standing) (stack old new : List ℕ) (place : ℕ) → IsClosed standings stack old new place → (standing_at standings place).left ≡ 1
+    → (standing_at standings place).outer < place
+closed-falls standings stack old new place h e = (list-ends standings place h.rest h.lists e).2
+
+-- where the line is cut
+cut-text :
+    (name : ℕ → List ℕ) (word code : List ℕ) (k count : ℕ) (line : Line) → IsLine name word code k line → count ≤ k
+    → take (standing_at line.standings.items count).end (string_bytes line.text) ≡ word ++ text_behind name [] count code
+cut-text name word code k count line h l =
+    let front = word ++ text_behind name [] count code in
+    let r = starts name count k [] code l in
+    let whole : string_bytes line.text ≡ front ++ r.0 =
+        h.text ∙ ap (λ (v : List ℕ). word ++ v) r.1 ∙ sym (append_assoc word (text_behind name [] count code) r.0)
+    in
+    (λ i. take ((h.each count l).end i) (whole i)) ∙ take-append_seam front r.0
+
+pub split-point :
+    (name : ℕ → List ℕ) (word code : List ℕ) (k count : ℕ) (line : Line) → IsLine name word code k line → count ≤ k
+    → (standing_at line.standings.items count).end ≤ length (string_bytes line.text)
+    → IsSplitPoint (string_bytes line.text) (standing_at line.standings.items count).end
+split-point name word code k count line h l within =
+    let b = IsCharBoundary-from_take (string_bytes line.text) _ (IsUtf8-string_bytes line.text) within
+        (subst IsUtf8 (sym (cut-text name word code k count line h l)) (h.each count l).utf8)
+    in
+    (b.0, λ _ m. b.1 m)
+
+pub line-cut :
+    (name : ℕ → List ℕ) (word code : List ℕ) (k count : ℕ) (old new : Line) → IsLine name word code k old → count ≤ k
+    → string_bytes new.text ≡ take (standing_at old.standings.items count).end (string_bytes old.text) → new.standings.items ≡ take (count + 1) old.standings.items
+    → IsLine name word code count new
+line-cut name word code k count old new h l bytes kept = record {
+  within = omega (arith, h.within);
+  many = ap length kept ∙ length-take-le (count + 1) old.standings.items (omega (arith, h.many));
+  text = bytes ∙ cut-text name word code k count old h l;
+  each = λ j m. standing-same name word code old.standings.items new.standings.items j
+      (λ i n. ap (λ (s : List Standing). standing_at s i) kept ∙ get_or-take (count + 1) old.standings.items i _ (omega arith))
+      (h.each j (omega arith));
+}
+
+-- the line of one code is that of another with the same beginning
+pub line-shared :
+    (name : ℕ → List ℕ) (word before code : List ℕ) (k : ℕ) (line : Line) → IsLine name word before k line → 2 * k ≤ length code
+    → ((i : ℕ) → i < 2 * k → get_or before i 0 ≡ get_or code i 0) → IsLine name word code k line
+line-shared name word before code k line h l same =
+    let text : (j : ℕ) → j ≤ k → text_behind name [] j before ≡ text_behind name [] j code =
+        λ j m. same-text name j [] before code (omega (arith, h.within)) (omega arith) (λ i n. same i (omega arith))
+    in
+    let stack : (j : ℕ) → j ≤ k → stack_behind [] j before ≡ stack_behind [] j code =
+        λ j m. same-stack j [] before code (omega (arith, h.within)) (omega arith) (λ i n. same i (omega arith))
+    in
+    record {
+      within = l;
+      many = h.many;
+      text = h.text ∙ ap (λ (v : List ℕ). word ++ v) (text k (omega arith));
+      each = λ j m. let s = h.each j m in record {
+        end = s.end ∙ ap (λ (v : List ℕ). length (word ++ v)) (text j m);
+        lists = subst (AreOpen line.standings.items j) (stack j m) s.lists;
+        utf8 = subst (λ (v : List ℕ). IsUtf8 (word ++ v)) (text j m) s.utf8;
+      };
+    }
+
+-- one component more
+pub line-grown :
+    (name : ℕ → List ℕ) (word code : List ℕ) (k : ℕ) (old new : Line) → IsLine name word code k old → 2 * k + 1 < length code
+    → IsGrown (name (get_or code (2 * k) 0) ++ mark_text (stack_behind [] k code) (get_or code (2 * k + 1) 0)) (mark_stack (stack_behind [] k code) (get_or code (2 * k + 1) 0)) old new
+    → IsLine name word code (k + 1) new
+line-grown name word code k old new h l g =
+    let next = name (get_or code (2 * k) 0) ++ mark_text (stack_behind [] k code) (get_or code (2 * k + 1) 0) in
+    let bytes : string_bytes new.text ≡ word ++ text_behind name [] (k + 1) code =
+        g.bytes ∙ ap (λ (v : List ℕ). v ++ next) h.text ∙ append_assoc word (text_behind name [] k code) next
+        ∙ ap (λ (v : List ℕ). word ++ v) (sym (text-more name k [] code l))
+    in
+    let items = old.standings.items in
+    let last : standing_at new.standings.items (k + 1) ≡ g.standing =
+        (λ i. standing_at (g.standings i) (sym h.many i)) ∙ get_or-append_seam items g.standing [] _
+    in
+    let old-one : (j : ℕ) → j ≤ k → standing_at new.standings.items j ≡ standing_at items j =
+        λ j m. ap (λ (s : List Standing). standing_at s j) g.standings ∙ get_or_append_left items (g.standing ∷ []) _ j (omega (arith, h.many))
+    in
+    let here : IsStanding name word code new.standings.items (k + 1) = record {
+      end = ap (λ (s : Standing). s.end) last ∙ g.end ∙ ap length bytes;
+      lists = (let P : List ℕ → Type 0 = AreOpen new.standings.items (k + 1) in
+          let Q : ℕ → Type 0 = λ j. AreOpen new.standings.items j (mark_stack (stack_behind [] k code) (get_or code (2 * k + 1) 0)) in
+          subst P (sym (stack-more k [] code l)) (subst Q h.many g.lists));
+      utf8 = subst IsUtf8 bytes (IsUtf8-string_bytes new.text);
+    } in
+    let before : (j : ℕ) → j < k + 1 → IsStanding name word code new.standings.items j =
+        λ j m. standing-same name word code items new.standings.items j (λ i n. old-one i (omega arith)) (h.each j (omega arith))
+    in
+    record {
+      within = omega arith;
+      many = ap length g.standings ∙ length-append items (g.standing ∷ []) ∙ ap (λ (n : ℕ). n + 1) h.many;
+      text = bytes;
+      each = λ j m. below_more (IsStanding name word code new.standings.items) (k + 1) before here j (omega arith);
+    }
+
+pub ruleset cuts = (line-cut, split-point)
