@@ -1,5 +1,5 @@
 -- What stands behind the components of a line: kept when it is cut, and one more when it grows.
-use Rattle.std.proofs.Common.{◌≡◌, ℕ, ◌+◌, ◌-◌, ◌*◌, ◌≤◌, ◌<◌, List, [], ◌∷◌, ◌++◌, length, take, get_or, refl, sym, ap, ◌∙◌, subst, arith, append_assoc, length-append, below_more}
+use Rattle.std.proofs.Common.{◌≡◌, ℕ, zero, suc, ◌+◌, ◌-◌, ◌*◌, ◌≤◌, ◌<◌, List, [], ◌∷◌, ◌++◌, length, take, get_or, refl, sym, ap, ◌∙◌, subst, arith, append_assoc, append-nil, length-append, below_more}
 use Rattle.std.specs.Prelude.{IsUtf8, codes, string_bytes}
 use Rattle.std.specs.String.Boundary.{IsSplitPoint}
 use Rattle.std.proofs.Math.Seq.{take-append_seam, get_or-append_seam}
@@ -42,6 +42,18 @@ list-ends standings place (more ∷ stack) o e =
     let m : more ≡ 0 = omega (arith, o.0, e) in
     (stack, ap (λ (n : ℕ). n ∷ stack) m, o.1, o.2)
 
+no-list : (standings : List Standing) (place : ℕ) (stack : List ℕ) → AreOpen standings place stack → (standing_at standings place).left ≡ 0 → stack ≡ []
+no-list standings place [] o e = refl
+no-list standings place (more ∷ stack) o e = absurd (omega (arith, o.0, e))
+
+list-goes_on :
+    (standings : List Standing) (place : ℕ) (stack : List ℕ) → AreOpen standings place stack → 1 < (standing_at standings place).left
+    → (more : ℕ) × (rest : List ℕ) × (stack ≡ suc more ∷ rest) × ((standing_at standings place).left ≡ more + 2) × ((standing_at standings place).outer < place)
+    × AreOpen standings (standing_at standings place).outer rest
+list-goes_on standings place [] o l = absurd (omega (arith, o, l))
+list-goes_on standings place (zero ∷ stack) o l = absurd (omega (arith, o.0, l))
+list-goes_on standings place (suc more ∷ stack) o l = (more, stack, refl, omega (arith, o.0), o.1, o.2)
+
 pub closed-first : (standings : List Standing) (stack old : List ℕ) → IsAtEnd standings stack → IsClosed standings stack old old (length standings - 1)
 closed-first standings stack old h = record {
   rest = stack;
@@ -69,23 +81,106 @@ pub closed-falls :
     → (standing_at standings place).outer < place
 closed-falls standings stack old new place h e = (list-ends standings place h.rest h.lists e).2
 
--- where the line is cut
+-- a standing more
+module _ (old : List Standing) (last : Standing) where
+  pushed : standing_at (old ++ last ∷ []) (length old) ≡ last
+  pushed = get_or-append_seam old last [] _
+
+  open-pushed : (k : ℕ) (stack : List ℕ) → k < length old → AreOpen old k stack → AreOpen (old ++ last ∷ []) k stack
+  open-pushed k stack l = open-same old (old ++ last ∷ []) k stack (λ j m. get_or_append_left old (last ∷ []) _ j (omega arith))
+
+  -- the lists that are open behind it
+  open-last :
+      (more : ℕ) (stack : List ℕ) → last.left ≡ more + 1 → last.outer < length old → AreOpen old last.outer stack
+      → AreOpen (old ++ last ∷ []) (length old) (more ∷ stack)
+  open-last more stack l o h =
+      let P : Standing → Type 0 = λ s. (s.left ≡ more + 1) × (s.outer < length old) × AreOpen (old ++ last ∷ []) s.outer stack in
+      subst P (sym pushed) (l, o, open-pushed last.outer stack o h)
+
+  none-last : last.left ≡ 0 → AreOpen (old ++ last ∷ []) (length old) []
+  none-last l = ap (λ (s : Standing). s.left) pushed ∙ l
+
+-- a list more is open
+pub list-opened :
+    (count : ℕ) (stack : List ℕ) (old new : Line) (last : Standing) → IsAtEnd old.standings.items stack → 0 < count → last.left ≡ count → last.outer ≡ length old.standings.items - 1
+    → last.end ≡ length (string_bytes new.text) → string_bytes new.text ≡ string_bytes old.text ++ codes "(" → new.standings.items ≡ old.standings.items ++ last ∷ []
+    → IsGrown (mark_text stack count) (mark_stack stack count) old new
+list-opened zero stack old new last h l left outer end bytes items = absurd (omega (arith, l))
+list-opened (suc more) stack old new last h l left outer end bytes items = record {
+  bytes = bytes;
+  standing = last;
+  standings = items;
+  end = end;
+  lists = (let P : List Standing → Type 0 = λ s. AreOpen s (length old.standings.items) (more ∷ stack) in
+      let Q : ℕ → Type 0 = λ k. AreOpen old.standings.items k stack in
+      subst P (sym items) (open-last old.standings.items last more stack (omega (arith, left)) (omega (arith, outer, h.some)) (subst Q (sym outer) h.lists)));
+}
+
+-- no list goes on
+pub lists-closed :
+    (stack full : List ℕ) (place : ℕ) (old new : Line) (last : Standing) → IsClosed old.standings.items stack (string_bytes old.text) full place
+    → (standing_at old.standings.items place).left ≡ 0 → last.left ≡ 0
+    → last.end ≡ length (string_bytes new.text) → string_bytes new.text ≡ full → new.standings.items ≡ old.standings.items ++ last ∷ []
+    → IsGrown (close_text stack) (close_stack stack) old new
+lists-closed stack full place old new last h none left end bytes items =
+    let rest : h.rest ≡ [] = no-list old.standings.items place h.rest h.lists none in
+    record {
+      bytes = bytes ∙ sym (append-nil full) ∙ ap (λ (s : List ℕ). full ++ close_text s) (sym rest) ∙ h.text;
+      standing = last;
+      standings = items;
+      end = end;
+      lists = (let P : List Standing → Type 0 = λ s. AreOpen s (length old.standings.items) [] in
+          let Q : List ℕ → Type 0 = λ s. AreOpen new.standings.items (length old.standings.items) s in
+          subst Q (ap close_stack (sym rest) ∙ h.stack_then) (subst P (sym items) (none-last old.standings.items last left)));
+    }
+
+-- a list goes on
+pub lists-go_on :
+    (stack full : List ℕ) (place : ℕ) (old new : Line) (last : Standing) → IsClosed old.standings.items stack (string_bytes old.text) full place
+    → 1 < (standing_at old.standings.items place).left → last.left + 1 ≡ (standing_at old.standings.items place).left → last.outer ≡ (standing_at old.standings.items place).outer
+    → last.end ≡ length (string_bytes new.text) → string_bytes new.text ≡ full ++ codes ", " → new.standings.items ≡ old.standings.items ++ last ∷ []
+    → IsGrown (close_text stack) (close_stack stack) old new
+lists-go_on stack full place old new last h some left outer end bytes items =
+    let r = list-goes_on old.standings.items place h.rest h.lists some in
+    let items-old = old.standings.items in
+    record {
+      bytes = bytes ∙ ap (λ (s : List ℕ). full ++ close_text s) (sym r.2) ∙ h.text;
+      standing = last;
+      standings = items;
+      end = end;
+      lists = (let P : List Standing → Type 0 = λ s. AreOpen s (length items-old) (r.0 ∷ r.1) in
+          let Q : List ℕ → Type 0 = λ s. AreOpen new.standings.items (length items-old) s in
+          let R : ℕ → Type 0 = λ k. AreOpen items-old k r.1 in
+          let one : last.left ≡ r.0 + 1 = omega (arith, left, r.3) in
+          let far : last.outer < length items-old = omega (arith, outer, r.4, h.within) in
+          subst Q (ap close_stack (sym r.2) ∙ h.stack_then) (subst P (sym items) (open-last items-old last r.0 r.1 one far (subst R (sym outer) r.5))));
+    }
+
+-- the line begins with what fewer components write
+begins :
+    (name : ℕ → List ℕ) (word code : List ℕ) (k count : ℕ) (line : Line) → IsLine name word code k line → count ≤ k
+    → (rest : List ℕ) × (string_bytes line.text ≡ (word ++ text_behind name [] count code) ++ rest)
+begins name word code k count line h l =
+    let r = starts name count k [] code l in
+    (r.0, h.text ∙ ap (λ (v : List ℕ). word ++ v) r.1 ∙ sym (append_assoc word (text_behind name [] count code) r.0))
+
 cut-text :
     (name : ℕ → List ℕ) (word code : List ℕ) (k count : ℕ) (line : Line) → IsLine name word code k line → count ≤ k
     → take (standing_at line.standings.items count).end (string_bytes line.text) ≡ word ++ text_behind name [] count code
 cut-text name word code k count line h l =
-    let front = word ++ text_behind name [] count code in
-    let r = starts name count k [] code l in
-    let whole : string_bytes line.text ≡ front ++ r.0 =
-        h.text ∙ ap (λ (v : List ℕ). word ++ v) r.1 ∙ sym (append_assoc word (text_behind name [] count code) r.0)
-    in
-    (λ i. take ((h.each count l).end i) (whole i)) ∙ take-append_seam front r.0
+    let r = begins name word code k count line h l in
+    (λ i. take ((h.each count l).end i) (r.1 i)) ∙ take-append_seam (word ++ text_behind name [] count code) r.0
 
+-- where the line may be cut
 pub split-point :
     (name : ℕ → List ℕ) (word code : List ℕ) (k count : ℕ) (line : Line) → IsLine name word code k line → count ≤ k
-    → (standing_at line.standings.items count).end ≤ length (string_bytes line.text)
     → IsSplitPoint (string_bytes line.text) (standing_at line.standings.items count).end
-split-point name word code k count line h l within =
+split-point name word code k count line h l =
+    let front = word ++ text_behind name [] count code in
+    let r = begins name word code k count line h l in
+    let within : (standing_at line.standings.items count).end ≤ length (string_bytes line.text) =
+        omega (arith, (h.each count l).end, ap length r.1, length-append front r.0)
+    in
     let b = IsCharBoundary-from_take (string_bytes line.text) _ (IsUtf8-string_bytes line.text) within
         (subst IsUtf8 (sym (cut-text name word code k count line h l)) (h.each count l).utf8)
     in

@@ -1,4 +1,4 @@
-use Rattle.std.proofs.Common.{arith, string_bytes, ◌∙◌}
+use Rattle.std.proofs.Common.{List, ℕ, ap, arith, string_bytes, ◌++◌, ◌∙◌}
 use Rattle.cls_term.proofs.Standings.{closed-falls, closed-next}
 use Rattle.cls_term.proofs.lines.close_full.Goals as goal
 
@@ -10,4 +10,5 @@ loop-place-smaller c =
 pub loop-place-preserved : goal.loop-place-preserved
 loop-place-preserved c = λ stack h.
     closed-next c.args.standings.now stack (string_bytes c.args.text.now) (string_bytes c.loop-place.text) (string_bytes c.push.new.self) c.loop-place.place
-    (c.loop-place.invariant stack h) c.loop-place-test.true c.in_ok-push.ensures.bytes
+    (c.loop-place.invariant stack h) c.loop-place-test.true
+    (c.in_ok-push.ensures.bytes ∙ ap (λ (v : List ℕ). string_bytes c.loop-place.text ++ v) (c.in_ok-push.ensures.ascii (omega arith)))
