@@ -1,14 +1,17 @@
 -- What stands behind the components of a line: kept when it is cut, and one more when it grows.
 use Rattle.std.proofs.Common.{◌≡◌, ℕ, zero, suc, ◌+◌, ◌-◌, ◌*◌, ◌≤◌, ◌<◌, List, [], ◌∷◌, ◌++◌, length, take, get_or, refl, sym, ap, ◌∙◌, subst, arith, append_assoc, append-nil, length-append, below_more}
-use Rattle.std.specs.Prelude.{IsUtf8, codes, string_bytes}
+use Rattle.std.specs.Prelude.{◌/◌, IsUtf8, codes, string_bytes}
 use Rattle.std.specs.String.Boundary.{IsSplitPoint}
 use Rattle.std.proofs.Math.Seq.{take-append_seam, get_or-append_seam}
 use Rattle.std.proofs.lemmas.List.{get_or-take, get_or_append_left, length-take-le}
 use Rattle.std.proofs.lemmas.Str.{IsUtf8-string_bytes, IsCharBoundary-from_take}
-use Rattle.cls_term.specs.Lines.{close_text, close_stack, mark_text, mark_stack, text_behind, stack_behind, standing_at, AreOpen, IsAtEnd, IsClosed, IsGrown, IsStanding, IsLine}
+use Rattle.cls_base.specs.Terms.{Applicative, code_of, length_of}
+use Rattle.cls_term.specs.Lines.{close_text, close_stack, mark_text, mark_stack, text_behind, stack_behind, standing_at, AreOpen, IsAtEnd, IsClosed, IsGrown, IsStanding, IsLine, IsWholeLine}
+use Rattle.cls_term.specs.Texts.{text_of}
 use Rattle.cls_term.specs.declared.lines.Line.{Line}
 use Rattle.cls_term.specs.declared.lines.Standing.{Standing}
-use Rattle.cls_term.proofs.LineTexts.{starts, same-text, same-stack, text-more, stack-more}
+use Rattle.cls_term.proofs.Codes.{length-code_of}
+use Rattle.cls_term.proofs.LineTexts.{starts, same-text, same-stack, text-more, stack-more, text_behind-code_of}
 
 -- the standings up to k say which lists are open behind k components
 pub open-same : (old new : List Standing) (k : ℕ) (stack : List ℕ) → ((j : ℕ) → j ≤ k → standing_at new j ≡ standing_at old j) → AreOpen old k stack → AreOpen new k stack
@@ -54,15 +57,7 @@ list-goes_on standings place [] o l = absurd (omega (arith, o, l))
 list-goes_on standings place (zero ∷ stack) o l = absurd (omega (arith, o.0, l))
 list-goes_on standings place (suc more ∷ stack) o l = (more, stack, refl, omega (arith, o.0), o.1, o.2)
 
-pub closed-first : (standings : List Standing) (stack old : List ℕ) → IsAtEnd standings stack → IsClosed standings stack old old (length standings - 1)
-closed-first standings stack old h = record {
-  rest = stack;
-  within = omega (arith, h.some);
-  lists = h.lists;
-  text = refl;
-  stack_then = refl;
-}
-
+-- a list is closed
 pub closed-next :
     (standings : List Standing) (stack old new last : List ℕ) (place : ℕ) → IsClosed standings stack old new place → (standing_at standings place).left ≡ 1 → last ≡ new ++ codes ")"
     → IsClosed standings stack old last (standing_at standings place).outer
@@ -256,4 +251,10 @@ line-grown name word code k old new h l g =
       each = λ j m. below_more (IsStanding name word code new.standings.items) (k + 1) before here j (omega arith);
     }
 
-pub ruleset cuts = (line-cut, split-point)
+-- the line of a term's whole code
+pub line-whole :
+    (name : ℕ → List ℕ) (word code : List ℕ) (e : Applicative) (line : Line) → IsWholeLine name word code line → code ≡ code_of e
+    → string_bytes line.text ≡ word ++ text_of name e
+line-whole name word code e line h p =
+    let n : length code / 2 ≡ length_of e = omega (arith, ap length p, length-code_of e) in
+    h.text ∙ ap (λ (v : List ℕ). word ++ v) ((λ i. text_behind name [] (n i) (p i)) ∙ text_behind-code_of name e)

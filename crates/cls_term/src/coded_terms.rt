@@ -107,7 +107,8 @@ impl CodedTerms {
     }
 
     /// Writes a line for each term at the end: the word, the text of the term as [`Term::print`] gives it, and a line
-    /// feed. The only error is out of memory.
+    /// feed. What a term begins with like the one before it is copied. The only error is out of memory, and then a part
+    /// of the lines may stand there.
     #[tactic(auto, using(crate::proofs::CodeLists::lists))]
     pub fn write_lines(
         &self,

@@ -25,7 +25,6 @@ pub(crate) struct Line {
 }
 
 /// How many components both codes begin with.
-#[tactic(auto, using(crate::proofs::Standings::cuts))]
 fn shared(before: &[u32], code: &[u32]) -> usize
     ensures before { result ≤ length before.now / 2 }
     ensures code { result ≤ length code.now / 2 }
@@ -40,8 +39,8 @@ fn shared(before: &[u32], code: &[u32]) -> usize
     most / 2
 }
 
-/// Closes each list that the argument before is the last of, and gives the number of components behind which the list
-/// that goes on is open as it is then.
+/// Closes each list that is full, the innermost first. Behind as many components as it gives, the lists that are left
+/// were open as they are now.
 fn close_full(standings: &[Standing], text: &mut String) -> Result<usize, OutOfMemory>
     requires { (stack : List ℕ) × IsAtEnd standings.now stack }
     ensures closed { (stack : List ℕ) → IsAtEnd standings.now stack → IfOk result (λ place.
