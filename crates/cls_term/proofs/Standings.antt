@@ -174,10 +174,10 @@ split-point name word code k count line h l =
     let front = word ++ text_behind name [] count code in
     let r = begins name word code k count line h l in
     let within : (standing_at line.standings.items count).end ≤ length (string_bytes line.text) =
-        omega (arith, (h.each count l).end, ap length r.1, length-append front r.0)
+    omega (arith, (h.each count l).end, ap length r.1, length-append front r.0)
     in
     let b = IsCharBoundary-from_take (string_bytes line.text) _ (IsUtf8-string_bytes line.text) within
-        (subst IsUtf8 (sym (cut-text name word code k count line h l)) (h.each count l).utf8)
+    (subst IsUtf8 (sym (cut-text name word code k count line h l)) (h.each count l).utf8)
     in
     (b.0, λ _ m. b.1 m)
 
@@ -200,10 +200,10 @@ pub line-shared :
     → ((i : ℕ) → i < 2 * k → get_or before i 0 ≡ get_or code i 0) → IsLine name word code k line
 line-shared name word before code k line h l same =
     let text : (j : ℕ) → j ≤ k → text_behind name [] j before ≡ text_behind name [] j code =
-        λ j m. same-text name j [] before code (omega (arith, h.within)) (omega arith) (λ i n. same i (omega arith))
+    λ j m. same-text name j [] before code (omega (arith, h.within)) (omega arith) (λ i n. same i (omega arith))
     in
     let stack : (j : ℕ) → j ≤ k → stack_behind [] j before ≡ stack_behind [] j code =
-        λ j m. same-stack j [] before code (omega (arith, h.within)) (omega arith) (λ i n. same i (omega arith))
+    λ j m. same-stack j [] before code (omega (arith, h.within)) (omega arith) (λ i n. same i (omega arith))
     in
     record {
       within = l;
@@ -224,15 +224,15 @@ pub line-grown :
 line-grown name word code k old new h l g =
     let next = name (get_or code (2 * k) 0) ++ mark_text (stack_behind [] k code) (get_or code (2 * k + 1) 0) in
     let bytes : string_bytes new.text ≡ word ++ text_behind name [] (k + 1) code =
-        g.bytes ∙ ap (λ (v : List ℕ). v ++ next) h.text ∙ append_assoc word (text_behind name [] k code) next
-        ∙ ap (λ (v : List ℕ). word ++ v) (sym (text-more name k [] code l))
+    g.bytes ∙ ap (λ (v : List ℕ). v ++ next) h.text ∙ append_assoc word (text_behind name [] k code) next
+    ∙ ap (λ (v : List ℕ). word ++ v) (sym (text-more name k [] code l))
     in
     let items = old.standings.items in
     let last : standing_at new.standings.items (k + 1) ≡ g.standing =
-        (λ i. standing_at (g.standings i) (sym h.many i)) ∙ get_or-append_seam items g.standing [] _
+    (λ i. standing_at (g.standings i) (sym h.many i)) ∙ get_or-append_seam items g.standing [] _
     in
     let old-one : (j : ℕ) → j ≤ k → standing_at new.standings.items j ≡ standing_at items j =
-        λ j m. ap (λ (s : List Standing). standing_at s j) g.standings ∙ get_or_append_left items (g.standing ∷ []) _ j (omega (arith, h.many))
+    λ j m. ap (λ (s : List Standing). standing_at s j) g.standings ∙ get_or_append_left items (g.standing ∷ []) _ j (omega (arith, h.many))
     in
     let here : IsStanding name word code new.standings.items (k + 1) = record {
       end = ap (λ (s : Standing). s.end) last ∙ g.end ∙ ap length bytes;
@@ -242,7 +242,7 @@ line-grown name word code k old new h l g =
       utf8 = subst IsUtf8 bytes (IsUtf8-string_bytes new.text);
     } in
     let before : (j : ℕ) → j < k + 1 → IsStanding name word code new.standings.items j =
-        λ j m. standing-same name word code items new.standings.items j (λ i n. old-one i (omega arith)) (h.each j (omega arith))
+    λ j m. standing-same name word code items new.standings.items j (λ i n. old-one i (omega arith)) (h.each j (omega arith))
     in
     record {
       within = omega arith;

@@ -11,8 +11,8 @@ use std::alloc::Global;
 /// What stands behind the first components of a code.
 #[derive(Clone, Copy)]
 struct Standing {
-    end: usize,   // The length of the line there, in bytes.
-    left: u32,    // How many arguments are to come in the innermost list that is open, or 0 if none is.
+    end: usize, // The length of the line there, in bytes.
+    left: u32, // How many arguments are to come in the innermost list that is open, or 0 if none is.
     outer: usize, // Behind so many components the lists around that one are open as they are here.
 }
 

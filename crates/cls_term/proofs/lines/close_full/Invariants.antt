@@ -1,4 +1,4 @@
-use Rattle.std.proofs.Common.{◌≡◌, ℕ, ◌-◌, ◌++◌, List, length, string_bytes}
+use Rattle.std.proofs.Common.{ℕ, List, string_bytes}
 use Rattle.cls_term.specs.Lines.{IsAtEnd, IsClosed}
 use Rattle.cls_term.proofs.lines.close_full.Given as goal
 

@@ -1,4 +1,4 @@
-use Rattle.std.proofs.Common.{◌≡◌, ◌+◌, ◌++◌, ◌∷◌, [], List, ℕ, ap, append-nil, append_assoc, arith, string_bytes, sym, take, ◌∙◌}
+use Rattle.std.proofs.Common.{◌≡◌, ◌++◌, ◌∷◌, [], List, ℕ, ap, append-nil, append_assoc, arith, string_bytes, sym, take, ◌∙◌}
 use Rattle.std.specs.List.{flat_map}
 use Rattle.std.proofs.lemmas.List.{flat_map_more, take_more}
 use Rattle.cls_base.specs.Terms.{Applicative}
@@ -24,13 +24,13 @@ loop-place-preserved c =
     let before = string_bytes c.loop-place.text in
     let whole = c.in_ok-write.ensures word c.loop-place.invariant.line in
     let text : string_bytes c.write.new.self.text ≡ word ++ text_of name e =
-        line-whole name word c.code-code.result.now e c.write.new.self whole c.code-code.ensures
+    line-whole name word c.code-code.result.now e c.write.new.self whole c.code-code.ensures
     in
     let written : string_bytes c.push.new.self ≡ before ++ line_of word name e =
-        c.in_ok-push.ensures.bytes
-        ∙ (λ i. c.in_ok-push_str.ensures.bytes i ++ c.in_ok-push.ensures.ascii (omega arith) i)
-        ∙ append_assoc before c.as_str.result.now (10 ∷ [])
-        ∙ ap (λ (v : List ℕ). before ++ (v ++ 10 ∷ [])) (c.as_str.ensures ∙ text)
+    c.in_ok-push.ensures.bytes
+    ∙ (λ i. c.in_ok-push_str.ensures.bytes i ++ c.in_ok-push.ensures.ascii (omega arith) i)
+    ∙ append_assoc before c.as_str.result.now (10 ∷ [])
+    ∙ ap (λ (v : List ℕ). before ++ (v ++ 10 ∷ [])) (c.as_str.ensures ∙ text)
     in
     record {
       so_far = written ∙ ap (λ (v : List ℕ). v ++ line_of word name e) c.loop-place.invariant.so_far

@@ -1,5 +1,5 @@
-use Rattle.std.proofs.Common.{arith, rules, ℕ, ◌+◌, ◌*◌, ◌≤◌, ◌<◌, ◌≡◌, length, [], subst, sym}
-use Rattle.std.specs.Prelude.{◌/◌, slice_index}
+use Rattle.std.proofs.Common.{arith, ℕ, ◌+◌, ◌*◌, ◌<◌, ◌≡◌, length, [], subst}
+use Rattle.std.specs.Prelude.{◌/◌}
 use Rattle.cls_term.specs.Lines.{IsLine, stack_behind}
 use Rattle.cls_term.specs.Texts.{name_at}
 use Rattle.cls_term.proofs.Standings.{at-end, line-grown, line-shared}
