@@ -14,7 +14,7 @@ use Rattle.cls_term.proofs.Codes.{length-code_of}
 use Rattle.cls_term.proofs.LineTexts.{starts, same-text, same-stack, text-more, stack-more, text_behind-code_of}
 
 -- the standings up to k say which lists are open behind k components
-pub open-same : (old new : List Standing) (k : ℕ) (stack : List ℕ) → ((j : ℕ) → j ≤ k → standing_at new j ≡ standing_at old j) → AreOpen old k stack → AreOpen new k stack
+open-same : (old new : List Standing) (k : ℕ) (stack : List ℕ) → ((j : ℕ) → j ≤ k → standing_at new j ≡ standing_at old j) → AreOpen old k stack → AreOpen new k stack
 open-same old new k [] h o = ap (λ (s : Standing). s.left) (h k (omega arith)) ∙ o
 open-same old new k (more ∷ stack) h o =
     let P : Standing → Type 0 = λ s. (s.left ≡ more + 1) × (s.outer < k) × AreOpen new s.outer stack in

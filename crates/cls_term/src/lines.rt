@@ -1,6 +1,6 @@
 //! Writes the texts of terms by front coding: terms in order begin alike, and so do their texts. A line is cut back to
 //! behind the components that the next term shares, and only the rest is written.
-ghost use Rattle.std.specs.Prelude.{◌≡◌, ◌≢◌, ℕ, ◌+◌, ◌<◌, ◌≤◌, ◌/◌, ◌*◌, [], ◌∷◌, ◌++◌, IfOk, List, OnOk, codes, length, slice_index, string_bytes};
+ghost use Rattle.std.specs.Prelude.{◌≡◌, ◌≢◌, ℕ, ◌<◌, ◌≤◌, ◌/◌, ◌*◌, [], ◌++◌, IfOk, List, OnOk, length, slice_index, string_bytes};
 ghost use Rattle.cls_term.specs.Lines.{IsAtEnd, IsClosed, IsGrown, IsLine, IsWholeLine, close_stack, close_text, mark_stack, mark_text, standing_at};
 ghost use Rattle.cls_term.specs.Texts.{name_at};
 
