@@ -1,7 +1,7 @@
 -- internal: the text of a term as it grows while its code is read from the left, component by component.
 --
--- A stack has a number for each list of arguments that is open, the innermost first: how many arguments come in the list
--- behind the one that is written now.
+-- A stack has a number for each list of arguments that is open, the innermost first: how many arguments come in the
+-- list behind the one that is written now.
 use Rattle.std.specs.Prelude.{ℕ, zero, suc, ◌≡◌, ◌+◌, ◌-◌, ◌*◌, ◌/◌, ◌<◌, ◌≤◌, codes, IsUtf8, List, [], ◌∷◌, ◌++◌, length, slice_index_or, string_bytes}
 use Rattle.cls_term.specs.declared.lines.Line.{Line}
 use Rattle.cls_term.specs.declared.lines.Standing.{Standing}

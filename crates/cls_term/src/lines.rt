@@ -16,8 +16,8 @@ struct Standing {
     outer: usize, // Behind so many components the lists around that one are open as they are here.
 }
 
-/// A line that begins with a word and the text of a term, and what stands behind no component of it, behind the first,
-/// and so on.
+/// A line, which is a word and the text of a term, and what stands behind none of the term's components, behind the
+/// first, and so on.
 #[derive(Drop)]
 pub(crate) struct Line {
     text: String,
@@ -145,7 +145,8 @@ impl Line {
         Ok(())
     }
 
-    /// Writes what stands behind an argument that is whole.
+    /// Writes what stands behind an argument that is whole: the end of each list that is full, and then a comma if a list
+    /// goes on.
     fn close_lists(&mut self) -> Result<(), OutOfMemory>
         requires { (stack : List ℕ) × IsAtEnd self.old.standings.items stack }
         ensures { (stack : List ℕ) → IsAtEnd self.old.standings.items stack → OnOk result (
