@@ -17,18 +17,17 @@ use std::alloc::Global;
 /// A line for each term, and a last one that says whether more terms follow, in the empty text.
 #[tactic(auto, using(crate::proofs::Terms::lines))]
 pub(crate) fn print_terms(
+    alloc: Global,
     mut text: String,
     page: &Page,
     components: &Names,
 ) -> Result<String, OutOfMemory>
-    requires empty { string_bytes text ≡ [] }
-    requires named { All (IsTermOver (length components.now)) page.now.terms }
+    requires { string_bytes text ≡ [] }
     ensures { IfOk result (λ text. string_bytes text
         ≡ page_text (term_line (name_at components.now)) page.now.terms page.now.more) }
 {
-    for place in 0..page.terms.len() {
-        write_term(&page.terms, place, components, &mut text)?;
-    }
+    page.terms
+        .write_lines(alloc, "term ", components, &mut text)?;
     text.push_str(if page.more { "more\n" } else { "done\n" })?;
     Ok(text)
 }

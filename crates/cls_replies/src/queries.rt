@@ -183,7 +183,7 @@ impl Serving {
         ensures same { self.new ≡ self.old }
     {
         match self.page(rt, alloc, listing, gate) {
-            Ok(page) => print_terms(self.empty_text(alloc), &page, &self.components),
+            Ok(page) => print_terms(alloc, self.empty_text(alloc), &page, &self.components),
             Err(fault) => engine_fault(alloc, &self.names, fault),
         }
     }
