@@ -3,7 +3,7 @@ ghost use Rattle.cls_base.specs.Terms.{component, apply};
 
 use cls_base::Numbers;
 use cls_lexer::Names;
-use cls_term::{Bank, SpineSet, Term, Terms};
+use cls_term::{Bank, CodedTerms, SpineSet, Term, Terms};
 use std::alloc::Global;
 use std::cmp::Ordering;
 use std::test::Fail;
@@ -39,32 +39,51 @@ fn a_set_keeps_each_spine_once(rt: HostRuntime) -> Result<(), Fail> {
     Ok(())
 }
 
-/// The term `id(id, n)` over the components id and n.
-fn id_of_id_and_n(alloc: Global) -> Result<Term, Fail>
-    ensures { IfOk result (λ term. term ≡ apply (apply (component 0) (component 0)) (component 1)) }
+/// The term `id(id, x)` over the components id and n, where x is the one with this number.
+fn id_of_id_and(alloc: Global, x: u32) -> Result<Term, Fail>
+    ensures { IfOk result (λ term. term ≡ apply (apply (component 0) (component 0)) (component x)) }
 {
     let mut args = Terms::new(alloc);
     args.push(Term::new(0, Terms::new(alloc)))?;
-    args.push(Term::new(1, Terms::new(alloc)))?;
+    args.push(Term::new(x, Terms::new(alloc)))?;
     Ok(Term::new(0, args))
+}
+
+/// The components id and n.
+fn id_and_n(alloc: Global) -> Result<Names, Fail> {
+    let mut components = Names::new(alloc);
+    components.intern(alloc, "id")?;
+    components.intern(alloc, "n")?;
+    Ok(components)
 }
 
 #[test]
 fn a_term_prints_as_a_spine(rt: HostRuntime) -> Result<(), Fail> {
-    let mut components = Names::new(rt.alloc());
-    components.intern(rt.alloc(), "id")?;
-    assert_eq!(rt; components.len(), 1);
-    components.intern(rt.alloc(), "n")?;
+    let components = id_and_n(rt.alloc())?;
     assert_eq!(rt; components.len(), 2);
-    let text = id_of_id_and_n(rt.alloc())?.print(rt.alloc(), &components)?;
+    let text = id_of_id_and(rt.alloc(), 1)?.print(rt.alloc(), &components)?;
     assert_eq!(rt; text.as_str(), "id(id, n)");
+    Ok(())
+}
+
+#[test]
+fn each_term_has_a_line(rt: HostRuntime) -> Result<(), Fail> {
+    let components = id_and_n(rt.alloc())?;
+    let mut terms = CodedTerms::new(rt.alloc());
+    for x in [0, 1] {
+        let term = id_of_id_and(rt.alloc(), x)?;
+        terms.push(term.code(rt.alloc())?.as_slice())?;
+    }
+    let mut text = String::new(rt.alloc());
+    terms.write_lines(rt.alloc(), "term ", &components, &mut text)?;
+    assert_eq!(rt; text.as_str(), "term id(id, id)\nterm id(id, n)\n");
     Ok(())
 }
 
 #[test]
 fn a_copy_is_equal(rt: HostRuntime) -> Result<(), Fail> {
     let costs = Numbers::new(Vec::new(rt.alloc()));
-    let term = id_of_id_and_n(rt.alloc())?;
+    let term = id_of_id_and(rt.alloc(), 1)?;
     let copy = term.copy(rt.alloc())?;
     assert_eq!(rt; term.order(&costs, &copy), Ordering::Equal);
     Ok(())
