@@ -4,7 +4,7 @@ use Rattle.std.specs.Prelude.{map, slice_get}
 use Rattle.std.proofs.lemmas.List.Elements.{Contains-push, Contains-push_cases, Contains-append_left, All-take}
 use Rattle.std.proofs.lemmas.Option.{slice_get_within, get_or_from_slice_get}
 use Rattle.cls_base.specs.Lists.{AreDistinct}
-use Rattle.cls_base.proofs.Lists.{Contains-nil, Contains-here, Contains-later, Contains-head, map_last}
+use Rattle.cls_base.proofs.Lists.{Contains-nil, Contains-here, Contains-later, Contains-head}
 use Rattle.cls_path.specs.Paths.{TypePath, Paths, none, more, listed, type_of_paths}
 use Rattle.cls_cover.specs.Lists.{IsAscending, Sublist, ends, drops}
 use Rattle.cls_cover.specs.Covers.{IsMinimal, AreMinimal, MeetsEach, AreCovers, HaveMore, AreWithinLimit}
@@ -16,12 +16,12 @@ use Rattle.cls_library.specs.Reaching.{CoversGoal}
 use Rattle.cls_library.specs.Rules.{IsWide, by_covers, max_covers}
 use Rattle.cls_expand.proofs.FamilyCovers.{covers_goal, many_from}
 use Rattle.cls_expand.proofs.Unreached.{IsReached, reached}
-use Rattle.cls_proof.specs.Blocks.{block_of}
-use Rattle.cls_proof.specs.declared.block.Block as code
 use Rattle.cls_proof.specs.Certificates as proof
 use Rattle.cls_proof.specs.Certificates.{Block}
+use Rattle.cls_proof.specs.Growing.{HasBlock, in_last_member, last_blocks, new_block}
 use Rattle.cls_cert.specs.Making.{front_of, path_count, HasFirst, AreLayers, BlockBefore, IsMemberFor}
-use Rattle.cls_cert.specs.Building.{AreCoversOfFronts, HasFirstFamily, IsPlaceBefore, AddsBlock, with_block, without_block, AreBlocks}
+use Rattle.cls_cert.specs.Building.{AddsCoversOfFronts, AreCoversOfFronts, with_layers, with_last, HasFirstFamily, IsPlaceBefore, AddsBlock, with_block, without_block, AreBlocks}
+use Rattle.cls_cert.proofs.Adding.{block_layers, block_stays, blocks_changed, kept_by, kept_same, more_layers, no_layers}
 use Rattle.cls_cert.proofs.Lists.{differs, not_false, is_true, rises_last, take_take, get_before, get_last, length_last}
 
 compare : (a b : ℕ) → (a < b) ⊎ ((a ≡ b) ⊎ (b < a))
@@ -57,10 +57,7 @@ within_front families n j l h i k m =
     front_length (f ∷ fs) (suc j) (suc i) k = let e : i ≤ j = front_length fs j i (omega arith) in omega arith
 
 -- one front more
-pub fronts_begun : (families : List (List ℕ)) (layers : List (List (List ℕ))) → layers ≡ [] → (length layers ≡ 0) × ((k : ℕ) → k < 0 → AreCovers (take (suc k) families) (get_or layers k []))
-fronts_begun families layers e = (ap (λ (ls : List (List (List ℕ))). length ls) e, (λ k l. absurd (omega arith)))
-
-pub fronts_step : (families : List (List ℕ)) (old new : List (List (List ℕ))) (j : ℕ) (layer : List (List ℕ)) → new ≡ old ++ layer ∷ [] → AreCovers (take (suc j) families) layer
+fronts_step : (families : List (List ℕ)) (old new : List (List (List ℕ))) (j : ℕ) (layer : List (List ℕ)) → new ≡ old ++ layer ∷ [] → AreCovers (take (suc j) families) layer
     → (length old ≡ j) × ((k : ℕ) → k < j → AreCovers (take (suc k) families) (get_or old k []))
     → (length new ≡ j + 1) × ((k : ℕ) → k < j + 1 → AreCovers (take (suc k) families) (get_or new k []))
 fronts_step families old new j layer e h b = (
@@ -79,6 +76,36 @@ fronts_step families old new j layer e h b = (
         subst (λ (ls : List (List (List ℕ))). AreCovers (take (suc k) families) (get_or ls k [])) (sym e)
         (subst (λ (i : ℕ). AreCovers (take (suc i) families) (get_or (old ++ layer ∷ []) i [])) (sym f)
         (subst (λ (s : List (List ℕ)). AreCovers (take (suc j) families) s) (sym (ap (λ (i : ℕ). get_or (old ++ layer ∷ []) i []) (sym b.0) ∙ get_last old layer [])) h))
+
+-- the last block has so many layers more, one for each front
+pub record AddedTo (families : List (List ℕ)) (j : ℕ) (old new : List proof.Member) : Type 0 where
+  pub layers : List (List (List ℕ))
+  pub count : length layers ≡ j
+  pub each : (k : ℕ) → k < j → AreCovers (take (suc k) families) (get_or layers k [])
+  pub added : new ≡ with_layers layers old
+
+pub added_none : (families : List (List ℕ)) (ms : List proof.Member) → AddedTo families 0 ms ms
+added_none families ms = record { layers = []; count = refl; each = (λ k l. absurd (omega arith)); added = sym (no_layers ms) }
+
+pub added_next : (families : List (List ℕ)) (j : ℕ) (old now new : List proof.Member) (layer : List (List ℕ)) → AddedTo families j old now → new ≡ with_layers (layer ∷ []) now → AreCovers (take (suc j) families) layer → AddedTo families (j + 1) old new
+added_next families j old now new layer a e h =
+    let s = fronts_step families a.layers (a.layers ++ layer ∷ []) j layer refl h (a.count, a.each) in
+    record {
+      layers = a.layers ++ layer ∷ [];
+      count = s.0;
+      each = s.1;
+      added = e ∙ (ap (λ (ms : List proof.Member). with_layers (layer ∷ []) ms) a.added ∙ more_layers a.layers (layer ∷ []) old);
+    }
+
+pub added_block : (families : List (List ℕ)) (j : ℕ) (old now : List proof.Member) → AddedTo families j old now → HasBlock old → HasBlock now
+added_block families j old now a h = subst HasBlock (sym a.added) (block_stays a.layers old h)
+
+pub added_all : (families : List (List ℕ)) (j : ℕ) (old new : List proof.Member) → j ≡ length families → AddedTo families j old new → AddsCoversOfFronts families old new
+added_all families j old new e a = record {
+  layers = a.layers;
+  are = record { count = a.count ∙ e; each = (λ k l. a.each k (omega arith)) };
+  added = a.added;
+}
 
 -- without families there is one cover
 one_cover : (j : ℕ) → HaveMore (take j []) max_covers → ⊥
@@ -318,6 +345,18 @@ pub some_path : (ps goal : List TypePath) (b : Bool) → ps ≡ goal → b ≡ (
 some_path ps [] b e f g = absurd (differs (sym g ∙ (f ∙ ap (λ (qs : List TypePath). length qs == 0) e)))
 some_path ps (q ∷ goal) b e f g = omega arith
 
--- the block that is pushed
-pub block_added : (l : Library) (goal : Paths) (x n : ℕ) (old new : List code.Block) (b : code.Block) (layers : List (List (List ℕ))) → new ≡ old ++ b ∷ [] → block_of b ≡ record { component = x; n = n; layers = layers } → HasFirst l goal x n → AreLayers l goal x n layers → AddsBlock l goal x n (map block_of old) (map block_of new)
-block_added l goal x n old new b layers e s h k = with_block layers h k (ap (map block_of) e ∙ (map_last block_of old b ∙ ap (λ (c : Block). map block_of old ++ c ∷ []) s))
+-- the block of a place, with its layers
+pub block_added : (l : Library) (goal : Paths) (x n : ℕ) (fs : List (List ℕ)) (old begun new : List proof.Member) → 0 < length old → begun ≡ in_last_member (λ blocks. blocks ++ new_block x n ∷ []) old → AddsCoversOfFronts fs begun new → HasFirst l goal x n → ((layers : List (List (List ℕ))) → AreCoversOfFronts fs layers → AreLayers l goal x n layers)
+    → (new ≡ with_last (last_blocks new) old) × AddsBlock l goal x n (last_blocks old) (last_blocks new)
+block_added l goal x n fs old begun new some b a first are =
+    let block : Block = record { component = x; n = n; layers = a.layers } in
+    let f : List Block → List Block = λ blocks. blocks ++ block ∷ [] in
+    let e : new ≡ in_last_member f old = a.added ∙ (ap (λ (ms : List proof.Member). with_layers a.layers ms) b ∙ block_layers x n a.layers old) in
+    let blocks : last_blocks new ≡ last_blocks old ++ block ∷ [] = ap last_blocks e ∙ blocks_changed f old some in (
+      e ∙ (kept_by f old ∙ ap (λ (bs : List Block). with_last bs old) (sym blocks)),
+      with_block a.layers first (are a.layers a.are) blocks,
+    )
+
+-- no block
+pub block_missing : (l : Library) (goal : Paths) (x n : ℕ) (ms : List proof.Member) → (HasFirst l goal x n → ⊥) → (ms ≡ with_last (last_blocks ms) ms) × AddsBlock l goal x n (last_blocks ms) (last_blocks ms)
+block_missing l goal x n ms f = (kept_same ms, without_block f refl)

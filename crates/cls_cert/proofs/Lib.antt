@@ -1,3 +1,4 @@
+pub mod Adding
 pub mod BlockLaws
 pub mod BucketLaws
 pub mod ChoiceLaws

@@ -3,6 +3,7 @@ use Rattle.std.proofs.Common.{ℕ, zero, suc, ◌≡◌, ◌+◌, ◌<◌, ◌�
 use Rattle.std.specs.Prelude.{slice_get}
 use Rattle.std.proofs.lemmas.Option.{slice_get_within}
 use Rattle.cls_base.proofs.Lists.{Contains-nil, Contains-here, Contains-later, Contains-cases, Contains-at, take_next}
+use Rattle.std.proofs.lemmas.List.{get_or_default}
 use Rattle.std.proofs.lemmas.List.Elements.{Contains-push_cases}
 use Rattle.cls_cover.specs.Lists.{Rises}
 
@@ -62,8 +63,11 @@ rises_before {A} R (z ∷ xs) (suc i) x r e y m = elim (Contains-cases z (take i
 pub item : {A : Type 0} (xs : List A) (k : ℕ) (x : A) → x ≡ get_or xs k x → k < length xs → Contains xs x
 item xs k x e l = (k, l, sym e)
 
-pub got_item : {A : Type 0} (xs : List A) (k : ℕ) (x : A) → x ≡ get_or xs k x → k < length xs → slice_get xs k ≡ Some x
-got_item xs k x e l = got_within xs k x l ∙ ap Some (sym e)
+pub got_list : {A : Type 0} (xs : List (List A)) (k : ℕ) (x : List A) → x ≡ get_or xs k [] → k < length xs → Contains xs x
+got_list xs k x e l = item xs k x (e ∙ get_or_default xs k [] x l) l
+
+pub got_list_item : {A : Type 0} (xs : List (List A)) (k : ℕ) (x : List A) → x ≡ get_or xs k [] → k < length xs → slice_get xs k ≡ Some x
+got_list_item xs k x e l = got_within xs k [] l ∙ ap Some (sym e)
 
 -- the front with the element that a loop looks at
 pub take_one : {A : Type 0} (xs : List A) (k : ℕ) (x : A) → x ≡ get_or xs k x → k < length xs → take (k + 1) xs ≡ take k xs ++ x ∷ []

@@ -15,7 +15,7 @@ ghost use Rattle.cls_cert.specs.Making.{IsFirst, IsFirstChoice};
 ghost use Rattle.cls_cert.specs.Building.{HaveLess, HasLess, GivesRule, IsFirstAt, IsGiven, goals_over, rule_over};
 
 use crate::blocks::few_covers;
-use cls_base::OutOfMemory;
+use cls_base::{NumberLists, OutOfMemory};
 use cls_expand::{arguments_of, families_of};
 use cls_grammar::Grammar;
 use cls_library::Library;
@@ -122,7 +122,7 @@ fn first_giving(
     grammar: &Grammar,
     x: u32,
     args: &[u32],
-    covers: &[Positions],
+    covers: &NumberLists,
 ) -> Result<Option<usize>, OutOfMemory>
     requires declared { x < length lib.now.components }
     requires few { length args.now ≤ arity_of (paths_at lib.now x) }
@@ -134,8 +134,8 @@ fn first_giving(
         ((s : List ℕ) → Contains covers.now s → GivesRule lib.now (forms_of grammar.now) x args.now s → ⊥)
         (λ place. IsFirstAt (GivesRule lib.now (forms_of grammar.now) x args.now) covers.now place)) }
 {
-    for (i, cover) in covers.iter().enumerate() {
-        if gives(alloc, lib, grammar, x, args, cover.as_slice())? {
+    for i in 0..covers.len() {
+        if gives(alloc, lib, grammar, x, args, covers.get(i))? {
             return Ok(Some(i));
         }
     }
@@ -160,9 +160,9 @@ pub(crate) fn first_cover(
         (rule_over (forms_of grammar.now) x args.now) (choice_at x (length args.now) cover)) }
 {
     let families = families_of(alloc, lib, goal, x, args.len() as u32)?;
-    let mut covers = few_covers(alloc, families.as_slice())?;
-    match first_giving(alloc, lib, grammar, x, args, covers.as_slice())? {
-        Some(place) => Ok(covers.swap_remove(place)),
+    let covers = few_covers(alloc, families.as_slice())?;
+    match first_giving(alloc, lib, grammar, x, args, &covers)? {
+        Some(place) => Ok(Positions::from_slice(alloc, covers.get(place))?),
         None => unreachable!(),
     }
 }

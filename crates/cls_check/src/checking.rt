@@ -26,6 +26,6 @@ pub fn check(alloc: Global, lib: &Library, goal: &Nf, cert: &Certificate) -> Res
 {
     match cert {
         Certificate::Inhabited(rows) => check_rows(alloc, lib, goal, rows),
-        Certificate::Empty(members) => check_members(alloc, lib, goal, members.as_slice()),
+        Certificate::Empty(members) => check_members(alloc, lib, goal, members),
     }
 }

@@ -6,7 +6,7 @@ ghost use Rattle.cls_check.specs.Layers.{AllBelow, AllMet, AreFlagged, IsLack, f
 
 use crate::near::{Index, near};
 use cls_base::OutOfMemory;
-use cls_proof::Positions;
+use cls_proof::LayerRef;
 use std::alloc::Global;
 
 /// How much a set lacks of another one.
@@ -22,7 +22,7 @@ pub(crate) enum Lack {
 pub(crate) fn all_met(
     alloc: Global,
     family: &[u32],
-    layer: &[Positions],
+    layer: &LayerRef,
     index: &Index,
     set: &[u32],
     count: usize,
@@ -37,7 +37,7 @@ pub(crate) fn all_met(
     let mut met = vec![in alloc; false; count]?;
     let near = near(alloc, index, set)?;
     for number in &near {
-        match lack_of(layer[*number].as_slice(), &flags) {
+        match lack_of(layer.get(*number), &flags) {
             Lack::Nothing => return Ok(true),
             Lack::One(position) => met[position as usize] = true,
             Lack::More => {}

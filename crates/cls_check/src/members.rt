@@ -2,9 +2,7 @@
 ghost use Rattle.std.specs.Prelude.{ℕ, ◌<◌, ◌≡◌, ◌↔◌, ◌^◌, All, length, map, IfOk, OnOk, IfErr, IsTrue};
 ghost use Rattle.cls_path.specs.Paths.{listed, type_of_paths, SuitsAll};
 ghost use Rattle.cls_library.specs.Libraries.{variances_in, IsLibrary};
-ghost use Rattle.cls_proof.specs.Blocks.{block_of};
 ghost use Rattle.cls_proof.specs.Certificates.{empty};
-ghost use Rattle.cls_proof.specs.Members.{member_of};
 ghost use Rattle.cls_check.specs.Checking.{Accepts, IsPlace, PassesLayers, path_total, empty_layers};
 ghost use Rattle.cls_check.specs.Goals.{AllSuit, AreForms, AreGoals};
 ghost use Rattle.cls_check.specs.Places.{Stands, block_place};
@@ -20,7 +18,7 @@ use cls_base::OutOfMemory;
 use cls_library::{Finder, Library};
 use cls_norm::normal;
 use cls_path::Nf;
-use cls_proof::{Block, Layer, Member};
+use cls_proof::{BlocksRef, Layers, LayersRef, Members};
 use indexmap::IndexSet;
 use std::alloc::Global;
 
@@ -29,20 +27,20 @@ pub(crate) fn check_members(
     alloc: Global,
     lib: &Library,
     asked: &Nf,
-    members: &[Member],
+    members: &Members,
 ) -> Result<(), CheckFault>
     requires suits { SuitsAll (variances_in lib.now.taxonomy) (listed asked.now) }
     requires few { length members.now < 2 ^ 32 }
     ensures accepted { OnOk result
-        (Accepts lib.now (type_of_paths (listed asked.now)) (empty (map member_of members.now))) }
+        (Accepts lib.now (type_of_paths (listed asked.now)) (empty members.now)) }
     ensures refused { IfErr result
-        (IsRefusedAs lib.now (type_of_paths (listed asked.now)) (empty (map member_of members.now))) }
+        (IsRefusedAs lib.now (type_of_paths (listed asked.now)) (empty members.now)) }
 {
     let forms = forms_of(alloc, lib, members)?;
     let goals = goals_of(alloc, &forms)?;
-    for (i, member) in members.iter().enumerate() {
-        let blocks = member.blocks.as_slice();
-        match member_fault(alloc, lib, &goals, &forms[i], blocks)? {
+    for i in 0..members.len() {
+        let member = members.get(i);
+        match member_fault(alloc, lib, &goals, &forms[i], &member.blocks)? {
             Some(reason) => {
                 return Err(CheckFault::Refused {
                     row: i as u32 + 1,
@@ -62,12 +60,13 @@ pub(crate) fn check_members(
 }
 
 /// The normal forms of the members' goals.
-fn forms_of(alloc: Global, lib: &Library, members: &[Member]) -> Result<Vec<Nf>, OutOfMemory>
-    ensures { IfOk result (λ forms. AreForms lib.now (map member_of members.now) forms.items) }
+fn forms_of(alloc: Global, lib: &Library, members: &Members) -> Result<Vec<Nf>, OutOfMemory>
+    ensures { IfOk result (λ forms. AreForms lib.now members.now forms.items) }
 {
     let mut forms = Vec::with_capacity(alloc, members.len())?;
-    for member in members {
-        forms.push(normal(alloc, lib.taxonomy(), &member.goal)?)?;
+    for i in 0..members.len() {
+        let member = members.get(i);
+        forms.push(normal(alloc, lib.taxonomy(), member.goal)?)?;
     }
     Ok(forms)
 }
@@ -89,11 +88,11 @@ fn member_fault(
     lib: &Library,
     goals: &Goals,
     form: &Nf,
-    blocks: &[Block],
+    blocks: &BlocksRef,
 ) -> Result<Option<Reason>, OutOfMemory>
     requires goals { AllSuit lib.now goals.now }
     requires suits { SuitsAll (variances_in lib.now.taxonomy) (listed form.now) }
-    ensures { IfOk result (TellsMember lib.now goals.now (map block_of blocks.now) (listed form.now)) }
+    ensures { IfOk result (TellsMember lib.now goals.now blocks.now (listed form.now)) }
 {
     let count = form.paths().len();
     let places = match block_places(alloc, lib, count, blocks)? {
@@ -112,15 +111,15 @@ fn is_unblocked(
     lib: &Library,
     goals: &Goals,
     form: &Nf,
-    blocks: &[Block],
+    blocks: &BlocksRef,
     places: &IndexSet<Place>,
 ) -> Result<bool, OutOfMemory>
     requires goals { AllSuit lib.now goals.now }
     requires suits { SuitsAll (variances_in lib.now.taxonomy) (listed form.now) }
-    requires layers { PassesLayers lib.now (map block_of blocks.now) (path_total (listed form.now)) }
-    requires places { places.now.keys ≡ map block_place (map block_of blocks.now) }
+    requires layers { PassesLayers lib.now blocks.now (path_total (listed form.now)) }
+    requires places { places.now.keys ≡ map block_place blocks.now }
     ensures { IfOk result (λ answer. IsTrue answer ↔ ((x n : ℕ) → IsPlace lib.now x n
-        → IsWalkedAt lib.now goals.now (map block_of blocks.now) (listed form.now) x n)) }
+        → IsWalkedAt lib.now goals.now blocks.now (listed form.now) x n)) }
 {
     let count = lib.count();
     if form.paths().is_empty() {
@@ -139,18 +138,18 @@ fn are_blocks_walked(
     lib: &Library,
     goals: &Goals,
     form: &Nf,
-    blocks: &[Block],
+    blocks: &BlocksRef,
 ) -> Result<bool, OutOfMemory>
     requires goals { AllSuit lib.now goals.now }
     requires suits { SuitsAll (variances_in lib.now.taxonomy) (listed form.now) }
-    requires layers { PassesLayers lib.now (map block_of blocks.now) (path_total (listed form.now)) }
+    requires layers { PassesLayers lib.now blocks.now (path_total (listed form.now)) }
     ensures { IfOk result (λ answer. IsTrue answer
-        ↔ All (IsBlockWalked lib.now goals.now (listed form.now)) (map block_of blocks.now)) }
+        ↔ All (IsBlockWalked lib.now goals.now (listed form.now)) blocks.now) }
 {
-    for block in blocks {
-        let place = place_of(block);
-        let layers = block.layers.as_slice();
-        if !is_walked(alloc, lib, goals, place, form, layers)? {
+    for i in 0..blocks.len() {
+        let block = blocks.get(i);
+        let place = place_of(&block);
+        if !is_walked(alloc, lib, goals, place, form, &block.layers)? {
             return Ok(false);
         }
     }
@@ -183,7 +182,7 @@ fn are_others_walked(
             component: found.component,
             n: found.count,
         };
-        if !is_other_walked(alloc, lib, goals, form, places, &none, place)? {
+        if !is_other_walked(alloc, lib, goals, form, places, &none.all(), place)? {
             return Ok(false);
         }
         from = cls_library::Place {
@@ -201,7 +200,7 @@ fn is_other_walked(
     goals: &Goals,
     form: &Nf,
     places: &IndexSet<Place>,
-    none: &[Layer],
+    none: &LayersRef,
     place: Place,
 ) -> Result<bool, OutOfMemory>
     requires place { Stands lib.now place }
@@ -218,12 +217,12 @@ fn is_other_walked(
 }
 
 /// So many layers without a set.
-fn no_layers(alloc: Global, count: usize) -> Result<Vec<Layer>, OutOfMemory>
-    ensures { IfOk result (λ layers. layers.items ≡ empty_layers count) }
+fn no_layers(alloc: Global, count: usize) -> Result<Layers, OutOfMemory>
+    ensures { IfOk result (λ layers. layers ≡ empty_layers count) }
 {
-    let mut layers = Vec::with_capacity(alloc, count)?;
+    let mut layers = Layers::new(alloc);
     for _layer in 0..count {
-        layers.push(Layer::new(Vec::new(alloc)))?;
+        layers.push_layer()?;
     }
     Ok(layers)
 }

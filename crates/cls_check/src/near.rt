@@ -7,7 +7,7 @@ ghost use Rattle.cls_check.specs.Layers.{AllBelow};
 ghost use Rattle.cls_check.specs.Near.{AreIndexed, at};
 
 use cls_base::OutOfMemory;
-use cls_proof::Positions;
+use cls_proof::LayerRef;
 use std::alloc::Global;
 use std::marker::Model;
 
@@ -61,18 +61,14 @@ pub(crate) struct Index {
 }
 
 /// The index of the layer, whose numbers are below the count. The only error is out of memory.
-pub(crate) fn index_of(
-    alloc: Global,
-    layer: &[Positions],
-    count: usize,
-) -> Result<Index, OutOfMemory>
+pub(crate) fn index_of(alloc: Global, layer: &LayerRef, count: usize) -> Result<Index, OutOfMemory>
     requires { AllBelow count layer.now }
     ensures { IfOk result (λ index. AreIndexed count layer.now (length layer.now) index.under.items index.small) }
 {
     let mut under = no_buckets(alloc, count)?;
     let mut small = Bucket::new(alloc);
-    for (k, set) in layer.iter().enumerate() {
-        match two_of(set.as_slice()) {
+    for k in 0..layer.len() {
+        match two_of(layer.get(k)) {
             Some((a, b)) => {
                 put_under(&mut under, a as usize, k)?;
                 put_under(&mut under, b as usize, k)?;

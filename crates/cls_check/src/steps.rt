@@ -19,7 +19,7 @@ use crate::place::Place;
 use cls_base::OutOfMemory;
 use cls_library::Library;
 use cls_path::{Nf, Path};
-use cls_proof::{Layer, Positions};
+use cls_proof::{LayerRef, LayersRef, Sets};
 use std::alloc::Global;
 
 /// Whether the layers lead from the empty set to sets that are all blocked. There is a layer for each path of the goal.
@@ -29,7 +29,7 @@ pub(crate) fn is_walked(
     goals: &Goals,
     place: Place,
     goal: &Nf,
-    layers: &[Layer],
+    layers: &LayersRef,
 ) -> Result<bool, OutOfMemory>
     requires place { Stands lib.now place }
     requires goals { AllSuit lib.now goals.now }
@@ -40,34 +40,34 @@ pub(crate) fn is_walked(
 {
     let start = only_empty(alloc)?;
     for (step, path) in goal.paths().iter().enumerate() {
-        let sets = sets_at(start.as_slice(), layers, step);
-        let layer = layers[step].as_slice();
-        if !all_step(alloc, lib, goals, place, path, sets, layer)? {
+        let sets = sets_at(&start, layers, step);
+        let layer = layers.get(step);
+        if !all_step(alloc, lib, goals, place, path, &sets, &layer)? {
             return Ok(false);
         }
     }
-    let last = sets_at(start.as_slice(), layers, layers.len());
-    Ok(all_blocked(alloc, lib, goals, place, last)?)
+    let last = sets_at(&start, layers, layers.len());
+    Ok(all_blocked(alloc, lib, goals, place, &last)?)
 }
 
 /// The empty set alone.
-fn only_empty(alloc: Global) -> Result<Layer, OutOfMemory>
-    ensures { IfOk result (λ layer. layer ≡ [] ∷ []) }
+fn only_empty(alloc: Global) -> Result<Sets, OutOfMemory>
+    ensures { IfOk result (λ sets. sets ≡ [] ∷ []) }
 {
-    let mut sets = Vec::with_capacity(alloc, 1)?;
-    sets.push(Positions::new(alloc))?;
-    Ok(Layer::new(sets))
+    let mut sets = Sets::new(alloc);
+    sets.push(&[])?;
+    Ok(sets)
 }
 
 /// The sets from which the step of this number goes.
-fn sets_at<'a>(start: &'a [Positions], layers: &'a [Layer], step: usize) -> &'a [Positions]
+fn sets_at<'a>(start: &'a Sets, layers: &LayersRef<'a>, step: usize) -> LayerRef<'a>
     requires { step < length layers.now + 1 }
-    ensures { result.now ≡ sets_at start.now layers.now step }
+    ensures { result ≡ sets_at start.now layers.now step }
 {
     if step == 0 {
-        start
+        start.all()
     } else {
-        layers[step - 1].as_slice()
+        layers.get(step - 1)
     }
 }
 
@@ -78,8 +78,8 @@ fn all_step(
     goals: &Goals,
     place: Place,
     path: &Path,
-    sets: &[Positions],
-    layer: &[Positions],
+    sets: &LayerRef,
+    layer: &LayerRef,
 ) -> Result<bool, OutOfMemory>
     requires place { Stands lib.now place }
     requires goals { AllSuit lib.now goals.now }
@@ -88,7 +88,7 @@ fn all_step(
     requires layer { AllBelow (length (arrows_in lib.now place)) layer.now }
     ensures { IfOk result (λ step. IsTrue step ↔ AllStep lib.now goals.now place path.now sets.now layer.now) }
 {
-    if sets.is_empty() {
+    if sets.len() == 0 {
         return Ok(true);
     }
     let family = lib.family(alloc, place.component, place.n, path)?;
@@ -97,18 +97,9 @@ fn all_step(
         return Ok(true);
     }
     let index = index_of(alloc, layer, place.arrows(lib).len())?;
-    for set in sets {
-        if !is_settled(
-            alloc,
-            lib,
-            goals,
-            place,
-            path,
-            leading,
-            layer,
-            &index,
-            set.as_slice(),
-        )? {
+    for i in 0..sets.len() {
+        let set = sets.get(i);
+        if !is_settled(alloc, lib, goals, place, path, leading, layer, &index, set)? {
             return Ok(false);
         }
     }
@@ -123,7 +114,7 @@ fn is_settled(
     place: Place,
     path: &Path,
     family: &[u32],
-    layer: &[Positions],
+    layer: &LayerRef,
     index: &Index,
     set: &[u32],
 ) -> Result<bool, OutOfMemory>
@@ -150,15 +141,15 @@ fn all_blocked(
     lib: &Library,
     goals: &Goals,
     place: Place,
-    sets: &[Positions],
+    sets: &LayerRef,
 ) -> Result<bool, OutOfMemory>
     requires place { Stands lib.now place }
     requires goals { AllSuit lib.now goals.now }
     requires within { AllBelow (length (arrows_in lib.now place)) sets.now }
     ensures { IfOk result (λ blocked. IsTrue blocked ↔ All (IsStopped lib.now goals.now place) sets.now) }
 {
-    for set in sets {
-        if !is_blocked(alloc, lib, goals, place, set.as_slice())? {
+    for i in 0..sets.len() {
+        if !is_blocked(alloc, lib, goals, place, sets.get(i))? {
             return Ok(false);
         }
     }

@@ -61,7 +61,7 @@ fn size(certificate: &Certificate) -> usize
 {
     match certificate {
         Certificate::Inhabited(rows) => rows.len(),
-        Certificate::Empty(members) => members.as_slice().len(),
+        Certificate::Empty(members) => members.len(),
     }
 }
 

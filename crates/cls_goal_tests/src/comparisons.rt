@@ -1,6 +1,8 @@
 //! Whether two certificates are the same.
 use cls_base::Numbers;
-use cls_proof::{Block, Certificate, Layer, Member, Positions, ProofRows, RowRef};
+use cls_proof::{
+    BlockRef, BlocksRef, Certificate, LayerRef, LayersRef, MemberRef, Members, ProofRows, RowRef,
+};
 
 /// Whether the certificates are the same.
 pub fn are_same(one: &Certificate, other: &Certificate) -> bool {
@@ -11,7 +13,7 @@ pub fn are_same(one: &Certificate, other: &Certificate) -> bool {
         },
         Certificate::Empty(one) => match other {
             Certificate::Inhabited(_) => false,
-            Certificate::Empty(other) => have_same_members(one.as_slice(), other.as_slice()),
+            Certificate::Empty(other) => have_same_members(one, other),
         },
     }
 }
@@ -35,54 +37,58 @@ fn is_same_row(one: RowRef, other: RowRef) -> bool {
         && one.cover == other.cover
 }
 
-fn have_same_members(one: &[Member], other: &[Member]) -> bool {
+fn have_same_members(one: &Members, other: &Members) -> bool {
     if one.len() != other.len() {
         return false;
     }
-    for (i, member) in one.iter().enumerate() {
-        if !member.goal.order(&other[i].goal).is_eq() {
-            return false;
-        }
-        if !have_same_blocks(member.blocks.as_slice(), other[i].blocks.as_slice()) {
+    for i in 0..one.len() {
+        if !is_same_member(&one.get(i), &other.get(i)) {
             return false;
         }
     }
     true
 }
 
-fn have_same_blocks(one: &[Block], other: &[Block]) -> bool {
+fn is_same_member(one: &MemberRef, other: &MemberRef) -> bool {
+    one.goal.order(other.goal).is_eq() && have_same_blocks(&one.blocks, &other.blocks)
+}
+
+fn have_same_blocks(one: &BlocksRef, other: &BlocksRef) -> bool {
     if one.len() != other.len() {
         return false;
     }
-    for (i, block) in one.iter().enumerate() {
-        if block.component != other[i].component || block.n != other[i].n {
-            return false;
-        }
-        if !have_same_layers(block.layers.as_slice(), other[i].layers.as_slice()) {
+    for i in 0..one.len() {
+        if !is_same_block(&one.get(i), &other.get(i)) {
             return false;
         }
     }
     true
 }
 
-fn have_same_layers(one: &[Layer], other: &[Layer]) -> bool {
+fn is_same_block(one: &BlockRef, other: &BlockRef) -> bool {
+    one.component == other.component
+        && one.n == other.n
+        && have_same_layers(&one.layers, &other.layers)
+}
+
+fn have_same_layers(one: &LayersRef, other: &LayersRef) -> bool {
     if one.len() != other.len() {
         return false;
     }
-    for (i, layer) in one.iter().enumerate() {
-        if !have_same_sets(layer.as_slice(), other[i].as_slice()) {
+    for i in 0..one.len() {
+        if !have_same_sets(&one.get(i), &other.get(i)) {
             return false;
         }
     }
     true
 }
 
-fn have_same_sets(one: &[Positions], other: &[Positions]) -> bool {
+fn have_same_sets(one: &LayerRef, other: &LayerRef) -> bool {
     if one.len() != other.len() {
         return false;
     }
-    for (i, set) in one.iter().enumerate() {
-        if set.as_slice() != other[i].as_slice() {
+    for i in 0..one.len() {
+        if one.get(i) != other.get(i) {
             return false;
         }
     }

@@ -1,43 +1,28 @@
 -- What a draft says begins a certificate, and leads to its place.
-use Rattle.std.proofs.Common.{◌≡◌, ℕ, false, List, [], ◌∷◌, ◌++◌, Option, Some, refl, ap, sym, ◌∙◌, map, append_assoc, append-nil}
+use Rattle.std.proofs.Common.{◌≡◌, ◌<◌, ℕ, false, List, [], ◌∷◌, ◌++◌, Some, None, refl, ap, sym, ◌∙◌, subst, length, map, append_assoc, append-nil, arith}
+use Rattle.std.proofs.lemmas.List.{map-append}
 use Rattle.std.specs.List.{flat_map, list_any}
 use Rattle.std.proofs.lemmas.Bool.{or_parts}
 use Rattle.cls_base.specs.Types.{ClosedType}
-use Rattle.cls_base.specs.Ty.{type_of}
 use Rattle.cls_proof.specs.Certificates as certificate
 use Rattle.cls_proof.specs.Certificates.{ProofRow, Block, Member, Certificate}
-use Rattle.cls_proof.specs.Statements.{Statement, row, empty, member, block, set, qed, layer_statements, block_statements, member_statements, statements_of, is_qed}
-use Rattle.cls_proof.specs.Blocks.{block_of}
-use Rattle.cls_proof.specs.Members.{member_of}
+use Rattle.cls_proof.specs.Growing.{HasBlock, HasLayer, HasLayers, in_last, in_last_block, in_last_member, last_layers, new_block, new_member, on_last, with_set}
+use Rattle.cls_proof.specs.Statements.{Statement, inhabited, row, empty, member, block, layer, set, qed, layer_statements, block_statements, member_statements, statements_of, is_qed}
 use Rattle.cls_proof.specs.Seen.{certificate_of}
+use Rattle.cls_base.specs.declared.ty.Ty.{Ty}
 use Rattle.cls_proof.specs.declared.certificate.Certificate as code
+use Rattle.cls_proof.specs.declared.statement.Statement as written
+use Rattle.cls_proof.specs.declared.statement.Statement.TheVariants as variant
+use Rattle.cls_proof.specs.Rows.{row_of}
+use Rattle.cls_proof.specs.Said.{statement_of}
 use Rattle.cls_proof.specs.declared.draft.Draft.{Draft}
 use Rattle.cls_proof.specs.declared.draft.Draft.TheVariants as drafts
-use Rattle.cls_proof.specs.declared.draft.MemberDraft.{MemberDraft}
-use Rattle.cls_proof.specs.declared.draft.BlockDraft.{BlockDraft}
-use Rattle.cls_proof.specs.Drafts.{Place, at_start, in_rows, in_members, in_member, in_block, in_layer, at_end, after, said_in, place_in, members_said, member_said, block_said, layer_said}
-use Rattle.cls_proof.proofs.Allowed.{run_from, run_on, IsInBlock, IsInMember, IsInMembers, Leads, rows_run, layer_run, layers_run, member_run, members_run, certificate_run}
+use Rattle.cls_proof.specs.Drafts.{Place, at_start, in_rows, in_members, in_member, in_block, in_layer, at_end, after, said_in, place_in, place_in_block, place_in_member, place_in_members, members_said}
+use Rattle.cls_proof.proofs.Allowed.{run_from, IsInMembers, rows_run, members_run, in_members_place, certificate_run}
 
 flat_last : {A B : Type 0} (f : A → List B) (xs : List A) (x : A) → flat_map f (xs ++ x ∷ []) ≡ flat_map f xs ++ f x
 flat_last f [] x = append-nil (f x)
 flat_last f (y ∷ xs) x = ap (λ zs. f y ++ zs) (flat_last f xs x) ∙ sym (append_assoc (f y) (flat_map f xs) (f x))
-
--- the last member, block and layer at the end of what is said before
-last_member : (ms : List Member) (g : ClosedType) (bs : List Block) → members_said (ms ++ record { goal = g; blocks = bs } ∷ []) ≡ members_said ms ++ (member g ∷ flat_map block_statements bs)
-last_member ms g bs = ap (λ (ss : List Statement). empty ∷ ss) (flat_last member_statements ms record { goal = g; blocks = bs })
-
-last_block : (ms : List Member) (g : ClosedType) (bs : List Block) (b : Block) → members_said (ms ++ record { goal = g; blocks = bs ++ b ∷ [] } ∷ []) ≡ (members_said ms ++ (member g ∷ flat_map block_statements bs)) ++ block_statements b
-last_block ms g bs b =
-    last_member ms g (bs ++ b ∷ [])
-    ∙ (ap (λ (ss : List Statement). members_said ms ++ (member g ∷ ss)) (flat_last block_statements bs b)
-    ∙ sym (append_assoc (members_said ms) (member g ∷ flat_map block_statements bs) (block_statements b)))
-
-last_layer : (ms : List Member) (g : ClosedType) (bs : List Block) (c n : ℕ) (ls : List (List (List ℕ))) (l : List (List ℕ)) → members_said (ms ++ record { goal = g; blocks = bs ++ record { component = c; n = n; layers = ls ++ l ∷ [] } ∷ [] } ∷ []) ≡ ((members_said ms ++ (member g ∷ flat_map block_statements bs)) ++ (block c n ∷ flat_map layer_statements ls)) ++ layer_statements l
-last_layer ms g bs c n ls l =
-    let front : List Statement = members_said ms ++ (member g ∷ flat_map block_statements bs) in
-    last_block ms g bs record { component = c; n = n; layers = ls ++ l ∷ [] }
-    ∙ (ap (λ (ss : List Statement). front ++ (block c n ∷ ss)) (flat_last layer_statements ls l)
-    ∙ sym (append_assoc front (block c n ∷ flat_map layer_statements ls) (layer_statements l)))
 
 -- a certificate that begins with what the draft says
 pub record Begun (said : List Statement) : Type 0 where
@@ -45,71 +30,124 @@ pub record Begun (said : List Statement) : Type 0 where
   pub more : List Statement
   pub begins : statements_of certificate ≡ said ++ more
 
-by_members : (ms : List Member) (said : List Statement) → members_said ms ≡ said → Begun said
-by_members ms said e = record { certificate = certificate.empty ms; more = qed ∷ []; begins = ap (λ (ss : List Statement). ss ++ qed ∷ []) e }
-
 pub begun : (d : Draft) → Begun (said_in d)
 begun drafts.Start = record { certificate = certificate.inhabited []; more = statements_of (certificate.inhabited []); begins = refl }
 begun (drafts.Rows rows) = record { certificate = certificate.inhabited rows; more = qed ∷ []; begins = refl }
-begun drafts.Empty = by_members [] (members_said []) refl
-begun (drafts.Member before goal) = by_members (map member_of before.items ++ record { goal = type_of goal; blocks = [] } ∷ []) (said_in (drafts.Member before goal)) (last_member (map member_of before.items) (type_of goal) [])
-begun (drafts.Block m c n) =
-    let bs : List Block = map block_of m.blocks.items in
-    by_members (map member_of m.before.items ++ record { goal = type_of m.goal; blocks = bs ++ record { component = c; n = n; layers = [] } ∷ [] } ∷ []) (said_in (drafts.Block m c n)) (last_block (map member_of m.before.items) (type_of m.goal) bs record { component = c; n = n; layers = [] })
-begun (drafts.Layer d) =
-    let m = d.of.of in
-    let bs : List Block = map block_of m.blocks.items in
-    by_members (map member_of m.before.items ++ record { goal = type_of m.goal; blocks = bs ++ record { component = d.of.component; n = d.of.n; layers = d.of.layers.items ++ d.sets.items ∷ [] } ∷ [] } ∷ []) (layer_said d) (last_layer (map member_of m.before.items) (type_of m.goal) bs d.of.component d.of.n d.of.layers.items d.sets.items)
+begun (drafts.Members members) = record { certificate = certificate.empty members; more = qed ∷ []; begins = refl }
 begun (drafts.Whole c) = record { certificate = certificate_of c; more = []; begins = sym (append-nil (statements_of (certificate_of c))) }
 
 -- where it leads
-member_leads : (m : MemberDraft) → Leads IsInMember at_start (member_said m)
-member_leads m =
-    let ms : List Member = map member_of m.before.items in
-    let a = members_run ms in_members tt in
-    let r = member_run (type_of m.goal) (map block_of m.blocks.items) a.0 a.1 in
-    (r.0, r.1, run_on (Some in_members) (flat_map member_statements ms) (member (type_of m.goal) ∷ flat_map block_statements (map block_of m.blocks.items)) a.0 a.2 ∙ r.2)
-
-block_step : (component n : ℕ) (p : Place) → IsInMember p → after (block component n) p ≡ Some in_block
-block_step component n in_member h = refl
-block_step component n in_block h = refl
-block_step component n in_layer h = refl
-block_step component n at_start h = absurd h
-block_step component n in_rows h = absurd h
-block_step component n in_members h = absurd h
-block_step component n at_end h = absurd h
-
-member_step : (goal : ClosedType) (p : Place) → IsInMembers p → after (member goal) p ≡ Some in_member
-member_step goal in_members h = refl
-member_step goal in_member h = refl
-member_step goal in_block h = refl
-member_step goal in_layer h = refl
-member_step goal at_start h = absurd h
-member_step goal in_rows h = absurd h
-member_step goal at_end h = absurd h
-
-block_leads : (b : BlockDraft) → Leads IsInBlock at_start (block_said b)
-block_leads b =
-    let a = member_leads b.of in
-    let r = layers_run b.layers.items in_block tt in
-    let last : List Statement = flat_map layer_statements b.layers.items in
-    (r.0, r.1, run_on (Some at_start) (member_said b.of) (block b.component b.n ∷ last) a.0 a.2 ∙ (ap (λ (q : Option Place). run_from q last) (block_step b.component b.n a.0 a.1) ∙ r.2))
-
 pub draft_run : (d : Draft) → run_from (Some at_start) (said_in d) ≡ Some (place_in d)
 draft_run drafts.Start = refl
 draft_run (drafts.Rows rows) = rows_run rows
-draft_run drafts.Empty = refl
-draft_run (drafts.Member before goal) =
-    let ms : List Member = map member_of before.items in
-    let a = members_run ms in_members tt in
-    run_on (Some in_members) (flat_map member_statements ms) (member (type_of goal) ∷ []) a.0 a.2 ∙ ap (λ (q : Option Place). run_from q []) (member_step (type_of goal) a.0 a.1)
-draft_run (drafts.Block m c n) =
-    let a = member_leads m in
-    run_on (Some at_start) (member_said m) (block c n ∷ []) a.0 a.2 ∙ ap (λ (q : Option Place). run_from q []) (block_step c n a.0 a.1)
-draft_run (drafts.Layer d) =
-    let a = block_leads d.of in
-    run_on (Some at_start) (block_said d.of) (layer_statements d.sets.items) a.0 a.2 ∙ layer_run d.sets.items a.0 a.1
+draft_run (drafts.Members members) = members_run members
 draft_run (drafts.Whole c) = certificate_run (certificate_of c)
+
+-- what the elements of a list say, where the last one says more
+grow_any : {A B : Type 0} (f : A → List B) (g : A → A) (ss : List B) → ((x : A) → f (g x) ≡ f x ++ ss) → (xs : List A) → 0 < length xs → flat_map f (on_last g xs) ≡ flat_map f xs ++ ss
+grow_any f g ss p [] l = absurd (omega arith)
+grow_any {A} {B} f g ss p (x ∷ []) l = append-nil (f (g x)) ∙ (p x ∙ ap (λ (zs : List B). zs ++ ss) (sym (append-nil (f x))))
+grow_any {A} {B} f g ss p (x ∷ y ∷ xs) l = ap (λ (zs : List B). f x ++ zs) (grow_any f g ss p (y ∷ xs) (omega arith)) ∙ sym (append_assoc (f x) (flat_map f (y ∷ xs)) ss)
+
+-- the same where it says more if it holds something
+grow_last : {A B C : Type 0} (f : A → List B) (g : A → A) (ss : List B) (content : A → List C) → ((x : A) → 0 < length (content x) → f (g x) ≡ f x ++ ss) → (xs : List A) → 0 < length (in_last content xs) → flat_map f (on_last g xs) ≡ flat_map f xs ++ ss
+grow_last f g ss content p [] l = absurd (omega arith)
+grow_last {A} {B} f g ss content p (x ∷ []) l = append-nil (f (g x)) ∙ (p x l ∙ ap (λ (zs : List B). zs ++ ss) (sym (append-nil (f x))))
+grow_last {A} {B} f g ss content p (x ∷ y ∷ xs) l = ap (λ (zs : List B). f x ++ zs) (grow_last f g ss content p (y ∷ xs) l) ∙ sym (append_assoc (f x) (flat_map f (y ∷ xs)) ss)
+
+in_last-twice : {A B C : Type 0} (inner : B → List C) (content : A → List B) (xs : List A) → in_last (λ x. in_last inner (content x)) xs ≡ in_last inner (in_last content xs)
+in_last-twice inner content [] = refl
+in_last-twice inner content (x ∷ []) = refl
+in_last-twice inner content (x ∷ y ∷ xs) = in_last-twice inner content (y ∷ xs)
+
+-- what is said grows at its end
+pub said_member : (ms : List Member) (goal : ClosedType) → members_said (ms ++ new_member goal ∷ []) ≡ members_said ms ++ member goal ∷ []
+said_member ms goal = ap (λ (ss : List Statement). empty ∷ ss) (flat_last member_statements ms (new_member goal))
+
+pub said_block : (ms : List Member) (c n : ℕ) → 0 < length ms → members_said (in_last_member (λ blocks. blocks ++ new_block c n ∷ []) ms) ≡ members_said ms ++ block c n ∷ []
+said_block ms c n l =
+    ap (λ (ss : List Statement). empty ∷ ss)
+    (grow_any member_statements (λ (m : Member). record { goal = m.goal; blocks = m.blocks ++ new_block c n ∷ [] }) (block c n ∷ [])
+    (λ m. ap (λ (ss : List Statement). member m.goal ∷ ss) (flat_last block_statements m.blocks (new_block c n))) ms l)
+
+pub said_layer : (ms : List Member) → HasBlock ms → members_said (in_last_member (in_last_block (λ layers. layers ++ [] ∷ [])) ms) ≡ members_said ms ++ layer ∷ []
+said_layer ms l =
+    let more : Block → Block = λ b. record { component = b.component; n = b.n; layers = b.layers ++ [] ∷ [] } in
+    ap (λ (ss : List Statement). empty ∷ ss)
+    (grow_last member_statements (λ (m : Member). record { goal = m.goal; blocks = on_last more m.blocks }) (layer ∷ []) (λ (m : Member). m.blocks)
+    (λ m some. ap (λ (ss : List Statement). member m.goal ∷ ss)
+    (grow_any block_statements more (layer ∷ []) (λ b. ap (λ (ss : List Statement). block b.component b.n ∷ ss) (flat_last layer_statements b.layers [])) m.blocks some)) ms l)
+
+set_last : (s : List ℕ) (sets : List (List ℕ)) → layer_statements (sets ++ s ∷ []) ≡ layer_statements sets ++ set s ∷ []
+set_last s sets = ap (λ (ss : List Statement). layer ∷ ss) (map-append (λ (t : List ℕ). set t) sets (s ∷ []))
+
+pub said_set : (ms : List Member) (s : List ℕ) → HasLayer ms → members_said (in_last_member (in_last_block (with_set s)) ms) ≡ members_said ms ++ set s ∷ []
+said_set ms s l =
+    let more : Block → Block = λ b. record { component = b.component; n = b.n; layers = with_set s b.layers } in
+    let some : 0 < length (in_last (λ (m : Member). last_layers m.blocks) ms) =
+    subst (λ (layers : List (List (List ℕ))). 0 < length layers) (sym (in_last-twice (λ (b : Block). b.layers) (λ (m : Member). m.blocks) ms)) l in
+    ap (λ (ss : List Statement). empty ∷ ss)
+    (grow_last member_statements (λ (m : Member). record { goal = m.goal; blocks = on_last more m.blocks }) (set s ∷ []) (λ (m : Member). last_layers m.blocks)
+    (λ m held. ap (λ (ss : List Statement). member m.goal ∷ ss)
+    (grow_last block_statements more (set s ∷ []) (λ (b : Block). b.layers)
+    (λ b there. ap (λ (ss : List Statement). block b.component b.n ∷ ss)
+    (grow_any layer_statements (λ (sets : List (List ℕ)). sets ++ s ∷ []) (set s ∷ []) (set_last s) b.layers there)) m.blocks held)) ms some)
+
+-- what isn't allowed behind members
+pub no_block : (ms : List Member) (c n : ℕ) → length ms ≡ 0 → after (block c n) (place_in_members ms) ≡ None
+no_block [] c n e = refl
+no_block (m ∷ ms) c n e = absurd (omega arith)
+
+no_layer_in : (bs : List Block) → (0 < length bs → ⊥) → after layer (place_in_member bs) ≡ None
+no_layer_in [] h = refl
+no_layer_in (b ∷ bs) h = absurd (h (omega arith))
+
+pub no_layer : (ms : List Member) → (HasBlock ms → ⊥) → after layer (place_in_members ms) ≡ None
+no_layer [] h = refl
+no_layer (m ∷ []) h = no_layer_in m.blocks h
+no_layer (m ∷ n ∷ ms) h = no_layer (n ∷ ms) h
+
+no_set_at : (ls : List (List (List ℕ))) (s : List ℕ) → (0 < length ls → ⊥) → after (set s) (place_in_block ls) ≡ None
+no_set_at [] s h = refl
+no_set_at (l ∷ ls) s h = absurd (h (omega arith))
+
+no_set_in : (bs : List Block) (s : List ℕ) → (HasLayers bs → ⊥) → after (set s) (place_in_member bs) ≡ None
+no_set_in [] s h = refl
+no_set_in (b ∷ []) s h = no_set_at b.layers s h
+no_set_in (b ∷ c ∷ bs) s h = no_set_in (c ∷ bs) s h
+
+pub no_set : (ms : List Member) (s : List ℕ) → (HasLayer ms → ⊥) → after (set s) (place_in_members ms) ≡ None
+no_set [] s h = refl
+no_set (m ∷ []) s h = no_set_in m.blocks s h
+no_set (m ∷ n ∷ ms) s h = no_set (n ∷ ms) s h
+
+no_row : (p : Place) (r : ProofRow) → IsInMembers p → after (row r) p ≡ None
+no_row in_members r h = refl
+no_row in_member r h = refl
+no_row in_block r h = refl
+no_row in_layer r h = refl
+no_row at_start r h = absurd h
+no_row in_rows r h = absurd h
+no_row at_end r h = absurd h
+
+no_start : (p : Place) → IsInMembers p → (after inhabited p ≡ None) × (after empty p ≡ None)
+no_start in_members h = (refl, refl)
+no_start in_member h = (refl, refl)
+no_start in_block h = (refl, refl)
+no_start in_layer h = (refl, refl)
+no_start at_start h = absurd h
+no_start in_rows h = absurd h
+no_start at_end h = absurd h
+
+pub no_rest : (ms : List Member) (s : written.Statement) → ((goal : Ty) → s ≡ variant.Member goal → ⊥) → ((c n : ℕ) → s ≡ variant.Block c n → ⊥) → (s ≡ variant.Layer → ⊥) → ((positions : List ℕ) → s ≡ variant.Set positions → ⊥) → (s ≡ variant.Qed → ⊥) → after (statement_of s) (place_in_members ms) ≡ None
+no_rest ms variant.Inhabited a b c d e = (no_start (place_in_members ms) (in_members_place ms)).0
+no_rest ms (variant.Row r) a b c d e = no_row (place_in_members ms) (row_of r) (in_members_place ms)
+no_rest ms variant.Empty a b c d e = (no_start (place_in_members ms) (in_members_place ms)).1
+no_rest ms (variant.Member goal) a b c d e = absurd (a goal refl)
+no_rest ms (variant.Block x n) a b c d e = absurd (b x n refl)
+no_rest ms variant.Layer a b c d e = absurd (c refl)
+no_rest ms (variant.Set positions) a b c d e = absurd (d positions refl)
+no_rest ms variant.Qed a b c d e = absurd (e refl)
 
 -- none of the statements is `qed`
 abbrev NoQed : List Statement → Type 0
@@ -143,18 +181,11 @@ no_members : (ms : List Member) → NoQed (flat_map member_statements ms)
 no_members [] = refl
 no_members (m ∷ ms) = no_both (member_statements m) (flat_map member_statements ms) (no_blocks m.blocks) (no_members ms)
 
-no_member : (m : MemberDraft) → NoQed (member_said m)
-no_member m = no_both (members_said (map member_of m.before.items)) (member (type_of m.goal) ∷ flat_map block_statements (map block_of m.blocks.items)) (no_members (map member_of m.before.items)) (no_blocks (map block_of m.blocks.items))
-
-no_block : (b : BlockDraft) → NoQed (block_said b)
-no_block b = no_both (member_said b.of) (block b.component b.n ∷ flat_map layer_statements b.layers.items) (no_member b.of) (no_layers b.layers.items)
-
 -- `qed` stands at the end of a whole certificate alone
 pub unfinished : (d : Draft) → ((c : code.Certificate) → d ≡ drafts.Whole c → ⊥) → list_any is_qed (said_in d) ≡ false
 unfinished drafts.Start h = refl
 unfinished (drafts.Rows rows) h = no_rows rows
-unfinished drafts.Empty h = refl
-unfinished (drafts.Member before goal) h = no_both (members_said (map member_of before.items)) (member (type_of goal) ∷ []) (no_members (map member_of before.items)) refl
-unfinished (drafts.Block m c n) h = no_both (member_said m) (block c n ∷ []) (no_member m) refl
-unfinished (drafts.Layer d) h = no_both (block_said d.of) (layer_statements d.sets.items) (no_block d.of) (no_sets d.sets.items)
+unfinished (drafts.Members members) h = no_members members
 unfinished (drafts.Whole c) h = absurd (h c refl)
+
+pub ruleset drafting = (said_member, said_block, said_layer, said_set, no_block, no_layer, no_set)

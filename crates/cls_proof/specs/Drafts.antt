@@ -1,17 +1,11 @@
 -- Internal: certificates that are read up to some line, and which statements may come next.
-use Rattle.std.specs.Prelude.{◌≡◌, Bool, true, false, List, [], ◌∷◌, ◌++◌, Option, Some, None, MatchOption, map}
+use Rattle.std.specs.Prelude.{ℕ, ◌≡◌, Bool, true, false, List, [], ◌∷◌, ◌++◌, Option, Some, None, MatchOption, map}
 use Rattle.std.specs.List.{flat_map}
-use Rattle.cls_base.specs.Ty.{type_of}
 use Rattle.cls_proof.specs.declared.draft.Draft.{Draft}
 use Rattle.cls_proof.specs.declared.draft.Draft.TheVariants as drafts
-use Rattle.cls_proof.specs.declared.draft.MemberDraft.{MemberDraft}
-use Rattle.cls_proof.specs.declared.draft.BlockDraft.{BlockDraft}
-use Rattle.cls_proof.specs.declared.draft.LayerDraft.{LayerDraft}
-use Rattle.cls_proof.specs.Certificates.{ProofRow, Member}
-use Rattle.cls_proof.specs.Blocks.{block_of}
-use Rattle.cls_proof.specs.Members.{member_of}
+use Rattle.cls_proof.specs.Certificates.{ProofRow, Block, Member}
 use Rattle.cls_proof.specs.Seen.{certificate_of}
-use Rattle.cls_proof.specs.Statements.{Statement, inhabited, row, empty, member, block, layer, set, qed, layer_statements, block_statements, member_statements, statements_of}
+use Rattle.cls_proof.specs.Statements.{Statement, inhabited, row, empty, member, block, layer, set, qed, member_statements, statements_of}
 
 -- where a certificate stands after some statements
 pub data Place : Type 0 where
@@ -53,35 +47,36 @@ after qed _ = Some at_end
 abbrev pub members_said : List Member → List Statement
 members_said members = empty ∷ flat_map member_statements members
 
-abbrev pub member_said : MemberDraft → List Statement
-member_said d =
-    members_said (map member_of d.before.items) ++ (member (type_of d.goal) ∷ flat_map block_statements (map block_of d.blocks.items))
-
-abbrev pub block_said : BlockDraft → List Statement
-block_said d = member_said d.of ++ (block d.component d.n ∷ flat_map layer_statements d.layers.items)
-
-abbrev pub layer_said : LayerDraft → List Statement
-layer_said d = block_said d.of ++ layer_statements d.sets.items
-
 abbrev pub rows_said : List ProofRow → List Statement
 rows_said rows = inhabited ∷ map (λ r. row r) rows
 
 abbrev pub said_in : Draft → List Statement
 said_in drafts.Start = []
 said_in (drafts.Rows rows) = rows_said rows
-said_in drafts.Empty = members_said []
-said_in (drafts.Member before goal) = members_said (map member_of before.items) ++ member (type_of goal) ∷ []
-said_in (drafts.Block m component n) = member_said m ++ block component n ∷ []
-said_in (drafts.Layer d) = layer_said d
+said_in (drafts.Members members) = members_said members
 said_in (drafts.Whole c) = statements_of (certificate_of c)
+
+-- where a certificate stands after these layers of a block
+abbrev pub place_in_block : List (List (List ℕ)) → Place
+place_in_block [] = in_block
+place_in_block (l ∷ layers) = in_layer
+
+-- after these blocks of a member
+abbrev pub place_in_member : List Block → Place
+place_in_member [] = in_member
+place_in_member (b ∷ []) = place_in_block b.layers
+place_in_member (b ∷ c ∷ blocks) = place_in_member (c ∷ blocks)
+
+-- after these members
+abbrev pub place_in_members : List Member → Place
+place_in_members [] = in_members
+place_in_members (m ∷ []) = place_in_member m.blocks
+place_in_members (m ∷ n ∷ members) = place_in_members (n ∷ members)
 
 abbrev pub place_in : Draft → Place
 place_in drafts.Start = at_start
 place_in (drafts.Rows rows) = in_rows
-place_in drafts.Empty = in_members
-place_in (drafts.Member before goal) = in_member
-place_in (drafts.Block m component n) = in_block
-place_in (drafts.Layer d) = in_layer
+place_in (drafts.Members members) = place_in_members members
 place_in (drafts.Whole c) = at_end
 
 -- The draft goes on with the statement, or it isn't allowed there.

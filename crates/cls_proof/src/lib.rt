@@ -1,7 +1,7 @@
 //! Certificates: what is said for a type that some term has, and for one that no term has, so that it can be checked.
 //!
-//! - [`Certificate`] is a list of [`ProofRow`]s or a list of [`Member`]s. A row says of its goal that some term has it,
-//!   by the goals of rows before it. A member says of its goal that no term has it, and its [`Block`]s show why.
+//! - [`Certificate`] is a list of [`ProofRow`]s or of [`Members`]. A row says of its goal that some term has it, by the
+//!   goals of rows before it. A member says of its goal that no term has it, and its blocks show why.
 //! - [`print_certificate`] gives the lines of a certificate, and [`read_certificate`] reads them from [`HeldLines`].
 //! - [`laws`] holds what is true of all lines.
 //! - `specs/` defines certificates and their lines. What one must meet is defined where it is checked.
@@ -16,22 +16,25 @@ mod layer;
 mod line_columns;
 mod lines;
 mod member;
+mod parts;
 mod positions;
 mod print;
 mod proof_fault;
 mod read;
 mod reading;
 mod row;
+mod sets;
 mod statement;
 mod statement_form;
 
-pub use block::{Block, Blocks};
+pub use block::{BlockRef, BlocksRef};
 pub use certificate::Certificate;
-pub use layer::{Layer, Layers};
+pub use layer::{Layers, LayersRef};
 pub use lines::HeldLines;
-pub use member::{Member, Members};
+pub use member::{MemberRef, Members};
 pub use positions::Positions;
 pub use print::print_certificate;
 pub use proof_fault::ProofFault;
 pub use read::read_certificate;
 pub use row::{ProofRow, ProofRows, RowRef};
+pub use sets::{LayerRef, Sets};

@@ -1,18 +1,16 @@
 //! The text of a certificate.
-ghost use Rattle.std.specs.Prelude.{◌≡◌, ◌<◌, ◌∷◌, ◌++◌, decimal, map, string_bytes, IfOk, OnOk};
+ghost use Rattle.std.specs.Prelude.{◌≡◌, ◌<◌, ◌∷◌, ◌++◌, decimal, string_bytes, IfOk, OnOk};
 ghost use Rattle.std.specs.List.{flat_map};
-ghost use Rattle.cls_proof.specs.Blocks.{block_of};
-ghost use Rattle.cls_proof.specs.Members.{member_of};
 ghost use Rattle.cls_proof.specs.Rows.{row_seen};
 ghost use Rattle.cls_proof.specs.Seen.{certificate_of};
 ghost use Rattle.cls_proof.specs.Texts.{certificate_text, row_text, member_text, block_text, layer_text, set_text, numbers_text};
 
-use crate::block::Block;
+use crate::block::BlocksRef;
 use crate::certificate::Certificate;
-use crate::layer::Layer;
-use crate::member::Member;
-use crate::positions::Positions;
+use crate::layer::LayersRef;
+use crate::member::Members;
 use crate::row::{ProofRows, RowRef};
+use crate::sets::LayerRef;
 use cls_base::{Name, OutOfMemory};
 use cls_lexer::Names;
 use cls_syntax::write_type;
@@ -38,7 +36,7 @@ pub fn print_certificate(
         }
         Certificate::Empty(members) => {
             text.push_str("empty\n")?;
-            write_members(names, components, members.as_slice(), &mut text)?;
+            write_members(names, components, members, &mut text)?;
         }
     }
     text.push_str("qed\n")?;
@@ -90,58 +88,64 @@ fn write_row(
 fn write_members(
     names: &Names,
     components: &Names,
-    members: &[Member],
+    members: &Members,
     text: &mut String,
 ) -> Result<(), OutOfMemory>
     ensures { OnOk result (string_bytes text.new
-        ≡ string_bytes text.old ++ flat_map (member_text names.now components.now) (map member_of members.now)) }
+        ≡ string_bytes text.old ++ flat_map (member_text names.now components.now) members.now) }
 {
-    for member in members {
+    for i in 0..members.len() {
+        let member = members.get(i);
         text.push_str("member ")?;
-        write_type(text, names, &member.goal)?;
+        write_type(text, names, member.goal)?;
         text.push('\n')?;
-        write_blocks(components, member.blocks.as_slice(), text)?;
+        write_blocks(components, &member.blocks, text)?;
     }
     Ok(())
 }
 
 /// Writes the lines of the blocks at the end.
 #[tactic(auto, using(crate::proofs::Writing::texts))]
-fn write_blocks(components: &Names, blocks: &[Block], text: &mut String) -> Result<(), OutOfMemory>
+fn write_blocks(
+    components: &Names,
+    blocks: &BlocksRef,
+    text: &mut String,
+) -> Result<(), OutOfMemory>
     ensures { OnOk result (string_bytes text.new
-        ≡ string_bytes text.old ++ flat_map (block_text components.now) (map block_of blocks.now)) }
+        ≡ string_bytes text.old ++ flat_map (block_text components.now) blocks.now) }
 {
-    for block in blocks {
+    for i in 0..blocks.len() {
+        let block = blocks.get(i);
         text.push_str("block ")?;
         text.push_str(components.text(Name(block.component)))?;
         text.push(' ')?;
         write_number(text, block.n)?;
         text.push('\n')?;
-        write_layers(block.layers.as_slice(), text)?;
+        write_layers(&block.layers, text)?;
     }
     Ok(())
 }
 
 /// Writes the lines of the layers at the end.
 #[tactic(auto, using(crate::proofs::Writing::texts))]
-fn write_layers(layers: &[Layer], text: &mut String) -> Result<(), OutOfMemory>
+fn write_layers(layers: &LayersRef, text: &mut String) -> Result<(), OutOfMemory>
     ensures { OnOk result (string_bytes text.new ≡ string_bytes text.old ++ flat_map layer_text layers.now) }
 {
-    for layer in layers {
+    for i in 0..layers.len() {
         text.push_str("layer\n")?;
-        write_sets(layer.as_slice(), text)?;
+        write_sets(&layers.get(i), text)?;
     }
     Ok(())
 }
 
 /// Writes the lines of the sets at the end.
 #[tactic(auto, using(crate::proofs::Writing::texts))]
-fn write_sets(sets: &[Positions], text: &mut String) -> Result<(), OutOfMemory>
+fn write_sets(sets: &LayerRef, text: &mut String) -> Result<(), OutOfMemory>
     ensures { OnOk result (string_bytes text.new ≡ string_bytes text.old ++ flat_map set_text sets.now) }
 {
-    for set in sets {
+    for i in 0..sets.len() {
         text.push_str("set")?;
-        write_numbers(text, set.as_slice())?;
+        write_numbers(text, sets.get(i))?;
         text.push('\n')?;
     }
     Ok(())

@@ -1,13 +1,12 @@
-use Rattle.std.proofs.Common.{ℕ, List, length, sym, subst, Contains, arith}
+use Rattle.std.proofs.Common.{ℕ, List, length, sym, subst, ◌∙◌}
 use Rattle.std.proofs.lemmas.Option.{slice_get_within}
 use Rattle.cls_path.specs.Paths.{listed}
 use Rattle.cls_library.specs.Families.{AreFamilies}
 use Rattle.cls_library.specs.Libraries.{arrows_at}
 use Rattle.cls_expand.proofs.Places.{families_ascend, cover_below}
 use Rattle.cls_expand.proofs.FamilyCovers.{covers_goal}
-use Rattle.cls_cert.specs.Building.{IsFirstAt, GivesRule}
 use Rattle.cls_cert.specs.Conditions.{forms_of}
-use Rattle.cls_cert.proofs.Lists.{got_item}
+use Rattle.cls_cert.proofs.Lists.{got_list_item}
 use Rattle.cls_cert.proofs.BlockLaws.{few_covers}
 use Rattle.cls_cert.proofs.ChoiceLaws.{given_declared, given_within, first_choice, cover_given}
 use Rattle.cls_cert.proofs.choosing.first_cover.Goals as goal
@@ -41,13 +40,12 @@ first_giving-requires-clause-below c = λ s m i k.
     let l = c.args.lib.now in
     let arrows = arrows_at l c.args.x (length c.args.args.now) in
     let h = subst (λ (fs : List (List ℕ)). AreFamilies l arrows c.args.goal.now fs) (sym c.as_slice.ensures.value) c.in_ok-families.ensures in
-    cover_below l arrows c.args.goal.now c.as_slice.result.now h s ((c.in_ok-covers.ensures.exactly s).0 (subst (λ (list : List (List ℕ)). Contains list s) c.as_slice-2.ensures.value m)) i k
+    cover_below l arrows c.args.goal.now c.as_slice.result.now h s ((c.in_ok-covers.ensures.exactly s).0 m) i k
 
-pub swap_remove-requires : goal.swap_remove-requires
-swap_remove-requires c =
+pub get-requires : goal.get-requires
+get-requires c =
     let f = rw c.in-Some.is at c.in_ok-place.ensures in
-    let low = slice_get_within c.as_slice-2.result.now c.in-Some.place f.element f.there in
-    let e = c.as_slice-2.ensures.len in omega arith
+    slice_get_within c.in_ok-covers.covers c.in-Some.place f.element f.there
 
 pub unreachable-requires : goal.unreachable-requires
 unreachable-requires c =
@@ -55,10 +53,10 @@ unreachable-requires c =
     let goals = forms_of c.args.grammar.now in
     let arrows = arrows_at l c.args.x (length c.args.args.now) in
     let h = subst (λ (fs : List (List ℕ)). AreFamilies l arrows c.args.goal.now fs) (sym c.as_slice.ensures.value) c.in_ok-families.ensures in
-    let are = covers_goal l arrows c.args.goal.now c.as_slice.result.now c.in_ok-covers.covers.items h c.in_ok-covers.ensures in
-    let u = cover_given l goals (listed c.args.goal.now) c.args.x c.args.args.now c.in_ok-covers.covers.items are c.requires.given in
+    let are = covers_goal l arrows c.args.goal.now c.as_slice.result.now c.in_ok-covers.covers h c.in_ok-covers.ensures in
+    let u = cover_given l goals (listed c.args.goal.now) c.args.x c.args.args.now c.in_ok-covers.covers are c.requires.given in
     let f = rw c.in-None.is at c.in_ok-place.ensures in
-    f u.0 (subst (λ (list : List (List ℕ)). Contains list u.0) (sym c.as_slice-2.ensures.value) u.1) u.2
+    f u.0 u.1 u.2
 
 pub returns : goal.returns
 returns c =
@@ -66,11 +64,10 @@ returns c =
     let goals = forms_of c.args.grammar.now in
     let arrows = arrows_at l c.args.x (length c.args.args.now) in
     let h = subst (λ (fs : List (List ℕ)). AreFamilies l arrows c.args.goal.now fs) (sym c.as_slice.ensures.value) c.in_ok-families.ensures in
-    let are = covers_goal l arrows c.args.goal.now c.as_slice.result.now c.in_ok-covers.covers.items h c.in_ok-covers.ensures in
-    let f = rw c.in-Some.is at c.in_ok-place.ensures in
-    let at = subst (λ (list : List (List ℕ)). IsFirstAt (GivesRule l goals c.args.x c.args.args.now) list c.in-Some.place) c.as_slice-2.ensures.value f in
-    let low = slice_get_within c.in_ok-covers.covers.items c.in-Some.place at.element at.there in
-    first_choice l goals (listed c.args.goal.now) c.args.x c.args.args.now c.in_ok-covers.covers.items are c.in-Some.place c.swap_remove.result
-    (got_item c.in_ok-covers.covers.items c.in-Some.place c.swap_remove.result c.swap_remove.ensures.value low)
+    let are = covers_goal l arrows c.args.goal.now c.as_slice.result.now c.in_ok-covers.covers h c.in_ok-covers.ensures in
+    let at = rw c.in-Some.is at c.in_ok-place.ensures in
+    let low = slice_get_within c.in_ok-covers.covers c.in-Some.place at.element at.there in
+    first_choice l goals (listed c.args.goal.now) c.args.x c.args.args.now c.in_ok-covers.covers are c.in-Some.place c.in_ok-from_slice-in-Some.field-0
+    (got_list_item c.in_ok-covers.covers c.in-Some.place c.in_ok-from_slice-in-Some.field-0 (c.in_ok-from_slice-in-Some.ensures ∙ c.get.ensures) low)
     (given_declared l goals (listed c.args.goal.now) c.args.x c.args.args.now c.requires.given)
     (given_within l goals (listed c.args.goal.now) c.args.x c.args.args.now c.requires.given) at

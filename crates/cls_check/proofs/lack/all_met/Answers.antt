@@ -1,7 +1,7 @@
-use Rattle.std.proofs.Common.{ℕ, ◌≡◌, ◌<◌, ◌↔◌, ◌++◌, length, map, get_or, subst, sym, ap, ◌∙◌, arith, List, [], Bool, true, IsTrue, rules}
+use Rattle.std.proofs.Common.{ℕ, ◌≡◌, ◌<◌, ◌↔◌, ◌++◌, length, map, get_or, subst, sym, ap, ◌∙◌, arith, List, [], Bool, true, IsTrue}
 use Rattle.std.specs.Prelude.{Contains}
 use Rattle.std.specs.List.{flat_map}
-use Rattle.std.proofs.lemmas.List.{length-set, length-map, get_or_default}
+use Rattle.std.proofs.lemmas.List.{length-set, length-map}
 use Rattle.std.proofs.lemmas.List.Elements.{All-get_or}
 use Rattle.cls_base.specs.Lists.{AreBelow}
 use Rattle.cls_base.proofs.Lists.{AreBelow-at, Contains-later}
@@ -9,7 +9,7 @@ use Rattle.cls_check.specs.declared.lack.Lack.TheVariants.{Nothing, One, More}
 use Rattle.cls_check.specs.Layers.{flag, IsLack, AllBelow, AllMet}
 use Rattle.cls_check.specs.Near.{AreIndexed, at}
 use Rattle.cls_check.proofs.Indexing.{near_below, met_near}
-use Rattle.cls_check.proofs.Loops.{is-true, get_map}
+use Rattle.cls_check.proofs.Loops.{is-true, item, got-list, get_map}
 use Rattle.cls_check.proofs.Sets.{below_at, all_set, met_one, met_more, met_all}
 use Rattle.cls_check.proofs.lack.all_met.Goals as goal
 use Rattle.cls_check.proofs.lack.all_met.Goals.{in-One, in-More}
@@ -22,14 +22,14 @@ low : (count : ℕ) (layer under : List (List ℕ)) (small s numbers near : List
 low count layer under small s numbers near h e f k l =
     AreBelow-at (length layer) numbers k (subst (λ (q : List ℕ). AreBelow (length layer) q) (sym (e ∙ f)) (near_below count layer under small h s)) l
 
-other : (layer : List (List ℕ)) (numbers : List ℕ) (k : ℕ) (r t : List ℕ) → k < length numbers → get_or numbers k 0 < length layer → r ≡ get_or layer (get_or numbers k 0) r → t ≡ r → t ≡ get_or (sets_of layer numbers) k []
-other layer numbers k r t l m e f = f ∙ (e ∙ (get_or_default layer (get_or numbers k 0) r [] m ∙ sym (get_map (λ (j : ℕ). get_or layer j []) numbers k [] 0 l)))
+other : (layer : List (List ℕ)) (numbers : List ℕ) (k : ℕ) (t : List ℕ) → k < length numbers → t ≡ get_or layer (get_or numbers k 0) [] → t ≡ get_or (sets_of layer numbers) k []
+other layer numbers k t l e = e ∙ sym (get_map (λ (j : ℕ). get_or layer j []) numbers k [] 0 l)
 
-below_other : (count : ℕ) (layer : List (List ℕ)) (i : ℕ) (r t : List ℕ) → AllBelow count layer → i < length layer → r ≡ get_or layer i r → t ≡ r → AreBelow count t
-below_other count layer i r t all l e f = subst (λ (q : List ℕ). AreBelow count q) (sym (f ∙ e)) (All-get_or (AreBelow count) layer i r l all)
+below_other : (count : ℕ) (layer : List (List ℕ)) (i : ℕ) (t : List ℕ) → AllBelow count layer → i < length layer → t ≡ get_or layer i [] → AreBelow count t
+below_other count layer i t all l e = subst (λ (q : List ℕ). AreBelow count q) (sym e) (All-get_or (AreBelow count) layer i [] l all)
 
-pub bounds-layer-number : goal.bounds-layer-number
-bounds-layer-number c = low c.args.count c.args.layer.now c.args.index.now.under.items c.args.index.now.small c.args.set.now c.deref-number-items.result.now c.in_ok-near.near.items c.requires.index c.deref-number-items.ensures.value c.in_ok-near.ensures c.loop-number.number-index c.loop-number-test.true
+pub get-requires : goal.get-requires
+get-requires c = low c.args.count c.args.layer.now c.args.index.now.under.items c.args.index.now.small c.args.set.now c.deref-number-items.result.now c.in_ok-near.near.items c.requires.index c.deref-number-items.ensures.value c.in_ok-near.ensures c.loop-number.number-index c.loop-number-test.true
 
 pub near-requires : goal.near-requires
 near-requires c = subst (λ (n : ℕ). AreBelow n c.args.set.now) (sym c.requires.index.counted) c.requires.set
@@ -37,23 +37,23 @@ near-requires c = subst (λ (n : ℕ). AreBelow n c.args.set.now) (sym c.require
 pub lack_of-requires : goal.lack_of-requires
 lack_of-requires c =
     let m = low c.args.count c.args.layer.now c.args.index.now.under.items c.args.index.now.small c.args.set.now c.deref-number-items.result.now c.in_ok-near.near.items c.requires.index c.deref-number-items.ensures.value c.in_ok-near.ensures c.loop-number.number-index c.loop-number-test.true in
-    let below = below_other c.args.count c.args.layer.now (get_or c.deref-number-items.result.now c.loop-number.number-index 0) c.index-layer-number.result c.as_slice.result.now c.requires.layer m c.index-layer-number.is c.as_slice.ensures in
+    let below = below_other c.args.count c.args.layer.now (get_or c.deref-number-items.result.now c.loop-number.number-index 0) c.get.result.now c.requires.layer m c.get.ensures in
     let e = ap (λ (q : List Bool). length q) c.deref.ensures.value in
-    subst (λ (n : ℕ). AreBelow n c.as_slice.result.now) (let n = c.in_ok-flags.ensures.count in let f : c.args.count ≡ length c.deref.result.now = omega arith in f) below
+    subst (λ (n : ℕ). AreBelow n c.get.result.now) (let n = c.in_ok-flags.ensures.count in let f : c.args.count ≡ length c.deref.result.now = omega arith in f) below
 
 pub returns-in-Nothing : goal.returns-in-Nothing
 returns-in-Nothing c =
     let i = get_or c.deref-number-items.result.now c.loop-number.number-index 0 in
     let m = low c.args.count c.args.layer.now c.args.index.now.under.items c.args.index.now.small c.args.set.now c.deref-number-items.result.now c.in_ok-near.near.items c.requires.index c.deref-number-items.ensures.value c.in_ok-near.ensures c.loop-number.number-index c.loop-number-test.true in
-    let lack = subst (λ (f : List Bool). IsLack f c.as_slice.result.now Nothing) c.deref.ensures.value c.in-Nothing.ensures in
-    let all = all_set c.args.set.now c.in_ok-flags.flags.items c.in_ok-flags.ensures.flagged c.as_slice.result.now lack in
-    ((λ t j f. (c.index-layer-number.result, (i, m, sym c.index-layer-number.is), (λ n k. Contains-later n j c.args.set.now (all n (subst (λ (q : List ℕ). Contains q n) (sym c.as_slice.ensures) k))))), (λ h. is-true))
+    let lack = subst (λ (f : List Bool). IsLack f c.get.result.now Nothing) c.deref.ensures.value c.in-Nothing.ensures in
+    let all = all_set c.args.set.now c.in_ok-flags.flags.items c.in_ok-flags.ensures.flagged c.get.result.now lack in
+    ((λ t j f. (c.get.result.now, item c.args.layer.now i c.get.result.now (got-list c.args.layer.now i c.get.result.now c.get.ensures m) m, (λ n k. Contains-later n j c.args.set.now (all n k)))), (λ h. is-true))
 
 pub index_mut-requires : goal.index_mut-requires
 index_mut-requires c =
     let m = low c.args.count c.args.layer.now c.args.index.now.under.items c.args.index.now.small c.args.set.now c.deref-number-items.result.now c.in_ok-near.near.items c.requires.index c.deref-number-items.ensures.value c.in_ok-near.ensures c.loop-number.number-index c.loop-number-test.true in
-    let below = below_other c.args.count c.args.layer.now (get_or c.deref-number-items.result.now c.loop-number.number-index 0) c.index-layer-number.result c.as_slice.result.now c.requires.layer m c.index-layer-number.is c.as_slice.ensures in
-    let l : c.in-One.position < c.args.count = below_at c.args.count c.as_slice.result.now c.in-One.position below c.in-One.ensures.1 in
+    let below = below_other c.args.count c.args.layer.now (get_or c.deref-number-items.result.now c.loop-number.number-index 0) c.get.result.now c.requires.layer m c.get.ensures in
+    let l : c.in-One.position < c.args.count = below_at c.args.count c.get.result.now c.in-One.position below c.in-One.ensures.1 in
     let e = c.loop-number.invariant.count in omega arith
 
 pub loop-number-preserved : goal.loop-number-preserved
@@ -62,22 +62,22 @@ loop-number-preserved c =
     let k = c.loop-number.number-index in
     let layer = c.args.layer.now in
     let m = low c.args.count layer c.args.index.now.under.items c.args.index.now.small c.args.set.now numbers c.in_ok-near.near.items c.requires.index c.deref-number-items.ensures.value c.in_ok-near.ensures k c.loop-number-test.true in
-    let is = other layer numbers k c.index-layer-number.result c.as_slice.result.now c.loop-number-test.true m c.index-layer-number.is c.as_slice.ensures in
-    let below = below_other c.args.count layer (get_or numbers k 0) c.index-layer-number.result c.as_slice.result.now c.requires.layer m c.index-layer-number.is c.as_slice.ensures in
+    let is = other layer numbers k c.get.result.now c.loop-number-test.true c.get.ensures in
+    let below = below_other c.args.count layer (get_or numbers k 0) c.get.result.now c.requires.layer m c.get.ensures in
     elim c.match-lack_of.branch [
       | in-One w ↦ (
-          let lack = subst (λ (f : List Bool). IsLack f c.as_slice.result.now (One w.in-One.position)) c.deref.ensures.value w.in-One.ensures in
-          let l : w.in-One.position < c.args.count = below_at c.args.count c.as_slice.result.now w.in-One.position below lack.1 in
+          let lack = subst (λ (f : List Bool). IsLack f c.get.result.now (One w.in-One.position)) c.deref.ensures.value w.in-One.ensures in
+          let l : w.in-One.position < c.args.count = below_at c.args.count c.get.result.now w.in-One.position below lack.1 in
           let e = c.loop-number.invariant.count in
           rw w.met-is record {
             count = length-set c.loop-number.met.items w.in-One.position true ∙ c.loop-number.invariant.count;
-            met_to = met_one c.args.set.now c.in_ok-flags.flags.items c.in_ok-flags.ensures.flagged (sets_of layer numbers) k c.as_slice.result.now is c.loop-number.met.items c.loop-number.invariant.met_to w.in-One.position (omega arith) lack;
+            met_to = met_one c.args.set.now c.in_ok-flags.flags.items c.in_ok-flags.ensures.flagged (sets_of layer numbers) k c.get.result.now is c.loop-number.met.items c.loop-number.invariant.met_to w.in-One.position (omega arith) lack;
           })
       | in-More w ↦ (
-          let lack = subst (λ (f : List Bool). IsLack f c.as_slice.result.now More) c.deref.ensures.value w.in-More.ensures in
+          let lack = subst (λ (f : List Bool). IsLack f c.get.result.now More) c.deref.ensures.value w.in-More.ensures in
           rw w.met-is record {
             count = c.loop-number.invariant.count;
-            met_to = met_more c.args.set.now c.in_ok-flags.flags.items c.in_ok-flags.ensures.flagged (sets_of layer numbers) k c.as_slice.result.now is c.loop-number.met.items c.loop-number.invariant.met_to lack;
+            met_to = met_more c.args.set.now c.in_ok-flags.flags.items c.in_ok-flags.ensures.flagged (sets_of layer numbers) k c.get.result.now is c.loop-number.met.items c.loop-number.invariant.met_to lack;
           })
     ]
 
@@ -93,8 +93,3 @@ returns c =
     let near = subst (λ (q : List (List ℕ)). AllMet c.args.family.now q s ↔ AllMet c.args.family.now layer s) (ap (sets_of layer) (sym (c.deref-number-items.ensures.value ∙ c.in_ok-near.ensures))) (met_near c.args.count layer under small c.requires.index s c.args.family.now) in
     let u = subst (λ (f : List Bool). IsTrue c.are_flagged.result ↔ ((i : ℕ) → Contains c.args.family.now i → IsTrue (flag f i))) c.deref-2.ensures.value c.are_flagged.ensures in
     ((λ t. near.0 (r.0 (u.0 t))), (λ h. u.1 (r.1 (near.1 h))))
-
-pub offset_bounds-layer-number : goal.offset_bounds-layer-number
-offset_bounds-layer-number c =
-    let within = low c.args.count c.args.layer.now c.args.index.now.under.items c.args.index.now.small c.args.set.now c.deref-number-items.result.now c.in_ok-near.near.items c.requires.index c.deref-number-items.ensures.value c.in_ok-near.ensures c.loop-number.number-index c.loop-number-test.true in
-    search rules

@@ -28,7 +28,7 @@ is_other_walked-requires-clause-place c =
 
 pub is_other_walked-requires-clause-none : goal.is_other_walked-requires-clause-none
 is_other_walked-requires-clause-none c =
-    c.deref.ensures.value ∙ (c.in_ok-none.ensures ∙ ap empty_layers (ap (λ (q : List TypePath). length q) c.paths.ensures ∙ sym (total_length c.args.form.now)))
+    c.all.ensures ∙ (c.in_ok-none.ensures ∙ ap empty_layers (ap (λ (q : List TypePath). length q) c.paths.ensures ∙ sym (total_length c.args.form.now)))
 
 pub overflow_add-from : goal.overflow_add-from
 overflow_add-from c =

@@ -1,6 +1,5 @@
-use Rattle.std.proofs.Common.{ℕ, length, map, sym, subst, ap, ◌∙◌, List}
+use Rattle.std.proofs.Common.{ℕ, length, sym, subst, ap, ◌∙◌, List}
 use Rattle.cls_path.specs.Paths.{TypePath}
-use Rattle.cls_proof.specs.Blocks.{block_of}
 use Rattle.cls_check.specs.Checking.{PassesLayers}
 use Rattle.cls_check.proofs.Loops.{differs}
 use Rattle.cls_check.proofs.Stepping.{total_length}
@@ -10,13 +9,13 @@ pub returns-in-None : goal.returns-in-None
 returns-in-None c =
     let k = ap (λ (q : List TypePath). length q) c.paths-count.ensures ∙ sym (total_length c.args.form.now) in
     let h = rw c.in-None.is at c.in_ok-block_places.ensures in
-    λ p. h (subst (λ (n : ℕ). PassesLayers c.args.lib.now (map block_of c.args.blocks.now) n) (sym k) p)
+    λ p. h (subst (λ (n : ℕ). PassesLayers c.args.lib.now c.args.blocks.now n) (sym k) p)
 
 pub is_unblocked-requires-clause-layers : goal.is_unblocked-requires-clause-layers
 is_unblocked-requires-clause-layers c =
     let k = ap (λ (q : List TypePath). length q) c.paths-count.ensures ∙ sym (total_length c.args.form.now) in
     let h = rw c.in-Some.is at c.in_ok-block_places.ensures in
-    subst (λ (n : ℕ). PassesLayers c.args.lib.now (map block_of c.args.blocks.now) n) k h.0
+    subst (λ (n : ℕ). PassesLayers c.args.lib.now c.args.blocks.now n) k h.0
 
 pub is_unblocked-requires-clause-places : goal.is_unblocked-requires-clause-places
 is_unblocked-requires-clause-places c = let h = rw c.in-Some.is at c.in_ok-block_places.ensures in h.1
@@ -25,12 +24,12 @@ pub returns-then-not-branch : goal.returns-then-not-branch
 returns-then-not-branch c =
     let k = ap (λ (q : List TypePath). length q) c.paths-count.ensures ∙ sym (total_length c.args.form.now) in
     let h = rw c.in-Some.is at c.in_ok-block_places.ensures in
-    let a = subst (λ (n : ℕ). PassesLayers c.args.lib.now (map block_of c.args.blocks.now) n) k h.0 in
+    let a = subst (λ (n : ℕ). PassesLayers c.args.lib.now c.args.blocks.now n) k h.0 in
     (a, (λ u. differs (sym c.if-not-branch.true ∙ c.in_ok-is_unblocked.ensures.1 u)))
 
 pub returns : goal.returns
 returns c =
     let k = ap (λ (q : List TypePath). length q) c.paths-count.ensures ∙ sym (total_length c.args.form.now) in
     let h = rw c.in-Some.is at c.in_ok-block_places.ensures in
-    let a = subst (λ (n : ℕ). PassesLayers c.args.lib.now (map block_of c.args.blocks.now) n) k h.0 in
+    let a = subst (λ (n : ℕ). PassesLayers c.args.lib.now c.args.blocks.now n) k h.0 in
     (a, c.in_ok-is_unblocked.ensures.0 c.if-not-branch.false)

@@ -1,6 +1,5 @@
-use Rattle.std.proofs.Common.{rules, ℕ, ◌≡◌, ◌<◌, ◌≤◌, ◌∷◌, ◌↔◌, IsTrue, length, get_or, subst, sym, ap, ◌∙◌, arith, List, []}
+use Rattle.std.proofs.Common.{ℕ, ◌≡◌, ◌<◌, ◌≤◌, ◌∷◌, ◌↔◌, IsTrue, length, get_or, subst, sym, ap, ◌∙◌, arith, List, []}
 use Rattle.std.specs.Prelude.{All, Contains}
-use Rattle.std.proofs.lemmas.List.{get_or_default}
 use Rattle.std.proofs.lemmas.List.Elements.{All-get_or}
 use Rattle.cls_path.specs.Paths.{TypePath}
 use Rattle.cls_check.specs.Checking.{IsBlocked}
@@ -18,17 +17,10 @@ sets_at-sets-requires c =
     let n = ap (λ (q : List TypePath). length q) c.paths-path-items.ensures in
     let t = total_length c.args.goal.now in let m = c.requires.as_many in let h = c.loop-step-test.true in omega arith
 
-pub bounds-layers-step : goal.bounds-layers-step
-bounds-layers-step c =
+pub get-layer-requires : goal.get-layer-requires
+get-layer-requires c =
     let n = ap (λ (q : List TypePath). length q) c.paths-path-items.ensures in
     let t = total_length c.args.goal.now in let m = c.requires.as_many in let h = c.loop-step-test.true in omega arith
-
-pub offset_bounds-layers-step : goal.offset_bounds-layers-step
-offset_bounds-layers-step c =
-    let n = ap (λ (q : List TypePath). length q) c.paths-path-items.ensures in
-    let t = total_length c.args.goal.now in
-    let within : c.loop-step.step < length c.args.layers.now = (let m = c.requires.as_many in let k = c.loop-step-test.true in omega arith) in
-    search rules
 
 pub all_step-requires-clause-suits : goal.all_step-requires-clause-suits
 all_step-requires-clause-suits c =
@@ -37,7 +29,7 @@ all_step-requires-clause-suits c =
 
 pub all_step-requires-clause-within : goal.all_step-requires-clause-within
 all_step-requires-clause-within c =
-    let e = c.sets_at-sets.ensures ∙ ap (λ (s : List (List ℕ)). sets_at s c.args.layers.now c.loop-step.step) (c.as_slice.ensures ∙ c.in_ok-start.ensures) in
+    let e = c.sets_at-sets.ensures ∙ ap (λ (s : List (List ℕ)). sets_at s c.args.layers.now c.loop-step.step) c.in_ok-start.ensures in
     subst (λ (q : List (List ℕ)). AllBelow (length (arrows_in c.args.lib.now c.args.place)) q) (sym e) (sets_below (length (arrows_in c.args.lib.now c.args.place)) c.args.layers.now c.loop-step.step c.requires.within)
 
 pub all_step-requires-clause-layer : goal.all_step-requires-clause-layer
@@ -45,8 +37,8 @@ all_step-requires-clause-layer c =
     let n = ap (λ (q : List TypePath). length q) c.paths-path-items.ensures in
     let t = total_length c.args.goal.now in
     let h : c.loop-step.step < length c.args.layers.now = (let m = c.requires.as_many in let k = c.loop-step-test.true in omega arith) in
-    subst (λ (q : List (List ℕ)). AllBelow (length (arrows_in c.args.lib.now c.args.place)) q) (sym (c.as_slice-layer.ensures ∙ c.index-layers-step.is))
-    (All-get_or (AllBelow (length (arrows_in c.args.lib.now c.args.place))) c.args.layers.now c.loop-step.step c.index-layers-step.result h c.requires.within)
+    subst (λ (q : List (List ℕ)). AllBelow (length (arrows_in c.args.lib.now c.args.place)) q) (sym c.get-layer.ensures)
+    (All-get_or (AllBelow (length (arrows_in c.args.lib.now c.args.place))) c.args.layers.now c.loop-step.step [] h c.requires.within)
 
 pub returns-then-not-branch : goal.returns-then-not-branch
 returns-then-not-branch c =
@@ -56,13 +48,13 @@ returns-then-not-branch c =
     let n = ap (λ (q : List TypePath). length q) items in
     let t = total_length c.args.goal.now in
     let h : c.loop-step.step < length c.args.layers.now = (let m = c.requires.as_many in let k = c.loop-step-test.true in omega arith) in
-    let sets = c.sets_at-sets.ensures ∙ ap (λ (s : List (List ℕ)). sets_at s c.args.layers.now c.loop-step.step) (c.as_slice.ensures ∙ c.in_ok-start.ensures) in
-    let layer : c.as_slice-layer.result.now ≡ get_or c.args.layers.now c.loop-step.step [] = c.as_slice-layer.ensures ∙ (c.index-layers-step.is ∙ get_or_default c.args.layers.now c.loop-step.step c.index-layers-step.result [] h) in
+    let sets = c.sets_at-sets.ensures ∙ ap (λ (s : List (List ℕ)). sets_at s c.args.layers.now c.loop-step.step) c.in_ok-start.ensures in
+    let layer : c.get-layer.result ≡ get_or c.args.layers.now c.loop-step.step [] = c.get-layer.ensures in
     let one = from_step l P (arrows_in l c.args.place) c.args.place.n c.args.goal.now ([] ∷ []) c.args.layers.now c.loop-step.step c.path-item.result
     (c.path-item.is ∙ ap (λ (q : List TypePath). get_or q c.loop-step.step c.path-item.result) items) (let m = c.loop-step-test.true in omega arith) (let m = c.requires.as_many in omega arith) in (
       (λ f. absurd (not-false f)),
       (λ w. absurd (differs (sym c.if-not-branch.true ∙ c.in_ok-all_step.ensures.1
-          (subst (λ (q : List (List ℕ)). All (Settled l P (arrows_in l c.args.place) c.args.place.n c.path-item.result c.as_slice-layer.result.now) q) (sym sets)
+          (subst (λ (q : List (List ℕ)). All (Settled l P (arrows_in l c.args.place) c.args.place.n c.path-item.result c.get-layer.result) q) (sym sets)
           (subst (λ (q : List (List ℕ)). All (Settled l P (arrows_in l c.args.place) c.args.place.n c.path-item.result q) (sets_at ([] ∷ []) c.args.layers.now c.loop-step.step)) (sym layer)
           (one.0 (c.loop-step.invariant.1 w)).0))))),
     )
@@ -75,17 +67,17 @@ loop-step-preserved c =
     let n = ap (λ (q : List TypePath). length q) items in
     let t = total_length c.args.goal.now in
     let h : c.loop-step.step < length c.args.layers.now = (let m = c.requires.as_many in let k = c.loop-step-test.true in omega arith) in
-    let sets = c.sets_at-sets.ensures ∙ ap (λ (s : List (List ℕ)). sets_at s c.args.layers.now c.loop-step.step) (c.as_slice.ensures ∙ c.in_ok-start.ensures) in
-    let layer : c.as_slice-layer.result.now ≡ get_or c.args.layers.now c.loop-step.step [] = c.as_slice-layer.ensures ∙ (c.index-layers-step.is ∙ get_or_default c.args.layers.now c.loop-step.step c.index-layers-step.result [] h) in
+    let sets = c.sets_at-sets.ensures ∙ ap (λ (s : List (List ℕ)). sets_at s c.args.layers.now c.loop-step.step) c.in_ok-start.ensures in
+    let layer : c.get-layer.result ≡ get_or c.args.layers.now c.loop-step.step [] = c.get-layer.ensures in
     let one = from_step l P (arrows_in l c.args.place) c.args.place.n c.args.goal.now ([] ∷ []) c.args.layers.now c.loop-step.step c.path-item.result
     (c.path-item.is ∙ ap (λ (q : List TypePath). get_or q c.loop-step.step c.path-item.result) items) (let m = c.loop-step-test.true in omega arith) (let m = c.requires.as_many in omega arith) in
     let settled = subst (λ (q : List (List ℕ)). All (Settled l P (arrows_in l c.args.place) c.args.place.n c.path-item.result q) (sets_at ([] ∷ []) c.args.layers.now c.loop-step.step)) layer
-    (subst (λ (q : List (List ℕ)). All (Settled l P (arrows_in l c.args.place) c.args.place.n c.path-item.result c.as_slice-layer.result.now) q) sets (c.in_ok-all_step.ensures.0 c.if-not-branch.false)) in
+    (subst (λ (q : List (List ℕ)). All (Settled l P (arrows_in l c.args.place) c.args.place.n c.path-item.result c.get-layer.result) q) sets (c.in_ok-all_step.ensures.0 c.if-not-branch.false)) in
     ((λ f. c.loop-step.invariant.0 (one.1 (settled, f))), (λ w. (one.0 (c.loop-step.invariant.1 w)).1))
 
 pub all_blocked-requires-clause-within : goal.all_blocked-requires-clause-within
 all_blocked-requires-clause-within c =
-    let e = c.sets_at-last.ensures ∙ ap (λ (s : List (List ℕ)). sets_at s c.args.layers.now (length c.args.layers.now)) (c.as_slice-2.ensures ∙ c.in_ok-start.ensures) in
+    let e = c.sets_at-last.ensures ∙ (λ j. sets_at (c.in_ok-start.ensures j) c.args.layers.now (c.len.ensures j)) in
     subst (λ (q : List (List ℕ)). AllBelow (length (arrows_in c.args.lib.now c.args.place)) q) (sym e) (sets_below (length (arrows_in c.args.lib.now c.args.place)) c.args.layers.now (length c.args.layers.now) c.requires.within)
 
 pub returns : goal.returns
@@ -97,8 +89,8 @@ returns c =
     let m = c.requires.as_many in
     let end : c.loop-step.step ≡ length c.args.layers.now = (let a = c.loop-step.auto.step-end in let b = c.loop-step-test.false in omega arith) in
     let long : length c.args.goal.now ≤ c.loop-step.step = (let b = c.loop-step-test.false in omega arith) in
-    let e = c.sets_at-last.ensures ∙ ap (λ (s : List (List ℕ)). sets_at s c.args.layers.now (length c.args.layers.now)) (c.as_slice-2.ensures ∙ c.in_ok-start.ensures) in
-    let last : c.sets_at-last.result.now ≡ sets_at ([] ∷ []) c.args.layers.now c.loop-step.step = e ∙ ap (λ (k : ℕ). sets_at ([] ∷ []) c.args.layers.now k) (sym end) in
+    let e = c.sets_at-last.ensures ∙ (λ j. sets_at (c.in_ok-start.ensures j) c.args.layers.now (c.len.ensures j)) in
+    let last : c.sets_at-last.result ≡ sets_at ([] ∷ []) c.args.layers.now c.loop-step.step = e ∙ ap (λ (k : ℕ). sets_at ([] ∷ []) c.args.layers.now k) (sym end) in
     let x = from_end l P (arrows_in l c.args.place) c.args.place.n c.args.goal.now ([] ∷ []) c.args.layers.now c.loop-step.step long in
     let blocked = subst (λ (q : List (List ℕ)). IsTrue c.in_ok-all_blocked.field-0 ↔ All (IsBlocked l P (arrows_in l c.args.place) c.args.place.n) q) last c.in_ok-all_blocked.ensures in
     ((λ f. c.loop-step.invariant.0 (x.1 (blocked.0 f))), (λ w. blocked.1 (x.0 (c.loop-step.invariant.1 w))))
