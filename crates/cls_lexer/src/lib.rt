@@ -23,5 +23,5 @@ pub use line_reader::LineReader;
 pub use names::Names;
 pub use numeral::Numeral;
 pub use piece::Piece;
-pub use scan::{byte_at, first_token, tokens};
+pub use scan::{byte_at, first_token, tokens, tokens_into};
 pub use token::{Token, TokenKind};

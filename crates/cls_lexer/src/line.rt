@@ -1,9 +1,14 @@
-ghost use Rattle.std.specs.Prelude.{◌≡◌, ℕ, ◌<◌, ◌≤◌, ◌↔◌, List, length, Ok, Err, IsOk, IfOk, IfSome, IsNone, IsUtf8};
+ghost use Rattle.std.specs.Prelude.{◌≡◌, ℕ, ◌<◌, ◌≤◌, ◌↔◌, List, length, map, Ok, Err, IsOk, IfOk, IfSome, IsNone, IsUtf8};
 ghost use Rattle.cls_base.specs.Limits.{max_line_bytes};
 ghost use Rattle.cls_lexer.specs.Lines.{without_return};
 ghost use Rattle.cls_lexer.specs.Skipped.{first_byte, says_nothing, IsText, IsSkipped};
+ghost use Rattle.cls_lexer.specs.Tokens.{tokens_of, located};
+ghost use Rattle.cls_lexer.specs.Words.{words, words_of};
+ghost use Rattle.std.specs.Cow.{cow_slice_items};
 
 use crate::characters::is_blank;
+use crate::scan::{tokens, tokens_into};
+use crate::token::Token;
 use cls_base::OutOfMemory;
 use cls_base::limits::MAX_LINE_BYTES;
 use std::alloc::Global;
@@ -178,6 +183,30 @@ impl<'a> Line<'a> {
             Content::Text(text) => Ok(text.as_str()),
             Content::Unread(bytes) if bytes.len() > MAX_LINE_BYTES => Err(TextFault::TooLong),
             Content::Unread(_) => Err(TextFault::NotUtf8),
+        }
+    }
+
+    /// The tokens of a line that is a text. If the line borrows its bytes, they stand in `room` in place of what it has, so that
+    /// lines of one text need one list of tokens; otherwise in a list of their own.
+    pub fn tokens<'r, 'l: 'r>(
+        &'l self,
+        alloc: Global,
+        room: &'r mut Vec<Token<'a>>,
+    ) -> Result<CowSlice<'r, Token<'l>, Global>, OutOfMemory>
+        requires { IsText self.now }
+        ensures tokens { IfOk result (λ list. map located (cow_slice_items list) ≡ tokens_of self.now) }
+        ensures words { IfOk result (λ list. words (cow_slice_items list) ≡ words_of self.now) }
+    {
+        match &self.content {
+            Content::Text(CowStr::Borrowed(text)) => {
+                tokens_into(text, room)?;
+                Ok(CowSlice::Borrowed(room.as_slice()))
+            }
+            Content::Text(CowStr::Owned(text)) => Ok(CowSlice::Owned(tokens(
+                alloc,
+                text.as_str(),
+            )?)),
+            Content::Unread(_) => unreachable!(),
         }
     }
 

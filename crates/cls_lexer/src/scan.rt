@@ -1,4 +1,4 @@
-ghost use Rattle.std.specs.Prelude.{◌≡◌, ◌+◌, ◌<◌, ◌≤◌, ◌^◌, length, map, slice_get, IfOk, nat_le, if◌then◌else◌};
+ghost use Rattle.std.specs.Prelude.{◌≡◌, ◌+◌, ◌<◌, ◌≤◌, ◌^◌, length, map, slice_get, IfOk, OnOk, nat_le, if◌then◌else◌};
 ghost use Rattle.std.specs.Option.{option_map};
 ghost use Rattle.std.specs.List.{prefix_len};
 ghost use Rattle.cls_base.specs.Limits.{max_name_bytes};
@@ -15,17 +15,29 @@ use std::alloc::Global;
 /// How many tokens take up to a KiB, which most allocators hand out at once.
 const QUICK_TOKENS: usize = 42;
 
-/// The tokens of the line, which has fewer than 2^32 bytes, in one pass.
-///
-/// From the left: a blank (space, tab or carriage return) is skipped, otherwise the longest token is taken. So each byte that
-/// isn't blank lies in one token alone.
+/// The tokens of the line, which has fewer than 2^32 bytes, as a list of their own. See [`tokens_into`].
 pub fn tokens<'a>(alloc: Global, line: &'a str) -> Result<Vec<Token<'a>>, OutOfMemory>
     requires { length line.now < 2 ^ 32 }
     ensures tokens { IfOk result (λ v. map located v.items ≡ tokens_of line.now) }
     ensures words { IfOk result (λ v. words v.items ≡ words_of line.now) }
 {
+    let mut list = Vec::new(alloc);
+    tokens_into(line, &mut list)?;
+    Ok(list)
+}
+
+/// Puts the tokens of the line, which has fewer than 2^32 bytes, in place of what the list has, in one pass.
+///
+/// From the left: a blank (space, tab or carriage return) is skipped, otherwise the longest token is taken. So each byte that
+/// isn't blank lies in one token alone.
+pub fn tokens_into<'a>(line: &'a str, list: &mut Vec<Token<'a>>) -> Result<(), OutOfMemory>
+    requires { length line.now < 2 ^ 32 }
+    ensures tokens { OnOk result (map located list.new.items ≡ tokens_of line.now) }
+    ensures words { OnOk result (words list.new.items ≡ words_of line.now) }
+{
     let bytes = line.as_bytes();
-    let mut out = Vec::with_capacity(alloc, room(bytes.len()))?;
+    list.clear();
+    list.reserve(room(bytes.len()))?;
     let mut at = 0;
     while at < bytes.len() {
         let first = bytes[at];
@@ -33,7 +45,7 @@ pub fn tokens<'a>(alloc: Global, line: &'a str) -> Result<Vec<Token<'a>>, OutOfM
             at += 1;
         } else {
             let (kind, len) = token_at(first, &bytes[at + 1..]);
-            out.push(Token {
+            list.push(Token {
                 kind,
                 text: &line[at..at + len],
                 start: at as u32,
@@ -41,7 +53,7 @@ pub fn tokens<'a>(alloc: Global, line: &'a str) -> Result<Vec<Token<'a>>, OutOfM
             at += len;
         }
     }
-    Ok(out)
+    Ok(())
 }
 
 /// How many tokens a line of so many bytes gets room for at once.

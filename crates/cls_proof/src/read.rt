@@ -86,10 +86,11 @@ fn read_chunk(
     ensures grown { HasGrown names.old names.new }
 {
     let mut number = before;
+    let mut room = Vec::new(alloc);
     for i in 0..chunk.len() {
         let line = chunk.get(i);
         number += 1;
-        let statement = match read_line(alloc, names, components, &line)? {
+        let statement = match read_line(alloc, names, components, &line, &mut room)? {
             ReadLine::Skipped => continue,
             ReadLine::Bad => return Err(ProofFault::BadLine(number)),
             ReadLine::Says(statement) => statement,

@@ -20,7 +20,7 @@ use crate::statement::Statement;
 use crate::statement_form::{BlockForm, RowForm, StatementForm, statement_form};
 use cls_base::limits::MAX_TYPE_SPREAD;
 use cls_base::{OutOfMemory, Ty};
-use cls_lexer::{Line, Names, tokens};
+use cls_lexer::{Line, Names, Token};
 use cls_syntax::{NumeralList, SpelledType, first_variable, is_too_deep};
 use std::alloc::Global;
 
@@ -35,29 +35,31 @@ pub(crate) enum ReadLine {
     Says(Statement),
 }
 
-/// Reads a line. The constructors of its type are numbered.
-pub(crate) fn read_line(
+/// Reads a line. The constructors of its type are numbered. The tokens of the line may stand in `room`, whatever it has.
+pub(crate) fn read_line<'p>(
     alloc: Global,
     names: &mut Names,
     components: &Names,
-    line: &Line,
+    line: &Line<'p>,
+    room: &mut Vec<Token<'p>>,
 ) -> Result<ReadLine, OutOfMemory>
     ensures read { IfOk result (IsReadAs components.now names.old names.new line.now) }
     ensures grown { HasGrown names.old names.new }
 {
-    let text = match line.content() {
+    match line.content() {
         Ok(None) => return Ok(ReadLine::Skipped),
-        Ok(Some(text)) => text,
+        Ok(Some(_)) => {}
         Err(_) => return Ok(ReadLine::Bad),
-    };
-    let tokens = tokens(alloc, text)?;
-    if is_too_deep(&tokens) {
+    }
+    let list = line.tokens(alloc, room)?;
+    let tokens = list.as_slice();
+    if is_too_deep(tokens) {
         return Ok(ReadLine::Bad);
     }
-    if first_variable(&tokens).is_some() {
+    if first_variable(tokens).is_some() {
         return Ok(ReadLine::Bad);
     }
-    let Ok(form) = statement_form(&tokens) else {
+    let Ok(form) = statement_form(tokens) else {
         return Ok(ReadLine::Bad);
     };
     match statement(alloc, names, components, &form)? {

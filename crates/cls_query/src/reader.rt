@@ -12,18 +12,20 @@ ghost use Rattle.cls_query.specs.Steps.{text_errors, Tests};
 use crate::fault::LineFault;
 use crate::line::CutLine;
 use crate::query::Query;
-use cls_lexer::{Line, Names, TextFault, tokens};
+use cls_lexer::{Line, Names, TextFault, Token};
 use std::alloc::Global;
 
 /// The query that the line is. Its types and terms have the numbers that the tables give their names. New names of
-/// constructors are numbered in the order of the line's tokens. After any error the table is as before.
+/// constructors are numbered in the order of the line's tokens. After any error the table is as before. The tokens may stand in
+/// `room`, whatever it has.
 ///
 /// The error is the first that applies, in the order of [`LineFault`].
-pub fn read_query<'a>(
+pub fn read_query<'a, 'p>(
     alloc: Global,
     constructors: &mut Names,
     components: &Names,
-    line: &'a Line,
+    line: &'a Line<'p>,
+    room: &mut Vec<Token<'p>>,
 ) -> Result<Query, LineFault<'a>>
     ensures query { IfOk result (λ query.
         ReadsQuery (tables_of constructors.old components.now) line.now (asked_of query) constructors.new) }
@@ -36,10 +38,10 @@ pub fn read_query<'a>(
     ensures text { OnOk result (IsText line.now) }
 {
     let text = text_of(line)?;
-    let tokens = tokens(alloc, text)?;
+    let tokens = line.tokens(alloc, room)?;
     let cut = CutLine {
         text,
-        tokens: &tokens,
+        tokens: tokens.as_slice(),
     };
     let form = cut.form()?;
     form.check_types(&cut)?;

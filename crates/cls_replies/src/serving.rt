@@ -14,7 +14,7 @@ use crate::faults::line_fault;
 use cls_assemble::Templates;
 use cls_base::{Gate, OutOfMemory};
 use cls_engine::{Engine, Options};
-use cls_lexer::{Line, Names};
+use cls_lexer::{Line, Names, Token};
 use cls_proof::HeldLines;
 use cls_query::read_query;
 use cls_repo::Repository;
@@ -98,22 +98,23 @@ impl Serving {
     }
 
     /// Takes the next line, and gives what is written for it. After an error, which is out of memory, no further line is
-    /// to be fed.
+    /// to be fed. The tokens of the line may stand in `room`, whatever it has.
     // Not inlined: a frame is cleared whenever its function is called, and this one's is large.
     #[inline(never)]
-    pub fn feed<R: Threads + Wait + Sync, G: Gate + Sync>(
+    pub fn feed<'p, R: Threads + Wait + Sync, G: Gate + Sync>(
         &mut self,
         rt: &R,
         alloc: Global,
-        line: Line,
+        line: Line<'p>,
         gate: &G,
+        room: &mut Vec<Token<'p>>,
     ) -> Result<String, OutOfMemory>
         requires { length self.old.held + 1 < 2 ^ 32 }
         ensures goes { IfOk result (λ text. Goes self.old line.entry (string_bytes text) self.new) }
         ensures counted { OnOk result (length self.new.held ≤ length self.old.held + 1) }
     {
         let Some(mut held) = self.held.take() else {
-            return self.feed_free(rt, alloc, line, gate);
+            return self.feed_free(rt, alloc, line, gate, room);
         };
         let ends = is_qed(alloc, &line)?;
         held.inside.push(&line)?;
@@ -165,12 +166,13 @@ impl Serving {
     }
 
     /// Takes the next line, outside of a certificate.
-    fn feed_free<R: Threads + Wait + Sync, G: Gate + Sync>(
+    fn feed_free<'p, R: Threads + Wait + Sync, G: Gate + Sync>(
         &mut self,
         rt: &R,
         alloc: Global,
-        line: Line,
+        line: Line<'p>,
         gate: &G,
+        room: &mut Vec<Token<'p>>,
     ) -> Result<String, OutOfMemory>
         requires { self.old.held ≡ [] }
         ensures goes { IfOk result (λ text. Goes self.old line.entry (string_bytes text) self.new) }
@@ -185,23 +187,24 @@ impl Serving {
                 });
                 Ok(String::new(alloc))
             }
-            LineKind::Single => self.ask(rt, alloc, &line, gate),
+            LineKind::Single => self.ask(rt, alloc, &line, gate, room),
         }
     }
 
     /// Answers a line that is a query by itself.
-    fn ask<R: Threads + Wait + Sync, G: Gate + Sync>(
+    fn ask<'p, R: Threads + Wait + Sync, G: Gate + Sync>(
         &mut self,
         rt: &R,
         alloc: Global,
-        line: &Line,
+        line: &Line<'p>,
         gate: &G,
+        room: &mut Vec<Token<'p>>,
     ) -> Result<String, OutOfMemory>
         requires { IsSingle line.now }
         ensures answered { IfOk result (λ text. Answered self.old line.now (string_bytes text) self.new) }
         ensures same_held { OnOk result (self.new.held ≡ self.old.held) }
     {
-        match read_query(alloc, &mut self.names, &self.components, line) {
+        match read_query(alloc, &mut self.names, &self.components, line, room) {
             Ok(query) => self.answer(rt, alloc, &query, gate),
             Err(fault) => line_fault(alloc, &fault),
         }

@@ -25,7 +25,8 @@ impl Serving {
             Verified self.old line.now certificate (string_bytes text) self.new) }
         ensures same_held { OnOk result (self.new.held ≡ self.old.held) }
     {
-        let goal = match read_query(alloc, &mut self.names, &self.components, line) {
+        let mut room = Vec::new(alloc);
+        let goal = match read_query(alloc, &mut self.names, &self.components, line, &mut room) {
             Ok(Query::Verify(goal)) => goal,
             Ok(_) => unreachable!(),
             Err(fault) => return line_fault(alloc, &fault),

@@ -13,7 +13,7 @@ use crate::draft::Draft;
 use crate::fault::{FaultKind, RepoFault};
 use crate::repository::{Repository, build};
 use crate::spelling::read_directive;
-use cls_lexer::{Line, TextFault, tokens};
+use cls_lexer::{Line, TextFault, Token};
 use std::alloc::Global;
 use std::marker::Model;
 
@@ -58,8 +58,13 @@ impl RepoReader {
     /// Takes the next line, and says whether it is the line `end`, after which no further line is to be fed.
     ///
     /// The fault is the first one of the line, in the order in which [`FaultKind`] lists them, or out of memory. After
-    /// it the reader is as before.
-    pub fn feed(&mut self, alloc: Global, line: &Line) -> Result<bool, RepoFault>
+    /// it the reader is as before. The tokens of the line may stand in `room`, whatever it has.
+    pub fn feed<'p>(
+        &mut self,
+        alloc: Global,
+        line: &Line<'p>,
+        room: &mut Vec<Token<'p>>,
+    ) -> Result<bool, RepoFault>
         requires going { self.old.ended ≡ false }
         requires room { self.old.lines + 1 < 2 ^ 32 }
         ensures taken { OnOk result (Takes self.old line.now self.new) }
@@ -68,7 +73,7 @@ impl RepoReader {
         ensures unchanged { OnErr result (self.new ≡ self.old) }
     {
         let number = self.lines + 1;
-        match take_line(alloc, &mut self.draft, line, number) {
+        match take_line(alloc, &mut self.draft, line, number, room) {
             Ok(ended) => {
                 self.lines = number;
                 self.ended = ended;
@@ -107,36 +112,45 @@ impl RepoReader {
 }
 
 /// Takes the line of this number, and says whether it is the line `end`.
-fn take_line(alloc: Global, draft: &mut Draft, line: &Line, number: u32) -> Result<bool, FaultKind>
+fn take_line<'p>(
+    alloc: Global,
+    draft: &mut Draft,
+    line: &Line<'p>,
+    number: u32,
+    room: &mut Vec<Token<'p>>,
+) -> Result<bool, FaultKind>
     ensures taken { IfOk result (TakesLine (draft_of draft.old) number line.now (draft_of draft.new)) }
     ensures fault { IfErr result (OnWords (RefusesLine (draft_of draft.old) line.now)) }
     ensures unchanged { OnErr result (draft_of draft.new ≡ draft_of draft.old) }
 {
     match line.content() {
         Ok(None) => Ok(false),
-        Ok(Some(text)) => take_text(alloc, draft, text, number),
+        Ok(Some(text)) => {
+            let tokens = line.tokens(alloc, room)?;
+            let line = CutLine {
+                number,
+                text,
+                tokens: tokens.as_slice(),
+            };
+            take_text(alloc, draft, &line)
+        }
         Err(TextFault::TooLong) => Err(FaultKind::LineTooLong),
         Err(TextFault::NotUtf8) => Err(FaultKind::NotUtf8),
     }
 }
 
-/// Takes the line of this number, which isn't skipped, and says whether it is the line `end`.
+/// Takes a line, which isn't skipped, and says whether it is the line `end`.
 // Not inlined: a frame is cleared whenever its function is called, and this one's is large.
 #[inline(never)]
-fn take_text(alloc: Global, draft: &mut Draft, text: &str, number: u32) -> Result<bool, FaultKind>
-    requires text { IsText text.now }
-    requires unskipped { IsSkipped text.now → ⊥ }
-    ensures taken { IfOk result (TakesLine (draft_of draft.old) number text.now (draft_of draft.new)) }
-    ensures fault { IfErr result (OnWords (RefusesLine (draft_of draft.old) text.now)) }
+fn take_text(alloc: Global, draft: &mut Draft, line: &CutLine) -> Result<bool, FaultKind>
+    requires text { IsText line.now.text.now }
+    requires unskipped { IsSkipped line.now.text.now → ⊥ }
+    ensures taken { IfOk result
+        (TakesLine (draft_of draft.old) line.now.number line.now.text.now (draft_of draft.new)) }
+    ensures fault { IfErr result (OnWords (RefusesLine (draft_of draft.old) line.now.text.now)) }
     ensures unchanged { OnErr result (draft_of draft.new ≡ draft_of draft.old) }
 {
-    let tokens = tokens(alloc, text)?;
-    let said = read_directive(text, &tokens)?;
-    let line = CutLine {
-        number,
-        text,
-        tokens: &tokens,
-    };
-    declare(alloc, draft, &line, said)?;
+    let said = read_directive(line.text, line.tokens)?;
+    declare(alloc, draft, line, said)?;
     Ok(said.is_end())
 }

@@ -65,8 +65,9 @@ fn feed_all(alloc: Global, reader: &mut RepoReader, lines: &[Line]) -> Result<()
         ((said : ℕ × List ℕ) → First (closing_faults reader.new) said → FirstFault reader.old lines.now said) }
     ensures fault { IfErr result (IsSaid (FirstFault reader.old lines.now)) }
 {
+    let mut room = Vec::new(alloc);
     for line in lines {
-        if reader.feed(alloc, line)? {
+        if reader.feed(alloc, line, &mut room)? {
             return Ok(());
         }
     }

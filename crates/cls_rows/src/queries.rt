@@ -21,8 +21,9 @@ fn words(alloc: Global, text: &str) -> Result<String, Fail> {
     let components = table(alloc, &["x", "f"])?;
     let mut constructors = table(alloc, &["A"])?;
     let line = Line::new(text.as_bytes());
+    let mut room = Vec::new(alloc);
     let mut words = String::new(alloc);
-    match read_query(alloc, &mut constructors, &components, &line) {
+    match read_query(alloc, &mut constructors, &components, &line, &mut room) {
         Ok(_) => words.push_str("read")?,
         Err(fault) => fault.write_to(&mut words)?,
     }
@@ -77,13 +78,14 @@ fn names_are_numbered_where_no_error_comes(rt: HostRuntime) -> Result<(), Fail> 
     let alloc = rt.alloc();
     let components = table(alloc, &["x", "f"])?;
     let mut constructors = table(alloc, &["A"])?;
+    let mut room = Vec::new(alloc);
     let refused = Line::new(b"typed g : B");
-    assert!(rt; read_query(alloc, &mut constructors, &components, &refused).is_err());
+    assert!(rt; read_query(alloc, &mut constructors, &components, &refused, &mut room).is_err());
     assert_eq!(rt; constructors.len(), 1);
     let line = Line::new(b"sub C(B) <= A & B");
     assert!(rt;
         matches!(
-            read_query(alloc, &mut constructors, &components, &line),
+            read_query(alloc, &mut constructors, &components, &line, &mut room),
             Ok(Query::Sub(..))
         )
     );
@@ -97,8 +99,9 @@ fn a_listing_is_one_record(rt: HostRuntime) -> Result<(), Fail> {
     let alloc = rt.alloc();
     let components = table(alloc, &["x", "f"])?;
     let mut constructors = table(alloc, &["A"])?;
+    let mut room = Vec::new(alloc);
     let line = Line::new(b"texts A max 3 take 10 after f(f, x)");
-    let read = read_query(alloc, &mut constructors, &components, &line);
+    let read = read_query(alloc, &mut constructors, &components, &line, &mut room);
     let Ok(Query::Texts(listing)) = read else {
         return Err("no listing")?;
     };

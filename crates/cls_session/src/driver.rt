@@ -63,7 +63,8 @@ pub fn answer_line<R: Threads + Wait + Sync, K: Sink, G: Gate + Sync>(
     ensures counted { OnOk result (lines_of_session session.new ≤ lines_of_session session.old + 1) }
     ensures faults { CountsFaults result (K.seen sink.old) (K.seen sink.new) }
 {
-    match session.feed(rt, alloc, line, gate)? {
+    let answer = session.feed(rt, alloc, line, gate, &mut Vec::new(alloc))?;
+    match answer {
         Answer::Reply(text) => {
             write_all(sink, text.as_bytes())?;
             Ok(())
@@ -135,12 +136,13 @@ fn collect_replies<R: Threads + Wait + Sync, K: Sink, G: Gate + Sync>(
     ensures faults { CountsFaults result (K.seen sink.old) (K.seen sink.new) }
 {
     let mut rest = Piece::new(piece);
+    let mut room = Vec::new(alloc);
     'lines: loop {
         let (line, after) = reader.take(alloc, rest)?;
         let Some(line) = line else {
             return Ok(());
         };
-        let answer = session.feed(rt, alloc, line, gate)?;
+        let answer = session.feed(rt, alloc, line, gate, &mut room)?;
         match answer {
             Answer::Reply(text) => {
                 pending.put(text.as_str(), sink)?;

@@ -12,7 +12,7 @@ ghost use Rattle.cls_session.specs.Transcripts.{Ending, refusal};
 use crate::status::Status;
 use cls_base::{Gate, OutOfMemory};
 use cls_engine::Options;
-use cls_lexer::Line;
+use cls_lexer::{Line, Token};
 use cls_replies::Serving;
 use cls_repo::{FaultKind, RepoFault, RepoReader};
 use itoa::Buffer;
@@ -90,21 +90,23 @@ impl Session {
     }
 
     /// Takes the next line and answers it. After a refusal or an error, which is out of memory, no further line is to be fed.
-    pub fn feed<R: Threads + Wait + Sync, G: Gate + Sync>(
+    /// The tokens of the line may stand in `room`, whatever it has.
+    pub fn feed<'p, R: Threads + Wait + Sync, G: Gate + Sync>(
         &mut self,
         rt: &R,
         alloc: Global,
-        line: Line,
+        line: Line<'p>,
         gate: &G,
+        room: &mut Vec<Token<'p>>,
     ) -> Result<Answer, OutOfMemory>
         requires few_lines { lines_of_session self.old + 1 < 2 ^ 32 }
         ensures answered { IfOk result (λ answer. IsAnswerTo self.old line.entry answer self.new) }
         ensures counted { OnOk result (lines_of_session self.new ≤ lines_of_session self.old + 1) }
     {
         if let Some(serving) = &mut self.serving {
-            return Ok(Answer::Reply(serving.feed(rt, alloc, line, gate)?));
+            return Ok(Answer::Reply(serving.feed(rt, alloc, line, gate, room)?));
         }
-        match self.declare(alloc, &line) {
+        match self.declare(alloc, &line, room) {
             Ok(()) => Ok(Answer::Reply(String::new(alloc))),
             Err(fault) => Ok(Answer::Refusal(refusal(alloc, &fault)?)),
         }
@@ -139,14 +141,19 @@ impl Session {
     }
 
     /// Takes a line of the repository. The line `end` opens it. The fault may be out of memory.
-    fn declare(&mut self, alloc: Global, line: &Line) -> Result<(), RepoFault>
+    fn declare<'p>(
+        &mut self,
+        alloc: Global,
+        line: &Line<'p>,
+        room: &mut Vec<Token<'p>>,
+    ) -> Result<(), RepoFault>
         requires reading { self.old.serving ≡ None }
         requires few_lines { lines_of_session self.old + 1 < 2 ^ 32 }
         ensures declared { OnOk result (Declares self.old line.now self.new) }
         ensures fault { IfErr result (IsSaid (IsFaultAt self.old line.now)) }
         ensures counted { lines_of_session self.new ≤ lines_of_session self.old + 1 }
     {
-        if !self.reader.feed(alloc, line)? {
+        if !self.reader.feed(alloc, line, room)? {
             return Ok(());
         }
         open(alloc, self.options, &mut self.reader, &mut self.serving)

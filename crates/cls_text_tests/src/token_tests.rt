@@ -32,3 +32,16 @@ fn a_known_text_keeps_its_number(rt: HostRuntime) -> Result<(), Fail> {
     assert_eq!(rt; names.len(), 2);
     Ok(())
 }
+
+#[test]
+fn a_line_that_owns_its_bytes_has_its_own_tokens(rt: HostRuntime) -> Result<(), Fail> {
+    let mut room = Vec::new(rt.alloc());
+    let lent = Line::new(b"f(x)");
+    assert!(rt; lent.text().is_ok());
+    assert_eq!(rt; lent.tokens(rt.alloc(), &mut room)?.len(), 4);
+    let owned = Line::new(b"x -> y").into_owned(rt.alloc())?;
+    assert!(rt; owned.text().is_ok());
+    assert_eq!(rt; owned.tokens(rt.alloc(), &mut room)?.len(), 3);
+    assert_eq!(rt; room.len(), 4);
+    Ok(())
+}

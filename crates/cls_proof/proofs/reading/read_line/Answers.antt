@@ -19,67 +19,53 @@ pub returns-then-is_too_deep-clause-read : goal.returns-then-is_too_deep-clause-
 returns-then-is_too_deep-clause-read c =
     let line = c.args.line.now in
     let ok = c.in-Ok-Some.ensures in
-    let same = MatchOption-at_some _ (λ t. t.now ≡ line) c.in-Ok-Some.text c.in-Ok-Some.field-0-is ok.same in
-    let said = c.in_ok-tokens.ensures.words ∙ ap words_of same in
-    let most = ap (most_open 0 0) (ap words c.deref.ensures.value ∙ said) in
+    let said : words c.as_slice-tokens.result.now ≡ words_of line = ap words c.as_slice-tokens.ensures.value ∙ c.in_ok-list.ensures.words in
+    let most = ap (most_open 0 0) said in
     let many = c.is_too_deep.ensures.0 c.if-is_too_deep.true in
-    deep_nothing c.args.components.now line (λ s. some_there c.in-Ok-Some.field-0 c.in-Ok-Some.text c.in-Ok-Some.field-0-is (ok.skipped.1 s)) (λ (flat : IsFlat line). omega (arith, most, many, flat))
+    deep_nothing c.args.components.now line (λ s. some_there c.in-Ok-Some.field-0 c.in-Ok-Some.field-0-0 c.in-Ok-Some.field-0-is (ok.skipped.1 s)) (λ (flat : IsFlat line). omega (arith, most, many, flat))
 
 pub returns-then-is_some-clause-read : goal.returns-then-is_some-clause-read
 returns-then-is_some-clause-read c =
     let line = c.args.line.now in
     let ok = c.in-Ok-Some.ensures in
-    let same = MatchOption-at_some _ (λ t. t.now ≡ line) c.in-Ok-Some.text c.in-Ok-Some.field-0-is ok.same in
-    let said = c.in_ok-tokens.ensures.words ∙ ap words_of same in
-    let said2 : words c.deref-2.result.now ≡ words_of line = ap words c.deref-2.ensures.value ∙ said in
-    open_nothing c.args.components.now line (λ s. some_there c.in-Ok-Some.field-0 c.in-Ok-Some.text c.in-Ok-Some.field-0-is (ok.skipped.1 s))
-    (λ closed. dollar_found c.first_variable.result (words c.deref-2.result.now) c.first_variable.ensures (sym c.is_some.ensures ∙ c.if-is_some.true) (subst (λ (ws : List Word). HasNoDollar ws) (sym said2) closed))
+    let said : words c.as_slice-tokens.result.now ≡ words_of line = ap words c.as_slice-tokens.ensures.value ∙ c.in_ok-list.ensures.words in
+    open_nothing c.args.components.now line (λ s. some_there c.in-Ok-Some.field-0 c.in-Ok-Some.field-0-0 c.in-Ok-Some.field-0-is (ok.skipped.1 s))
+    (λ closed. dollar_found c.first_variable.result (words c.as_slice-tokens.result.now) c.first_variable.ensures (sym c.is_some.ensures ∙ c.if-is_some.true) (subst (λ (ws : List Word). HasNoDollar ws) (sym said) closed))
 
 pub returns-in_default-clause-read : goal.returns-in_default-clause-read
 returns-in_default-clause-read c =
     let line = c.args.line.now in
     let ok = c.in-Ok-Some.ensures in
-    let same = MatchOption-at_some _ (λ t. t.now ≡ line) c.in-Ok-Some.text c.in-Ok-Some.field-0-is ok.same in
-    let said = c.in_ok-tokens.ensures.words ∙ ap words_of same in
-    let said3 : words c.deref-3.result.now ≡ words_of line = ap words c.deref-3.ensures.value ∙ said in
-    stopped c.args.components.now line (λ s. some_there c.in-Ok-Some.field-0 c.in-Ok-Some.text c.in-Ok-Some.field-0-is (ok.skipped.1 s)) c.deref-3.result.now c.statement_form.result said3 c.statement_form.ensures c.in_default.not-Ok
+    let said : words c.as_slice-tokens.result.now ≡ words_of line = ap words c.as_slice-tokens.ensures.value ∙ c.in_ok-list.ensures.words in
+    stopped c.args.components.now line (λ s. some_there c.in-Ok-Some.field-0 c.in-Ok-Some.field-0-0 c.in-Ok-Some.field-0-is (ok.skipped.1 s)) c.as_slice-tokens.result.now c.statement_form.result said c.statement_form.ensures c.in_default.not-Ok
 
 pub statement-requires : goal.statement-requires
 statement-requires c =
     let line = c.args.line.now in
-    let ok = c.in-Ok-Some.ensures in
-    let same = MatchOption-at_some _ (λ t. t.now ≡ line) c.in-Ok-Some.text c.in-Ok-Some.field-0-is ok.same in
-    let said = c.in_ok-tokens.ensures.words ∙ ap words_of same in
-    let said2 : words c.deref-2.result.now ≡ words_of line = ap words c.deref-2.ensures.value ∙ said in
-    let closed : HasNoDollar (words_of line) = subst (λ (ws : List Word). HasNoDollar ws) said2 (dollar_absent c.first_variable.result (words c.deref-2.result.now) c.first_variable.ensures (sym c.is_some.ensures ∙ c.if-is_some.false)) in
-    let said3 : words c.deref-3.result.now ≡ words_of line = ap words c.deref-3.ensures.value ∙ said in
+    let said : words c.as_slice-tokens.result.now ≡ words_of line = ap words c.as_slice-tokens.ensures.value ∙ c.in_ok-list.ensures.words in
+    let closed : HasNoDollar (words_of line) = subst (λ (ws : List Word). HasNoDollar ws) said (dollar_absent c.first_variable.result (words c.as_slice-tokens.result.now) c.first_variable.ensures (sym c.is_some.ensures ∙ c.if-is_some.false)) in
     let w = written c.in-Ok.form in
-    let e = read_of line c.deref-3.result.now w said3 c.in-Ok.ensures in
+    let e = read_of line c.as_slice-tokens.result.now w said c.in-Ok.ensures in
     goal_closed (words_of line) w e closed
 
 pub returns-in-Some-clause-read : goal.returns-in-Some-clause-read
 returns-in-Some-clause-read c =
     let line = c.args.line.now in
     let ok = c.in-Ok-Some.ensures in
-    let same = MatchOption-at_some _ (λ t. t.now ≡ line) c.in-Ok-Some.text c.in-Ok-Some.field-0-is ok.same in
-    let said = c.in_ok-tokens.ensures.words ∙ ap words_of same in
-    let flat : IsFlat line = is_flat c.is_too_deep.result (words c.deref.result.now) (words_of line) c.is_too_deep.ensures (ap words c.deref.ensures.value ∙ said) c.if-is_too_deep.false in
-    let said2 : words c.deref-2.result.now ≡ words_of line = ap words c.deref-2.ensures.value ∙ said in
-    let closed : HasNoDollar (words_of line) = subst (λ (ws : List Word). HasNoDollar ws) said2 (dollar_absent c.first_variable.result (words c.deref-2.result.now) c.first_variable.ensures (sym c.is_some.ensures ∙ c.if-is_some.false)) in
-    let said3 : words c.deref-3.result.now ≡ words_of line = ap words c.deref-3.ensures.value ∙ said in
+    let said : words c.as_slice-tokens.result.now ≡ words_of line = ap words c.as_slice-tokens.ensures.value ∙ c.in_ok-list.ensures.words in
+    let flat : IsFlat line = is_flat c.is_too_deep.result (words c.as_slice-tokens.result.now) (words_of line) c.is_too_deep.ensures said c.if-is_too_deep.false in
+    let closed : HasNoDollar (words_of line) = subst (λ (ws : List Word). HasNoDollar ws) said (dollar_absent c.first_variable.result (words c.as_slice-tokens.result.now) c.first_variable.ensures (sym c.is_some.ensures ∙ c.if-is_some.false)) in
     let w = written c.in-Ok.form in
-    let e = read_of line c.deref-3.result.now w said3 c.in-Ok.ensures in
+    let e = read_of line c.as_slice-tokens.result.now w said c.in-Ok.ensures in
     let meant = MatchOption-at_some _ (λ s. IsMeant c.args.components.now c.args.names.now c.statement.new.names w (statement_of s)) c.in-Some.statement c.in-Some.is c.in_ok-statement.ensures.meant in
-    says c.args.components.now line (λ s. some_there c.in-Ok-Some.field-0 c.in-Ok-Some.text c.in-Ok-Some.field-0-is (ok.skipped.1 s)) c.args.names.now c.statement.new.names w c.in-Some.statement (ok.ok.0 refl) flat closed e meant
+    says c.args.components.now line (λ s. some_there c.in-Ok-Some.field-0 c.in-Ok-Some.field-0-0 c.in-Ok-Some.field-0-is (ok.skipped.1 s)) c.args.names.now c.statement.new.names w c.in-Some.statement (ok.ok.0 refl) flat closed e meant
 
 pub returns-clause-read : goal.returns-clause-read
 returns-clause-read c =
     let line = c.args.line.now in
     let ok = c.in-Ok-Some.ensures in
-    let same = MatchOption-at_some _ (λ t. t.now ≡ line) c.in-Ok-Some.text c.in-Ok-Some.field-0-is ok.same in
-    let said = c.in_ok-tokens.ensures.words ∙ ap words_of same in
-    let said3 : words c.deref-3.result.now ≡ words_of line = ap words c.deref-3.ensures.value ∙ said in
+    let said : words c.as_slice-tokens.result.now ≡ words_of line = ap words c.as_slice-tokens.ensures.value ∙ c.in_ok-list.ensures.words in
     let w = written c.in-Ok.form in
-    let e = read_of line c.deref-3.result.now w said3 c.in-Ok.ensures in
-    meaning_nothing c.args.components.now line (λ s. some_there c.in-Ok-Some.field-0 c.in-Ok-Some.text c.in-Ok-Some.field-0-is (ok.skipped.1 s)) w e
+    let e = read_of line c.as_slice-tokens.result.now w said c.in-Ok.ensures in
+    meaning_nothing c.args.components.now line (λ s. some_there c.in-Ok-Some.field-0 c.in-Ok-Some.field-0-0 c.in-Ok-Some.field-0-is (ok.skipped.1 s)) w e
     (MatchOption-at_none (IsMeaningless c.args.components.now w) _ c.in-None.is c.in_ok-statement.ensures.meant)

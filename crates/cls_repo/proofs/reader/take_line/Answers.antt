@@ -17,13 +17,13 @@ take_text-requires-clause-unskipped c =
     let content = rw c.in-Ok-Some.field-0-is at c.in-Ok-Some.ensures.skipped in
     λ s. told content.1 (subst (λ (l : List ℕ). IsSkipped l) same s)
 
-pub returns-in-Ok-Some-clause-taken : goal.returns-in-Ok-Some-clause-taken
-returns-in-Ok-Some-clause-taken c =
+pub returns-in_ok-tokens-in-Ok-Some-clause-taken : goal.returns-in_ok-tokens-in-Ok-Some-clause-taken
+returns-in_ok-tokens-in-Ok-Some-clause-taken c =
     let same = rw c.in-Ok-Some.field-0-is at c.in-Ok-Some.ensures.same in
     subst (λ (l : List ℕ). IfOk c.take_text.result (TakesLine (draft_of c.args.draft.now) c.args.number l (draft_of c.take_text.new.draft))) same c.take_text.ensures.taken
 
-pub returns-in-Ok-Some-clause-fault : goal.returns-in-Ok-Some-clause-fault
-returns-in-Ok-Some-clause-fault c =
+pub returns-in_ok-tokens-in-Ok-Some-clause-fault : goal.returns-in_ok-tokens-in-Ok-Some-clause-fault
+returns-in_ok-tokens-in-Ok-Some-clause-fault c =
     let same = rw c.in-Ok-Some.field-0-is at c.in-Ok-Some.ensures.same in
     subst (λ (l : List ℕ). IfErr c.take_text.result (OnWords (RefusesLine (draft_of c.args.draft.now) l))) same c.take_text.ensures.fault
 
