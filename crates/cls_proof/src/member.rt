@@ -86,7 +86,8 @@ impl Members {
 
     /// Puts a block without a layer last in the last member. The only error is out of memory.
     pub fn push_block(&mut self, component: u32, n: u32) -> Result<(), OutOfMemory>
-        ensures { OnOk result (self.new ≡ in_last_member (λ blocks. blocks ++ new_block component n ∷ []) self.old) }
+        ensures { OnOk result
+            (self.new ≡ in_last_member (λ blocks. blocks ++ new_block component n ∷ []) self.old) }
     {
         self.blocks.push_block(component, n)
     }
