@@ -75,7 +75,3 @@ number_comes texts x = elim (list_any (bytes_eq x) texts) as (λ b. number_of (i
 pub with_more : (texts xs ys : List (List ℕ)) → with_texts texts (xs ++ ys) ≡ with_texts (with_texts texts xs) ys
 with_more texts [] ys = refl
 with_more texts (x ∷ xs) ys = with_more (with_text texts x) xs ys
-
-pub kept_texts : (old texts xs : List (List ℕ)) → take (length old) texts ≡ old → take (length old) (with_texts texts xs) ≡ old
-kept_texts old texts [] h = h
-kept_texts old texts (x ∷ xs) h = kept_texts old (with_text texts x) xs (kept_more old texts x h)

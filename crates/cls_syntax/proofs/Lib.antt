@@ -10,6 +10,7 @@ pub mod LineFronts
 pub mod LineParts
 pub mod MachineRuns
 pub mod Numbering
+pub mod Outcomes
 pub mod PartNames
 pub mod PrintedTexts
 pub mod ReadBack

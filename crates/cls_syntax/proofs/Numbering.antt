@@ -1,6 +1,6 @@
 -- Numbering the names while a schema is built gives them the numbers that they have in the tables in the end.
-use Rattle.std.proofs.Common.{◌≡◌, ℕ, ◌+◌, ◌<◌, Bool, true, false, List, [], ◌∷◌, refl, ap, sym, subst, ◌∙◌, take, drop, get_or, length}
-use Rattle.std.specs.Prelude.{Option, Some, None, Result, Ok, Err, IfOk, OnSome, if◌then◌else◌}
+use Rattle.std.proofs.Common.{◌≡◌, ℕ, ◌+◌, ◌<◌, Bool, true, false, List, [], ◌∷◌, refl, ap, sym, subst, ◌∙◌, drop, get_or, length}
+use Rattle.std.specs.Prelude.{Option, Some, None, if◌then◌else◌}
 use Rattle.std.proofs.lemmas.List.{at_drop_more}
 use Rattle.std.specs.Option.{option_map}
 use Rattle.cls_base.specs.Schemas as schema
@@ -14,7 +14,7 @@ use Rattle.cls_syntax.specs.Sorts.{sort_of}
 use Rattle.cls_syntax.specs.TypeSchemas.{is_dollar, name_text, constructors_in, variables_in, with_constructors, with_variables}
 use Rattle.cls_syntax.specs.SchemaReading.{Level, level, empty_level, Outer, whole, within, State, operand, after_dollar, after_name, after, atom_read, step_after, step_name, step, with_left, schema_reading}
 use Rattle.cls_syntax.specs.Numberings.{constructors_after, variables_after, number_in, numbered_step, numbered_reading}
-use Rattle.cls_syntax.proofs.GrowingTables.{comes_in, kept_texts, number_stays, with_more}
+use Rattle.cls_syntax.proofs.GrowingTables.{comes_in, number_stays, with_more}
 use Rattle.cls_syntax.proofs.SchemaImages.{Says, kind_says}
 
 -- whether a `$` stands directly before the next token
@@ -146,7 +146,7 @@ module _ (leaf : ℕ → Option OpenType) where
       ∙ ap (λ (t : List (List ℕ)). schema_reading (number_of (constructors_end cs before (l ∷ ls))) (λ x. leaf (number_of t x)) s (l ∷ ls)) (sym variables)))
 
   -- what is read from a state on, if there is one
-  abbrev read_from : List (List ℕ) → List (List ℕ) → Bool → List Token → Option State → Option OpenType
+  abbrev pub read_from : List (List ℕ) → List (List ℕ) → Bool → List Token → Option State → Option OpenType
   read_from cs vs b ls o = elim o as (λ _. Option OpenType) [ None ↦ None | Some t ↦ numbered_reading leaf cs vs b t ls ]
 
   -- one token on
@@ -196,20 +196,3 @@ variables_on vs vs' b ls i d l h at var =
     ∙ (ap (λ (x : Token). with_texts vs (variables_in b (words (x ∷ rest)))) (sym at)
     ∙ (with_more vs (name_text b (word_of l)) (variables_in (is_dollar (word_of l)) (words rest))
     ∙ ap (λ (t : List (List ℕ)). with_texts t (variables_in (is_dollar (word_of l)) (words rest))) (sym var)))
-
--- what stood in front stays there
-pub constructors_kept :
-    (old cs cs' : List (List ℕ)) (b : Bool) (w : Word) → cs' ≡ constructors_after cs b w → take (length old) cs ≡ old → take (length old) cs' ≡ old
-constructors_kept old cs cs' b w con kept =
-    ap (λ (t : List (List ℕ)). take (length old) t) con ∙ kept_texts old cs (name_text (if b then false else true) w) kept
-
-pub variables_kept :
-    (old vs vs' : List (List ℕ)) (b : Bool) (w : Word) → vs' ≡ variables_after vs b w → take (length old) vs ≡ old → take (length old) vs' ≡ old
-variables_kept old vs vs' b w var kept =
-    ap (λ (t : List (List ℕ)). take (length old) t) var ∙ kept_texts old vs (name_text b w) kept
-
--- what holds, holds where something was made
-pub where_made : {A E P : Type 0} (r : Result (Option A) E) → P → IfOk r (λ o. OnSome o P)
-where_made (Ok None) p = tt
-where_made (Ok (Some a)) p = p
-where_made (Err e) p = tt

@@ -32,3 +32,4 @@ pub mod TypeReading
 pub mod TypeSchemas
 pub mod TypeShapes
 pub mod TypeTexts
+pub mod WaitingStacks

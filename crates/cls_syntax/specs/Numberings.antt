@@ -2,12 +2,13 @@
 use Rattle.std.specs.Prelude.{ℕ, Bool, true, false, List, [], ◌∷◌, Option, Some, None, if◌then◌else◌}
 use Rattle.cls_base.specs.Schemas.{OpenType}
 use Rattle.cls_lexer.specs.Names.{number_of, with_texts}
-use Rattle.cls_lexer.specs.Words.{Word, word_of}
+use Rattle.cls_lexer.specs.Words.{Word, word_of, words}
 use Rattle.cls_lexer.specs.declared.token.Token.{Token}
+use Rattle.cls_lexer.specs.declared.token.TokenKind.TheVariants as kinds
 use Rattle.cls_syntax.specs.declared.sort.Sort.{Sort}
 use Rattle.cls_syntax.specs.declared.sort.Sort.TheVariants.{Name}
 use Rattle.cls_syntax.specs.Sorts.{sort_of}
-use Rattle.cls_syntax.specs.TypeSchemas.{is_dollar, name_text}
+use Rattle.cls_syntax.specs.TypeSchemas.{is_dollar, name_text, constructors_in, variables_in}
 use Rattle.cls_syntax.specs.SchemaReading.{State, step, ended}
 
 -- The table of constructors after the word came. `behind` says that a `$` stands directly before it.
@@ -23,6 +24,17 @@ abbrev pub number_in : (constructors variables : List (List ℕ)) (behind : Bool
 number_in constructors variables behind Name text = if behind then number_of variables text else number_of constructors text
 number_in constructors variables behind _ text = 0
 
+-- A parenthesis opens at the token, where there is one.
+abbrev pub is_opening : Option Token → Bool
+is_opening None = false
+is_opening (Some l) = elim l.kind [ kinds.Open ↦ true | _ ↦ false ]
+
+-- What comes of tokens: the schema that was read, if one was, and the tables in the end.
+pub record Outcome : Type 0 where
+  pub schema : Option OpenType
+  pub constructors : List (List ℕ)
+  pub variables : List (List ℕ)
+
 -- What a variable of a number is, where there may be any.
 module _ (leaf : ℕ → Option OpenType) where
   -- a token of this sort, which has this number if it is a name
@@ -36,3 +48,10 @@ module _ (leaf : ℕ → Option OpenType) where
         | None ↦ None
         | Some t ↦ numbered_reading (constructors_after cs behind (word_of l)) (variables_after vs behind (word_of l)) (is_dollar (word_of l)) t ls
       ]
+
+  abbrev pub outcome : (constructors variables : List (List ℕ)) (behind : Bool) → State → List Token → Outcome
+  outcome cs vs behind s ls = record {
+    schema = numbered_reading cs vs behind s ls;
+    constructors = with_texts cs (constructors_in behind (words ls));
+    variables = with_texts vs (variables_in behind (words ls));
+  }

@@ -1,15 +1,11 @@
 -- internal: a schema as it is built: the machine of types with schemas in place of texts
-use Rattle.std.specs.Prelude.{ℕ, List, [], ◌∷◌, ◌++◌, map, Option, Some, None}
+use Rattle.std.specs.Prelude.{ℕ, List, [], ◌∷◌, ◌++◌, Option, Some, None}
 use Rattle.std.specs.Option.{option_map}
 use Rattle.cls_base.specs.Schemas as schema
 use Rattle.cls_base.specs.Schemas.{OpenType}
 use Rattle.cls_lexer.specs.declared.token.Token.{Token}
 use Rattle.cls_syntax.specs.declared.sort.Sort.{Sort}
 use Rattle.cls_syntax.specs.declared.sort.Sort.TheVariants.{Omega, Name, To, And, Times, Open, Close, Dollar}
-use Rattle.cls_syntax.specs.declared.schema_builder.Place.{Place}
-use Rattle.cls_syntax.specs.declared.schema_builder.Place.TheVariants as place
-use Rattle.cls_syntax.specs.declared.schema_builder.Level.{Level as BuiltLevel}
-use Rattle.cls_syntax.specs.declared.schema_builder.Frame.{Frame}
 use Rattle.cls_lexer.specs.Words.{word_of}
 use Rattle.cls_syntax.specs.Sorts.{sort_of}
 
@@ -86,26 +82,3 @@ module _ (constructor : List ℕ → ℕ) (variable : List ℕ → Option OpenTy
   abbrev pub schema_reading : State → List Token → Option OpenType
   schema_reading s [] = ended s
   schema_reading s (l ∷ ls) = elim (step s (sort_of (word_of l)) l.text.now) [ None ↦ None | Some t ↦ schema_reading t ls ]
-
--- the code's values, where `tree` says what the builder's trees are
-module _ {T : Type 0} (tree : T → OpenType) where
-  abbrev pub level_of : BuiltLevel T → Level
-  level_of l = level (map tree l.sources.items) (option_map tree l.meet) (option_map tree l.product)
-
-  -- the last frame is the innermost
-  abbrev pub onto : Outer → List (Frame T) → Outer
-  onto o [] = o
-  onto o (f ∷ fs) = onto (within o (option_map (λ c. c.0) f.name) (level_of f.level)) fs
-
-  abbrev pub outer_of : List (Frame T) → Outer
-  outer_of fs = onto whole fs
-
-  abbrev pub state_of : Outer → Level → Place T → State
-  state_of o l place.Operand = operand o l
-  state_of o l place.AfterDollar = after_dollar o l
-  state_of o l (place.AfterName c) = after_name o l c.0
-  state_of o l (place.After t) = after o l (tree t)
-
-  abbrev pub next_of : Outer → Level → Option (Place T) → Option State
-  next_of o l None = None
-  next_of o l (Some p) = Some (state_of o l p)

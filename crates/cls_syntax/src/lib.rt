@@ -28,6 +28,7 @@ mod syntax_fault;
 mod term_shape;
 mod tree;
 mod type_shape;
+mod waiting_stack;
 mod word_list;
 
 pub use cursor::{end_at, name_at, number_at, sign_at, term_at, type_at, types_at, word_at};
