@@ -1,15 +1,17 @@
 -- How a rule goes on, as the code does it.
-use Rattle.std.proofs.Common.{◌≡◌, ℕ, ◌+◌, ◌<◌, ◌≤◌, List, ◌∷◌, Option, None, Some, length, take, slice_get, sym, ap, subst, ◌∙◌, Bool, true, false, arith}
-use Rattle.std.specs.Prelude.{is_some}
+use Rattle.std.proofs.Common.{◌≡◌, ℕ, ◌+◌, ◌<◌, ◌≤◌, List, ◌∷◌, ◌++◌, Option, None, Some, length, take, slice_get, sym, ap, subst, ◌∙◌, Bool, true, false, inl, inr, arith}
+use Rattle.std.specs.Prelude.{is_some, Contains}
 use Rattle.std.proofs.lemmas.Option.{slice_get_within}
+use Rattle.std.proofs.lemmas.List.Elements.{Contains-append_left}
 use Rattle.cls_base.specs.declared.rule.Rule.{Rule}
 use Rattle.cls_base.specs.Languages.{rules_at}
 use Rattle.cls_base.specs.Lists.{AreBelow}
+use Rattle.cls_base.proofs.Lists.{Contains-cases, Contains-later}
 use Rattle.cls_core.proofs.Columns.{get-some}
 use Rattle.cls_rulebook.specs.Arguments.{arguments_of_rule}
 use Rattle.cls_grammar.specs.declared.waiting.Waiting.{Waiting}
-use Rattle.cls_grammar.specs.Climbs.{State, with_rank, with_waiting, IsKnown, AllKnown, IsReady, IsKept}
-use Rattle.cls_grammar.proofs.Climbing.{first, arguments-within, argument-within, kept-known, kept-rank-new, kept-waiting}
+use Rattle.cls_grammar.specs.Climbs.{State, with_rank, with_waiting, IsKnown, AllKnown, IsReady, IsCovered, settled, waits, pending, wait, node_waits, IsKept}
+use Rattle.cls_grammar.proofs.Climbing.{first, node-waits-have, arguments-within, argument-within, kept-known, kept-rank-new, kept-waiting}
 use Rattle.cls_rulebook.specs.Books.{HaveNodesBelow}
 
 rule-equal : (rs all : List (Rule ℕ)) (j : ℕ) (q r : Rule ℕ) → rs ≡ all → slice_get rs j ≡ Some q → slice_get all j ≡ Some r → q ≡ r
@@ -60,3 +62,37 @@ module _ (book : List (List (Rule ℕ))) (done height : ℕ) (w : Waiting) (todo
         let P : Rule ℕ → Type 0 = λ r. slice_get (arguments_of_rule r) p ≡ Some a in
         let Q : Rule ℕ → Type 0 = λ r. AllKnown s.ranks height (take p (arguments_of_rule r)) in
         subst (IsKept book done height todo) (sym e) (kept-waiting book done height w todo s k p a v en er ep (subst P same f) (subst Q same before) unknown less)
+
+-- A rule that is to go on may go on first, and once more in its turn.
+pub kept-again : (book : List (List (Rule ℕ))) (done height : ℕ) (w : Waiting) (todo : List Waiting) (s : State) → Contains todo w → IsKept book done height todo s → IsKept book done height (w ∷ todo) s
+kept-again book done height w todo s c k = record {
+  few = k.few;
+  sized = k.sized;
+  queues = k.queues;
+  counted = k.counted;
+  passed = k.passed;
+  deep = k.deep;
+  listed = k.listed;
+  placed = k.placed;
+  rising = k.rising;
+  low = k.low;
+  high = k.high;
+  top = k.top;
+  sound = k.sound;
+  waiting = k.waiting;
+  ready = λ v m. elim (Contains-cases w todo v m) [ inl e ↦ subst (IsReady book s.ranks height) (sym e) (k.ready w c) | inr n ↦ k.ready v n ];
+  covered = λ i j r e. by i j r (k.covered i j r e);
+}
+  where
+    by : (i j : ℕ) (r : Rule ℕ) → IsCovered book done todo s i j r → IsCovered book done (w ∷ todo) s i j r
+    by i j r (settled u f g) = settled u f g
+    by i j r (waits n v p q m f) = waits n v p q m f
+    by i j r (pending v p q m) = pending v p q (Contains-later v w todo m)
+
+-- So one of a node's rules may begin before the others.
+pub kept-ahead : (book : List (List (Rule ℕ))) (node rule : ℕ) (todo : List Waiting) (s : State) → rule < length (rules_at book node) → IsKept book 0 0 (node_waits node 0 (rules_at book node) ++ todo) s → IsKept book 0 0 (wait node rule ∷ (node_waits node 0 (rules_at book node) ++ todo)) s
+kept-ahead book node rule todo s l k =
+    let rs = rules_at book node in
+    let u = get-some rs rule l in
+    let zeros : 0 + rule ≡ rule = omega arith in
+    kept-again book 0 0 (wait node rule) (node_waits node 0 rs ++ todo) s (Contains-append_left (node_waits node 0 rs) todo (wait node rule) (subst (λ n. Contains (node_waits node 0 rs) (wait node n)) zeros (node-waits-have book node 0 rule rs u.0 u.1))) k

@@ -454,7 +454,7 @@ module _ (book : List (List (Rule ℕ))) where
   count-none zero = refl
   count-none (suc n) = count-none n
 
-  node-waits-have : (i j k : ℕ) (rs : List (Rule ℕ)) (r : Rule ℕ) → slice_get rs k ≡ Some r → Contains (node_waits i j rs) (wait i (j + k))
+  pub node-waits-have : (i j k : ℕ) (rs : List (Rule ℕ)) (r : Rule ℕ) → slice_get rs k ≡ Some r → Contains (node_waits i j rs) (wait i (j + k))
   node-waits-have i j k [] r e = cc
   node-waits-have i j zero (q ∷ rs) r e = Contains-head (wait i (j + 0)) (wait i j) (node_waits i (suc j) rs) (ap (wait i) (omega arith))
   node-waits-have i j (suc k) (q ∷ rs) r e =

@@ -2,7 +2,8 @@
 //!
 //! A rule waits for the first of its arguments that isn't known yet. When a node becomes known, each rule that waits
 //! for it goes on to its next such argument, and one that has none gives its own node a rank. So each argument is passed
-//! once. A rule of a node whose rank is known is done: it would give the node no lower one.
+//! once. A rule of a node whose rank is known is done: it would give the node no lower one. So of each node a rule without
+//! arguments goes first, and then no other rule of the node waits.
 ghost use Rattle.std.specs.Prelude.{◌≡◌, ◌<◌, ◌≤◌, ◌+◌, ◌^◌, ◌↔◌, ℕ, List, [], ◌∷◌, ◌++◌, Option, Some, None, IsTrue, IfOk, OnOk, IfSome, IfNone, length, slice_get, take, map, is_some, option_copied};
 ghost use Rattle.cls_base.specs.Languages.{rules_at};
 ghost use Rattle.cls_base.specs.Lists.{AreBelow};
@@ -14,7 +15,7 @@ ghost use Rattle.cls_grammar.specs.Climbs.{IsKnown, AllKnown};
 use crate::columns::Flags;
 use crate::waiting::{Queue, Waiting, WaitingLists};
 use cls_base::OutOfMemory;
-use cls_rulebook::{RuleBook, RuleRef};
+use cls_rulebook::{NodeRules, RuleBook, RuleRef};
 use std::alloc::Global;
 use std::marker::Model;
 
@@ -67,6 +68,27 @@ fn first_unknown(
         let node = nodes[place];
         if !is_known(ranks, node, height) {
             return Some((place, node));
+        }
+    }
+    None
+}
+
+// Whether the rule has no argument.
+fn is_leaf(rule: RuleRef<'_>) -> bool {
+    match rule {
+        RuleRef::Head { component: _, args } => args.is_empty(),
+        RuleRef::Any { left: _, right: _ } => false,
+    }
+}
+
+// A rule without arguments among the first ones.
+fn leaf_among(rules: &NodeRules, count: u32) -> Option<u32>
+    requires { count ≤ length rules.now }
+    ensures { IfSome result (λ rule. rule < count) }
+{
+    for rule in 0..count {
+        if is_leaf(rules.get(rule as usize)) {
+            return Some(rule);
         }
     }
     None
@@ -209,7 +231,34 @@ impl Climb {
         Ok(())
     }
 
-    // Each rule of the node begins.
+    // A rule without arguments begins, if the node has one, which has so many rules.
+    fn start_leaf<B: RuleBook>(
+        &mut self,
+        book: &B,
+        node: u32,
+        count: u32,
+    ) -> Result<(), OutOfMemory>
+        requires within { node < length (B.book book.now) }
+        requires count { count ≡ length (rules_at (B.book book.now) node) }
+        requires kept { (todo : List Waiting)
+            × IsKept (B.book book.now) 0 0 (node_waits node 0 (rules_at (B.book book.now) node) ++ todo) self.old }
+        ensures { OnOk result ((todo : List Waiting)
+            → IsKept (B.book book.now) 0 0 (node_waits node 0 (rules_at (B.book book.now) node) ++ todo) self.old
+            → IsKept (B.book book.now) 0 0 (node_waits node 0 (rules_at (B.book book.now) node) ++ todo) self.new) }
+    {
+        let Some(rule) = leaf_among(book.rules(node), count) else {
+            return Ok(());
+        };
+        let waiting = Waiting {
+            node,
+            rule,
+            argument: 0,
+        };
+        self.advance(book, waiting, 0)?;
+        Ok(())
+    }
+
+    // Each rule of the node begins, one without arguments first.
     fn start_node<B: RuleBook>(&mut self, book: &B, node: u32) -> Result<(), OutOfMemory>
         requires within { node < length (B.book book.now) }
         requires kept { (todo : List Waiting)
@@ -222,6 +271,7 @@ impl Climb {
         let Ok(count) = u32::try_from(book.rules(node).len()) else {
             return Err(OutOfMemory);
         };
+        self.start_leaf(book, node, count)?;
         for rule in 0..count {
             let waiting = Waiting {
                 node,
