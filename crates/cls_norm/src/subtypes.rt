@@ -71,7 +71,8 @@ pub(crate) fn put_pieces<'a>(ty: &'a Ty, pieces: &mut Vec<&'a Ty>) -> Result<(),
     }
 }
 
-/// Whether the intersection of the types is below the type.
+/// Whether the intersection of the types is below the type. Of an intersection the second part is asked first: it is the
+/// smaller one where intersections associate to the left, as written ones do.
 #[cycle(below)]
 pub(crate) fn are_below<T: Taxa>(
     alloc: Global,
@@ -113,10 +114,10 @@ pub(crate) fn are_below<T: Taxa>(
         }
         Ty::Meet(sides) => {
             let (first, second) = &**sides;
-            if !are_below(alloc, taxa, lowers, first)? {
+            if !are_below(alloc, taxa, lowers, second)? {
                 return Ok(false);
             }
-            Ok(are_below(alloc, taxa, lowers, second)?)
+            Ok(are_below(alloc, taxa, lowers, first)?)
         }
     }
 }
@@ -312,7 +313,8 @@ fn some_has_name<T: Taxa>(taxa: &T, lowers: &[&Ty], name: Name) -> bool
     false
 }
 
-/// Whether the type has a name that is below the covariant name.
+/// Whether the type has a name that is below the covariant name. Of an intersection the second part is asked first, as in
+/// [`are_below`].
 fn has_name<T: Taxa>(taxa: &T, lower: &Ty, name: Name) -> bool
     requires { T.variance_of_name taxa.now name.0 ≡ covariant }
     ensures { IsTrue result
@@ -324,7 +326,7 @@ fn has_name<T: Taxa>(taxa: &T, lower: &Ty, name: Name) -> bool
         Ty::Con(other, _) => taxa.below(*other, name),
         Ty::Meet(sides) => {
             let (first, second) = &**sides;
-            has_name(taxa, first, name) || has_name(taxa, second, name)
+            has_name(taxa, second, name) || has_name(taxa, first, name)
         }
         Ty::Omega | Ty::Prod(..) | Ty::Arrow(..) => false,
     }

@@ -72,7 +72,7 @@ are_below-returns-then-not-branch-2 g t c =
     let x = paths_of_all v c.args.lowers.now in
     let e = c.in_ok-are_below-in-Meet.ensures in
     let k = le_append b v x (paths_of v (type_of c.deref-in-Meet.result.now.0)) (paths_of v (type_of c.deref-in-Meet.result.now.1)) in
-    rw (c.in-Meet.is, ← c.deref-in-Meet.ensures) (no (λ l. false≢true (sym c.if-not-branch-2.true ∙ e.1 (k.0 l).0)))
+    rw (c.in-Meet.is, ← c.deref-in-Meet.ensures) (no (λ l. false≢true (sym c.if-not-branch-2.true ∙ e.1 (k.0 l).1)))
 
 pub are_below-returns-in_ok-are_below-in-Meet-2 : goal.are_below-returns-in_ok-are_below-in-Meet-2
 are_below-returns-in_ok-are_below-in-Meet-2 g t c =
@@ -82,7 +82,7 @@ are_below-returns-in_ok-are_below-in-Meet-2 g t c =
     let e = c.in_ok-are_below-in-Meet.ensures in
     let f = c.in_ok-are_below-in-Meet-2.ensures in
     let k = le_append b v x (paths_of v (type_of c.deref-in-Meet.result.now.0)) (paths_of v (type_of c.deref-in-Meet.result.now.1)) in
-    rw (c.in-Meet.is, ← c.deref-in-Meet.ensures) ((λ h. k.1 (e.0 c.if-not-branch-2.false, f.0 h)), (λ l. f.1 (k.0 l).1))
+    rw (c.in-Meet.is, ← c.deref-in-Meet.ensures) ((λ h. k.1 (f.0 h, e.0 c.if-not-branch-2.false)), (λ l. f.1 (k.0 l).0))
 
 pub are_below-returns-then-is_omega : goal.are_below-returns-then-is_omega
 are_below-returns-then-is_omega g t c =

@@ -29,7 +29,7 @@ returns-then-has_name g t c =
     let v = g.T.Taxa.variance_of_name c.args.taxa.now in
     let n = paths_of v (type_of c.deref.result.now.0) in
     let m = paths_of v (type_of c.deref.result.now.1) in
-    rw (c.in-Meet.is, ← c.deref.ensures) ((λ h. to_append_first b v n m (atom c.args.name.0) (c.has_name.ensures.0 c.if-has_name.true)), (λ o. c.if-has_name.true))
+    rw (c.in-Meet.is, ← c.deref.ensures) ((λ h. to_append_second b v n m (atom c.args.name.0) (c.has_name.ensures.0 c.if-has_name.true)), (λ o. c.if-has_name.true))
 
 pub returns-else-has_name : goal.returns-else-has_name
 returns-else-has_name g t c =
@@ -39,8 +39,8 @@ returns-else-has_name g t c =
     let m = paths_of v (type_of c.deref.result.now.1) in
     let p = atom c.args.name.0 in
     rw (c.in-Meet.is, ← c.deref.ensures) (
-      (λ h. to_append_second b v n m p (c.has_name-else-has_name.ensures.0 h)),
-      (λ o. elim (from_append b v n m p o) [ inl a ↦ absurd (false≢true (sym c.if-has_name.false ∙ c.has_name.ensures.1 a)) | inr a ↦ c.has_name-else-has_name.ensures.1 a ]),
+      (λ h. to_append_first b v n m p (c.has_name-else-has_name.ensures.0 h)),
+      (λ o. elim (from_append b v n m p o) [ inl a ↦ c.has_name-else-has_name.ensures.1 a | inr a ↦ absurd (false≢true (sym c.if-has_name.false ∙ c.has_name.ensures.1 a)) ]),
     )
 
 pub returns-in-Omega-2 : goal.returns-in-Omega-2
