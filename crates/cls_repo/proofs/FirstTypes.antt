@@ -1,50 +1,78 @@
--- The first of the types that tokens spell, and whether it is the last.
-use Rattle.std.proofs.Common.{◌≡◌, List, [], ◌∷◌, refl, ap, sym, ◌∙◌, append-nil}
-use Rattle.std.specs.Prelude.{Result, Ok, Err, IsTrue}
+-- The first of the types that tokens spell ends in front of the first bar, and the others stand behind it.
+use Rattle.std.proofs.Common.{◌≡◌, ℕ, ◌+◌, ◌-◌, ◌<◌, Bool, true, false, List, refl, sym, ◌∙◌, subst, take, drop, take-append-drop, length, arith}
+use Rattle.std.specs.Prelude.{Option, Some, None, MatchOption, IsTrue, position, if◌then◌else◌}
+use Rattle.std.specs.Str.{bytes_eq}
+use Rattle.std.proofs.lemmas.List.{take-map, drop-map, length-drop, take_all}
 use Rattle.cls_lexer.specs.declared.token.TokenKind.{TokenKind}
-use Rattle.cls_lexer.specs.Words.{Word, sign}
-use Rattle.cls_syntax.specs.Faults.{Stop}
-use Rattle.cls_syntax.specs.TypeTexts.{TypeText, type_words, TypeList, last, more}
+use Rattle.cls_lexer.specs.declared.token.TokenKind.TheVariants.{Name, Bar}
+use Rattle.cls_lexer.specs.declared.token.Token.{Token}
+use Rattle.cls_lexer.specs.Words as word
+use Rattle.cls_lexer.specs.Words.{Word, name, word_from, word_of, words, reserved_name}
+use Rattle.cls_lexer.proofs.TextTables.{position-map}
+use Rattle.cls_syntax.specs.ClosedTypes.{HasNoDollar}
+use Rattle.cls_syntax.specs.Spans.{is_whole, type_in, types_in}
+use Rattle.cls_syntax.specs.TypeLists.{is_the_sign, types_front}
 use Rattle.cls_syntax.specs.TypeReading.{type_front}
-use Rattle.cls_syntax.specs.TypeLists.{types_words, types_front}
-use Rattle.cls_syntax.specs.Spans.{is_whole, read_or, omega_text, types_in}
-use Rattle.cls_syntax.specs.Forms.{the_sign}
-use Rattle.cls_syntax.specs.GoodForms.{EndsType}
-use Rattle.cls_syntax.specs.LineReading.{item_front}
-use Rattle.cls_syntax.proofs.ItemFronts.{type_again, types_ok, type_halts, item_again}
+use Rattle.cls_syntax.specs.TypeTexts.{more}
+use Rattle.cls_syntax.proofs.FirstBars.{IsLast, IsFirst, first_bar}
+use Rattle.cls_repo.specs.Written.{IsRest}
+use Rattle.cls_repo.proofs.KindTypes.{front_left, front_right}
 
--- what is whole is its words
-whole_words : (kind : TokenKind) (ws : List Word) (r : Result (TypeList × List Word) Stop) → EndsType kind → types_front kind ws ≡ r → IsTrue (is_whole r) → ws ≡ types_words kind (read_or (last omega_text) r)
-whole_words kind ws (Ok (ts, [])) e is h = (types_ok kind e ws [] ts is).0 ∙ append-nil (types_words kind ts)
-whole_words kind ws (Ok (ts, w ∷ vs)) e is h = cc
-whole_words kind ws (Err s) e is h = cc
+no_name_bar : (b : Bool) (x : List ℕ) → is_the_sign Bar (if b then word.omega else name x) ≡ false
+no_name_bar true x = refl
+no_name_bar false x = refl
 
--- how the list begins
-data Begins (kind : TokenKind) (ws : List Word) (ts : TypeList) : Type 0 where
-  one : (t : TypeText) → ts ≡ last t → type_front ws ≡ Ok (t, []) → Begins kind ws ts
-  many : (t : TypeText) (us : TypeList) → ts ≡ more t us → type_front ws ≡ Ok (t, sign kind ∷ types_words kind us) → Begins kind ws ts
+abbrev kind_bar : TokenKind → Bool
+kind_bar Bar = true
+kind_bar _ = false
 
-begins : (kind : TokenKind) (ws : List Word) (ts : TypeList) → EndsType kind → ws ≡ types_words kind ts → Begins kind ws ts
-begins kind ws (last t) e is = one t refl (ap type_front (is ∙ sym (append-nil (type_words t))) ∙ type_again t [] tt)
-begins kind ws (more t us) e is = many t us refl (ap type_front is ∙ type_again t (sign kind ∷ types_words kind us) (type_halts kind e [] t))
+-- only the kind `Bar` is a bar
+pub bar_kind : (kind : TokenKind) (x : List ℕ) → is_the_sign Bar (word_from kind x) ≡ kind_bar kind
+bar_kind Name x = no_name_bar (bytes_eq x reserved_name) x
+bar_kind _ x = refl
 
-types_begin : (kind : TokenKind) (ws : List Word) → EndsType kind → IsTrue (is_whole (types_front kind ws)) → Begins kind ws (types_in kind ws)
-types_begin kind ws e h = begins kind ws (types_in kind ws) e (whole_words kind ws (types_front kind ws) e refl h)
+-- a part of tokens without a `$` has none
+pub closed_front : (n : ℕ) (tokens : List Token) → HasNoDollar (words tokens) → HasNoDollar (words (take n tokens))
+closed_front n tokens h =
+    let ws = words tokens in
+    subst HasNoDollar (take-map word_of n tokens) (front_left (take n ws) (drop n ws) (subst HasNoDollar (sym (take-append-drop n ws)) h))
 
-same_pair : {A B E : Type 0} (a c : A) (b d : B) → Path (Result (A × B) E) (Ok (a, b)) (Ok (c, d)) → (a ≡ c) × (b ≡ d)
-same_pair {A} {B} a c b d h = let both : Path (A × B) (a, b) (c, d) = cc in (ap (λ (x : A × B). x.0) both, ap (λ (x : A × B). x.1) both)
+closed_behind : (n : ℕ) (tokens : List Token) → HasNoDollar (words tokens) → HasNoDollar (words (drop n tokens))
+closed_behind n tokens h =
+    let ws = words tokens in
+    subst HasNoDollar (drop-map word_of n tokens) (front_right (take n ws) (drop n ws) (subst HasNoDollar (sym (take-append-drop n ws)) h))
 
-module _ (kind : TokenKind) (ws : List Word) (e : EndsType kind) (h : IsTrue (is_whole (types_front kind ws))) where
-  pub first_there : (s : Stop) → type_front ws ≡ Err s → ⊥
-  first_there s f = elim (types_begin kind ws e h) [
-    | one t is r ↦ (let both : Path (Result (TypeText × List Word) Stop) (Ok (t, [])) (Err s) = sym r ∙ f in cc)
-    | many t us is r ↦ (let both : Path (Result (TypeText × List Word) Stop) (Ok (t, sign kind ∷ types_words kind us)) (Err s) = sym r ∙ f in cc)
-  ]
+abbrev bar_place : List Token → Option ℕ
+bar_place tokens = position (λ token. is_the_sign Bar (word_of token)) tokens
 
-  pub none_left : (t : TypeText) (rest : List Word) (s : Stop) → type_front ws ≡ Ok (t, rest) → item_front (the_sign kind) rest ≡ Err s → types_in kind ws ≡ last t
-  none_left t rest s f g = elim (types_begin kind ws e h) [
-    | one u is r ↦ is ∙ ap last (same_pair {A = TypeText} {B = List Word} u t [] rest (sym r ∙ f)).0
-    | many u us is r ↦
-        (let left : sign kind ∷ types_words kind us ≡ rest = (same_pair {A = TypeText} {B = List Word} u t (sign kind ∷ types_words kind us) rest (sym r ∙ f)).1 in
-        let both : Path (Result (Unit {0} × List Word) Stop) (Ok (tt, types_words kind us)) (Err s) = sym (item_again (the_sign kind) tt (types_words kind us) tt tt) ∙ (ap (item_front (the_sign kind)) left ∙ g) in cc)
-  ]
+module _ (tokens : List Token) (whole : IsTrue (is_whole (types_front Bar (words tokens)))) where
+  split : (o : Option ℕ) → o ≡ bar_place tokens → MatchOption o (IsLast (words tokens)) (IsFirst (words tokens))
+  split o is = subst (λ (p : Option ℕ). MatchOption p (IsLast (words tokens)) (IsFirst (words tokens))) (position-map word_of (is_the_sign Bar) tokens ∙ sym is) (first_bar (words tokens) whole)
+
+  -- without a bar there is one type alone
+  pub one_type : None ≡ bar_place tokens → IsLast (words tokens)
+  one_type is = split None is
+
+  module _ (place : ℕ) (is : Some place ≡ bar_place tokens) where
+    -- in front of the bar there is a type
+    pub front_whole : IsTrue (is_whole (type_front (words (take place tokens))))
+    front_whole = subst (λ (ws : List Word). IsTrue (is_whole (type_front ws))) (take-map word_of place tokens) (split (Some place) is).whole
+
+    behind_bar : place < length tokens → HasNoDollar (words tokens) → IsRest tokens (type_in (words (take place tokens))) (drop (place + 1) tokens)
+    behind_bar within closed =
+        let s = split (Some place) is in
+        let front = take-map word_of place tokens in
+        let behind = drop-map word_of (place + 1) tokens in
+        record {
+          list = s.list ∙ (λ i. more (type_in (front i)) (types_in Bar (behind i)));
+          whole = subst (λ (ws : List Word). IsTrue (is_whole (types_front Bar ws))) behind s.others;
+          closed = closed_behind (place + 1) tokens closed;
+          fewer = let l = length-drop (place + 1) tokens in omega (arith, l, within);
+        }
+
+    -- behind the bar there are the others
+    pub others_left : place < length tokens → HasNoDollar (words tokens) → IsRest tokens (type_in (words (take place tokens))) (take (length tokens - (place + 1)) (drop (place + 1) tokens))
+    others_left within closed =
+        let l = length-drop (place + 1) tokens in
+        let all = take_all (length tokens - (place + 1)) (drop (place + 1) tokens) (omega (arith, l)) in
+        subst (IsRest tokens (type_in (words (take place tokens)))) (sym all) (behind_bar within closed)

@@ -1,24 +1,20 @@
 -- Reading the types of a kind, one after another.
-use Rattle.std.proofs.Common.{◌≡◌, ℕ, ◌+◌, true, false, List, [], ◌∷◌, ◌++◌, refl, ap, sym, ◌∙◌, subst, append-nil, append_assoc, length, length-append, arith}
-use Rattle.std.specs.Prelude.{Result, Ok, Err, IsTrue, Option, Some, None, MatchOption, ◌||◌}
+use Rattle.std.proofs.Common.{◌≡◌, ℕ, ◌+◌, true, false, List, [], ◌∷◌, ◌++◌, refl, ap, sym, ◌∙◌, subst, append-nil, append_assoc, length}
+use Rattle.std.specs.Prelude.{IsTrue, Option, Some, None, MatchOption, ◌||◌}
 use Rattle.std.specs.List.{list_any}
 use Rattle.cls_base.specs.Types.{ClosedType}
 use Rattle.cls_lexer.specs.declared.token.Token.{Token}
 use Rattle.cls_lexer.specs.declared.token.TokenKind.TheVariants.{Bar}
 use Rattle.cls_lexer.specs.Names.{number_of, with_texts}
-use Rattle.std.proofs.lemmas.List.{length-map}
-use Rattle.cls_lexer.specs.Words.{Word, sign, words, word_of}
+use Rattle.cls_lexer.specs.Words.{Word, sign, words}
 use Rattle.cls_syntax.specs.ClosedTypes.{Spells, HasNoDollar}
-use Rattle.cls_syntax.specs.Faults.{Stop}
-use Rattle.cls_syntax.specs.Forms.{the_sign, Part, fixed, naming, numeral, type_parts, types_parts, constructors_named}
-use Rattle.cls_syntax.specs.LineReading.{item_front}
+use Rattle.cls_syntax.specs.Forms.{Part, fixed, naming, numeral, type_parts, types_parts, constructors_named}
 use Rattle.cls_syntax.specs.Spans.{is_whole, read_or, omega_text, types_in}
 use Rattle.cls_syntax.specs.TypeLists.{types_words, types_front}
-use Rattle.cls_syntax.specs.TypeReading.{type_front}
 use Rattle.cls_syntax.specs.TypeSchemas.{is_dollar, constructors_in}
 use Rattle.cls_syntax.specs.TypeTexts.{TypeText, type_words, TypeList, last, more}
 use Rattle.cls_syntax.specs.declared.role.Role.TheVariants.{Constructor}
-use Rattle.cls_syntax.proofs.ItemFronts.{type_ok, type_again, types_ok, types_again, type_halts, item_ok}
+use Rattle.cls_syntax.proofs.FirstBars.{words_list}
 use Rattle.cls_syntax.proofs.PartNames.{type_constructors}
 use Rattle.cls_repo.specs.Declarations.{AreSpelled}
 use Rattle.cls_repo.specs.Written.{FirstType, IsRest}
@@ -28,27 +24,12 @@ use Rattle.cls_repo.proofs.TypeMeanings.{spelled_still}
 abbrev Is_whole : List Word → Type 0
 Is_whole ws = IsTrue (is_whole (types_front Bar ws))
 
-whole_words : (ws : List Word) (r : Result (TypeList × List Word) Stop) → types_front Bar ws ≡ r → IsTrue (is_whole r) → ws ≡ types_words Bar (read_or (last omega_text) r)
-whole_words ws (Ok (ts, [])) is h = (types_ok Bar refl ws [] ts is).0 ∙ append-nil (types_words Bar ts)
-whole_words ws (Ok (ts, w ∷ vs)) is h = cc
-whole_words ws (Err s) is h = cc
-
--- words that are a list of types are its words
-pub list_words : (ws : List Word) → Is_whole ws → ws ≡ types_words Bar (types_in Bar ws)
-list_words ws h = whole_words ws (types_front Bar ws) refl h
-
-same_pair : {A B E : Type 0} (a c : A) (b d : B) → Path (Result (A × B) E) (Ok (a, b)) (Ok (c, d)) → (a ≡ c) × (b ≡ d)
-same_pair {A} {B} a c b d h = let both : Path (A × B) (a, b) (c, d) = cc in (ap (λ (x : A × B). x.0) both, ap (λ (x : A × B). x.1) both)
-
 -- the words of a list are the list
-pub words_list : (ts : TypeList) → types_front Bar (types_words Bar ts) ≡ Ok (ts, [])
-words_list ts = ap (types_front Bar) (sym (append-nil (types_words Bar ts))) ∙ types_again Bar refl ts [] tt
-
 pub words_whole : (ws : List Word) (ts : TypeList) → ws ≡ types_words Bar ts → Is_whole ws
-words_whole ws ts is = let e : types_front Bar ws ≡ Ok (ts, []) = ap (types_front Bar) is ∙ words_list ts in ap is_whole e
+words_whole ws ts is = ap is_whole (words_list ws ts is)
 
 pub words_in : (ws : List Word) (ts : TypeList) → ws ≡ types_words Bar ts → types_in Bar ws ≡ ts
-words_in ws ts is = let e : types_front Bar ws ≡ Ok (ts, []) = ap (types_front Bar) is ∙ words_list ts in ap (read_or (last omega_text)) e
+words_in ws ts is = ap (read_or (last omega_text)) (words_list ws ts is)
 
 pub front_left : (ws vs : List Word) → list_any is_dollar (ws ++ vs) ≡ false → list_any is_dollar ws ≡ false
 front_left [] vs h = refl
@@ -57,56 +38,6 @@ front_left (w ∷ ws) vs h = (elim (is_dollar w) as (λ b. (b || list_any is_dol
 pub front_right : (ws vs : List Word) → list_any is_dollar (ws ++ vs) ≡ false → list_any is_dollar vs ≡ false
 front_right [] vs h = h
 front_right (w ∷ ws) vs h = (elim (is_dollar w) as (λ b. (b || list_any is_dollar (ws ++ vs)) ≡ false → list_any is_dollar vs ≡ false) [ true ↦ λ k. absurd (cc) | false ↦ λ k. front_right ws vs k ]) h
-
-pub no_dollar_right : (ws vs us : List Word) → us ≡ ws ++ vs → HasNoDollar us → HasNoDollar vs
-no_dollar_right ws vs us is h = front_right ws vs (subst HasNoDollar is h)
-
--- a type in front of other words, read from there
-module _ (ws rest : List Word) (t : TypeText) (read : type_front ws ≡ Ok (t, rest)) where
-  pub front_words : ws ≡ type_words t ++ rest
-  front_words = (type_ok ws rest t read).0
-
-  pub front_closed : HasNoDollar ws → HasNoDollar (type_words t)
-  front_closed h = front_left (type_words t) rest (subst HasNoDollar front_words h)
-
-  -- the list goes on behind the bar
-  record GoesOn (next : List Word) : Type 0 where
-    others : TypeList
-    list : types_in Bar ws ≡ more t others
-    words : next ≡ types_words Bar others
-
-  goes_by : (next : List Word) (ts : TypeList) → ws ≡ types_words Bar ts → types_in Bar ws ≡ ts → rest ≡ sign Bar ∷ next → GoesOn next
-  goes_by next (last u) is l r =
-      (let first : type_front ws ≡ Ok (u, []) = ap type_front (is ∙ sym (append-nil (type_words u))) ∙ type_again u [] tt in
-      let none : [] ≡ rest = (same_pair {A = TypeText} {B = List Word} u t [] rest (sym first ∙ read)).1 in
-      let bad : [] ≡ sign Bar ∷ next = none ∙ r in absurd (cc))
-  goes_by next (more u us) is l r =
-      (let first : type_front ws ≡ Ok (u, sign Bar ∷ types_words Bar us) = ap type_front is ∙ type_again u (sign Bar ∷ types_words Bar us) (type_halts Bar refl [] u) in
-      let p = same_pair {A = TypeText} {B = List Word} u t (sign Bar ∷ types_words Bar us) rest (sym first ∙ read) in
-      let both : sign Bar ∷ types_words Bar us ≡ sign Bar ∷ next = p.1 ∙ r in
-      let tail : types_words Bar us ≡ next = cc in
-      record { others = us; list = l ∙ ap (λ x. more x us) p.0; words = sym tail })
-
-  goes_on : (next : List Word) → Is_whole ws → rest ≡ sign Bar ∷ next → GoesOn next
-  goes_on next h r = goes_by next (types_in Bar ws) (list_words ws h) refl r
-
-module _ (tokens : List Token) (t : TypeText) (rest : List Word) (read : type_front (words tokens) ≡ Ok (t, rest)) (whole : Is_whole (words tokens)) where
-  -- behind a bar the other types are left
-  pub more_left : (next : List Token) → HasNoDollar (words tokens) → item_front (the_sign Bar) rest ≡ Ok (tt, words next) → IsRest tokens t next
-  more_left next closed g =
-      let bar : rest ≡ sign Bar ∷ words next = (item_ok (the_sign Bar) rest (words next) tt g).0 in
-      let on = goes_on (words tokens) rest t read (words next) whole bar in
-      let split : words tokens ≡ (type_words t ++ sign Bar ∷ []) ++ words next = front_words (words tokens) rest t read ∙ (ap (λ us. type_words t ++ us) bar ∙ sym (append_assoc (type_words t) (sign Bar ∷ []) (words next))) in
-      let long = ap length split ∙ length-append (type_words t ++ sign Bar ∷ []) (words next) in
-      let some = length-append (type_words t) (sign Bar ∷ []) in
-      let many = length-map tokens word_of in
-      let fewer = length-map next word_of in
-      record {
-        list = on.list ∙ ap (more t) (sym (words_in (words next) on.others on.words));
-        whole = words_whole (words next) on.others on.words;
-        closed = no_dollar_right (type_words t ++ sign Bar ∷ []) (words next) (words tokens) split closed;
-        fewer = omega (arith, long, some, many, fewer);
-      }
 
 named_join : (ps qs : List Part) → constructors_named (ps ++ qs) ≡ constructors_named ps ++ constructors_named qs
 named_join [] qs = refl

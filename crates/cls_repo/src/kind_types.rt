@@ -1,19 +1,19 @@
 //! The types of a kind, read from their tokens in one pass.
-ghost use Rattle.std.specs.Prelude.{◌≡◌, length, take, IsTrue, IfOk, OnOk, map, option_copied};
+ghost use Rattle.std.specs.Prelude.{◌≡◌, ◌<◌, length, take, IsTrue, IfOk, IfSome, OnOk, map, option_copied, position};
 ghost use Rattle.cls_base.specs.Ty.{type_of};
 ghost use Rattle.cls_lexer.specs.declared.token.TokenKind.TheVariants.{Bar};
 ghost use Rattle.cls_lexer.specs.Names.{number_of, with_texts};
-ghost use Rattle.cls_lexer.specs.Words.{words};
+ghost use Rattle.cls_lexer.specs.Words.{words, word_of};
 ghost use Rattle.cls_syntax.specs.ClosedTypes.{HasNoDollar};
 ghost use Rattle.cls_syntax.specs.Forms.{types_parts, constructors_named};
 ghost use Rattle.cls_syntax.specs.Spans.{is_whole, types_in};
-ghost use Rattle.cls_syntax.specs.TypeLists.{types_front};
+ghost use Rattle.cls_syntax.specs.TypeLists.{types_front, is_the_sign};
 ghost use Rattle.cls_repo.specs.Declarations.{AreSpelled};
 ghost use Rattle.cls_repo.specs.Written.{FirstType};
 
 use cls_base::{OutOfMemory, Ty};
 use cls_lexer::{Names, Token, TokenKind};
-use cls_syntax::{sign_at, type_at};
+use cls_syntax::closed_type;
 use std::alloc::Global;
 
 /// The types, one or more with bars between them, that the tokens spell. They have no variable. Their names are
@@ -41,7 +41,8 @@ pub(crate) fn read_types(
     Ok(types)
 }
 
-/// The first of the types that the tokens spell, and the tokens behind the bar after it where there is one.
+/// The first of the types that the tokens spell, and the tokens behind the bar after it where there is one. No type has a
+/// bar in it, so it ends in front of the first bar.
 fn first_type<'t, 'a>(
     alloc: Global,
     names: &mut Names,
@@ -52,12 +53,30 @@ fn first_type<'t, 'a>(
     ensures first { IfOk result (λ x. FirstType tokens.now names.old (type_of x.0) (option_copied x.1) names.new) }
     ensures kept { take (length names.old) names.new ≡ names.old }
 {
-    let Ok((spelled, rest)) = type_at(tokens) else {
-        unreachable!()
-    };
-    let ty = spelled.ty(alloc, names)?;
-    match sign_at(rest, TokenKind::Bar) {
-        Ok(next) => Ok((ty, Some(next))),
-        Err(_) => Ok((ty, None)),
+    match bar_at(tokens) {
+        Some(place) => {
+            let ty = closed_type(alloc, names, &tokens[..place])?;
+            Ok((ty, Some(&tokens[place + 1..])))
+        }
+        None => {
+            let ty = closed_type(alloc, names, tokens)?;
+            Ok((ty, None))
+        }
     }
+}
+
+/// The place of the first bar.
+fn bar_at(tokens: &[Token]) -> Option<usize>
+    ensures first { result ≡ position (λ token. is_the_sign Bar (word_of token)) tokens.now }
+    ensures within { IfSome result (λ place. place < length tokens.now) }
+{
+    tokens.iter().position(|token| is_bar(token))
+}
+
+/// Whether the token is a bar.
+#[tactic(auto, using(crate::proofs::FirstTypes::bar_kind))]
+fn is_bar(token: &Token) -> bool
+    ensures { result ≡ is_the_sign Bar (word_of token.now) }
+{
+    matches!(token.kind, TokenKind::Bar)
 }

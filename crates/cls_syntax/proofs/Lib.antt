@@ -2,6 +2,7 @@ pub mod Building
 pub mod ClosedReading
 pub mod Dollars
 pub mod Exactness
+pub mod FirstBars
 pub mod FrontFaults
 pub mod GrammarFronts
 pub mod GrowingTables

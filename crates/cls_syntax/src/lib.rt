@@ -4,7 +4,7 @@
 //!   [`sign_at`], [`type_at`], [`types_at`], [`term_at`] and [`end_at`]. Each answers what stands there and what follows, or the
 //!   [`Stop`]: the first token that can't follow.
 //! - What spells a type is recognised with no memory, as [`SpelledType`]; [`SpelledType::schema`] and [`SpelledType::ty`] build
-//!   it, with a stack of their own.
+//!   it, with a stack of their own. [`closed_type`] builds over tokens that are known to spell a type.
 //! - [`read_schema`] and [`read_type`] read a text that is one type, and [`print_type`] prints a type, [`write_type`] at the
 //!   end of a text.
 //! - [`laws`] holds what is true of every form of line and of every type.
@@ -27,6 +27,7 @@ mod stop;
 mod syntax_fault;
 mod term_shape;
 mod tree;
+mod type_builder;
 mod type_shape;
 mod waiting_stack;
 mod word_list;
@@ -43,4 +44,5 @@ pub use spelled_type::SpelledType;
 pub use spelled_types::SpelledTypes;
 pub use stop::Stop;
 pub use syntax_fault::SyntaxFault;
+pub use type_builder::closed_type;
 pub use word_list::{names_at, numbers_at};

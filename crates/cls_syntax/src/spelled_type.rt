@@ -8,6 +8,7 @@ ghost use Rattle.cls_syntax.specs.Spans.{is_whole, type_in};
 
 use crate::schema_builder::build;
 use crate::stop::begins_reserved;
+use crate::type_builder::closed_type;
 use cls_base::limits::MAX_TYPE_NODES;
 use cls_base::{OutOfMemory, Schema, Ty};
 use cls_lexer::{Names, Token};
@@ -98,6 +99,7 @@ impl SpelledType<'_, '_> {
 
     /// The type that the tokens spell, which has no variable. Its names are numbered in the order of their tokens. The only
     /// error is out of memory, and leaves the table as before.
+    #[tactic(auto, using(crate::proofs::TypeSpans::spelled_words))]
     pub fn ty(&self, alloc: Global, constructors: &mut Names) -> Result<Ty, OutOfMemory>
         requires { HasNoDollar (words_in self.now) }
         ensures ty { IfOk result (λ ty. Spells (number_of constructors.new) (type_text self.now) (type_of ty)) }
@@ -106,26 +108,10 @@ impl SpelledType<'_, '_> {
         ensures constructors_stay { OnErr result (constructors.new ≡ constructors.old) }
     {
         let count = constructors.len();
-        let made = self.numbered_type(alloc, constructors);
+        let made = closed_type(alloc, constructors, self.tokens);
         if made.is_err() {
             constructors.cut(count);
         }
         made
-    }
-
-    /// The same, but an error may leave more in the table.
-    #[tactic(auto, using(crate::proofs::TypeSpans::spelled_words))]
-    fn numbered_type(&self, alloc: Global, constructors: &mut Names) -> Result<Ty, OutOfMemory>
-        requires { HasNoDollar (words_in self.now) }
-        ensures ty { IfOk result (λ ty. Spells (number_of constructors.new) (type_text self.now) (type_of ty)) }
-        ensures held { IfOk result (λ ty. HasNamesBelow (length constructors.new) (type_of ty)) }
-        ensures constructors { OnOk result (constructors.new ≡ with_constructors constructors.old (words_in self.now)) }
-        ensures kept { take (length constructors.old) constructors.new ≡ constructors.old }
-    {
-        let mut variables = Names::new(alloc);
-        match build(alloc, constructors, &mut variables, self.tokens)? {
-            Some(ty) => Ok(ty),
-            None => unreachable!(),
-        }
     }
 }

@@ -6,9 +6,10 @@ use Rattle.cls_lexer.specs.Names.{number_of}
 use Rattle.cls_lexer.specs.Words.{words}
 use Rattle.cls_syntax.specs.ClosedTypes.{HasNoDollar}
 use Rattle.cls_syntax.specs.Spans.{types_in}
+use Rattle.cls_syntax.proofs.FirstBars.{list_words}
 use Rattle.cls_repo.specs.Declarations.{AreSpelled}
 use Rattle.cls_repo.specs.Written.{draft_of}
-use Rattle.cls_repo.proofs.KindTypes.{spelled_some, list_words}
+use Rattle.cls_repo.proofs.KindTypes.{spelled_some}
 use Rattle.cls_repo.proofs.Putting.{kind_put}
 use Rattle.cls_repo.proofs.draft.Draft.push_kind.Goals as goal
 
