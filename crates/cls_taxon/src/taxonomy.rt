@@ -78,11 +78,15 @@ impl Taxonomy {
     {
         let variances = Variances::new(alloc, variances)?;
         let places = places_of(alloc, pairs)?;
-        let graph = graph_of(alloc, &places, pairs)?;
-        let below = close(alloc, &graph)?;
-        if let Some(name) = least_on_cycle(places.as_slice(), &graph, &below) {
-            return Err(TaxonFault::Cycle(Name(name)));
-        }
+        // The graph is let go before the pairs are copied.
+        let below = {
+            let graph = graph_of(alloc, &places, pairs)?;
+            let below = close(alloc, &graph)?;
+            if let Some(name) = least_on_cycle(places.as_slice(), &graph, &below) {
+                return Err(TaxonFault::Cycle(Name(name)));
+            }
+            below
+        };
         if let Some(name) = first_mixed(pairs, &variances) {
             return Err(TaxonFault::Mix(name));
         }
