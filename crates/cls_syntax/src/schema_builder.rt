@@ -146,7 +146,8 @@ fn operator<T: Tree>(
     from: usize,
 ) -> Result<Behind<T>, OutOfMemory>
     ensures on { IfOk result (λ b. IsWithin b from (length tokens.now)) }
-    ensures read { IfOk result (λ b. (cs vs : List (List ℕ)) (o : Outer) (l : Level) → Stands T.tree stack.old.items o l
+    ensures read { IfOk result (λ b. (cs vs : List (List ℕ)) (o : Outer) (l : Level)
+        → Stands T.tree stack.old.items o l
         → IsBehind T.tree stack.new.items (λ s p. outcome T.leaf cs vs false s (drop p tokens.now)) cs vs b
         (outcome T.leaf cs vs false (atom_read o l (T.tree atom)) (drop from tokens.now))) }
 {
