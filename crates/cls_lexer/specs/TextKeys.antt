@@ -6,10 +6,14 @@ use Rattle.std.specs.Int.Digits.{AllBelowBase}
 use Rattle.cls_lexer.specs.declared.text_key.TextKey.{TextKey}
 use Rattle.cls_lexer.specs.declared.text_key.TextKey.TheVariants.{Short, Long}
 
+-- The number whose digits in base 256, the lowest first, are the bytes and then the last one.
+abbrev pub number_with : (last : ℕ) → List ℕ → ℕ
+number_with last [] = last
+number_with last (byte ∷ bytes) = number_with last bytes * 256 + byte
+
 -- The number whose digits in base 256, the lowest first, are the bytes and then a 1.
 abbrev pub text_number : List ℕ → ℕ
-text_number [] = 1
-text_number (byte ∷ bytes) = text_number bytes * 256 + byte
+text_number bytes = number_with 1 bytes
 
 -- What a key writes into a hasher: the number or the text, and not which of both it is.
 abbrev pub key_writes : {T : Type 0} → (T → fed.HashWrites) → TextKey T → fed.HashWrites

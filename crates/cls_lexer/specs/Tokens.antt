@@ -1,5 +1,5 @@
 -- The tokens of a line.
-use Rattle.std.specs.Prelude.{ℕ, ◌+◌, ◌-◌, suc, zero, Bool, false, ◌&&◌, ◌==◌, nat_le, List, [], ◌∷◌, if◌then◌else◌, take, length, slice_get}
+use Rattle.std.specs.Prelude.{ℕ, ◌+◌, ◌-◌, suc, zero, Bool, false, ◌&&◌, ◌||◌, ◌==◌, nat_le, List, [], ◌∷◌, if◌then◌else◌, take, length, slice_get}
 use Rattle.std.specs.List.{prefix_len}
 use Rattle.std.specs.Option.{option_map_or}
 use Rattle.std.specs.Str.{IsCharBoundary}
@@ -13,6 +13,10 @@ use Rattle.cls_lexer.specs.Characters.{is_digit, is_name_start, is_name_byte, is
 abbrev pub begins_with : ℕ → List ℕ → Bool
 begins_with c [] = false
 begins_with c (b ∷ bs) = b == c
+
+-- The byte is a token by itself, whatever follows it: one of & * ( ) , $ : = |
+abbrev pub is_sign : ℕ → Bool
+is_sign b = b == 38 || b == 42 || b == 40 || b == 41 || b == 44 || b == 36 || b == 58 || b == 61 || b == 124
 
 -- The sign that the bytes begin with, or any other single character.
 abbrev pub sign_or_bad : ℕ → List ℕ → TokenKind × ℕ

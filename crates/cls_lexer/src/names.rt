@@ -1,4 +1,4 @@
-ghost use Rattle.std.specs.Prelude.{◌≡◌, ℕ, ◌-◌, ◌^◌, ◌<◌, ◌↔◌, List, [], Some, None, length, take, map, Contains, IsTrue, IsNone, IfSome, IfOk, OnOk, OnErr, slice_get, slice_index_or};
+ghost use Rattle.std.specs.Prelude.{◌≡◌, ℕ, ◌-◌, ◌^◌, ◌<◌, ◌↔◌, List, [], ◌∷◌, ◌++◌, Some, None, length, take, map, Contains, IsTrue, IsNone, IfSome, IfOk, OnOk, OnErr, slice_get, slice_index_or};
 ghost use Rattle.std.specs.List.{IsDistinct, position, remove};
 ghost use Rattle.std.specs.Str.{bytes_eq};
 ghost use Rattle.cls_lexer.specs.Names.{number_of, with_text};
@@ -79,8 +79,24 @@ impl Names {
         if let Some(place) = self.place_of(key) {
             return Ok(Name(place));
         }
-        let own = key.into_owned(alloc)?;
+        Ok(self.add(alloc, key, text)?)
+    }
+
+    /// The next number, for a text that isn't held and has the key. Out of line for speed: most names are known.
+    ///
+    /// After an error the table is as before.
+    #[inline(never)]
+    fn add(&mut self, alloc: Global, key: TextKey<&str>, text: &str) -> Result<Name, OutOfMemory>
+        requires room { length self.old < 2 ^ 32 - 1 }
+        requires key { IsKeyOf (λ own. own.now) key text.now }
+        requires absent { ¬ Contains self.old text.now }
+        ensures number { IfOk result (λ name. name.0 ≡ length self.old) }
+        ensures table { OnOk result (self.new ≡ self.old ++ text.now ∷ []) }
+        ensures distinct { IsDistinct bytes_eq self.new }
+        ensures err { OnErr result (self.new ≡ self.old) }
+    {
         let name = Name(self.len());
+        let own = key.into_owned(alloc)?;
         self.keys.reserve(1)?; // So that there is an error only while all is as before.
         self.texts.push(text)?;
         self.keys.insert_full(own)?;
@@ -99,7 +115,8 @@ impl Names {
 
     /// The place of the text that has the key.
     fn place_of(&self, key: TextKey<&str>) -> Option<u32>
-        ensures { (text : List ℕ)
+        ensures distinct { IsDistinct bytes_eq self.now }
+        ensures place { (text : List ℕ)
             → IsKeyOf (λ own. own.now) key.entry text → result ≡ position (bytes_eq text) self.now }
     {
         let place = self.keys.get_index_of(key)?;

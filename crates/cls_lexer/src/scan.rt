@@ -1,9 +1,9 @@
-ghost use Rattle.std.specs.Prelude.{◌≡◌, ◌+◌, ◌<◌, ◌≤◌, ◌^◌, length, map, slice_get, IfOk, OnOk, nat_le, if◌then◌else◌};
+ghost use Rattle.std.specs.Prelude.{◌≡◌, ◌+◌, ◌<◌, ◌≤◌, ◌^◌, ℕ, List, length, map, slice_get, IfOk, IfSome, IsNone, OnOk, false, nat_le, if◌then◌else◌};
 ghost use Rattle.std.specs.Option.{option_map};
 ghost use Rattle.std.specs.List.{prefix_len};
 ghost use Rattle.cls_base.specs.Limits.{max_name_bytes};
 ghost use Rattle.cls_lexer.specs.Characters.{is_digit, is_name_byte, is_continuation};
-ghost use Rattle.cls_lexer.specs.Tokens.{token_at, tokens_of, located, byte_at};
+ghost use Rattle.cls_lexer.specs.Tokens.{is_sign, token_at, tokens_of, located, byte_at};
 ghost use Rattle.cls_lexer.specs.Words.{word_of, words, words_of};
 
 use crate::characters::{is_blank, is_continuation, is_digit, is_name_byte, is_name_start};
@@ -102,11 +102,47 @@ pub fn byte_at(line: &str, tokens: &[Token], place: usize) -> u32
     }
 }
 
-/// The kind and the length of the token that the bytes begin with.
-#[inline]
-#[tactic(auto, using(crate::proofs::TokenSteps::runs), unfolding(crate::specs::Tokens::token_at))]
+/// The kind and the length of the token that the bytes begin with. Signs of one byte are told apart first.
+// Always inlined, with `sign_of`: so one jump tells blanks, signs and other bytes apart.
+#[inline(always)]
 fn token_at(first: u8, rest: &[u8]) -> (TokenKind, usize)
     requires { length rest.now < 2 ^ 32 }
+    ensures value { result ≡ token_at first rest.now }
+    ensures not_empty { 1 ≤ result.1 }
+    ensures within { result.1 ≤ 1 + length rest.now }
+{
+    match sign_of(first) {
+        Some(kind) => (kind, 1),
+        None => other_token_at(first, rest),
+    }
+}
+
+/// The kind of the token that the byte is by itself, whatever follows it, or None if it is no such sign.
+#[inline(always)]
+#[tactic(auto, unfolding(crate::specs::Tokens::token_at))]
+fn sign_of(byte: u8) -> Option<TokenKind>
+    ensures sign { IfSome result (λ kind. (rest : List ℕ) → token_at byte rest ≡ (kind, 1)) }
+    ensures other { IsNone result → is_sign byte ≡ false }
+{
+    match byte {
+        b'&' => Some(TokenKind::And),
+        b'*' => Some(TokenKind::Times),
+        b'(' => Some(TokenKind::Open),
+        b')' => Some(TokenKind::Close),
+        b',' => Some(TokenKind::Comma),
+        b'$' => Some(TokenKind::Dollar),
+        b':' => Some(TokenKind::Colon),
+        b'=' => Some(TokenKind::Equals),
+        b'|' => Some(TokenKind::Bar),
+        _ => None,
+    }
+}
+
+/// The kind and the length of the token that the bytes begin with, where the first is no sign by itself.
+#[tactic(auto, using(crate::proofs::TokenSteps::runs), unfolding(crate::specs::Tokens::token_at))]
+fn other_token_at(first: u8, rest: &[u8]) -> (TokenKind, usize)
+    requires few { length rest.now < 2 ^ 32 }
+    requires other { is_sign first ≡ false }
     ensures value { result ≡ token_at first rest.now }
     ensures not_empty { 1 ≤ result.1 }
     ensures within { result.1 ≤ 1 + length rest.now }
@@ -121,15 +157,6 @@ fn token_at(first: u8, rest: &[u8]) -> (TokenKind, usize)
     match (first, rest.first()) {
         (b'-', Some(b'>')) => (TokenKind::To, 2),
         (b'<', Some(b'=')) => (TokenKind::AtMost, 2),
-        (b'&', _) => (TokenKind::And, 1),
-        (b'*', _) => (TokenKind::Times, 1),
-        (b'(', _) => (TokenKind::Open, 1),
-        (b')', _) => (TokenKind::Close, 1),
-        (b',', _) => (TokenKind::Comma, 1),
-        (b'$', _) => (TokenKind::Dollar, 1),
-        (b':', _) => (TokenKind::Colon, 1),
-        (b'=', _) => (TokenKind::Equals, 1),
-        (b'|', _) => (TokenKind::Bar, 1),
         _ => (TokenKind::Bad, 1 + continuations(rest)),
     }
 }

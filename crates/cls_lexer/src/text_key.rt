@@ -1,6 +1,6 @@
 //! What a text is looked up by.
-ghost use Rattle.std.specs.Prelude.{◌≡◌, ℕ, ◌<◌, List, length, string_bytes, IfOk};
-ghost use Rattle.cls_lexer.specs.TextKeys.{text_number, IsKeyOf};
+ghost use Rattle.std.specs.Prelude.{◌≡◌, ℕ, ◌<◌, ◌≤◌, ◌+◌, List, length, string_bytes, IfOk};
+ghost use Rattle.cls_lexer.specs.TextKeys.{number_with, text_number, IsKeyOf};
 
 use cls_base::OutOfMemory;
 use indexmap::Equivalent;
@@ -67,17 +67,32 @@ impl TextKey<&str> {
     }
 }
 
-/// The number of a short text.
-#[tactic(auto, using(crate::proofs::TextKeys::number_step, crate::proofs::TextKeys::number_room))]
+/// The number of a short text, by halves of 64 bits.
+#[tactic(auto, using(crate::proofs::TextKeys::number_halves))]
 fn number_of_bytes(text: &[u8]) -> u128
     requires { length text.now < 16 }
     ensures { result ≡ text_number text.now }
 {
-    let mut number = 1u128;
-    let mut place = text.len();
+    if text.len() < 8 {
+        return number_with(1, text) as u128;
+    }
+    let low = number_with(0, &text[..8]) as u128;
+    let high = number_with(1, &text[8..]) as u128;
+    high * (1 << 64) + low
+}
+
+/// The number whose digits in base 256, the lowest first, are the bytes and then the last one.
+#[tactic(auto, using(crate::proofs::TextKeys::number_step, crate::proofs::TextKeys::number_room))]
+fn number_with(last: u64, bytes: &[u8]) -> u64
+    requires last { last ≤ 1 }
+    requires few { length bytes.now + last ≤ 8 }
+    ensures { result ≡ number_with last bytes.now }
+{
+    let mut number = last;
+    let mut place = bytes.len();
     while place > 0 {
         place -= 1;
-        number = number * 256 + text[place] as u128;
+        number = number * 256 + bytes[place] as u64;
     }
     number
 }

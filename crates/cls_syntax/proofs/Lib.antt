@@ -34,6 +34,7 @@ pub mod TypeRuns
 pub mod TypeShapeReads
 pub mod TypeSpans
 pub mod TypeStates
+pub mod WholeReadings
 pub mod WordFronts
 pub mod OmegaTexts
 pub mod Openings

@@ -18,11 +18,11 @@ use Rattle.cls_syntax.proofs.GrowingTables.{comes_in, number_stays, with_more}
 use Rattle.cls_syntax.proofs.SchemaImages.{Says, kind_says}
 
 -- whether a `$` stands directly before the next token
-abbrev is_behind : State → Bool
+abbrev pub is_behind : State → Bool
 is_behind (after_dollar o l) = true
 is_behind _ = false
 
-abbrev IsNext : Option State → Bool → Type 0
+abbrev pub IsNext : Option State → Bool → Type 0
 IsNext None b = Unit {0}
 IsNext (Some s) b = is_behind s ≡ b
 
@@ -46,7 +46,7 @@ module _ (constructor : List ℕ → ℕ) (variable : List ℕ → Option OpenTy
   atom_next o l None = tt
   atom_next o (level ss m p) (Some t) = refl
 
-  step_next : (s : State) (w : Word) (text : List ℕ) → IsNext (step constructor variable s (sort_of w) text) (is_dollar w)
+  pub step_next : (s : State) (w : Word) (text : List ℕ) → IsNext (step constructor variable s (sort_of w) text) (is_dollar w)
   step_next (operand o (level ss m p)) word.omega text = refl
   step_next (operand o l) (name x) text = refl
   step_next (operand o l) (number x) text = tt

@@ -4,7 +4,8 @@
 //!   [`sign_at`], [`type_at`], [`types_at`], [`term_at`] and [`end_at`]. Each answers what stands there and what follows, or the
 //!   [`Stop`]: the first token that can't follow.
 //! - What spells a type is recognised with no memory, as [`SpelledType`]; [`SpelledType::schema`] and [`SpelledType::ty`] build
-//!   it, with a stack of their own. [`closed_type`] builds over tokens that are known to spell a type.
+//!   it, with a stack of their own. [`read_closed_type`] builds over tokens that may spell a type, [`closed_type`] over tokens
+//!   that are known to spell one.
 //! - [`read_schema`] and [`read_type`] read a text that is one type, and [`print_type`] prints a type, [`write_type`] at the
 //!   end of a text.
 //! - [`laws`] holds what is true of every form of line and of every type.
@@ -44,5 +45,5 @@ pub use spelled_type::SpelledType;
 pub use spelled_types::SpelledTypes;
 pub use stop::Stop;
 pub use syntax_fault::SyntaxFault;
-pub use type_builder::closed_type;
+pub use type_builder::{closed_type, read_closed_type};
 pub use word_list::{names_at, numbers_at};

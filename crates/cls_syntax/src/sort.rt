@@ -64,7 +64,15 @@ pub(crate) fn sort_of(token: &Token) -> Sort
 pub(crate) fn is_reserved(text: &str) -> bool
     ensures { result ≡ bytes_eq text.now reserved_name }
 {
-    text.len() == 5 && text == "omega"
+    text.len() == 5 && is_omega(text)
+}
+
+/// The same by a comparison. Out of line for speed: few names have five bytes.
+#[inline(never)]
+fn is_omega(text: &str) -> bool
+    ensures { result ≡ bytes_eq text.now reserved_name }
+{
+    text == "omega"
 }
 
 /// Whether the token is a name that isn't reserved.

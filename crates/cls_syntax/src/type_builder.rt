@@ -1,5 +1,5 @@
-//! Builds a type without variables over tokens that are known to spell one.
-ghost use Rattle.std.specs.Prelude.{◌≡◌, length, take, IsTrue, IfOk, OnOk};
+//! Builds a type without variables over tokens that spell one.
+ghost use Rattle.std.specs.Prelude.{◌≡◌, length, take, IsTrue, IsSome, IfOk, OnOk, IfSome, OnSome};
 ghost use Rattle.cls_base.specs.Ty.{type_of};
 ghost use Rattle.cls_lexer.specs.Names.{number_of};
 ghost use Rattle.cls_lexer.specs.Words.{words};
@@ -13,6 +13,28 @@ use crate::schema_builder::build;
 use cls_base::{OutOfMemory, Ty};
 use cls_lexer::{Names, Token};
 use std::alloc::Global;
+
+/// The type without variables that all the tokens spell, or None if they spell none. Its names are numbered in the order
+/// of their tokens. Where there is no type, or memory runs out, the table may have grown.
+pub fn read_closed_type(
+    alloc: Global,
+    constructors: &mut Names,
+    tokens: &[Token],
+) -> Result<Option<Ty>, OutOfMemory>
+    ensures whole { IfOk result (λ read. OnSome read (IsTrue (is_whole (type_front (words tokens.now))))) }
+    ensures closed { IfOk result (λ read. OnSome read (HasNoDollar (words tokens.now))) }
+    ensures some { IfOk result (λ read. IsTrue (is_whole (type_front (words tokens.now)))
+        → HasNoDollar (words tokens.now) → IsSome read) }
+    ensures ty { IfOk result (λ read. IfSome read (λ ty. Spells (number_of constructors.new)
+        (type_in (words tokens.now)) (type_of ty))) }
+    ensures held { IfOk result (λ read. IfSome read (λ ty. HasNamesBelow (length constructors.new) (type_of ty))) }
+    ensures constructors { IfOk result (λ read. OnSome read
+        (constructors.new ≡ with_constructors constructors.old (words tokens.now))) }
+    ensures kept { take (length constructors.old) constructors.new ≡ constructors.old }
+{
+    let mut variables = Names::new(alloc);
+    Ok(build(alloc, constructors, &mut variables, tokens)?)
+}
 
 /// The type that the tokens spell, which has no variable. Its names are numbered in the order of their tokens. The only
 /// error is out of memory, after which the table may have grown.
@@ -28,8 +50,7 @@ pub fn closed_type(
     ensures constructors { OnOk result (constructors.new ≡ with_constructors constructors.old (words tokens.now)) }
     ensures kept { take (length constructors.old) constructors.new ≡ constructors.old }
 {
-    let mut variables = Names::new(alloc);
-    match build(alloc, constructors, &mut variables, tokens)? {
+    match read_closed_type(alloc, constructors, tokens)? {
         Some(ty) => Ok(ty),
         None => unreachable!(),
     }

@@ -11,14 +11,14 @@ overflow_cast-result c =
     let within = c.in_ok-place.ensures.within in
     omega (arith, long, few, within)
 
-pub returns-in_err-place : goal.returns-in_err-place
-returns-in_err-place c text is =
+pub returns-in_err-place-clause-place : goal.returns-in_err-place-clause-place
+returns-in_err-place-clause-place c text is =
     c.from_residual.ensures ∙ (c.in_err-place.ensures.index
     ∙ (position_keys _ text (key_tells (λ own. own.now) c.args.key text is) c.self.inside.keys.keys c.self.inside.texts c.self.invariant.1
     ∙ ap (position (bytes_eq text)) c.self.view_is))
 
-pub returns : goal.returns
-returns c text is =
+pub returns-clause-place : goal.returns-clause-place
+returns-clause-place c text is =
     c.in_ok-place.ensures.index
     ∙ (position_keys _ text (key_tells (λ own. own.now) c.args.key text is) c.self.inside.keys.keys c.self.inside.texts c.self.invariant.1
     ∙ ap (position (bytes_eq text)) c.self.view_is)
