@@ -39,6 +39,10 @@ pub trait Taxa {
     fn class(&self, name: Name) -> u64
         ensures is { result ≡ class self.now name.0 };
 
+    /// Whether no other name is below the name. It may be no where that is not known.
+    fn stands_alone(&self, name: Name) -> bool
+        ensures alone { IsTrue result → (a : ℕ) → IsTrue (is_below self.now a name.0) → a ≡ name.0 };
+
     ghost reflexive: { (t : Self) (a : ℕ) → IsTrue (is_below t a a) };
 
     ghost transitive: { (t : Self) (a b c : ℕ)
@@ -75,6 +79,10 @@ impl Taxa for Flat {
 
     fn variance(&self, _name: Name) -> Variance {
         Variance::Co
+    }
+
+    fn stands_alone(&self, _name: Name) -> bool {
+        true
     }
 
     ghost reflexive = { λ t a. flat_reflexive a };
