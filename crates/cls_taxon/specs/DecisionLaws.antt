@@ -260,6 +260,10 @@ is_below-one_class d a b p = elim (answer d a b p) [
   | inr (n, e) ↦ ap (class_by d.pairs) e
 ]
 
+-- a name below another one is that one, or a chain leads to it
+pub same_or_Chain : (d : Declared) (a b : ℕ) → IsTrue (is_below d a b) → (a ≡ b) ⊎ Chain d.pairs a b
+same_or_Chain d a b h = elim (answer d a b h) [ inl (o, c) ↦ inr c | inr (n, e) ↦ inl e ]
+
 -- for an order, below is what a chain leads to
 pub lookups_are_chains : LookupsAreChains
 lookups_are_chains d o a b = (

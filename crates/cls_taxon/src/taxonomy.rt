@@ -151,6 +151,10 @@ impl Taxa for Taxonomy {
         }
     }
 
+    fn stands_alone(&self, name: Name) -> bool {
+        self.places.place(name.0) >= self.places.len()
+    }
+
     ghost reflexive = { is_below-reflexive };
 
     ghost transitive = { is_below-transitive };
