@@ -7,7 +7,7 @@
 //! compared with it by normal forms: a comparison both ways would double the work at each depth.
 ghost use Rattle.std.specs.Prelude.{◌≡◌, ◌↔◌, [], IfOk, OnOk, IsTrue};
 ghost use Rattle.cls_base.specs.Types as types;
-ghost use Rattle.cls_base.specs.Types.{constructor, nodes};
+ghost use Rattle.cls_base.specs.Types.{constructor, product, arrow, meet, nodes};
 ghost use Rattle.cls_base.specs.Taxonomies.{covariant};
 ghost use Rattle.cls_base.specs.Ty.{type_of};
 ghost use Rattle.cls_base.specs.Taxa.{Below};
@@ -88,29 +88,14 @@ pub(crate) fn are_below<T: Taxa>(
     match upper {
         Ty::Omega => Ok(true),
         Ty::Bare(name) => Ok(are_below_bare(alloc, taxa, lowers, *name)?),
-        Ty::Con(name, argument) => match taxa.variance(*name) {
-            Variance::Co => {
-                if is_omega(argument) {
-                    return Ok(have_name(taxa, lowers, *name));
-                }
-                let step = Step::Name(*name);
-                Ok(parts_are_below(alloc, taxa, lowers, step, argument)?)
-            }
-            Variance::Contra | Variance::Inv => {
-                Ok(has_name_below(alloc, taxa, lowers, *name, argument)?)
-            }
-        },
+        Ty::Con(name, argument) => Ok(are_below_over(alloc, taxa, lowers, *name, argument)?),
         Ty::Prod(sides) => {
             let (first, second) = &**sides;
-            if !parts_are_below(alloc, taxa, lowers, Step::Left, first)? {
-                return Ok(false);
-            }
-            Ok(parts_are_below(alloc, taxa, lowers, Step::Right, second)?)
+            Ok(are_below_product(alloc, taxa, lowers, first, second)?)
         }
         Ty::Arrow(sides) => {
             let (source, target) = &**sides;
-            let step = Step::Source(source);
-            Ok(parts_are_below(alloc, taxa, lowers, step, target)?)
+            Ok(are_below_arrow(alloc, taxa, lowers, source, target)?)
         }
         Ty::Meet(sides) => {
             let (first, second) = &**sides;
@@ -120,6 +105,76 @@ pub(crate) fn are_below<T: Taxa>(
             Ok(are_below(alloc, taxa, lowers, first)?)
         }
     }
+}
+
+/// Whether the intersection of the types is below the name over the argument. Out of line for speed, as are the next two: so
+/// little room is set up for bare names and intersections.
+#[inline(never)]
+#[cycle(below)]
+fn are_below_over<T: Taxa>(
+    alloc: Global,
+    taxa: &T,
+    lowers: &[&Ty],
+    name: Name,
+    argument: &Ty,
+) -> Result<bool, OutOfMemory>
+    ensures { IfOk result (λ answer. IsTrue answer
+        ↔ PathsLe (Below (T.is_below taxa.now)) (T.variance_of_name taxa.now)
+        (paths_of_all (T.variance_of_name taxa.now) lowers.now)
+        (paths_of (T.variance_of_name taxa.now) (constructor name.0 (type_of argument.now)))) }
+{
+    match taxa.variance(name) {
+        Variance::Co => {
+            if is_omega(argument) {
+                return Ok(have_name(taxa, lowers, name));
+            }
+            let step = Step::Name(name);
+            Ok(parts_are_below(alloc, taxa, lowers, step, argument)?)
+        }
+        Variance::Contra | Variance::Inv => {
+            Ok(has_name_below(alloc, taxa, lowers, name, argument)?)
+        }
+    }
+}
+
+/// Whether the intersection of the types is below the product.
+#[inline(never)]
+#[cycle(below)]
+fn are_below_product<T: Taxa>(
+    alloc: Global,
+    taxa: &T,
+    lowers: &[&Ty],
+    first: &Ty,
+    second: &Ty,
+) -> Result<bool, OutOfMemory>
+    ensures { IfOk result (λ answer. IsTrue answer
+        ↔ PathsLe (Below (T.is_below taxa.now)) (T.variance_of_name taxa.now)
+        (paths_of_all (T.variance_of_name taxa.now) lowers.now)
+        (paths_of (T.variance_of_name taxa.now) (product (type_of first.now) (type_of second.now)))) }
+{
+    if !parts_are_below(alloc, taxa, lowers, Step::Left, first)? {
+        return Ok(false);
+    }
+    Ok(parts_are_below(alloc, taxa, lowers, Step::Right, second)?)
+}
+
+/// Whether the intersection of the types is below the arrow.
+#[inline(never)]
+#[cycle(below)]
+fn are_below_arrow<T: Taxa>(
+    alloc: Global,
+    taxa: &T,
+    lowers: &[&Ty],
+    source: &Ty,
+    target: &Ty,
+) -> Result<bool, OutOfMemory>
+    ensures { IfOk result (λ answer. IsTrue answer
+        ↔ PathsLe (Below (T.is_below taxa.now)) (T.variance_of_name taxa.now)
+        (paths_of_all (T.variance_of_name taxa.now) lowers.now)
+        (paths_of (T.variance_of_name taxa.now) (arrow (type_of source.now) (type_of target.now)))) }
+{
+    let step = Step::Source(source);
+    Ok(parts_are_below(alloc, taxa, lowers, step, target)?)
 }
 
 /// Whether the intersection of the types is below the bare name.
@@ -288,14 +343,20 @@ pub(crate) fn is_omega(ty: &Ty) -> bool
 }
 
 /// Whether one of the types has a name that is below the covariant name. The name itself is looked for first, since names
-/// are compared sooner than looked up.
+/// are compared sooner than looked up. For one that stands alone this is all.
 fn have_name<T: Taxa>(taxa: &T, lowers: &[&Ty], name: Name) -> bool
     requires { T.variance_of_name taxa.now name.0 ≡ covariant }
     ensures { IsTrue result
         ↔ SomeLe (Below (T.is_below taxa.now)) (T.variance_of_name taxa.now)
         (paths_of_all (T.variance_of_name taxa.now) lowers.now) (atom name.0) }
 {
-    some_has_name(&Flat, lowers, name) || some_has_name(taxa, lowers, name)
+    if some_has_name(&Flat, lowers, name) {
+        return true;
+    }
+    if taxa.stands_alone(name) {
+        return false;
+    }
+    some_has_name(taxa, lowers, name)
 }
 
 /// Whether one of the types has a name that is below the covariant name. It ends with the first one.
@@ -313,8 +374,8 @@ fn some_has_name<T: Taxa>(taxa: &T, lowers: &[&Ty], name: Name) -> bool
     false
 }
 
-/// Whether the type has a name that is below the covariant name. Of an intersection the second part is asked first, as in
-/// [`are_below`].
+/// Whether the type has a name that is below the covariant name.
+#[cycle(names)]
 fn has_name<T: Taxa>(taxa: &T, lower: &Ty, name: Name) -> bool
     requires { T.variance_of_name taxa.now name.0 ≡ covariant }
     ensures { IsTrue result
@@ -326,10 +387,23 @@ fn has_name<T: Taxa>(taxa: &T, lower: &Ty, name: Name) -> bool
         Ty::Con(other, _) => taxa.below(*other, name),
         Ty::Meet(sides) => {
             let (first, second) = &**sides;
-            has_name(taxa, second, name) || has_name(taxa, first, name)
+            one_has_name(taxa, first, second, name)
         }
         Ty::Omega | Ty::Prod(..) | Ty::Arrow(..) => false,
     }
+}
+
+/// Whether one of the two types has a name that is below the covariant name. The second one is asked first, as in
+/// [`are_below`]. Out of line for speed: most types are names.
+#[inline(never)]
+#[cycle(names)]
+fn one_has_name<T: Taxa>(taxa: &T, first: &Ty, second: &Ty, name: Name) -> bool
+    requires { T.variance_of_name taxa.now name.0 ≡ covariant }
+    ensures { IsTrue result
+        ↔ SomeLe (Below (T.is_below taxa.now)) (T.variance_of_name taxa.now)
+        (paths_of (T.variance_of_name taxa.now) (meet (type_of first.now) (type_of second.now))) (atom name.0) }
+{
+    has_name(taxa, second, name) || has_name(taxa, first, name)
 }
 
 /// Whether one of the types has a name over a type that is below the name over the argument. The name is contravariant or

@@ -25,54 +25,61 @@ pub are_below-returns-in-Omega : goal.are_below-returns-in-Omega
 are_below-returns-in-Omega g t c =
     rw c.in-Omega.is ((λ h. empty), (λ h. refl))
 
-pub are_below-returns-in_ok-parts_are_below-in-Co : goal.are_below-returns-in_ok-parts_are_below-in-Co
-are_below-returns-in_ok-parts_are_below-in-Co g t c =
-    let b = Below (g.T.Taxa.is_below c.args.taxa.now) in
-    let v = g.T.Taxa.variance_of_name c.args.taxa.now in
-    let k : covariant ≡ v c.in-Con.name.0 = ap variance_of (sym c.in-Co.is) ∙ c.variance.ensures.is in
-    rw (c.in-Con.is, ← k, ← c.deref-in-Co.ensures) c.in_ok-parts_are_below-in-Co.ensures
+pub are_below-returns-in_ok-are_below_over-in-Con : goal.are_below-returns-in_ok-are_below_over-in-Con
+are_below-returns-in_ok-are_below_over-in-Con g t c =
+    rw (c.in-Con.is, ← c.deref.ensures) c.in_ok-are_below_over-in-Con.ensures
 
-pub are_below-returns-in_ok-has_name_below-in-Contra : goal.are_below-returns-in_ok-has_name_below-in-Contra
-are_below-returns-in_ok-has_name_below-in-Contra g t c =
+pub are_below-returns-in_ok-are_below_product-in-Prod : goal.are_below-returns-in_ok-are_below_product-in-Prod
+are_below-returns-in_ok-are_below_product-in-Prod g t c =
+    rw (c.in-Prod.is, ← c.deref-in-Prod.ensures) c.in_ok-are_below_product-in-Prod.ensures
+
+pub are_below-returns-in_ok-are_below_arrow-in-Arrow : goal.are_below-returns-in_ok-are_below_arrow-in-Arrow
+are_below-returns-in_ok-are_below_arrow-in-Arrow g t c =
+    rw (c.in-Arrow.is, ← c.deref-in-Arrow.ensures) c.in_ok-are_below_arrow-in-Arrow.ensures
+
+pub are_below_over-returns-in_ok-parts_are_below-in-Co : goal.are_below_over-returns-in_ok-parts_are_below-in-Co
+are_below_over-returns-in_ok-parts_are_below-in-Co g t c =
+    let v = g.T.Taxa.variance_of_name c.args.taxa.now in
+    let k : covariant ≡ v c.args.name.0 = ap variance_of (sym c.in-Co.is) ∙ c.variance.ensures.is in
+    rw (← k) c.in_ok-parts_are_below-in-Co.ensures
+
+pub are_below_over-returns-in_ok-has_name_below-in-Contra : goal.are_below_over-returns-in_ok-has_name_below-in-Contra
+are_below_over-returns-in_ok-has_name_below-in-Contra g t c =
     let b = Below (g.T.Taxa.is_below c.args.taxa.now) in
     let v = g.T.Taxa.variance_of_name c.args.taxa.now in
     let x = paths_of_all v c.args.lowers.now in
-    let w : IsSealing (v c.in-Con.name.0) = elim c.in-Contra.is [ inl e ↦ inl (sym c.variance.ensures.is ∙ ap variance_of e) | inr e ↦ inr (sym c.variance.ensures.is ∙ ap variance_of e) ] in
+    let w : IsSealing (v c.args.name.0) = elim c.in-Contra.is [ inl e ↦ inl (sym c.variance.ensures.is ∙ ap variance_of e) | inr e ↦ inr (sym c.variance.ensures.is ∙ ap variance_of e) ] in
     let e = c.in_ok-has_name_below-in-Contra.ensures in
-    let k = sealed_upper b v (v c.in-Con.name.0) w x c.in-Con.name.0 (paths_of v (type_of c.deref-in-Contra.result.now)) in
-    rw (c.in-Con.is, ← c.deref-in-Contra.ensures) ((λ h. k.0 (e.0 h)), (λ l. e.1 (k.1 l)))
+    let k = sealed_upper b v (v c.args.name.0) w x c.args.name.0 (paths_of v (type_of c.args.argument.now)) in
+    ((λ h. k.0 (e.0 h)), (λ l. e.1 (k.1 l)))
+
+pub are_below_product-returns-then-not-branch : goal.are_below_product-returns-then-not-branch
+are_below_product-returns-then-not-branch g t c =
+    let b = Below (g.T.Taxa.is_below c.args.taxa.now) in
+    let v = g.T.Taxa.variance_of_name c.args.taxa.now in
+    let x = paths_of_all v c.args.lowers.now in
+    let e = c.in_ok-parts_are_below.ensures in
+    let k = sides_decide b v x (paths_of v (type_of c.args.first.now)) (paths_of v (type_of c.args.second.now)) in
+    no (λ l. false≢true (sym c.if-not-branch.true ∙ e.1 (k.1 l).0))
+
+pub are_below_product-returns : goal.are_below_product-returns
+are_below_product-returns g t c =
+    let b = Below (g.T.Taxa.is_below c.args.taxa.now) in
+    let v = g.T.Taxa.variance_of_name c.args.taxa.now in
+    let x = paths_of_all v c.args.lowers.now in
+    let e = c.in_ok-parts_are_below.ensures in
+    let f = c.in_ok-parts_are_below-2.ensures in
+    let k = sides_decide b v x (paths_of v (type_of c.args.first.now)) (paths_of v (type_of c.args.second.now)) in
+    ((λ h. k.0 (e.0 c.if-not-branch.false, f.0 h)), (λ l. f.1 (k.1 l).1))
 
 pub are_below-returns-then-not-branch : goal.are_below-returns-then-not-branch
 are_below-returns-then-not-branch g t c =
     let b = Below (g.T.Taxa.is_below c.args.taxa.now) in
     let v = g.T.Taxa.variance_of_name c.args.taxa.now in
     let x = paths_of_all v c.args.lowers.now in
-    let e = c.in_ok-parts_are_below-in-Prod.ensures in
-    let k = sides_decide b v x (paths_of v (type_of c.deref-in-Prod.result.now.0)) (paths_of v (type_of c.deref-in-Prod.result.now.1)) in
-    rw (c.in-Prod.is, ← c.deref-in-Prod.ensures) (no (λ l. false≢true (sym c.if-not-branch.true ∙ e.1 (k.1 l).0)))
-
-pub are_below-returns-in_ok-parts_are_below-in-Prod-2 : goal.are_below-returns-in_ok-parts_are_below-in-Prod-2
-are_below-returns-in_ok-parts_are_below-in-Prod-2 g t c =
-    let b = Below (g.T.Taxa.is_below c.args.taxa.now) in
-    let v = g.T.Taxa.variance_of_name c.args.taxa.now in
-    let x = paths_of_all v c.args.lowers.now in
-    let e = c.in_ok-parts_are_below-in-Prod.ensures in
-    let f = c.in_ok-parts_are_below-in-Prod-2.ensures in
-    let k = sides_decide b v x (paths_of v (type_of c.deref-in-Prod.result.now.0)) (paths_of v (type_of c.deref-in-Prod.result.now.1)) in
-    rw (c.in-Prod.is, ← c.deref-in-Prod.ensures) ((λ h. k.0 (e.0 c.if-not-branch.false, f.0 h)), (λ l. f.1 (k.1 l).1))
-
-pub are_below-returns-in_ok-parts_are_below-in-Arrow : goal.are_below-returns-in_ok-parts_are_below-in-Arrow
-are_below-returns-in_ok-parts_are_below-in-Arrow g t c =
-    rw (c.in-Arrow.is, ← c.deref-in-Arrow.ensures) c.in_ok-parts_are_below-in-Arrow.ensures
-
-pub are_below-returns-then-not-branch-2 : goal.are_below-returns-then-not-branch-2
-are_below-returns-then-not-branch-2 g t c =
-    let b = Below (g.T.Taxa.is_below c.args.taxa.now) in
-    let v = g.T.Taxa.variance_of_name c.args.taxa.now in
-    let x = paths_of_all v c.args.lowers.now in
     let e = c.in_ok-are_below-in-Meet.ensures in
     let k = le_append b v x (paths_of v (type_of c.deref-in-Meet.result.now.0)) (paths_of v (type_of c.deref-in-Meet.result.now.1)) in
-    rw (c.in-Meet.is, ← c.deref-in-Meet.ensures) (no (λ l. false≢true (sym c.if-not-branch-2.true ∙ e.1 (k.0 l).1)))
+    rw (c.in-Meet.is, ← c.deref-in-Meet.ensures) (no (λ l. false≢true (sym c.if-not-branch.true ∙ e.1 (k.0 l).1)))
 
 pub are_below-returns-in_ok-are_below-in-Meet-2 : goal.are_below-returns-in_ok-are_below-in-Meet-2
 are_below-returns-in_ok-are_below-in-Meet-2 g t c =
@@ -82,18 +89,18 @@ are_below-returns-in_ok-are_below-in-Meet-2 g t c =
     let e = c.in_ok-are_below-in-Meet.ensures in
     let f = c.in_ok-are_below-in-Meet-2.ensures in
     let k = le_append b v x (paths_of v (type_of c.deref-in-Meet.result.now.0)) (paths_of v (type_of c.deref-in-Meet.result.now.1)) in
-    rw (c.in-Meet.is, ← c.deref-in-Meet.ensures) ((λ h. k.1 (f.0 h, e.0 c.if-not-branch-2.false)), (λ l. f.1 (k.0 l).0))
+    rw (c.in-Meet.is, ← c.deref-in-Meet.ensures) ((λ h. k.1 (f.0 h, e.0 c.if-not-branch.false)), (λ l. f.1 (k.0 l).0))
 
-pub are_below-returns-then-is_omega : goal.are_below-returns-then-is_omega
-are_below-returns-then-is_omega g t c =
+pub are_below_over-returns-then-is_omega : goal.are_below_over-returns-then-is_omega
+are_below_over-returns-then-is_omega g t c =
     let b = Below (g.T.Taxa.is_below c.args.taxa.now) in
     let v = g.T.Taxa.variance_of_name c.args.taxa.now in
     let x = paths_of_all v c.args.lowers.now in
-    let k : covariant ≡ v c.in-Con.name.0 = ap variance_of (sym c.in-Co.is) ∙ c.variance.ensures.is in
-    let s = type_of c.deref.result.now in
-    let a = bare_upper b v x c.in-Con.name.0 (paths_of v s) (ap (paths_of v) (c.is_omega.ensures.0 c.if-is_omega.true)) in
+    let k : covariant ≡ v c.args.name.0 = ap variance_of (sym c.in-Co.is) ∙ c.variance.ensures.is in
+    let s = type_of c.args.argument.now in
+    let a = bare_upper b v x c.args.name.0 (paths_of v s) (ap (paths_of v) (c.is_omega.ensures.0 c.if-is_omega.true)) in
     let e = c.have_name.ensures in
-    rw (c.in-Con.is, ← k, ← c.deref.ensures) ((λ h. a.0 (e.0 h)), (λ l. e.1 (a.1 l)))
+    rw (← k) ((λ h. a.0 (e.0 h)), (λ l. e.1 (a.1 l)))
 
 pub are_below-returns-in_ok-are_below_bare-in-Bare : goal.are_below-returns-in_ok-are_below_bare-in-Bare
 are_below-returns-in_ok-are_below_bare-in-Bare g t c =

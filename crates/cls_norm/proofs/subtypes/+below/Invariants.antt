@@ -8,25 +8,34 @@ use Rattle.cls_norm.specs.Subtypes.{Adds, paths_of_all, nodes_of_all, nodes_of_s
 use Rattle.cls_norm.proofs.subtypes.+below.Given as goal
 
 abbrev pub decreases-are_below : goal.decreases-are_below
-decreases-are_below g l = 2 * (nodes_of_all l.lowers.now + nodes (type_of l.upper.now))
+decreases-are_below g l = 4 * (nodes_of_all l.lowers.now + nodes (type_of l.upper.now))
+
+abbrev pub decreases-are_below_over : goal.decreases-are_below_over
+decreases-are_below_over g l = 4 * (nodes_of_all l.lowers.now + nodes (type_of l.argument.now)) + 2
+
+abbrev pub decreases-are_below_product : goal.decreases-are_below_product
+decreases-are_below_product g l = 4 * (nodes_of_all l.lowers.now + nodes (type_of l.first.now) + nodes (type_of l.second.now)) + 2
+
+abbrev pub decreases-are_below_arrow : goal.decreases-are_below_arrow
+decreases-are_below_arrow g l = 4 * (nodes_of_all l.lowers.now + nodes (type_of l.source.now) + nodes (type_of l.target.now)) + 2
 
 abbrev pub decreases-are_below_bare : goal.decreases-are_below_bare
-decreases-are_below_bare g l = 2 * (nodes_of_all l.lowers.now + 1) + 1
+decreases-are_below_bare g l = 4 * (nodes_of_all l.lowers.now + 1) + 3
 
 abbrev pub decreases-parts_are_below : goal.decreases-parts_are_below
-decreases-parts_are_below g l = 2 * (nodes_of_all l.lowers.now + nodes_of_step l.step + nodes (type_of l.upper.now)) + 1
+decreases-parts_are_below g l = 4 * (nodes_of_all l.lowers.now + nodes_of_step l.step + nodes (type_of l.upper.now)) + 1
 
 abbrev pub decreases-parts_behind : goal.decreases-parts_behind
-decreases-parts_behind g l = 2 * (nodes_of_all l.lowers.now + nodes_of_step l.step)
+decreases-parts_behind g l = 4 * (nodes_of_all l.lowers.now + nodes_of_step l.step)
 
 abbrev pub decreases-put_parts : goal.decreases-put_parts
-decreases-put_parts g l = 2 * (nodes (type_of l.lower.now) + nodes_of_step l.step) + 1
+decreases-put_parts g l = 4 * (nodes (type_of l.lower.now) + nodes_of_step l.step) + 3
 
 abbrev pub decreases-has_name_below : goal.decreases-has_name_below
-decreases-has_name_below g l = 2 * (nodes_of_all l.lowers.now + nodes (type_of l.argument.now))
+decreases-has_name_below g l = 4 * (nodes_of_all l.lowers.now + nodes (type_of l.argument.now))
 
 abbrev pub decreases-is_name_below : goal.decreases-is_name_below
-decreases-is_name_below g l = 2 * (nodes (type_of l.lower.now) + nodes (type_of l.argument.now)) + 1
+decreases-is_name_below g l = 4 * (nodes (type_of l.lower.now) + nodes (type_of l.argument.now)) + 3
 
 -- if one of the types has the name over a type that is below, then one of those that are left
 abbrev pub invariant-has_name_below-loop-lower : goal.invariant-has_name_below-loop-lower
