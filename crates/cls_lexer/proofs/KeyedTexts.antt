@@ -13,7 +13,7 @@ use Rattle.indexmap.specs.IndexSet.{insert_key}
 use Rattle.indexmap.proofs.SetLemmas.{AllZip-push}
 use Rattle.cls_lexer.specs.Names.{with_text}
 use Rattle.std.proofs.lemmas.Slice.Zip.{AllZip-long}
-use Rattle.cls_lexer.specs.TextKeys.{text_number, IsKeyOf, AreKeysOf, keys_equal}
+use Rattle.cls_lexer.specs.TextKeys.{text_number, IsKeyOf, AreKeysOf, keys_equal, short_equal}
 use Rattle.cls_lexer.specs.declared.text_key.TextKey.{TextKey}
 use Rattle.cls_lexer.specs.declared.text_key.TextKey.TheVariants.{Short, Long}
 use Rattle.cls_lexer.proofs.TextKeys.{number_tells}
@@ -38,6 +38,11 @@ module _ {A : Type 0} where
       (λ e. absurd (true≢false (sym e)), λ e. let long = ap length e in let l = h.0 in let m = k.0 in absurd (omega (arith, long, l, m)))
       (bytes_eq-Decides text other)
   key_tells bytes (Long x) text h (Long y) other k = ap (λ (t : List ℕ). bytes_eq t (string_bytes y)) h.1 ∙ ap (bytes_eq text) k.1
+
+  -- and so does the number of a short text
+  pub short_tells : (a : ℕ) (text : List ℕ) → IsKeyOf {T = List ℕ} (λ own. own) (Short a) text → Tells (short_equal a) text
+  short_tells a text h (Short b) other k = key_tells (λ (own : List ℕ). own) (Short a) text h (Short b) other k
+  short_tells a text h (Long y) other k = key_tells (λ (own : List ℕ). own) (Short a) text h (Long y) other k
 
   -- the derived equality of keys
   pub record IsEquality (eq : TextKey (String A) → TextKey (String A) → Bool) : Type 0 where

@@ -32,6 +32,11 @@ keys_equal equal (Short a) (Long y) = false
 keys_equal equal (Long x) (Short b) = false
 keys_equal equal (Long x) (Long y) = equal x y
 
+-- The key is a number, and this one.
+abbrev pub short_equal : {U : Type 0} → ℕ → TextKey U → Bool
+short_equal a (Short b) = a == b
+short_equal a (Long y) = false
+
 -- The keys are the texts', in the same order.
 abbrev pub AreKeysOf : {A : Type 0} → List (TextKey (String A)) → List (List ℕ) → Type 0
 AreKeysOf keys texts = AllZip (IsKeyOf string_bytes) keys texts

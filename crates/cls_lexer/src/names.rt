@@ -3,8 +3,9 @@ ghost use Rattle.std.specs.List.{IsDistinct, position, remove};
 ghost use Rattle.std.specs.Str.{bytes_eq};
 ghost use Rattle.cls_lexer.specs.Names.{number_of, with_text};
 ghost use Rattle.cls_lexer.specs.TextKeys.{IsKeyOf};
+ghost use Rattle.cls_lexer.specs.declared.text_key.TextKey.TheVariants.{Short};
 
-use crate::text_key::{TextKey, key_of};
+use crate::text_key::{ShortKey, TextKey, key_of};
 use crate::texts::Texts;
 use cls_base::{Name, OutOfMemory};
 use indexmap::IndexSet;
@@ -115,6 +116,29 @@ impl Names {
 
     /// The place of the text that has the key.
     fn place_of(&self, key: TextKey<&str>) -> Option<u32>
+        ensures distinct { IsDistinct bytes_eq self.now }
+        ensures place { (text : List ℕ)
+            → IsKeyOf (λ own. own.now) key.entry text → result ≡ position (bytes_eq text) self.now }
+    {
+        match key {
+            TextKey::Short(number) => self.place_of_short(number),
+            TextKey::Long(_) => self.place_of_long(key),
+        }
+    }
+
+    /// The place of the short text that has the number.
+    fn place_of_short(&self, number: u128) -> Option<u32>
+        ensures distinct { IsDistinct bytes_eq self.now }
+        ensures place { (text : List ℕ)
+            → IsKeyOf {T = List ℕ} (λ own. own) (Short number) text → result ≡ position (bytes_eq text) self.now }
+    {
+        let place = self.keys.get_index_of(ShortKey(number))?;
+        Some(place as u32)
+    }
+
+    /// The place of the text that has the key. Out of line for speed: few texts are long.
+    #[inline(never)]
+    fn place_of_long(&self, key: TextKey<&str>) -> Option<u32>
         ensures distinct { IsDistinct bytes_eq self.now }
         ensures place { (text : List ℕ)
             → IsKeyOf (λ own. own.now) key.entry text → result ≡ position (bytes_eq text) self.now }

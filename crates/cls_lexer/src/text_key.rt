@@ -54,6 +54,41 @@ impl<'a> Equivalent<TextKey<String>> for TextKey<&'a str> {
     }
 }
 
+/// The number of a short text as a key of its own, so that the search by it is compiled for numbers alone.
+#[derive(Clone, Copy, PartialEq, Eq)]
+pub(crate) struct ShortKey(pub(crate) u128);
+
+impl Hash for ShortKey {
+    ghost use Rattle.std.specs.Hash as fed;
+    ghost use Rattle.std.proofs.Common.{rules};
+
+    ghost hash_input = { λ k. fed.u128 k.0 };
+
+    ghost respects_eq = { Prim.search rules };
+
+    fn hash<H: Hasher>(&self, state: &mut H) {
+        self.0.hash(state);
+    }
+}
+
+impl Equivalent<TextKey<String>> for ShortKey {
+    ghost use Rattle.cls_lexer.specs.TextKeys.{short_equal};
+    ghost use Rattle.std.proofs.Common.{rules};
+
+    ghost equivalent = { λ k own. short_equal k.0 own };
+
+    ghost respects_hash = { Prim.search rules };
+
+    ghost respects_eq = { Prim.search rules };
+
+    fn equivalent(&self, key: &TextKey<String>) -> bool {
+        match key {
+            TextKey::Short(other) => self.0 == *other,
+            TextKey::Long(_) => false,
+        }
+    }
+}
+
 impl TextKey<&str> {
     /// The same key, which owns its text. The only error is out of memory.
     pub(crate) fn into_owned(self, alloc: Global) -> Result<TextKey<String>, OutOfMemory>
