@@ -20,7 +20,7 @@ use Rattle.cls_library.specs.declared.sought.Sought.{Sought}
 use Rattle.cls_library.specs.Arrows.{MultiArrow, leading_arrows, arity_of, arrows_of, onto}
 use Rattle.cls_library.specs.Endings.{IsSought, ending_behind, ending_of, head_of, is_alone, is_bare}
 use Rattle.cls_library.specs.Families.{IsBefore, IsFamilyIn, IsNext, IsPlace}
-use Rattle.cls_library.specs.Index.{AreEntries, EndsIn, paths_in}
+use Rattle.cls_library.specs.Index.{AreEntries, EndsIn, IsEntry, Spot, paths_in}
 use Rattle.cls_library.specs.Leads.{AreOnward, IsFirstFrom, Leads}
 use Rattle.cls_library.specs.Libraries.{Component, Library, below_in, variances_in, no_component, arrows_at}
 use Rattle.cls_library.proofs.EndingLaws.{may-end, same-ending}
@@ -109,41 +109,44 @@ module _ (d : Declared) where
   below-bare p (function n q) b e = cc
   below-bare p (sealed c n) b e = cc
 
-module _ (l : Library) (t : Entry) where
+module _ (l : Library) (t : Spot) where
   -- an arrow whose target has the ending of a bare path leads to it
   pub bare-leads : (q : TypePath) → is_bare q ≡ true → EndsIn l.components (ending_of q) t → Leads l q t
   bare-leads q b h = some-map (slice_get (arrows_at l t.place.component t.place.count) t.position) (λ a. ending_of a.target ≡ ending_of q) (λ a. PathLe (below_in l.taxonomy) (variances_in l.taxonomy) a.target q)
       (λ a e. below-bare l.taxonomy a.target q b e) h
 
-  -- the arrow of such an entry is one of a component of the library
+  -- the arrow is one of a component of the library
   module _ (e : Ending) (h : EndsIn l.components e t) where
-    pub entry-place : IsPlace l t.place
-    entry-place = record {
+    pub spot-place : IsPlace l t.place
+    spot-place = record {
       declared = within-library l.components t.place.component t.place.count t.position (λ a. ending_of a.target ≡ e) h;
       within = within-arity t.place.count (paths_in l.components t.place.component) t.position (λ a. ending_of a.target ≡ e) h;
     }
 
-    pub entry-within : t.position < length (arrows_at l t.place.component t.place.count)
-    entry-within = some-within (arrows_at l t.place.component t.place.count) t.position (λ a. ending_of a.target ≡ e) h
+    pub spot-within : t.position < length (arrows_at l t.place.component t.place.count)
+    spot-within = some-within (arrows_at l t.place.component t.place.count) t.position (λ a. ending_of a.target ≡ e) h
 
 module _ (l : Library) (q : TypePath) (s : Sought) (sought : IsSought l.taxonomy q s) (alone : IsTrue s.alone) (entries : List Entry) (h : AreEntries l.components s.ending entries) where
   lone : is_alone (class_by l.taxonomy.pairs) (head_of q) ≡ true
   lone = ap (λ (e : Ending). is_alone (class_by l.taxonomy.pairs) e.head) (sym sought.ending) ∙ (sym sought.alone ∙ alone)
 
-  -- an arrow that leads stands among the entries
-  pub stands : (t : Entry) → Leads l q t → Contains entries t
-  stands t leads =
-      (h.exactly t).1
-      (some-map (slice_get (arrows_at l t.place.component t.place.count) t.position) (λ a. PathLe (below_in l.taxonomy) (variances_in l.taxonomy) a.target q) (λ a. ending_of a.target ≡ s.ending)
-      (λ a le. same-end l.taxonomy a.target q le lone ∙ sym sought.ending) leads)
+  -- an arrow that leads has the ending that is sought
+  ends-so : (t : Spot) → Leads l q t → EndsIn l.components s.ending t
+  ends-so t leads =
+      some-map (slice_get (arrows_at l t.place.component t.place.count) t.position) (λ a. PathLe (below_in l.taxonomy) (variances_in l.taxonomy) a.target q) (λ a. ending_of a.target ≡ s.ending)
+      (λ a le. same-end l.taxonomy a.target q le lone ∙ sym sought.ending) leads
+
+  -- its place stands among the entries
+  stands : (t : Spot) → Leads l q t → (u : Entry) × Contains entries u × (u.place ≡ t.place)
+  stands t leads = h.whole t (ends-so t leads)
 
   is-place : (t : Entry) → Contains entries t → IsPlace l t.place
-  is-place t c = entry-place l t s.ending ((h.exactly t).0 c)
+  is-place t c = let r = (h.each t c).some in spot-place l (record { place = t.place; position = r.0 }) s.ending r.1
 
   none-at : (p : Place) → ((t : Entry) → Contains entries t → t.place ≡ p → ⊥) → IsFamilyIn l.taxonomy (arrows_at l p.component p.count) q []
   none-at p n = record {
     ascends = λ k m. absurd (omega arith);
-    exactly = λ i. ((λ c. absurd (Contains-nil i c)), (λ leads. absurd (let t : Entry = record { place = p; position = i } in n t (stands t leads) refl)));
+    exactly = λ i. ((λ c. absurd (Contains-nil i c)), (λ leads. absurd (let r = stands (record { place = p; position = i }) leads in n r.0 r.1 r.2)));
   }
 
   module _ (from : Place) (i : ℕ) (f : IsFirstFrom entries from i) where
@@ -167,7 +170,7 @@ module _ (l : Library) (q : TypePath) (s : Sought) (sought : IsSought l.taxonomy
       where
         between : (k : ℕ) (u : Entry) → slice_get entries k ≡ Some u → i ≤ k → IsBefore u.place t.place → ⊥
         between k u g m before = elim (less-or-not i k) [
-          | inl n ↦ not_later t u (h.in_order i k t u n e g) before
+          | inl n ↦ not_later t.place u.place (h.in_order i k t u n e g) before
           | inr n ↦ (let same : k ≡ i = omega arith in
               let both : Some u ≡ Some t = sym g ∙ (ap (slice_get entries) same ∙ e) in
               let one : u ≡ t = cc in
@@ -178,8 +181,9 @@ module _ (l : Library) (q : TypePath) (s : Sought) (sought : IsSought l.taxonomy
     onward = record {
       in_order = λ a b s t m e g. h.in_order (i + a) (i + b) s t (omega arith) (sym (drop-at entries i a) ∙ e) (sym (drop-at entries i b) ∙ g);
       from = λ k t e before. first k t (sym (drop-at entries i k) ∙ e) before;
-      ends = λ k t e. subst (λ (f : Ending). EndsIn l.components f t) sought.ending ((h.exactly t).0 (Contains-at entries (i + k) t (sym (drop-at entries i k) ∙ e)));
-      whole = λ t same leads. there t same (Contains-place entries t (stands t leads));
+      each = λ k t e. subst (λ (f : Ending). IsEntry (EndsIn l.components f) t) sought.ending (h.each t (Contains-at entries (i + k) t (sym (drop-at entries i k) ∙ e)));
+      ends = λ k leads. subst (λ (f : Ending). EndsIn l.components f (record { place = from; position = k })) sought.ending (ends-so (record { place = from; position = k }) leads);
+      whole = λ k leads. (let r = stands (record { place = from; position = k }) leads in (r.0, there r.0 r.2 (Contains-place entries r.0 r.1), r.2));
     }
       where
         first : (k : ℕ) (t : Entry) → slice_get entries (i + k) ≡ Some t → IsBefore t.place from → ⊥
@@ -195,100 +199,55 @@ module _ (l : Library) (q : TypePath) (s : Sought) (sought : IsSought l.taxonomy
           | inr m ↦ (let z : i + (k - i) ≡ k = omega arith in Contains-at (drop i entries) (k - i) t (drop-at entries i (k - i) ∙ (ap (slice_get entries) z ∙ e)))
         ]
 
--- numbers that rise, with a greater one behind them
-ascends-push : (xs : List ℕ) (x : ℕ) → ((y : ℕ) → Contains xs y → y < x) → IsStrictlyIncreasing xs → IsStrictlyIncreasing (xs ++ x ∷ [])
-ascends-push xs x above h k l =
-    let n = length-append xs (x ∷ []) in
-    elim (less-or-not (k + 1) (length xs)) [
-      | inl m ↦ (let a = get_or_append_left xs (x ∷ []) 0 k (omega arith) in let b = get_or_append_left xs (x ∷ []) 0 (k + 1) m in let r = h k m in omega arith)
-      | inr m ↦ (let w : k < length xs = omega arith in
-          let end : length xs ≡ k + 1 = omega arith in
-          let a = get_or_append_left xs (x ∷ []) 0 k w in
-          let b : get_or (xs ++ x ∷ []) (k + 1) 0 ≡ x = get_or_push xs x 0 (k + 1) end in
-          let c : get_or xs k 0 < x = above (get_or xs k 0) (k, w, get_or_default xs k (get_or xs k 0) 0 w) in omega arith)
-    ]
+module _ (l : Library) (q : TypePath) (p : Place) where
+  abbrev pub at : ℕ → Spot
+  at i = record { place = p; position = i }
 
--- the family of the path by the first k of the entries, which are all of the place
-pub record IsFamilyUpTo (l : Library) (q : TypePath) (p : Place) (entries : List Entry) (k : ℕ) (family : List ℕ) : Type 0 where
-  pub here : (i : ℕ) (t : Entry) → i < k → slice_get entries i ≡ Some t → t.place ≡ p
-  pub ascends : IsStrictlyIncreasing family
-  pub some : (x : ℕ) → Contains family x → (i : ℕ) × (t : Entry) × (i < k) × (slice_get entries i ≡ Some t) × (t.position ≡ x) × Leads l q t
-  pub all : (i : ℕ) (t : Entry) → i < k → slice_get entries i ≡ Some t → Leads l q t → Contains family t.position
+  -- no arrow leads
+  silent : ((i : ℕ) → Leads l q (at i) → ⊥) → IsFamilyIn l.taxonomy (arrows_at l p.component p.count) q []
+  silent n = record {
+    ascends = λ k m. absurd (omega arith);
+    exactly = λ i. ((λ c. absurd (Contains-nil i c)), (λ leads. absurd (n i leads)));
+  }
 
-module _ (l : Library) (q : TypePath) (p : Place) (entries : List Entry) (o : AreOnward l q p entries) where
-  module _ (k : ℕ) (family : List ℕ) (h : IsFamilyUpTo l q p entries k family) where
-    module _ (t : Entry) (at : slice_get entries k ≡ Some t) (here : t.place ≡ p) where
-      one : (i : ℕ) (u : Entry) → i < k + 1 → slice_get entries i ≡ Some u → (i < k) ⊎ (u ≡ t)
-      one i u m e = elim (less-or-not i k) [
-        | inl n ↦ inl n
-        | inr n ↦ inr (let same : i ≡ k = omega arith in let both : Some u ≡ Some t = sym e ∙ (ap (slice_get entries) same ∙ at) in cc)
-      ]
+  -- there is no entry
+  pub family-none : AreOnward l q p [] → IsFamilyIn l.taxonomy (arrows_at l p.component p.count) q []
+  family-none o = silent (λ i leads. let r = o.whole i leads in Contains-nil r.0 r.1)
 
-      here-more : (i : ℕ) (u : Entry) → i < k + 1 → slice_get entries i ≡ Some u → u.place ≡ p
-      here-more i u m e = elim (one i u m e) [ inl n ↦ h.here i u n e | inr s ↦ ap (λ (x : Entry). x.place) s ∙ here ]
-
-      pub family-passes : (Leads l q t → ⊥) → IsFamilyUpTo l q p entries (k + 1) family
-      family-passes silent = record {
-        here = here-more;
-        ascends = h.ascends;
-        some = λ x c. (let r = h.some x c in let m = r.2 in (r.0, r.1, omega arith, r.3, r.4, r.5));
-        all = λ i u m e leads. elim (one i u m e) [ inl n ↦ h.all i u n e leads | inr s ↦ absurd (silent (subst (λ (x : Entry). Leads l q x) s leads)) ];
-      }
-
-      earlier : (y : ℕ) → Contains family y → y < t.position
-      earlier y c = below (h.some y c)
-        where
-          below : (i : ℕ) × (u : Entry) × (i < k) × (slice_get entries i ≡ Some u) × (u.position ≡ y) × Leads l q u → y < t.position
-          below (i, u, m, e, is, leads) = elim (o.in_order i k u t m e at) [
-            | inl b ↦ absurd (before_itself p (subst (λ (x : Place). IsBefore p x) here (subst (λ (x : Place). IsBefore x t.place) (h.here i u m e) b)))
-            | inr b ↦ (let r = b.1 in omega arith)
-          ]
-
-      pub family-takes : Leads l q t → IsFamilyUpTo l q p entries (k + 1) (family ++ t.position ∷ [])
-      family-takes leads = record {
-        here = here-more;
-        ascends = ascends-push family t.position earlier h.ascends;
-        some = λ x c. elim (Contains-push_cases family t.position x c) [
-          | inl b ↦ (let r = h.some x b in let m = r.2 in (r.0, r.1, omega arith, r.3, r.4, r.5))
-          | inr e ↦ (k, t, omega arith, at, e, leads)
-        ];
-        all = λ i u m e leads'. elim (one i u m e) [
-          | inl n ↦ Contains-append_left family (t.position ∷ []) u.position (h.all i u n e leads')
-          | inr s ↦ subst (λ (x : Entry). Contains (family ++ t.position ∷ []) x.position) (sym s) (Contains-push family t.position)
-        ];
-      }
-
-    whole-family : ((i : ℕ) (t : Entry) → k ≤ i → slice_get entries i ≡ Some t → t.place ≡ p → ⊥) → IsFamilyIn l.taxonomy (arrows_at l p.component p.count) q family
-    whole-family ends = record {
-      ascends = h.ascends;
-      exactly = λ x. (
-        (λ c. leads x (h.some x c)),
-        (λ y. let t : Entry = record { place = p; position = x } in found t refl y (Contains-place entries t (o.whole t refl y))),
-      );
-    }
+  module _ (entries : List Entry) (o : AreOnward l q p entries) (t : Entry) (first : slice_get entries 0 ≡ Some t) where
+    -- the first entry is of another place
+    pub family-elsewhere : (t.place ≡ p → ⊥) → IsFamilyIn l.taxonomy (arrows_at l p.component p.count) q []
+    family-elsewhere other = silent (λ i leads. let r = o.whole i leads in found r.0 r.2 (Contains-place entries r.0 r.1))
       where
-        leads : (x : ℕ) → (i : ℕ) × (u : Entry) × (i < k) × (slice_get entries i ≡ Some u) × (u.position ≡ x) × Leads l q u → Leads l q (record { place = p; position = x })
-        leads x (i, u, m, e, is, le) =
-            let at = h.here i u m e in
-            let same : u ≡ record { place = p; position = x } = (λ j. record { place = at j; position = is j }) in
-            subst (λ (t : Entry). Leads l q t) same le
+        found : (u : Entry) → u.place ≡ p → (k : ℕ) × (slice_get entries k ≡ Some u) → ⊥
+        found u same (zero, e) = let both : Some t ≡ Some u = sym first ∙ e in let one : t ≡ u = cc in other (ap (λ (x : Entry). x.place) one ∙ same)
+        found u same (suc k, e) = o.from 0 t first (subst (λ (x : Place). IsBefore t.place x) same (o.in_order 0 (suc k) t u (omega arith) first e))
 
-        found : (t : Entry) → t.place ≡ p → Leads l q t → (i : ℕ) × (slice_get entries i ≡ Some t) → Contains family t.position
-        found t at le (i, e) = elim (less-or-not i k) [ inl m ↦ h.all i t m e le | inr m ↦ absurd (ends i t m e at) ]
+    -- the first entry has one arrow of the place alone
+    module _ (here : t.place ≡ p) (position : ℕ) (one : t.only ≡ Some position) where
+      entry : IsEntry (EndsIn l.components (ending_of q)) t
+      entry = o.each 0 t first
 
-    -- all entries are seen
-    pub family-whole : length entries ≤ k → IsFamilyIn l.taxonomy (arrows_at l p.component p.count) q family
-    family-whole m = whole-family (λ i t n e at. let w = slice_get_within entries i t e in omega arith)
+      it-alone : (i : ℕ) → EndsIn l.components (ending_of q) (at i) → i ≡ position
+      it-alone i ends = entry.only position i one (subst (λ (x : Place). EndsIn l.components (ending_of q) (record { place = x; position = i })) (sym here) ends)
 
-    -- the next entry is of another place
-    pub family-ends : (t : Entry) → slice_get entries k ≡ Some t → (t.place ≡ p → ⊥) → IsFamilyIn l.taxonomy (arrows_at l p.component p.count) q family
-    family-ends t e other = whole-family (λ i u m g at. elim (before_cases t.place p) [
-      | inl b ↦ o.from k t e b
-      | inr r ↦ elim r [
-        | inl s ↦ other s
-        | inr b ↦ elim (less-or-not k i) [
-          | inl n ↦ not_later t u (o.in_order k i t u n e g) (subst (λ (x : Place). IsBefore x t.place) (sym at) b)
-          | inr n ↦ (let same : i ≡ k = omega arith in let both : Some u ≡ Some t = sym g ∙ (ap (slice_get entries) same ∙ e) in let one : u ≡ t = cc in other (subst (λ (x : Entry). x.place ≡ p) one at))
-        ]
-      ]
-    ])
+      pub ends-there : EndsIn l.components (ending_of q) (at position)
+      ends-there =
+          let r = entry.some in
+          let ends : EndsIn l.components (ending_of q) (at r.0) = subst (λ (x : Place). EndsIn l.components (ending_of q) (record { place = x; position = r.0 })) here r.1 in
+          subst (λ (i : ℕ). EndsIn l.components (ending_of q) (at i)) (it-alone r.0 ends) ends
+
+      pub family-one : Leads l q (at position) → IsFamilyIn l.taxonomy (arrows_at l p.component p.count) q (position ∷ [])
+      family-one leads = record {
+        ascends = λ k m. absurd (omega arith);
+        exactly = λ i. (
+          (λ c. elim (Contains-push_cases [] position i c) [
+            | inl n ↦ absurd (Contains-nil i n)
+            | inr e ↦ subst (λ (k : ℕ). Leads l q (at k)) e leads
+          ]),
+          (λ le. subst (λ (k : ℕ). Contains (position ∷ []) k) (sym (it-alone i (o.ends i le))) (Contains-push [] position)),
+        );
+      }
+
+      pub family-silent : (Leads l q (at position) → ⊥) → IsFamilyIn l.taxonomy (arrows_at l p.component p.count) q []
+      family-silent away = silent (λ i le. away (subst (λ (k : ℕ). Leads l q (at k)) (it-alone i (o.ends i le)) le))

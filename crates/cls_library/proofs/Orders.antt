@@ -5,7 +5,7 @@ use Rattle.cls_library.specs.declared.index.Entry.{Entry}
 use Rattle.cls_library.specs.declared.place.Place.{Place}
 use Rattle.cls_library.specs.contracts.place.PlacePartialEq.TheImpl.{eq-value}
 use Rattle.cls_library.specs.Families.{IsBefore}
-use Rattle.cls_library.specs.Index.{ArrowIsBefore, AreInOrder}
+use Rattle.cls_library.specs.Index.{AreInOrder}
 
 pub less-or-not : (i m : ℕ) → (i < m) ⊎ (m ≤ i)
 less-or-not zero zero = inr (omega arith)
@@ -60,19 +60,13 @@ before_cases p q = elim (compared p.component q.component) [
   ]
 ]
 
--- the place of an earlier arrow isn't later
-pub not_later : (s t : Entry) → ArrowIsBefore s t → IsBefore t.place s.place → ⊥
-not_later s t h k = elim h [
-  | inl a ↦ before_itself s.place (before_trans s.place t.place s.place a k)
-  | inr a ↦ before_itself t.place (subst (λ (p : Place). IsBefore t.place p) a.0 k)
-]
+-- an earlier place isn't later
+pub not_later : (p q : Place) → IsBefore p q → IsBefore q p → ⊥
+not_later p q h k = before_itself p (before_trans p q p h k)
 
 -- of entries in order those in front of one that is before the place are before it too
 pub earlier_before : (entries : List Entry) → AreInOrder entries → (p : Place) (i j : ℕ) (s t : Entry) → i < j → slice_get entries i ≡ Some s → slice_get entries j ≡ Some t → IsBefore t.place p → IsBefore s.place p
-earlier_before entries h p i j s t l e f k = elim (h i j s t l e f) [
-  | inl a ↦ before_trans s.place t.place p a k
-  | inr a ↦ subst (λ (q : Place). IsBefore q p) (sym a.0) k
-]
+earlier_before entries h p i j s t l e f k = before_trans s.place t.place p (h i j s t l e f) k
 
 pub drop-at : {A : Type 0} (xs : List A) (k i : ℕ) → slice_get (drop k xs) i ≡ slice_get xs (k + i)
 drop-at xs zero i = let e : i ≡ 0 + i = omega arith in ap (slice_get xs) e

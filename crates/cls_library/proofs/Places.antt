@@ -7,7 +7,7 @@ use Rattle.std.proofs.Math.Seq.{get_or-append_seam}
 use Rattle.cls_base.specs.Lists.{AreBelow}
 use Rattle.cls_path.specs.Paths.{TypePath, atom, inside, unit, left, right, function, sealed, listed}
 use Rattle.cls_library.specs.Arrows.{MultiArrow, leading_arrows, with_source, split, onto, arrows_of}
-use Rattle.cls_library.specs.Splits.{sources_at, split_at, source_at, places_from, arrows_at_places}
+use Rattle.cls_library.specs.Splits.{numbers_from, sources_at, split_at, source_at, places_from, arrows_at_places}
 
 -- a path with fewer leading arrows isn't split
 pub split-few : (n : ℕ) (p : TypePath) → leading_arrows p < n → split n p ≡ None
@@ -129,6 +129,13 @@ module _ (n : ℕ) where
 
   pub places-all : (ps : List TypePath) (i : ℕ) (done whole : List ℕ) → length ps ≤ i → done ++ places_from n i (drop i ps) ≡ whole → done ≡ whole
   places-all ps i done whole l h = sym (append-nil done) ∙ ap (λ x. done ++ places_from n i x) (sym (drop_all i ps l)) ∙ h
+
+-- the places of paths that all have at least n leading arrows
+pub numbers-places : (n i : ℕ) (ps : List TypePath) → ((k : ℕ) → k < length ps → n ≤ leading_arrows (slice_index_or ps k unit)) → numbers_from i (length ps) ≡ places_from n i ps
+numbers-places n i [] h = refl
+numbers-places n i (p ∷ ps) h =
+    ap (λ (l : List ℕ). i ∷ l) (numbers-places n (i + 1) ps (λ k l. h (suc k) (omega arith)))
+    ∙ ap (λ (b : Bool). if b then places_from n (i + 1) ps else i ∷ places_from n (i + 1) ps) (sym (is-many (leading_arrows p) n (h 0 (omega arith))))
 
 -- the sources of a split path
 pub source-within : (n i : ℕ) (p : TypePath) → i < n → source_at i p ≡ slice_get (sources_at n p) i

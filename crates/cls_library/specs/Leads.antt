@@ -9,10 +9,10 @@ use Rattle.cls_library.specs.declared.sought.Sought.{Sought}
 use Rattle.cls_library.specs.Arrows.{arity_of}
 use Rattle.cls_library.specs.Endings.{IsSought, ending_of}
 use Rattle.cls_library.specs.Families.{IsBefore, IsFamilyIn, IsNext}
-use Rattle.cls_library.specs.Index.{AreEntries, AreInOrder, EndsIn}
+use Rattle.cls_library.specs.Index.{AreEntries, AreInOrder, EndsIn, IsEntry, Spot}
 use Rattle.cls_library.specs.Libraries.{Library, arrows_at, below_in, paths_at, variances_in}
 
--- the arrows that are kept, if any, are those of the ending that is sought, and its head is alone
+-- the entries that are kept, if any, are those of the ending that is sought, and its head is alone
 abbrev pub AreSoughtEntries : Library → Sought → Option (Bor (List Entry)) → Type 0
 AreSoughtEntries l s None = Unit {0}
 AreSoughtEntries l s (Some entries) = IsTrue s.alone × AreEntries l.components s.ending entries.now
@@ -22,7 +22,7 @@ pub record IsLead (l : Library) (lead : Lead) : Type 0 where
   pub sought : IsSought l.taxonomy lead.path.now lead.sought
   pub entries : AreSoughtEntries l lead.sought lead.entries
 
--- the arrows that are kept are none
+-- the entries that are kept are none
 abbrev pub AreNone : Option (Bor (List Entry)) → Type 0
 AreNone None = ⊥
 AreNone (Some entries) = entries.now ≡ []
@@ -50,16 +50,17 @@ pub record IsFirstFrom (entries : List Entry) (p : Place) (i : ℕ) : Type 0 whe
   pub from : (t : Entry) → slice_get entries i ≡ Some t → IsBefore t.place p → ⊥
 
 -- the arrow leads to the path
-abbrev pub Leads : Library → TypePath → Entry → Type 0
-Leads l q t = IsSomeAnd (slice_get (arrows_at l t.place.component t.place.count) t.position) (λ a. PathLe (below_in l.taxonomy) (variances_in l.taxonomy) a.target q)
+abbrev pub Leads : Library → TypePath → Spot → Type 0
+Leads l q s = IsSomeAnd (slice_get (arrows_at l s.place.component s.place.count) s.position) (λ a. PathLe (below_in l.taxonomy) (variances_in l.taxonomy) a.target q)
 
--- arrows of the library whose targets have the path's ending, in order and none before the place, among which are those of the
--- place that lead to the path
+-- entries of arrows whose targets have the path's ending, in order and none before the place, among which is one of the place if an
+-- arrow of the place leads to the path
 pub record AreOnward (l : Library) (q : TypePath) (p : Place) (entries : List Entry) : Type 0 where
   pub in_order : AreInOrder entries
   pub from : (i : ℕ) (t : Entry) → slice_get entries i ≡ Some t → IsBefore t.place p → ⊥
-  pub ends : (i : ℕ) (t : Entry) → slice_get entries i ≡ Some t → EndsIn l.components (ending_of q) t
-  pub whole : (t : Entry) → t.place ≡ p → Leads l q t → Contains entries t
+  pub each : (i : ℕ) (t : Entry) → slice_get entries i ≡ Some t → IsEntry (EndsIn l.components (ending_of q)) t
+  pub ends : (i : ℕ) → Leads l q (record { place = p; position = i }) → EndsIn l.components (ending_of q) (record { place = p; position = i })
+  pub whole : (i : ℕ) → Leads l q (record { place = p; position = i }) → (t : Entry) × Contains entries t × (t.place ≡ p)
 
 -- no arrow of the place leads to a path for which this is sought
 abbrev pub NoneLeads : Library → Sought → Place → Type 0

@@ -2,6 +2,8 @@
 use Rattle.std.specs.Prelude.{ℕ, zero, suc, ◌≡◌, ◌⊎◌, ◌+◌, ◌++◌, nat_lt, if◌then◌else◌, List, [], ◌∷◌, map, Contains, slice_get, slice_index_or, Option, None, Some}
 use Rattle.std.specs.Borrow.{Bor}
 use Rattle.cls_path.specs.Paths.{TypePath, unit, function, Paths, listed}
+use Rattle.cls_library.specs.declared.column.Places.{Places}
+use Rattle.cls_library.specs.declared.column.Places.TheVariants.{All, Listed}
 use Rattle.cls_library.specs.Arrows.{MultiArrow, leading_arrows}
 
 -- what is left of the path behind its first n arrows
@@ -34,6 +36,16 @@ paths_of_form nf = listed nf.now
 abbrev pub places_from : ℕ → ℕ → List TypePath → List ℕ
 places_from n i [] = []
 places_from n i (p ∷ ps) = if nat_lt (leading_arrows p) n then places_from n (i + 1) ps else i ∷ places_from n (i + 1) ps
+
+-- n numbers from i on
+abbrev pub numbers_from : ℕ → ℕ → List ℕ
+numbers_from i zero = []
+numbers_from i (suc n) = i ∷ numbers_from (i + 1) n
+
+-- places as they are kept
+abbrev pub places_in : Places → List ℕ
+places_in (All n) = numbers_from 0 n
+places_in (Listed v) = v.items
 
 -- old, with the position of the place in the column behind it, if the place stands there
 abbrev pub PutsPosition : List ℕ → ℕ → List ℕ → List ℕ → Type 0

@@ -6,6 +6,7 @@ ghost use Rattle.cls_base.specs.Lists.{AreBelow};
 ghost use Rattle.cls_path.specs.Paths.{listed};
 ghost use Rattle.cls_library.specs.Splits.{arrows_at_places, paths_of_form, source_at, split_at, target_at};
 
+use crate::column::Column;
 use cls_path::{Form, Nf, Path};
 use std::marker::Model;
 
@@ -59,7 +60,7 @@ impl<'a> MultiArrow<'a> {
 #[derive(Drop)]
 pub struct Arrows<'a> {
     paths: &'a [Path],
-    places: &'a [usize],
+    places: &'a Column,
     count: usize,
 }
 
@@ -82,7 +83,7 @@ impl<'a> Model for Arrows<'a> {
 
 impl<'a> Arrows<'a> {
     /// The paths at these places, each split at its first `count` arrows.
-    pub(crate) fn new(paths: &'a [Path], places: &'a [usize], count: usize) -> Arrows<'a>
+    pub(crate) fn new(paths: &'a [Path], places: &'a Column, count: usize) -> Arrows<'a>
         requires { AreBelow (length paths.now) places.now }
         ensures { result ≡ arrows_at_places count paths.now places.now }
     {
@@ -105,8 +106,7 @@ impl<'a> Arrows<'a> {
         requires { i < length self.now }
         ensures { slice_get self.now i ≡ Some result }
     {
-        let places = self.places;
-        let place = places[i];
+        let place = self.places.get(i);
         MultiArrow::new(&self.paths[place], self.count)
     }
 }

@@ -15,7 +15,7 @@ pub(crate) struct Chains {
 
 impl Chains {
     /// The chains of places of these kinds, which are below `count`. They are made from the last place to the first.
-    pub fn new(alloc: Global, kinds: &[usize], count: usize) -> Result<Chains, OutOfMemory>
+    pub fn new(alloc: Global, kinds: &[u32], count: usize) -> Result<Chains, OutOfMemory>
         requires { AreBelow count kinds.now }
         ensures { IfOk result (λ chains. AreChained 0 count kinds.now chains.firsts.items chains.next.items) }
     {
@@ -27,7 +27,7 @@ impl Chains {
         let mut place = end;
         while place > 0 {
             place -= 1;
-            let kind = kinds[place as usize];
+            let kind = kinds[place as usize] as usize;
             next[place as usize] = firsts[kind];
             firsts[kind] = place;
         }

@@ -122,7 +122,7 @@ impl Component {
         requires { count ≤ arity_of self.now.paths }
         ensures { result ≡ arrows_of count self.now.paths }
     {
-        Arrows::new(self.paths.paths(), self.columns[count].as_slice(), count)
+        Arrows::new(self.paths.paths(), &self.columns[count], count)
     }
 
     /// Whether an arrow may lead to the path for which this is sought, by the flags of heads. If not, none does.
@@ -179,7 +179,7 @@ impl Component {
             alloc,
             taxonomy,
             self.paths.paths(),
-            self.columns[count].as_slice(),
+            &self.columns[count],
             count,
             self.endings.kinds.as_slice(),
             &self.endings.places,
@@ -212,7 +212,7 @@ impl Component {
             alloc,
             taxonomy,
             self.paths.paths(),
-            self.columns[count].as_slice(),
+            &self.columns[count],
             count,
             &self.endings,
             kind,

@@ -22,7 +22,7 @@ const FEW: usize = 8;
 #[derive(Drop)]
 pub(crate) struct Endings {
     pub kinds: IndexSet<Ending>,
-    pub places: Vec<usize>,
+    pub places: Vec<u32>,
     pub chains: Chains,
 }
 
@@ -37,6 +37,9 @@ impl Endings {
         let mut places = Vec::with_capacity(alloc, paths.len())?;
         for path in paths {
             let (place, _) = kinds.insert_full(Ending::of(path))?;
+            let Ok(place) = u32::try_from(place) else {
+                return Err(OutOfMemory);
+            };
             places.push(place)?;
         }
         let chains = Chains::new(alloc, &places, kinds.len())?;
@@ -55,8 +58,7 @@ impl Endings {
         ensures next { IfOk result (λ copy. copy.chains.next.items ≡ self.now.chains.next.items) }
     {
         let kinds = self.kinds.clone()?;
-        let mut places = Vec::new(alloc);
-        places.extend_from_slice(&self.places)?;
+        let places = Vec::from_slice(alloc, self.places.as_slice())?;
         let chains = self.chains.copy(alloc)?;
         Ok(Endings {
             kinds,

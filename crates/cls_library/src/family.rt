@@ -1,5 +1,5 @@
 //! The family of a path: the arrows of a component that lead to it.
-ghost use Rattle.std.specs.Prelude.{◌≡◌, ◌^◌, ◌<◌, Contains, IfOk, IsTrue, MatchOption, OnOk, length, slice_get};
+ghost use Rattle.std.specs.Prelude.{◌≡◌, ◌^◌, ◌<◌, IfOk, IsTrue, OnOk, length};
 ghost use Rattle.std.specs.List.Sorted.{IsStrictlyIncreasing};
 ghost use Rattle.cls_path.specs.Paths.{listed, Suits, SuitsAll};
 ghost use Rattle.cls_taxon.specs.Orders.{class_by};
@@ -11,6 +11,7 @@ ghost use Rattle.cls_library.specs.Libraries.{variances_in};
 ghost use Rattle.cls_library.specs.Splits.{PutsPosition, arrows_at_places, places_from};
 
 use crate::arrow::target_of;
+use crate::column::Column;
 use crate::ending::Ending;
 use crate::endings::Endings;
 use crate::sought::Sought;
@@ -25,10 +26,10 @@ pub(crate) fn family_of(
     alloc: Global,
     taxonomy: &Taxonomy,
     paths: &[Path],
-    column: &[usize],
+    column: &Column,
     count: usize,
     kinds: &[Ending],
-    endings: &[usize],
+    endings: &[u32],
     sought: Sought,
     path: &Path,
 ) -> Result<Vec<u32>, OutOfMemory>
@@ -41,10 +42,11 @@ pub(crate) fn family_of(
         IsFamilyIn taxonomy.now (arrows_at_places count paths.now column.now) path.now family.items) }
 {
     let mut family = Vec::new(alloc);
-    for (i, place) in column.iter().enumerate() {
-        let lower = kinds[endings[*place]];
+    for i in 0..column.len() {
+        let place = column.get(i);
+        let lower = kinds[endings[place] as usize];
         if lower.may_lead(taxonomy, count, sought)
-            && target_of(&paths[*place], count).le(taxonomy, path)
+            && target_of(&paths[place], count).le(taxonomy, path)
         {
             let Ok(position) = u32::try_from(i) else {
                 return Err(OutOfMemory);
@@ -61,7 +63,7 @@ pub(crate) fn family_along(
     alloc: Global,
     taxonomy: &Taxonomy,
     paths: &[Path],
-    column: &[usize],
+    column: &Column,
     count: usize,
     endings: &Endings,
     kind: usize,
@@ -90,11 +92,11 @@ pub(crate) fn family_along(
 }
 
 /// Puts the position of the place in the column behind the others, if the place stands there.
-fn put_position(family: &mut Vec<u32>, column: &[usize], place: usize) -> Result<(), OutOfMemory>
+fn put_position(family: &mut Vec<u32>, column: &Column, place: usize) -> Result<(), OutOfMemory>
     requires { IsStrictlyIncreasing column.now }
     ensures { OnOk result (PutsPosition column.now place family.old.items family.new.items) }
 {
-    let Some(i) = position_of(column, place) else {
+    let Some(i) = column.position_of(place) else {
         return Ok(());
     };
     let Ok(position) = u32::try_from(i) else {
@@ -102,18 +104,4 @@ fn put_position(family: &mut Vec<u32>, column: &[usize], place: usize) -> Result
     };
     family.push(position)?;
     Ok(())
-}
-
-/// The position of the place in the column. In a column of all paths it is the place itself.
-fn position_of(column: &[usize], place: usize) -> Option<usize>
-    requires { IsStrictlyIncreasing column.now }
-    ensures { MatchOption result (Contains column.now place → ⊥) (λ i. slice_get column.now i ≡ Some place) }
-{
-    if place < column.len() && column[place] == place {
-        return Some(place);
-    }
-    match column.binary_search(&place) {
-        Ok(i) => Some(i),
-        Err(_) => None,
-    }
 }

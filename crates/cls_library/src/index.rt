@@ -1,8 +1,8 @@
 //! The arrows of a library by what their targets end in: an inverted index.
-ghost use Rattle.std.specs.Prelude.{◌≡◌, ◌+◌, ◌++◌, ◌∷◌, [], ◌<◌, ◌≤◌, IfOk, OnOk, length, if◌then◌else◌};
+ghost use Rattle.std.specs.Prelude.{◌≡◌, ◌+◌, ◌<◌, ◌≤◌, IfOk, OnOk, length};
 ghost use Rattle.cls_base.specs.Limits.{max_components};
 ghost use Rattle.cls_library.specs.Arrows.{arity_of};
-ghost use Rattle.cls_library.specs.Index.{AreNarrow, HasEntriesBefore, IsIndex, entries_for, entry_at, is_ending, paths_in};
+ghost use Rattle.cls_library.specs.Index.{AreNarrow, HasEntriesBefore, IsIndex, PutsArrow, PutsIf, entries_for, is_ending, paths_in, spot_at};
 
 use crate::component::Component;
 use crate::ending::Ending;
@@ -11,14 +11,14 @@ use cls_base::OutOfMemory;
 use indexmap::IndexMap;
 use std::alloc::Global;
 
-/// An arrow of a library: its place, and its position among the arrows there.
+/// A place with arrows whose targets have one ending. If there is one such arrow alone, its position among the arrows there.
 #[derive(Clone, Copy, Debug, PartialEq, Eq)]
 pub(crate) struct Entry {
     pub place: Place,
-    pub position: u32,
+    pub only: Option<u32>,
 }
 
-/// For each ending the arrows with such a target, in order.
+/// For each ending the places of the arrows with such a target, in order.
 #[derive(Drop)]
 pub(crate) struct Index {
     lists: IndexMap<Ending, Vec<Entry>>,
@@ -49,8 +49,8 @@ impl Index {
     ) -> Result<(), OutOfMemory>
         requires declared { x < length components.now }
         requires narrow { AreNarrow components.now }
-        requires earlier { HasEntriesBefore components.now (entry_at x 0 0) self.old }
-        ensures { OnOk result (HasEntriesBefore components.now (entry_at (x + 1) 0 0) self.new) }
+        requires earlier { HasEntriesBefore components.now (spot_at x 0 0) self.old }
+        ensures { OnOk result (HasEntriesBefore components.now (spot_at (x + 1) 0 0) self.new) }
     {
         let arity = components[x as usize].arity() as u32;
         for count in 0..arity + 1 {
@@ -72,9 +72,9 @@ impl Index {
     ) -> Result<(), OutOfMemory>
         requires declared { place.component < length components.now }
         requires within { place.count ≤ arity_of (paths_in components.now place.component) }
-        requires earlier { HasEntriesBefore components.now (entry_at place.component place.count 0) self.old }
+        requires earlier { HasEntriesBefore components.now (spot_at place.component place.count 0) self.old }
         ensures { OnOk result
-            (HasEntriesBefore components.now (entry_at place.component (place.count + 1) 0) self.new) }
+            (HasEntriesBefore components.now (spot_at place.component (place.count + 1) 0) self.new) }
     {
         let arrows = components[place.component as usize].arrows(place.count as usize);
         for i in 0..arrows.len() {
@@ -82,27 +82,33 @@ impl Index {
             let Ok(position) = u32::try_from(i) else {
                 return Err(OutOfMemory);
             };
-            self.put(alloc, ending, Entry { place, position })?;
+            self.put(alloc, ending, place, position)?;
         }
         Ok(())
     }
 
     /// Puts an arrow of this ending last.
-    fn put(&mut self, alloc: Global, ending: Ending, entry: Entry) -> Result<(), OutOfMemory>
-        ensures { OnOk result ((e : Ending) → entries_for self.new e
-            ≡ (if is_ending ending e then entries_for self.old e ++ entry ∷ [] else entries_for self.old e)) }
+    fn put(
+        &mut self,
+        alloc: Global,
+        ending: Ending,
+        place: Place,
+        position: u32,
+    ) -> Result<(), OutOfMemory>
+        ensures { OnOk result ((e : Ending) → PutsIf (is_ending ending e) place position
+            (entries_for self.old e) (entries_for self.new e)) }
     {
         if let Some(entries) = self.lists.get_mut(&ending) {
-            entries.push(entry)?;
+            put_last(entries, place, position)?;
             return Ok(());
         }
         let mut entries = Vec::new(alloc);
-        entries.push(entry)?;
+        put_last(&mut entries, place, position)?;
         self.lists.insert(ending, entries)?;
         Ok(())
     }
 
-    /// The arrows whose targets have this ending, in order.
+    /// The places of the arrows whose targets have this ending, in order.
     pub fn find(&self, ending: Ending) -> &[Entry]
         ensures { result.now ≡ entries_for self.now ending }
     {
@@ -111,4 +117,20 @@ impl Index {
             None => &[],
         }
     }
+}
+
+/// Puts an arrow behind those of its ending. One of the last place has an entry already, which isn't for one arrow alone then.
+fn put_last(entries: &mut Vec<Entry>, place: Place, position: u32) -> Result<(), OutOfMemory>
+    ensures { OnOk result (PutsArrow place position entries.old.items entries.new.items) }
+{
+    let count = entries.len();
+    if count > 0 && entries[count - 1].place == place {
+        entries[count - 1] = Entry { place, only: None };
+        return Ok(());
+    }
+    entries.push(Entry {
+        place,
+        only: Some(position),
+    })?;
+    Ok(())
 }

@@ -87,13 +87,9 @@ impl<'a> Lead<'a> {
         match self.entries {
             Some(entries) => {
                 let onward = entries_from(entries, hint, place);
-                put_leading(lib, self.path, onward, place, positions)
+                put_first(alloc, lib, self.path, onward, place, positions)
             }
-            None => {
-                let family = lib.family(alloc, place.component, place.count, self.path)?;
-                positions.extend_from_slice(family.as_slice())?;
-                Ok(())
-            }
+            None => put_whole(alloc, lib, self.path, place, positions),
         }
     }
 }
@@ -147,40 +143,65 @@ fn entries_from<'a>(entries: &'a [Entry], hint: &mut usize, place: Place) -> &'a
 }
 
 /// Puts the positions of those arrows of the place that lead to the path behind the others. No entry is before the place.
-fn put_leading(
+fn put_first(
+    alloc: Global,
     lib: &Library,
     path: &Path,
     entries: &[Entry],
     place: Place,
     positions: &mut Positions,
 ) -> Result<(), OutOfMemory>
+    requires place { IsPlace lib.now place }
     requires suits { Suits (variances_in lib.now.taxonomy) path.now }
     requires entries { AreOnward lib.now path.now place entries.now }
     ensures { OnOk result (PutsFamily lib.now path.now place positions.old.items positions.new.items) }
 {
-    for entry in entries {
-        if entry.place != place {
-            return Ok(());
-        }
-        if leads(lib, path, *entry) {
-            positions.push(entry.position)?;
-        }
+    let Some(entry) = entries.first() else {
+        return Ok(());
+    };
+    if entry.place != place {
+        return Ok(());
     }
+    match entry.only {
+        Some(position) => {
+            if leads(lib, path, place, position) {
+                positions.push(position)?;
+            }
+            Ok(())
+        }
+        None => put_whole(alloc, lib, path, place, positions),
+    }
+}
+
+/// The same without entries.
+fn put_whole(
+    alloc: Global,
+    lib: &Library,
+    path: &Path,
+    place: Place,
+    positions: &mut Positions,
+) -> Result<(), OutOfMemory>
+    requires place { IsPlace lib.now place }
+    requires suits { Suits (variances_in lib.now.taxonomy) path.now }
+    ensures { OnOk result (PutsFamily lib.now path.now place positions.old.items positions.new.items) }
+{
+    let family = lib.family(alloc, place.component, place.count, path)?;
+    positions.extend_from_slice(family.as_slice())?;
     Ok(())
 }
 
 /// Whether the arrow leads to the path. Its target has the path's ending.
-fn leads(lib: &Library, path: &Path, entry: Entry) -> bool
-    requires ends { EndsIn lib.now.components (ending_of path.now) entry }
+fn leads(lib: &Library, path: &Path, place: Place, position: u32) -> bool
+    requires ends { EndsIn lib.now.components (ending_of path.now) (record { place = place; position = position }) }
     requires suits { Suits (variances_in lib.now.taxonomy) path.now }
-    ensures { IsTrue result ↔ Leads lib.now path.now entry }
+    ensures { IsTrue result ↔ Leads lib.now path.now (record { place = place; position = position }) }
 {
     // Each path of its ending is below a bare path. So the arrow, which stands far off in memory, isn't looked at.
     if is_bare(path) {
         return true;
     }
-    let arrows = lib.arrows(entry.place.component, entry.place.count);
-    let arrow = arrows.get(entry.position as usize);
+    let arrows = lib.arrows(place.component, place.count);
+    let arrow = arrows.get(position as usize);
     arrow.target().le(lib.taxonomy(), path)
 }
 

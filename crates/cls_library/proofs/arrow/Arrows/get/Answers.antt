@@ -15,7 +15,7 @@ bounds-self-inside-place c =
     let at = λ (k : ℕ). split_at i.count (slice_index_or i.paths.now k unit) in
     let size = length-map i.places.now at in
     let whole = ap (λ (l : List MultiArrow). length l) c.self.view_is in
-    AreBelow-at (length i.paths.now) i.places.now c.args.i c.self.invariant (let l = c.requires in omega arith)
+    rw c.get-place.ensures (AreBelow-at (length i.paths.now) i.places.now c.args.i c.self.invariant (let l = c.requires in omega arith))
 
 pub returns : goal.returns
 returns c =
@@ -28,7 +28,8 @@ returns c =
     ap (λ (l : List MultiArrow). slice_get l c.args.i) (sym c.self.view_is)
     ∙ slice_get-map at i.places.now c.args.i
     ∙ ap (option_map at) (slice_get-get_or i.places.now c.args.i 0 within)
-    ∙ ap Some (ap (split_at i.count) (get_or_default i.paths.now (slice_index_or i.places.now c.args.i 0) unit c.index-self-place.result below) ∙ sym c.new.ensures)
+    ∙ ap Some (ap (split_at i.count) (get_or_default i.paths.now (slice_index_or i.places.now c.args.i 0) unit c.index-self-place.result below
+    ∙ ap (λ (k : ℕ). slice_index_or i.paths.now k c.index-self-place.result) (sym c.get-place.ensures)) ∙ sym c.new.ensures)
 
 pub offset_bounds-self-inside-place : goal.offset_bounds-self-inside-place
 offset_bounds-self-inside-place c =

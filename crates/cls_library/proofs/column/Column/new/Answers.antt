@@ -1,4 +1,4 @@
-use Rattle.std.proofs.Common.{◌≡◌, ◌+◌, min, get_or, arith}
+use Rattle.std.proofs.Common.{◌≡◌, ◌+◌, ◌≤◌, min, get_or, refl, arith}
 use Rattle.std.specs.Prelude.{slice_index_or}
 use Rattle.std.proofs.lemmas.List.{get_or_default}
 use Rattle.cls_base.specs.Limits.{max_arity}
@@ -6,10 +6,23 @@ use Rattle.cls_path.specs.Paths.{unit}
 use Rattle.cls_library.specs.Arrows.{leading_arrows}
 use Rattle.cls_library.specs.declared.ending.Ending.{Ending}
 use Rattle.cls_library.specs.declared.ending.Head.TheVariants.{Covariant}
-use Rattle.cls_library.proofs.EndingLaws.{place-within, kind-within, kind-arrows}
-use Rattle.cls_library.proofs.Places.{places-more, places-skip, places-all}
+use Rattle.cls_base.proofs.Lists.{Contains-at}
+use Rattle.cls_library.specs.Endings.{ending_of}
+use Rattle.cls_library.proofs.EndingLaws.{place-within, kind-within, kind-arrows, kind-at}
+use Rattle.cls_library.proofs.Places.{numbers-places, places-more, places-skip, places-all}
 use Rattle.cls_library.proofs.column.Column.new.Goals as goal
 use Rattle.cls_library.proofs.column.Column.new.Goals.{then-kind-count+in_ok-push, else-kind-count}
+
+pub returns-then-have_all : goal.returns-then-have_all
+returns-then-have_all c =
+    let kinds = c.args.kinds.now in
+    let ks = c.args.endings.now in
+    let ps = c.args.paths.now in
+    numbers-places c.args.count 0 ps (λ k l.
+    let e = ending_of (slice_index_or ps k unit) in
+    let few : c.args.count ≤ e.arrows = c.have_all.ensures c.if-have_all.true e (Contains-at kinds (get_or ks k 0) e (kind-at kinds ks ps k c.requires.endings l).1) in
+    let m : e.arrows ≡ min (max_arity + 1) (leading_arrows (slice_index_or ps k unit)) = refl in
+    omega arith)
 
 pub bounds-endings-i : goal.bounds-endings-i
 bounds-endings-i c = place-within c.args.kinds.now c.args.endings.now c.args.paths.now c.loop-i.i c.requires.endings c.loop-i-test.true

@@ -12,11 +12,11 @@ new-requires c =
     let inside = c.self.inside in
     let same : listed inside.paths ≡ c.args.self.now.paths = ap (λ (x : Component). x.paths) c.self.view_is in
     let below : AreBelow (length inside.paths) c.index.result.now = column-below inside.paths inside.columns.items inside.endings.kinds.keys inside.endings.places.items c.self.invariant.0 c.args.self.now.paths same c.args.count c.requires c.index.result.now c.index.ensures in
-    rw (c.as_slice.ensures, c.paths.ensures) below
+    rw c.paths.ensures below
 
 pub returns : goal.returns
 returns c =
     let inside = c.self.inside in
     let same : listed inside.paths ≡ c.args.self.now.paths = ap (λ (x : Component). x.paths) c.self.view_is in
     let arrows : arrows_at_places c.args.count inside.paths c.index.result.now ≡ arrows_of c.args.count c.args.self.now.paths = column-arrows inside.paths inside.columns.items inside.endings.kinds.keys inside.endings.places.items c.self.invariant.0 c.args.self.now.paths same c.args.count c.requires c.index.result.now c.index.ensures in
-    rw (c.new.ensures, c.as_slice.ensures, c.paths.ensures) arrows
+    rw (c.new.ensures, c.paths.ensures) arrows

@@ -10,7 +10,7 @@ pub family_of-requires-clause-column : goal.family_of-requires-clause-column
 family_of-requires-clause-column c =
     let inside = c.self.inside in
     let same : listed inside.paths ≡ c.args.self.now.paths = ap (λ (x : Component). x.paths) c.self.view_is in
-    rw (c.as_slice.ensures, c.paths.ensures)
+    rw c.paths.ensures
     (column-places inside.paths inside.columns.items inside.endings.kinds.keys inside.endings.places.items c.self.invariant.0 c.args.self.now.paths same c.args.count c.requires.within c.index.result.now c.index.ensures)
 
 pub family_of-requires-clause-paths : goal.family_of-requires-clause-paths
@@ -23,4 +23,4 @@ returns c =
     let inside = c.self.inside in
     let same : listed inside.paths ≡ c.args.self.now.paths = ap (λ (x : Component). x.paths) c.self.view_is in
     let arrows : arrows_at_places c.args.count inside.paths c.index.result.now ≡ arrows_of c.args.count c.args.self.now.paths = column-arrows inside.paths inside.columns.items inside.endings.kinds.keys inside.endings.places.items c.self.invariant.0 c.args.self.now.paths same c.args.count c.requires.within c.index.result.now c.index.ensures in
-    rw (c.new-2.ensures, ← arrows, ← c.paths.ensures, ← c.as_slice.ensures) c.in_ok-family.ensures
+    rw (c.new-2.ensures, ← arrows, ← c.paths.ensures) c.in_ok-family.ensures

@@ -29,7 +29,7 @@ pub family_along-requires-clause-column : goal.family_along-requires-clause-colu
 family_along-requires-clause-column c =
     let inside = c.self.inside in
     let same : listed inside.paths ≡ c.args.self.now.paths = ap (λ (x : Component). x.paths) c.self.view_is in
-    rw (c.as_slice.ensures, c.paths.ensures)
+    rw c.paths.ensures
     (column-places inside.paths inside.columns.items inside.endings.kinds.keys inside.endings.places.items c.self.invariant.0 c.args.self.now.paths same c.args.count c.requires.within c.index.result.now c.index.ensures)
 
 pub family_along-requires-clause-endings : goal.family_along-requires-clause-endings

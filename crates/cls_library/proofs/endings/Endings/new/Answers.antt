@@ -1,4 +1,4 @@
-use Rattle.std.proofs.Common.{◌≡◌, List, take, sym, subst, ap, ◌∙◌, Some}
+use Rattle.std.proofs.Common.{◌≡◌, List, take, sym, subst, ap, ◌∙◌, Some, rules}
 use Rattle.std.specs.Prelude.{slice_get}
 use Rattle.std.proofs.lemmas.List.{take_all, take_more}
 use Rattle.indexmap.specs.IndexSet.{insert_key}
@@ -23,7 +23,8 @@ loop-path-preserved c =
     let found : slice_get gs k ≡ Some (ending_of p) = stored.1 ∙ ap (λ (h : Ending). Some h) ending in
     let grown : gs ≡ insert_key eq-value.it hs c.of.result = c.in_ok-place.ensures.keys in
     let kept : AreEndings gs ks (take i items) = endings-kept hs gs (λ j x e. subst (λ l. slice_get l j ≡ Some x) (sym grown) (keeps hs c.of.result j x e)) ks (take i items) c.loop-path.invariant in
-    rw (c.in_ok-push.ensures.items, take_more items i p c.loop-path-test.true, ← c.path-item.is)
+    let same : c.in-Ok.place ≡ k = search rules in
+    rw (c.in_ok-push.ensures.items, take_more items i p c.loop-path-test.true, ← c.path-item.is, same)
     (endings-more gs ks (take i items) k p kept found)
 
 pub new-requires : goal.new-requires

@@ -1,7 +1,7 @@
 use Rattle.std.proofs.Common.{◌≡◌, ◌+◌, ◌<◌, get_or, ap, ◌∙◌, arith}
 use Rattle.std.proofs.lemmas.List.{get_or_default}
 use Rattle.cls_library.specs.Arrows.{arity_of}
-use Rattle.cls_library.specs.Index.{entry_at, paths_in}
+use Rattle.cls_library.specs.Index.{spot_at, paths_in}
 use Rattle.cls_library.specs.Libraries.{Component, no_component}
 use Rattle.cls_library.proofs.Indexing.{entries-same, same-component_end}
 use Rattle.cls_library.proofs.index.Index.put_component.Goals as goal
@@ -15,4 +15,4 @@ returns c =
     let arity : c.arity-arity.result ≡ arity_of (paths_in cs x) = c.arity-arity.ensures ∙ ap (λ (d : Component). arity_of d.paths) is in
     let end = c.loop-count-test.false in
     let all : arity_of (paths_in cs x) < n = omega arith in
-    entries-same cs (entry_at x n 0) (entry_at (x + 1) 0 0) (same-component_end cs x n all) c.loop-count.self c.loop-count.invariant
+    entries-same cs (spot_at x n 0) (spot_at (x + 1) 0 0) (same-component_end cs x n all) c.loop-count.self c.loop-count.invariant

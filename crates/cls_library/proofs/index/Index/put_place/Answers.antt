@@ -1,10 +1,10 @@
-use Rattle.std.proofs.Common.{ℕ, ◌≡◌, ◌+◌, ◌≤◌, ◌++◌, ◌∷◌, [], List, Some, length, get_or, rules, subst, ap, ◌∙◌, arith}
-use Rattle.std.specs.Prelude.{slice_get, if◌then◌else◌}
+use Rattle.std.proofs.Common.{ℕ, ◌≡◌, ◌+◌, ◌≤◌, List, Some, length, get_or, rules, subst, ap, ◌∙◌, arith}
+use Rattle.std.specs.Prelude.{slice_get}
 use Rattle.std.proofs.lemmas.List.{get_or_default}
 use Rattle.cls_library.specs.declared.ending.Ending.{Ending}
 use Rattle.cls_library.specs.Arrows.{MultiArrow, arrows_of}
 use Rattle.cls_library.specs.Endings.{ending_of}
-use Rattle.cls_library.specs.Index.{arrows_in, entries_for, entry_at, is_ending}
+use Rattle.cls_library.specs.Index.{PutsIf, arrows_in, entries_for, is_ending, spot_at}
 use Rattle.cls_library.specs.Libraries.{Component, no_component}
 use Rattle.cls_library.proofs.Indexing.{entries-same, index-more, same-place_end}
 use Rattle.cls_library.proofs.index.Index.put_place.Goals as goal
@@ -23,8 +23,8 @@ loop-i-preserved c =
     let at : slice_get (arrows_in cs c.args.place) i ≡ Some c.get.result = subst (λ (arrows : List MultiArrow). slice_get arrows i ≡ Some c.get.result) same c.get.ensures in
     let end : ending ≡ ending_of c.get.result.target = c.of-ending.ensures ∙ ap ending_of c.target.ensures in
     let p : c.in-Ok.position ≡ i = search rules in
-    let put : (e : Ending) → entries_for new e ≡ (if is_ending ending e then entries_for old e ++ entry_at x n i ∷ [] else entries_for old e)
-    = subst (λ (k : ℕ). (e : Ending) → entries_for new e ≡ (if is_ending ending e then entries_for old e ++ entry_at x n k ∷ [] else entries_for old e)) p c.in_ok-put.ensures in
+    let put : (e : Ending) → PutsIf (is_ending ending e) c.args.place i (entries_for old e) (entries_for new e)
+    = subst (λ (k : ℕ). (e : Ending) → PutsIf (is_ending ending e) c.args.place k (entries_for old e) (entries_for new e)) p c.in_ok-put.ensures in
     index-more cs x n i ending c.get.result at end old new put c.loop-i.invariant
 
 pub returns : goal.returns
@@ -38,4 +38,4 @@ returns c =
     let a = c.len-i-end.ensures in
     let b = c.loop-i-test.false in
     let all : length (arrows_in cs c.args.place) ≤ i = omega arith in
-    entries-same cs (entry_at x n i) (entry_at x (n + 1) 0) (same-place_end cs x n i all) c.loop-i.self c.loop-i.invariant
+    entries-same cs (spot_at x n i) (spot_at x (n + 1) 0) (same-place_end cs x n i all) c.loop-i.self c.loop-i.invariant

@@ -5,8 +5,8 @@ use Rattle.cls_library.specs.Leads.{AreOnward, AreSoughtEntries}
 use Rattle.cls_library.proofs.Leading.{onward}
 use Rattle.cls_library.proofs.lead.Lead.put_family.Goals as goal
 
-pub put_leading-requires-clause-entries : goal.put_leading-requires-clause-entries
-put_leading-requires-clause-entries c =
+pub put_first-requires-clause-entries : goal.put_first-requires-clause-entries
+put_first-requires-clause-entries c =
     let l = c.args.lib.now in
     let lead = c.args.self.now in
     let entries = c.in-Some.entries.now in
