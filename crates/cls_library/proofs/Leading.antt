@@ -1,9 +1,7 @@
 -- The arrows of one ending that lead to a path, and where they stand.
-use Rattle.std.proofs.Common.{◌≡◌, ℕ, zero, suc, ◌+◌, ◌-◌, ◌<◌, ◌≤◌, min, ◌⊎◌, inl, inr, true, List, [], ◌∷◌, ◌++◌, length, drop, get_or, Option, None, Some, refl, sym, subst, ap, ◌∙◌, arith, IsTrue}
+use Rattle.std.proofs.Common.{◌≡◌, ℕ, zero, suc, ◌+◌, ◌-◌, ◌<◌, ◌≤◌, min, ◌⊎◌, inl, inr, true, List, [], ◌∷◌, length, drop, get_or, Option, None, Some, refl, sym, subst, ap, ◌∙◌, arith, IsTrue}
 use Rattle.std.specs.Prelude.{Contains, slice_get, slice_index_or, IsSomeAnd}
-use Rattle.std.specs.List.Sorted.{IsStrictlyIncreasing}
-use Rattle.std.proofs.lemmas.List.{get_or_append_left, get_or_push, length-append, get_or_default}
-use Rattle.std.proofs.lemmas.List.Elements.{Contains-push, Contains-push_cases, Contains-append_left}
+use Rattle.std.proofs.lemmas.List.Elements.{Contains-push, Contains-push_cases}
 use Rattle.std.proofs.lemmas.Option.{slice_get_within, slice_get-get_or}
 use Rattle.cls_base.specs.Limits.{max_arity}
 use Rattle.cls_base.proofs.Lists.{Contains-at, Contains-nil, Contains-place}
@@ -25,7 +23,7 @@ use Rattle.cls_library.specs.Leads.{AreOnward, IsFirstFrom, Leads}
 use Rattle.cls_library.specs.Libraries.{Component, Library, below_in, variances_in, no_component, arrows_at}
 use Rattle.cls_library.proofs.EndingLaws.{may-end, same-ending}
 use Rattle.cls_library.proofs.Lone.{one-leads}
-use Rattle.cls_library.proofs.Orders.{less-or-not, before_itself, before_cases, not_later, earlier_before, drop-at}
+use Rattle.cls_library.proofs.Orders.{less-or-not, before_itself, not_later, earlier_before, drop-at}
 use Rattle.cls_library.proofs.Places.{split-few}
 
 some-map : {A : Type 0} (o : Option A) (P Q : A → Type 0) → ((a : A) → P a → Q a) → IsSomeAnd o P → IsSomeAnd o Q

@@ -1,6 +1,4 @@
-use Rattle.std.proofs.Common.{Option, IsSome, refl, subst}
-use Rattle.std.specs.declared.vec.Vec.{Vec}
-use Rattle.cls_library.specs.declared.index.Entry.{Entry}
+use Rattle.std.proofs.Common.{IsSome, refl, subst}
 use Rattle.cls_library.proofs.Indexing.{put-held}
 use Rattle.cls_library.proofs.index.Index.put.Goals as goal
 
