@@ -5,7 +5,7 @@ use Rattle.std.proofs.Crossing.{crosses}
 use Rattle.atomic_table.proofs.shared.Seat.TheSendSync.{the_send as table_seat_send}
 use Rattle.atomic_table.proofs.shared.Shared.TheSendSync.{the_sync as shared_sync}
 use Rattle.atomic_table.proofs.send_lease.SendLease.TheSendSync.{the_sync as lease_sync}
-use Rattle.cls_turn.specs.declared.tagged.Tagged.{Ghosts}
+use Rattle.cls_turn.specs.declared.known.Known.{Ghosts}
 use Rattle.cls_turn.specs.contracts.seat.TurnSeat.{the_row as seat_row}
 use Rattle.cls_turn.specs.contracts.turn.Turn.{the_row as turn_row}
 

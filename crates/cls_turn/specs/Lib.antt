@@ -1,2 +1,2 @@
-pub mod OneTag
+pub mod Growing
 pub mod Seats

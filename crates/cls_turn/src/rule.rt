@@ -1,21 +1,22 @@
-//! The rule of the lock: all seats know one tag, and while the lock is free its value has that tag.
-ghost use Rattle.cls_turn.specs.OneTag.{KeepsOneTag, TakeOutcome, PutOutcome};
-ghost use Rattle.cls_turn.specs.OneTag.{first_view, kept_view, joined_view, spent_view};
+//! The rule of the lock: what each seat knows of the value goes on to what is known of it now.
+ghost use Rattle.cls_turn.specs.Growing.{KeepsGrowing, TakeOutcome, PutOutcome};
+ghost use Rattle.cls_turn.specs.Growing.{first_view, kept_view, joined_view, spent_view};
 
-use crate::tagged::Tagged;
+use crate::known::Known;
+use crate::view::View;
 use atomic_table::{Join, Play, Split, TableRule};
 use std::marker::PhantomData;
 use std::snapshot::Snapshot;
 
-/// The rule as a type. A seat's view is the tag, or nothing once the seat has ended.
-pub struct OneTag<T, G> {
+/// The rule as a type.
+pub struct Growing<T, G> {
     marker: PhantomData<(T, G)>,
 }
 
-impl<G, T: Tagged<G>> TableRule<Option<T>, Option<G>, Snapshot<T>> for OneTag<T, G> {
-    ghost holds = { λ _. KeepsOneTag T.tag };
+impl<G, T: Known<G>> TableRule<Option<T>, View<G>, Snapshot<T>> for Growing<T, G> {
+    ghost holds = { λ _. KeepsGrowing T.goes_on T.known };
 
-    ghost first = { λ key. first_view (T.tag key.value) };
+    ghost first = { λ key. first_view (T.known key.value) };
 }
 
 /// A compare-and-exchange of the word from 0 to 1. If it finds 0, the seat takes the slot.
@@ -23,27 +24,29 @@ pub struct Take<T, G> {
     marker: PhantomData<(T, G)>,
 }
 
-impl<G, T: Tagged<G>> Play<Option<T>, Option<G>> for Take<T, G> {
-    ghost then = { λ st m found n. TakeOutcome T.tag m found n };
+impl<G, T: Known<G>> Play<Option<T>, View<G>> for Take<T, G> {
+    ghost then = { λ st m found n. TakeOutcome T.goes_on T.known m found n };
 }
 
 /// A store of 0 into the word, by which the seat gives the slot back.
-pub struct Put;
-
-impl<G, T> Play<Option<T>, Option<G>> for Put {
-    ghost then = { λ st m found n. PutOutcome m n };
+pub struct Put<T, G> {
+    marker: PhantomData<(T, G)>,
 }
 
-/// How one seat becomes two with the same tag, and how two become one.
-pub struct SameTag;
+impl<G, T: Known<G>> Play<Option<T>, View<G>> for Put<T, G> {
+    ghost then = { λ st m found n. PutOutcome T.known m n };
+}
 
-impl<G> Split<Option<G>> for SameTag {
+/// How one seat becomes two that know the same, and how two become one.
+pub struct SameView;
+
+impl<G> Split<View<G>> for SameView {
     ghost left = { kept_view };
 
     ghost right = { kept_view };
 }
 
-impl<G> Join<Option<G>> for SameTag {
+impl<G> Join<View<G>> for SameView {
     ghost both = { joined_view };
 
     ghost spent = { spent_view };
