@@ -24,10 +24,10 @@ module _ {G : Type 0} where
   idle_not_holding : (g h : G) → Idle g ≡ Holding h → ⊥
   idle_not_holding g h e = cc
 
-  ended_not_idle : (h : G) → View.Ended ≡ Idle h → ⊥
+  ended_not_idle : (h : G) → Ended ≡ Idle h → ⊥
   ended_not_idle h e = cc
 
-  ended_not_holding : (h : G) → View.Ended ≡ Holding h → ⊥
+  ended_not_holding : (h : G) → Ended ≡ Holding h → ⊥
   ended_not_holding h e = cc
 
   same_idle : (g h : G) → Idle g ≡ Idle h → g ≡ h

@@ -1,5 +1,3 @@
-ghost use Rattle.cls_turn.specs.Growing.{};
-
 /// A value of which something is known.
 ///
 /// What is known is plain data of the type `G`. It exists in contracts alone: no code makes a `G`.
