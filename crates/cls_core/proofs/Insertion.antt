@@ -129,13 +129,20 @@ module _ {G : Type 0} (eq : G → G → Bool) where
       → numbers_from eq gs (take (i + 1) xs) ≡ numbers_from eq gs (take i xs) ++ position_or_len (eq (get_or xs i d)) (insert_all eq gs (take i xs)) ∷ []
   numbers-more gs xs i d h = ap (numbers_from eq gs) (take_more xs i d h) ∙ numbers-append gs (take i xs) (get_or xs i d ∷ [])
 
-  arguments-append : (rs ss : List (Rule G)) → arguments_in (rs ++ ss) ≡ arguments_in rs ++ arguments_in ss
+  pub arguments-append : (rs ss : List (Rule G)) → arguments_in (rs ++ ss) ≡ arguments_in rs ++ arguments_in ss
   arguments-append [] ss = refl
   arguments-append (r ∷ rs) ss =
       ap (λ l. arguments_of_rule r ++ l) (arguments-append rs ss) ∙ sym (append_assoc (arguments_of_rule r) (arguments_in rs) (arguments_in ss))
 
   arguments-one : (r : Rule G) → arguments_in (r ∷ []) ≡ arguments_of_rule r
   arguments-one r = append-nil (arguments_of_rule r)
+
+  -- the arguments of one rule more
+  pub arguments-more : (rs : List (Rule G)) (i : ℕ) (d : Rule G) → i < length rs
+      → arguments_in (take (i + 1) rs) ≡ arguments_in (take i rs) ++ arguments_of_rule (get_or rs i d)
+  arguments-more rs i d h =
+      ap arguments_in (take_more rs i d h)
+      ∙ (arguments-append (take i rs) (get_or rs i d ∷ []) ∙ ap (λ l. arguments_in (take i rs) ++ l) (arguments-one (get_or rs i d)))
 
   -- the first rules of a list make no more than all of them
   pub rules-take : (gs : List G) (rs : List (Rule G)) (i : ℕ)
@@ -147,9 +154,7 @@ module _ {G : Type 0} (eq : G → G → Bool) where
   pub rules-more : (gs : List G) (rs : List (Rule G)) (i : ℕ) (d : Rule G) → i < length rs
       → insert_all eq gs (arguments_in (take (i + 1) rs)) ≡ insert_all eq (insert_all eq gs (arguments_in (take i rs))) (arguments_of_rule (get_or rs i d))
   rules-more gs rs i d h =
-      ap (λ l. insert_all eq gs (arguments_in l)) (take_more rs i d h)
-      ∙ (ap (insert_all eq gs) (arguments-append (take i rs) (get_or rs i d ∷ []) ∙ ap (λ l. arguments_in (take i rs) ++ l) (arguments-one (get_or rs i d)))
-      ∙ all-append gs (arguments_in (take i rs)) (arguments_of_rule (get_or rs i d)))
+      ap (insert_all eq gs) (arguments-more rs i d h) ∙ all-append gs (arguments_in (take i rs)) (arguments_of_rule (get_or rs i d))
 
   rules-append : (gs : List G) (rs ss : List (Rule G))
       → rules_from eq gs (rs ++ ss) ≡ rules_from eq gs rs ++ rules_from eq (insert_all eq gs (arguments_in rs)) ss
@@ -169,11 +174,13 @@ module _ {G : Type 0} (eq : G → G → Bool) where
   goal-step gs xs ks i x h e is =
       ap (λ l. insert_key eq l x) e ∙ (ap (insert_key eq (insert_all eq gs (take i xs))) is ∙ sym (all-more gs xs i x h))
 
-  pub number-step : (gs xs ks : List G) (ns ms : List ℕ) (n i : ℕ) (x : G) → i < length xs
-      → ks ≡ insert_all eq gs (take i xs) → x ≡ get_or xs i x → ns ≡ numbers_from eq gs (take i xs)
-      → n ≡ position_or_len (eq x) ks → ms ≡ ns ++ n ∷ [] → ms ≡ numbers_from eq gs (take (i + 1) xs)
-  number-step gs xs ks ns ms n i x h e is f m g =
-      g ∙ ((λ k. f k ++ (m ∙ (λ j. position_or_len (eq (is j)) (e j))) k ∷ []) ∙ sym (numbers-more gs xs i x h))
+  pub number-step : (gs xs ks : List G) (base ns ms : List ℕ) (n i : ℕ) (x : G) → i < length xs
+      → ks ≡ insert_all eq gs (take i xs) → x ≡ get_or xs i x → ns ≡ base ++ numbers_from eq gs (take i xs)
+      → n ≡ position_or_len (eq x) ks → ms ≡ ns ++ n ∷ [] → ms ≡ base ++ numbers_from eq gs (take (i + 1) xs)
+  number-step gs xs ks base ns ms n i x h e is f m g =
+      g ∙ ((λ k. f k ++ (m ∙ (λ j. position_or_len (eq (is j)) (e j))) k ∷ [])
+      ∙ (append_assoc base (numbers_from eq gs (take i xs)) (position_or_len (eq (get_or xs i x)) (insert_all eq gs (take i xs)) ∷ [])
+      ∙ ap (λ l. base ++ l) (sym (numbers-more gs xs i x h))))
 
   -- one step over rules
   pub rule-step : (gs : List G) (rs : List (Rule G)) (ks : List G) (i : ℕ) (r : Rule G) → i < length rs
@@ -181,6 +188,17 @@ module _ {G : Type 0} (eq : G → G → Bool) where
       → insert_all eq ks (arguments_of_rule r) ≡ insert_all eq gs (arguments_in (take (i + 1) rs))
   rule-step gs rs ks i r h e is =
       ap (λ l. insert_all eq l (arguments_of_rule r)) e ∙ (ap (λ q. insert_all eq (insert_all eq gs (arguments_in (take i rs))) (arguments_of_rule q)) is ∙ sym (rules-more gs rs i r h))
+
+  pub arguments-step : (gs : List G) (rs : List (Rule G)) (ks : List G) (base ns ms : List ℕ) (i : ℕ) (r : Rule G)
+      → i < length rs → ks ≡ insert_all eq gs (arguments_in (take i rs)) → r ≡ get_or rs i r
+      → ns ≡ base ++ numbers_from eq gs (arguments_in (take i rs)) → ms ≡ ns ++ numbers_from eq ks (arguments_of_rule r)
+      → ms ≡ base ++ numbers_from eq gs (arguments_in (take (i + 1) rs))
+  arguments-step gs rs ks base ns ms i r h e is f g =
+      let before = arguments_in (take i rs) in
+      let next = arguments_of_rule (get_or rs i r) in
+      g ∙ ((λ k. f k ++ numbers_from eq (e k) (arguments_of_rule (is k)))
+      ∙ (append_assoc base (numbers_from eq gs before) (numbers_from eq (insert_all eq gs before) next)
+      ∙ ap (λ l. base ++ l) (sym (ap (numbers_from eq gs) (arguments-more rs i r h) ∙ numbers-append gs before next))))
 
   pub numbered-step : (gs : List G) (rs : List (Rule G)) (ks : List G) (ns ms : List (Rule ℕ)) (n : Rule ℕ) (i : ℕ) (r : Rule G)
       → i < length rs → ks ≡ insert_all eq gs (arguments_in (take i rs)) → r ≡ get_or rs i r

@@ -3,6 +3,7 @@ pub mod Columns
 pub mod FiledRows
 pub mod AfterFiling
 pub mod Finding
+pub mod FoundRows
 pub mod Grammar
 pub mod Insertion
 pub mod Members

@@ -1,4 +1,5 @@
 pub mod Adding
+pub mod ArgumentRows
 pub mod Arguments
 pub mod Canonical
 pub mod Closure

@@ -2,11 +2,14 @@ ghost use Rattle.std.specs.Prelude.{◌≡◌, ◌<◌, ◌≤◌, ◌+◌, ◌^
 ghost use Rattle.std.specs.Vec.{vec_capacity};
 ghost use Rattle.indexmap.specs.IndexSet.{spare, insert_all};
 ghost use Rattle.cls_core.specs.Machine.{rules_in, IsFiled, SomeUnfiled};
-ghost use Rattle.cls_core.specs.Arguments.{rule_count};
+ghost use Rattle.cls_core.specs.ArgumentRows.{AreRowsOf};
+ghost use Rattle.cls_core.specs.Arguments.{arguments_of, rule_count};
+ghost use Rattle.cls_core.specs.Numbers.{numbers_from};
 ghost use Rattle.cls_core.specs.declared.state.RowState.{RowState};
 ghost use Rattle.cls_core.specs.declared.state.RowState.TheVariants.{Free, Held};
 
 use crate::answer::Answer;
+use crate::argument_rows::ArgumentRows;
 use crate::copying::{copy_goals, copy_states};
 use crate::entry::{Entry, History};
 use crate::filing::Filing;
@@ -181,29 +184,37 @@ impl<G: Key + Drop> Core<G> {
     }
 
     /// The event File: the row, which the worker holds, is filed with the answer. Each argument goal that has no row
-    /// yet gets a free one. If there would be more than `most` rows, nothing changes, which `OverLimits` says. All memory
-    /// is taken before a row changes. The Err means out of memory alone: it hands the answer back, and the core is as it was.
+    /// yet gets a free one. An argument whose row is known isn't looked for. Once the row is filed, `arguments` says in
+    /// which row each argument stands. If there would be more than `most` rows, nothing changes, which `OverLimits`
+    /// says. All memory is taken before a row changes. The only error is out of memory, which leaves the core as it was.
     pub fn file(
         &mut self,
         alloc: Global,
         worker: u32,
         row: u32,
-        answer: Answer<G>,
+        answer: &Answer<G>,
+        arguments: &mut ArgumentRows,
         most: u32,
-    ) -> Result<Filing, Answer<G>>
+    ) -> Result<Filing, OutOfMemory>
         requires held { slice_get self.old.rows.states row ≡ Some (Held worker) }
         requires few { length self.old.rows.goals ≤ most }
-        requires rules { rules_in self.old.rows.states + rule_count answer < 2 ^ 64 }
-        ensures room { IfOk result (λ f. (f ≡ Filing.Kept) ↔ (length (grown G.eq self.old.rows.goals answer) ≤ most)) }
-        ensures rows { IfOk result (λ f. f ≡ Filing.Kept → self.new.rows ≡ filed G.eq self.old.rows row answer) }
+        requires rules { rules_in self.old.rows.states + rule_count answer.now < 2 ^ 64 }
+        requires known { AreRowsOf self.old.rows.goals (arguments_of answer.now) arguments.old.known.items }
+        ensures room { IfOk result (λ f.
+            (f ≡ Filing.Kept) ↔ (length (grown G.eq self.old.rows.goals answer.now) ≤ most)) }
+        ensures rows { IfOk result (λ f. f ≡ Filing.Kept
+            → self.new.rows ≡ filed G.eq self.old.rows row answer.now) }
         ensures history { IfOk result (λ f. f ≡ Filing.Kept
             → self.new.history ≡ self.old.history ++ File worker row ∷ []) }
         ensures over { IfOk result (λ f. f ≡ Filing.OverLimits → self.new ≡ self.old) }
-        ensures unchanged { IfErr result (λ a. (a ≡ answer) × (self.new ≡ self.old)) }
+        ensures known { arguments.new.known ≡ arguments.old.known }
+        ensures found { IfOk result (λ f. f ≡ Filing.Kept → arguments.new.found.items
+            ≡ numbers_from G.eq self.old.rows.goals (arguments_of answer.now)) }
+        ensures unchanged { OnErr result (self.new ≡ self.old) }
     {
-        let Ok(numbered) = number_whole(alloc, &mut self.goals, most, &answer) else {
-            return Err(answer);
-        };
+        let known = arguments.known.as_slice();
+        let found = &mut arguments.found;
+        let numbered = number_whole(alloc, &mut self.goals, most, answer, known, found)?;
         let Some(numbers) = numbered else {
             return Ok(Filing::OverLimits);
         };
@@ -211,7 +222,7 @@ impl<G: Key + Drop> Core<G> {
         let count = self.goals.len() - rows;
         let Ok(()) = self.states.reserve(count) else {
             self.goals.truncate(rows);
-            return Err(answer);
+            return Err(OutOfMemory);
         };
         add_free(&mut self.states, count);
         self.rules += answer.rule_count() as u64;

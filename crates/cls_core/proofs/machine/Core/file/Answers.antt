@@ -18,8 +18,8 @@ overflow_sub-count g c =
     let eq = g.G.PartialEq.eq in
     let goals = c.self.inside.goals.keys in
     let new = c.number_whole.new.rows.keys in
-    let more = subst (λ r. IfSome r (λ _. new ≡ grown eq goals c.args.answer)) c.in-Some.is c.in-Ok.ensures.added in
-    omega (arith, ap length more, c.len.ensures.len, c.len-rows.ensures, c.self.invariant.paired, all-length eq goals (arguments_of c.args.answer))
+    let more = subst (λ r. IfSome r (λ _. new ≡ grown eq goals c.args.answer.now)) c.in-Some.is c.in_ok-numbered.ensures.added in
+    omega (arith, ap length more, c.len.ensures.len, c.len-rows.ensures, c.self.invariant.paired, all-length eq goals (arguments_of c.args.answer.now))
 
 pub returns-in_default-reserve-clause-unchanged : goal.returns-in_default-reserve-clause-unchanged
 returns-in_default-reserve-clause-unchanged g c =
@@ -27,12 +27,12 @@ returns-in_default-reserve-clause-unchanged g c =
     let i = c.self.inside in
     let goals = i.goals.keys in
     let new = c.number_whole.new.rows.keys in
-    let more = subst (λ r. IfSome r (λ _. new ≡ grown eq goals c.args.answer)) c.in-Some.is c.in-Ok.ensures.added in
-    let behind = all-front eq goals (arguments_of c.args.answer) in
+    let more = subst (λ r. IfSome r (λ _. new ≡ grown eq goals c.args.answer.now)) c.in-Some.is c.in_ok-numbered.ensures.added in
+    let behind = all-front eq goals (arguments_of c.args.answer.now) in
     let rows : c.len-rows.result ≡ length goals = omega (arith, c.len-rows.ensures, c.self.invariant.paired) in
     let keys : c.truncate.new.self.keys ≡ goals = c.truncate.ensures.keys ∙ (ap (λ n. take n new) rows ∙ goes_cut goals new (record { more = behind.0; is = more ∙ behind.1 })) in
     let states : c.reserve.new.self.items ≡ i.states.items = c.in_default-reserve.ensures.items in
-    (refl, (λ k. record { rows = machine (keys k) (states k); history = i.history.items }) ∙ c.self.view_is)
+    (λ k. record { rows = machine (keys k) (states k); history = i.history.items }) ∙ c.self.view_is
 
 pub index_mut-requires : goal.index_mut-requires
 index_mut-requires g c =
@@ -40,7 +40,7 @@ index_mut-requires g c =
     let held = subst (λ v. slice_get v.rows.states c.args.row ≡ Some (Held c.args.worker)) (sym c.self.view_is) c.requires.held in
     let within = slice_get_within i.states.items c.args.row (Held c.args.worker) held in
     let n = c.len.result - c.len-rows.result in
-    omega (arith, within, ap length c.add_free.ensures, ap length c.in-Ok-reserve.ensures.items, length-append c.reserve.new.self.items (replicate n Free))
+    omega (arith, within, ap length c.add_free.ensures, ap length c.in-Ok.ensures.items, length-append c.reserve.new.self.items (replicate n Free))
 
 pub overflow_sub-self : goal.overflow_sub-self
 overflow_sub-self g c =
@@ -64,18 +64,18 @@ invariant_of-self-2 g c =
     let i = c.self.inside in
     let k = c.self.invariant in
     let goals = i.goals.keys in
-    let answer = c.args.answer in
+    let answer = c.args.answer.now in
     let numbers = c.in-Some.numbers in
     let held = subst (λ v. slice_get v.rows.states c.args.row ≡ Some (Held c.args.worker)) (sym c.self.view_is) c.requires.held in
     let some = held-counts i.states.items c.args.row c.args.worker held in
     let new = c.number_whole.new.rows.keys in
-    let more = subst (λ r. IfSome r (λ _. new ≡ grown eq goals answer)) c.in-Some.is c.in-Ok.ensures.added in
-    let given = subst (λ r. IfSome r (λ n. n ≡ answer_from eq goals answer)) c.in-Some.is c.in-Ok.ensures.numbers in
-    let few = subst (λ r. IfSome r (λ _. length (grown eq goals answer) ≤ c.args.most)) c.in-Some.is c.in-Ok.ensures.few in
+    let more = subst (λ r. IfSome r (λ _. new ≡ grown eq goals answer)) c.in-Some.is c.in_ok-numbered.ensures.added in
+    let given = subst (λ r. IfSome r (λ n. n ≡ answer_from eq goals answer)) c.in-Some.is c.in_ok-numbered.ensures.numbers in
+    let few = subst (λ r. IfSome r (λ _. length (grown eq goals answer) ≤ c.args.most)) c.in-Some.is c.in_ok-numbered.ensures.few in
     let long : length (grown eq goals answer) ≡ length goals + (c.len.result - c.len-rows.result) = omega (arith, ap length more, c.len.ensures.len, c.len-rows.ensures, c.self.invariant.paired, all-length eq goals (arguments_of answer)) in
     kept-file goals i.states.items i.first i.held i.rules (vec_capacity i.history) i.history.items c.args.row c.args.worker (c.len.result - c.len-rows.result) numbers new c.add_free.new.states.items (File c.args.worker c.args.row) c.push_reserved.new.self.items
     k held (ap length more ∙ long) (omega (arith, ap length more, few, c.ranges.most.fits))
-    (c.add_free.ensures ∙ ap (λ l. l ++ replicate (c.len.result - c.len-rows.result) Free) c.in-Ok-reserve.ensures.items)
+    (c.add_free.ensures ∙ ap (λ l. l ++ replicate (c.len.result - c.len-rows.result) Free) c.in-Ok.ensures.items)
     c.push_reserved.ensures.items
     (i.held - 1) (i.rules + c.rule_count.result) (vec_capacity c.push_reserved.new.self)
     (omega (arith, k.held_counted))
@@ -87,13 +87,13 @@ returns-clause-rows g c _ =
     let eq = g.G.PartialEq.eq in
     let i = c.self.inside in
     let goals = i.goals.keys in
-    let answer = c.args.answer in
+    let answer = c.args.answer.now in
     let numbers = c.in-Some.numbers in
     let held = subst (λ v. slice_get v.rows.states c.args.row ≡ Some (Held c.args.worker)) (sym c.self.view_is) c.requires.held in
     let new = c.number_whole.new.rows.keys in
-    let more = subst (λ r. IfSome r (λ _. new ≡ grown eq goals answer)) c.in-Some.is c.in-Ok.ensures.added in
-    let given = subst (λ r. IfSome r (λ n. n ≡ answer_from eq goals answer)) c.in-Some.is c.in-Ok.ensures.numbers in
+    let more = subst (λ r. IfSome r (λ _. new ≡ grown eq goals answer)) c.in-Some.is c.in_ok-numbered.ensures.added in
+    let given = subst (λ r. IfSome r (λ n. n ≡ answer_from eq goals answer)) c.in-Some.is c.in_ok-numbered.ensures.numbers in
     let long : length (grown eq goals answer) ≡ length goals + (c.len.result - c.len-rows.result) = omega (arith, ap length more, c.len.ensures.len, c.len-rows.ensures, c.self.invariant.paired, all-length eq goals (arguments_of answer)) in
-    let behind = c.add_free.ensures ∙ ap (λ l. l ++ replicate (c.len.result - c.len-rows.result) Free) c.in-Ok-reserve.ensures.items in
+    let behind = c.add_free.ensures ∙ ap (λ l. l ++ replicate (c.len.result - c.len-rows.result) Free) c.in-Ok.ensures.items in
     filed-rows eq g.met.G.Eq.laws.refl goals i.states.items answer new c.add_free.new.states.items numbers (c.len.result - c.len-rows.result) c.args.row (Held c.args.worker) more long behind given held
     ∙ ap (λ v. filed eq v.rows c.args.row answer) c.self.view_is
