@@ -2,7 +2,6 @@
 use Rattle.std.proofs.Common.{◌≡◌, ℕ, zero, suc, ◌+◌, ◌<◌, Bool, true, false, cond, not, List, [], ◌∷◌, ◌++◌, Option, Some, None, length, map, take, drop, get_or, slice_get, refl, sym, ap, subst, ◌∙◌, arith, append_assoc, length-append, if◌then◌else◌, ◌||◌}
 use Rattle.std.specs.Prelude.{IfSome}
 use Rattle.std.specs.List.{position_or_len, list_any, IsDistinct, AllByRecursion}
-
 use Rattle.std.proofs.lemmas.List.{take_more, take-append-drop}
 use Rattle.indexmap.specs.IndexSet.{insert_key, insert_all}
 use Rattle.cls_base.specs.declared.rule.Rule.{Rule}
@@ -53,9 +52,9 @@ module _ {G : Type 0} where
   part_rows goals more before part behind args rows n m e f on are i row goal h k =
       let place : n + (length before + i) ≡ m + i = omega arith in
       let told : slice_get (drop n rows) (length before + i) ≡ Some (Some row) =
-          get-drop rows n (length before + i) ∙ (ap (slice_get rows) place ∙ (sym (get-drop rows m i) ∙ h)) in
+      get-drop rows n (length before + i) ∙ (ap (slice_get rows) place ∙ (sym (get-drop rows m i) ∙ h)) in
       let stands : slice_get args (length before + i) ≡ Some goal =
-          ap (λ l. slice_get l (length before + i)) e ∙ (get-behind before (part ++ behind) i ∙ get-front part behind i goal k) in
+      ap (λ l. slice_get l (length before + i)) e ∙ (get-behind before (part ++ behind) i ∙ get-front part behind i goal k) in
       rows_stay goals more args (drop n rows) on are (length before + i) row goal told stands
 
   -- the row of the next argument
@@ -83,7 +82,7 @@ module _ {G : Type 0} (eq : G → G → Bool) where
   one_of_rows gs ks xs known base ns i x h is f on are =
       let next : take (i + 1) xs ≡ take i xs ++ x ∷ [] = take_more xs i x h ∙ ap (λ y. take i xs ++ y ∷ []) (sym is) in
       let split : xs ≡ take i xs ++ (x ∷ [] ++ drop (i + 1) xs) =
-          sym (take-append-drop (i + 1) xs) ∙ (ap (λ l. l ++ drop (i + 1) xs) next ∙ append_assoc (take i xs) (x ∷ []) (drop (i + 1) xs)) in
+      sym (take-append-drop (i + 1) xs) ∙ (ap (λ l. l ++ drop (i + 1) xs) next ∙ append_assoc (take i xs) (x ∷ []) (drop (i + 1) xs)) in
       part_rows gs ks (take i xs) (x ∷ []) (drop (i + 1) xs) xs known (length base) (length ns) split (behind-numbers gs (take i xs) base ns f) on are
 
   -- one step over rules
@@ -95,10 +94,10 @@ module _ {G : Type 0} (eq : G → G → Bool) where
       let before = arguments_in (take i rs) in
       let behind = arguments_in (drop (i + 1) rs) in
       let next : arguments_in (take (i + 1) rs) ≡ before ++ arguments_of_rule r =
-          arguments-more eq rs i r h ∙ ap (λ q. before ++ arguments_of_rule q) (sym is) in
+      arguments-more eq rs i r h ∙ ap (λ q. before ++ arguments_of_rule q) (sym is) in
       let split : arguments_in rs ≡ before ++ (arguments_of_rule r ++ behind) =
-          ap arguments_in (sym (take-append-drop (i + 1) rs)) ∙ (arguments-append eq (take (i + 1) rs) (drop (i + 1) rs)
-          ∙ (ap (λ l. l ++ behind) next ∙ append_assoc before (arguments_of_rule r) behind)) in
+      ap arguments_in (sym (take-append-drop (i + 1) rs)) ∙ (arguments-append eq (take (i + 1) rs) (drop (i + 1) rs)
+      ∙ (ap (λ l. l ++ behind) next ∙ append_assoc before (arguments_of_rule r) behind)) in
       part_rows gs ks before (arguments_of_rule r) behind (arguments_in rs) known (length base) (length ns) split (behind-numbers gs before base ns f) on are
 
   -- what holds of all is so of one

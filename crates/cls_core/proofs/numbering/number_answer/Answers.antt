@@ -1,4 +1,4 @@
-use Rattle.std.proofs.Common.{ap, sym, subst, ◌≡◌, ◌∙◌, [], drop, length}
+use Rattle.std.proofs.Common.{ap, sym, subst, ◌∙◌, drop, length}
 use Rattle.cls_core.specs.ArgumentRows.{AreRowsOf}
 use Rattle.cls_core.specs.Arguments.{arguments_of}
 use Rattle.cls_rulebook.specs.Arguments.{arguments_in}

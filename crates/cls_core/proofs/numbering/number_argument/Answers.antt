@@ -1,4 +1,4 @@
-use Rattle.std.proofs.Common.{arith, sym, subst, ◌≡◌, Some, slice_get, length}
+use Rattle.std.proofs.Common.{arith, subst, ◌≡◌, Some, slice_get, length}
 use Rattle.std.specs.Prelude.{IfSome}
 use Rattle.cls_core.proofs.FoundRows.{next_row}
 use Rattle.cls_core.proofs.numbering.number_argument.Goals as goal

@@ -1,4 +1,4 @@
-use Rattle.std.proofs.Common.{sym, ap, ◌∙◌, subst, ◌≡◌, Some, slice_get, if◌then◌else◌, ◌++◌, ◌∷◌, []}
+use Rattle.std.proofs.Common.{sym, ap, subst, ◌≡◌, Some, slice_get, if◌then◌else◌, ◌++◌, ◌∷◌, []}
 use Rattle.std.specs.Prelude.{Bool, IfSome}
 use Rattle.cls_core.proofs.FoundRows.{known_place}
 use Rattle.cls_core.proofs.Insertion.{place-found}

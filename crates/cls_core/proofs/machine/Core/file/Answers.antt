@@ -3,7 +3,7 @@ use Rattle.std.specs.Vec.{vec_capacity}
 use Rattle.cls_core.specs.Arguments.{arguments_of, rule_count}
 use Rattle.cls_core.specs.Numbers.{answer_from}
 use Rattle.std.proofs.lemmas.Option.{slice_get_within}
-use Rattle.std.proofs.Common.{arith, length-append, refl, take, ap, sym, subst, Some, slice_get, ◌≡◌, ◌≤◌, ◌+◌, ◌-◌, ◌++◌, ◌∙◌, length}
+use Rattle.std.proofs.Common.{arith, length-append, take, ap, sym, subst, Some, slice_get, ◌≡◌, ◌≤◌, ◌+◌, ◌-◌, ◌++◌, ◌∙◌, length}
 use Rattle.cls_core.specs.declared.state.RowState.TheVariants.{Free, Held}
 use Rattle.cls_core.specs.declared.entry.Entry.TheVariants.{File}
 use Rattle.cls_core.specs.Machine.{grown, filed}
