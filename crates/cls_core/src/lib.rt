@@ -4,8 +4,8 @@
 //! - [`Answer`] is what is known of a goal once it was worked on, and [`Expand`] is what works on it. Which answer a
 //!   goal has is a relation, not a function. [`TypedExpand`] is an expander whose answers are the rules of a typing.
 //! - [`Core`] has a row for each goal that was reached. A row is free, held by a worker, or filed with its answer.
-//!   [`Core::claim`] and [`Core::file`] are its two events, and [`Entry`] and [`History`] record them. [`Filing`] says what
-//!   became of a filing, and [`ArgumentRows`] in which rows the goals stand that it needs.
+//!   [`Core::claim`] and [`Core::file`] are its two events, and [`Entry`] and [`History`] record them. [`Filing`] says
+//!   what became of a filing, and [`ArgumentRows`] which rows the answer's arguments have.
 //! - [`Finished`] is a core whose rows are all filed: [`Rows`] and the history. [`Core::finish`] makes it of a core,
 //!   and [`Core::read`] copies it out of one.
 //! - [`laws`] holds what is true of every history: which goals it reaches, and that the rows of a complete history

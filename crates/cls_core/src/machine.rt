@@ -186,7 +186,8 @@ impl<G: Key + Drop> Core<G> {
     /// The event File: the row, which the worker holds, is filed with the answer. Each argument goal that has no row
     /// yet gets a free one. An argument whose row is known isn't looked for. Once the row is filed, `arguments` says in
     /// which row each argument stands. If there would be more than `most` rows, nothing changes, which `OverLimits`
-    /// says. All memory is taken before a row changes. The only error is out of memory, which leaves the core as it was.
+    /// says. All memory is taken before a row changes. The only error is out of memory, which leaves the core as it
+    /// was.
     pub fn file(
         &mut self,
         alloc: Global,

@@ -17,8 +17,8 @@ use cls_rulebook::{NodeRules, RuleRef};
 use indexmap::IndexSet;
 use std::alloc::Global;
 
-// The number of one goal: its row if that is known. Otherwise it is put behind the rows unless it is among them. None comes
-// if and only if there would be too many rows.
+// The number of one goal: its row if that is known. Otherwise it is put behind the rows unless it is among them. None
+// comes if and only if there would be too many rows.
 #[inline]
 #[tactic(auto, using(crate::proofs::Insertion::goes_same, crate::proofs::Insertion::goes_equal, crate::proofs::Insertion::goes_key))]
 fn number_goal<G: Key + Drop>(
@@ -61,8 +61,8 @@ fn known_row(known: &[Option<u32>], place: usize) -> Option<u32>
     *known.get(place)?
 }
 
-// The number of the next argument, which is put behind the numbers found so far. None comes if and only if there would be
-// too many rows.
+// The number of the next argument, which is put behind the numbers found so far. None comes if and only if there would
+// be too many rows.
 #[tactic(auto, using(crate::proofs::Insertion::goes_same, crate::proofs::Insertion::goes_on))]
 fn number_argument<G: Key + Drop>(
     alloc: Global,
@@ -120,8 +120,8 @@ fn number_goals<G: Key + Drop>(
     Ok(Some(()))
 }
 
-// Puts a rule in numbers behind the others, and the numbers of its arguments behind those found so far. None comes if and
-// only if there would be too many rows.
+// Puts a rule in numbers behind the others, and the numbers of its arguments behind those found so far. None comes if
+// and only if there would be too many rows.
 #[tactic(auto, using(crate::proofs::Insertion::goes_same, crate::proofs::Insertion::goes_on))]
 fn number_rule<G: Key + Drop>(
     alloc: Global,
@@ -195,8 +195,8 @@ fn argument_count<G>(rules: &[Rule<G>]) -> Result<usize, OutOfMemory>
     Ok(count)
 }
 
-// Rules in numbers, one after the other. The numbers of their arguments are put behind those found so far. None comes if and
-// only if there would be too many rows.
+// Rules in numbers, one after the other. The numbers of their arguments are put behind those found so far. None comes if
+// and only if there would be too many rows.
 #[tactic(auto, using(crate::proofs::Insertion::goes_same, crate::proofs::Insertion::goes_on))]
 fn number_rules<G: Key + Drop>(
     alloc: Global,
@@ -230,8 +230,8 @@ fn number_rules<G: Key + Drop>(
     Ok(Some(numbered))
 }
 
-// An answer in numbers. The numbers of its arguments take the place of those that the list had. None comes if and only if
-// there would be too many rows.
+// An answer in numbers. The numbers of its arguments take the place of those that the list had. None comes if and only
+// if there would be too many rows.
 #[tactic(auto, using(crate::proofs::Insertion::goes_same, crate::proofs::Insertion::goes_on))]
 fn number_answer<G: Key + Drop>(
     alloc: Global,
@@ -268,8 +268,8 @@ fn number_answer<G: Key + Drop>(
     }
 }
 
-/// An answer in numbers. The numbers of its arguments take the place of those that the list had. None comes if and only if
-/// there would be too many rows, and leaves the rows as they were, as does the Err. The only error is out of memory.
+/// An answer in numbers. The numbers of its arguments take the place of those that the list had. None comes if and only
+/// if there would be too many rows, and leaves the rows as they were, as does the Err. The only error is out of memory.
 #[tactic(auto, using(crate::proofs::Insertion::goes_cut))]
 pub(crate) fn number_whole<G: Key + Drop>(
     alloc: Global,
