@@ -10,6 +10,8 @@ use Rattle.cls_table.specs.declared.tag.Tag.{Tag}
 use Rattle.cls_table.specs.Seen.{TableSeen, ClaimSeen, FiledSeen}
 use Rattle.cls_table.specs.declared.claim.ClaimAnswer.{ClaimAnswer}
 use Rattle.cls_table.specs.declared.claim.ClaimAnswer.TheVariants.{Job, Again, Finished, TooLarge}
+use Rattle.cls_table.specs.declared.claim.FileAnswer.{FileAnswer}
+use Rattle.cls_table.specs.declared.claim.FileAnswer.TheVariants.{Kept, TooLarge as PastLimits, NotHeld}
 
 -- with the answer filed, the table would be within its limits
 abbrev pub HasRoom : {B G : Type 0} → (G → G → Bool) → Tag B G → Machine G → Answer G → Type 0
@@ -63,6 +65,12 @@ module _ {B G : Type 0} where
   abbrev pub IsHeldClaim : Machine G → ClaimSeen B G → Type 0
   IsHeldClaim r c = (slice_get r.states c.row ≡ Some (Held c.worker)) × (slice_get r.goals c.row ≡ Some c.goal)
 
+  -- the goal is filed
+  abbrev pub IsKept : {E : Type 0} → FileAnswer E G B → Type 0
+  IsKept (Kept a) = Unit {0}
+  IsKept PastLimits = ⊥
+  IsKept (NotHeld f) = ⊥
+
   module _ (eq : G → G → Bool) where
     -- the table after a filing within the limits
     abbrev pub after_file : TableSeen B G → FiledSeen B G → TableSeen B G
@@ -71,9 +79,10 @@ module _ {B G : Type 0} where
       history = t.history ++ File f.claim.worker f.claim.row ∷ [];
     }
 
-    -- the filing is of a held claim: it is filed, or the table is marked as too large
-    abbrev pub FileOutcome : TableSeen B G → FiledSeen B G → TableSeen B G → Type 0
-    FileOutcome t f u =
-        IsHeldClaim t.rows f.claim
-        × (HasRoom eq t.tag t.rows f.answer → u ≡ after_file t f)
-        × ((HasRoom eq t.tag t.rows f.answer → ⊥) → u ≡ large_table t)
+    -- the filing gets this answer, and the table t becomes u
+    abbrev pub FileOutcome : {E : Type 0} → TableSeen B G → FiledSeen B G → FileAnswer E G B → TableSeen B G → Type 0
+    FileOutcome t f (Kept a) u =
+        (a ≡ f.answer) × IsHeldClaim t.rows f.claim × HasRoom eq t.tag t.rows f.answer × (u ≡ after_file t f)
+    FileOutcome t f PastLimits u =
+        IsHeldClaim t.rows f.claim × (HasRoom eq t.tag t.rows f.answer → ⊥) × (u ≡ large_table t)
+    FileOutcome t f (NotHeld g) u = (g ≡ f) × (IsHeldClaim t.rows f.claim → ⊥) × (u ≡ t)

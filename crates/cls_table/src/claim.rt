@@ -61,6 +61,16 @@ pub enum ClaimAnswer<E: Expand> {
     TooLarge,
 }
 
+/// What became of a filing.
+pub enum FileAnswer<E: Expand> {
+    /// The goal is filed. Its answer is handed back.
+    Kept(Answer<E::Goal>),
+    /// The closure is too large, which the table is marked with.
+    TooLarge,
+    /// The claim's row isn't held by its worker or has another goal. The filing is handed back.
+    NotHeld(Filed<E>),
+}
+
 impl<E: Expand> Claim<E> {
     /// The number of the worker that made the claim.
     pub fn worker(&self) -> u32
@@ -119,6 +129,13 @@ impl<E: Expand> Filed<E> {
     {
         // For the prover: opens the filing's model.
         let _ = &self.answer;
+    }
+
+    /// The answer.
+    pub fn answer(&self) -> &Answer<E::Goal>
+        ensures { result.now ≡ self.now.answer }
+    {
+        &self.answer
     }
 
     /// The claim, without the answer.

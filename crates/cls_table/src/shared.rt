@@ -1,13 +1,13 @@
-ghost use Rattle.std.specs.Prelude.{◌≡◌, ◌<◌, ◌≤◌, ◌+◌, ◌-◌, Some, IfOk, IfErr, IfSome, OnErr};
+ghost use Rattle.std.specs.Prelude.{◌≡◌, ◌<◌, ◌≤◌, ◌+◌, ◌-◌, Some, IfOk, IfErr, IfSome, OnErr, OnSome, map};
 ghost use Rattle.std.specs.Option.{ForSome};
 
-use crate::claim::{Claim, ClaimAnswer, Filed};
+use crate::claim::{Claim, ClaimAnswer, FileAnswer, Filed};
 use crate::limits::Limits;
 use crate::seat::TableSeat;
 use crate::table::Table;
-use crate::tag::Tag;
+use crate::told::Told;
 use cls_base::OutOfMemory;
-use cls_core::{Expand, Finished};
+use cls_core::{Answer, ArgumentRows, Expand, Finished};
 use cls_turn::Turn;
 use std::alloc::Global;
 use std::sync::Wait;
@@ -18,7 +18,7 @@ use std::sync::ledger::{Blank, Ledger, Share};
 /// Each call that takes a seat wants one of this table: the first, or one that was split from such a seat.
 #[derive(Drop)]
 pub struct SharedTable<E: Expand, L: Ledger> {
-    turn: Turn<Table<E, L>, Tag<E::Tag, E::Goal>>,
+    turn: Turn<Table<E, L>, Told<E::Tag, E::Goal>>,
 }
 
 /// A table that was closed while some row wasn't filed.
@@ -31,10 +31,13 @@ pub struct Unfinished<E: Expand, L: Ledger> {
 impl<E: Expand, L: Ledger> SharedTable<E, L> {
     ghost use Rattle.cls_turn.specs.Seats.{id_of};
     ghost use Rattle.cls_core.specs.Machine.{AllFiled};
+    ghost use Rattle.cls_core.specs.Adding.{GoesOn};
+    ghost use Rattle.cls_core.specs.Arguments.{arguments_of};
+    ghost use Rattle.cls_core.specs.ArgumentRows.{AreRowsOf};
     ghost use Rattle.cls_table.specs.Lawful.{IsLawfulTable, claims_in};
     ghost use Rattle.cls_table.specs.Tags.{tag_for};
-    ghost use Rattle.cls_table.specs.Holdings.{claims_made_by};
-    ghost use Rattle.cls_table.specs.Seating.{IsClaimAnswer};
+    ghost use Rattle.cls_table.specs.Holdings.{claims_made_by, IsKept};
+    ghost use Rattle.cls_table.specs.Seating.{IsClaimAnswer, HandsBack};
     ghost use Rattle.cls_table.specs.Completing.{IsCompleteFor};
 
     /// A table with one free row, the goal, and the seat of the worker 0 with every part of the ledger. The only error
@@ -115,8 +118,12 @@ impl<E: Expand, L: Ledger> SharedTable<E, L> {
     ) -> Result<ClaimAnswer<E>, OutOfMemory>
         requires seat_of_this { seat.old.turn ≡ id_of self.now.turn }
         ensures answer { IfOk result (λ a. ForSome seat.old.tag (λ t. IsClaimAnswer E.answers t seat.old.worker a)) }
-        ensures seat { IfOk result (λ a. seat.new ≡ record seat.old { amount = seat.old.amount + claims_made_by a }) }
-        ensures err { OnErr result (seat.new ≡ seat.old) }
+        ensures seat { IfOk result (λ a. seat.new ≡ record seat.old {
+          goals = seat.new.goals;
+          amount = seat.old.amount + claims_made_by a;
+        }) }
+        ensures err { OnErr result (seat.new ≡ record seat.old { goals = seat.new.goals }) }
+        ensures goals { GoesOn seat.old.goals seat.new.goals }
     {
         let TableSeat {
             seat,
@@ -136,39 +143,57 @@ impl<E: Expand, L: Ledger> SharedTable<E, L> {
         alloc: Global,
         seat: &mut TableSeat<E, L>,
         filed: Filed<E>,
-    ) -> Result<Option<Filed<E>>, Filed<E>>
+        arguments: &mut ArgumentRows,
+    ) -> Result<FileAnswer<E>, Filed<E>>
         requires seat_of_this { seat.old.turn ≡ id_of self.now.turn }
         requires tag { seat.old.tag ≡ Some filed.claim.tag }
-        ensures same { seat.new ≡ seat.old }
-        ensures back { IfOk result (λ r. IfSome r (λ f. f ≡ filed)) }
+        requires known { AreRowsOf seat.old.goals (arguments_of filed.answer) arguments.old.known.items }
+        ensures seat { seat.new ≡ record seat.old { goals = seat.new.goals } }
+        ensures goals { GoesOn seat.old.goals seat.new.goals }
+        ensures known { arguments.new.known ≡ arguments.old.known }
+        ensures back { IfOk result (HandsBack filed) }
+        ensures found { IfOk result (λ r. IsKept r
+            → AreRowsOf seat.new.goals (arguments_of filed.answer) (map Some arguments.new.found.items)) }
         ensures err { IfErr result (λ f. f ≡ filed) }
     {
         let TableSeat { seat, .. } = seat;
         let mut table = self.turn.take(rt, seat);
-        let answer = table.file(alloc, filed);
+        let answer = table.file(alloc, filed, arguments);
         self.turn.put(seat, table);
         answer
     }
 
     /// Waits for a holding at which the claim's row is held by its worker and has the claim's goal, and files there
-    /// what `Table::file` files. The Err means out of memory alone, and hands the filing back.
+    /// what `Table::file` files. None says that the closure is too large, which the table is marked with. The Err means
+    /// out of memory alone, and hands the filing back.
+    ///
+    /// The answer is handed back, so that it is dropped outside of the turn. `arguments` has then found the rows of all
+    /// its arguments, of which those that it knew before weren't looked up.
     pub fn file<R: Wait>(
         &self,
         rt: &R,
         alloc: Global,
         seat: &mut TableSeat<E, L>,
         filed: Filed<E>,
-    ) -> Result<(), Filed<E>>
+        arguments: &mut ArgumentRows,
+    ) -> Result<Option<Answer<E::Goal>>, Filed<E>>
         requires seat_of_this { seat.old.turn ≡ id_of self.now.turn }
         requires tag { seat.old.tag ≡ Some filed.claim.tag }
-        ensures same { seat.new ≡ seat.old }
+        requires known { AreRowsOf seat.old.goals (arguments_of filed.answer) arguments.old.known.items }
+        ensures seat { seat.new ≡ record seat.old { goals = seat.new.goals } }
+        ensures goals { GoesOn seat.old.goals seat.new.goals }
+        ensures known { arguments.new.known ≡ arguments.old.known }
+        ensures answer { IfOk result (λ r. IfSome r (λ a. a ≡ filed.answer)) }
+        ensures found { IfOk result (λ r. OnSome r
+            (AreRowsOf seat.new.goals (arguments_of filed.answer) (map Some arguments.new.found.items))) }
         ensures err { IfErr result (λ f. f ≡ filed) }
     {
         let mut filed = filed;
         for _ in rt.forever() {
-            match self.file_once(rt, alloc, seat, filed)? {
-                None => return Ok(()),
-                Some(back) => filed = back,
+            match self.file_once(rt, alloc, seat, filed, arguments)? {
+                FileAnswer::Kept(answer) => return Ok(Some(answer)),
+                FileAnswer::TooLarge => return Ok(None),
+                FileAnswer::NotHeld(back) => filed = back,
             }
         }
         unreachable!()
@@ -177,7 +202,8 @@ impl<E: Expand, L: Ledger> SharedTable<E, L> {
     /// Takes the turn, and stops the table, which spends the claim.
     pub fn stop<R: Wait>(&self, rt: &R, seat: &mut TableSeat<E, L>, claim: Claim<E>)
         requires seat_of_this { seat.old.turn ≡ id_of self.now.turn }
-        ensures same { seat.new ≡ seat.old }
+        ensures seat { seat.new ≡ record seat.old { goals = seat.new.goals } }
+        ensures goals { GoesOn seat.old.goals seat.new.goals }
     {
         let TableSeat { seat, .. } = seat;
         let mut table = self.turn.take(rt, seat);
@@ -189,7 +215,8 @@ impl<E: Expand, L: Ledger> SharedTable<E, L> {
     /// Others may claim and file at once after it, so it's a hint on how to share the work, and nothing rests on it.
     pub fn unclaimed<R: Wait>(&self, rt: &R, seat: &mut TableSeat<E, L>) -> u64
         requires seat_of_this { seat.old.turn ≡ id_of self.now.turn }
-        ensures same { seat.new ≡ seat.old }
+        ensures seat { seat.new ≡ record seat.old { goals = seat.new.goals } }
+        ensures goals { GoesOn seat.old.goals seat.new.goals }
     {
         let TableSeat { seat, .. } = seat;
         let table = self.turn.take(rt, seat);
@@ -206,7 +233,8 @@ impl<E: Expand, L: Ledger> SharedTable<E, L> {
         seat: &mut TableSeat<E, L>,
     ) -> Result<Option<Finished<E::Goal>>, OutOfMemory>
         requires seat_of_this { seat.old.turn ≡ id_of self.now.turn }
-        ensures same { seat.new ≡ seat.old }
+        ensures seat { seat.new ≡ record seat.old { goals = seat.new.goals } }
+        ensures goals { GoesOn seat.old.goals seat.new.goals }
         ensures complete { IfOk result (λ r. IfSome r (IsCompleteFor E.Goal.eq E.answers seat.old)) }
     {
         let TableSeat { seat, .. } = seat;
@@ -226,7 +254,8 @@ impl<E: Expand, L: Ledger> SharedTable<E, L> {
         seat: &mut TableSeat<E, L>,
     ) -> Result<Finished<E::Goal>, OutOfMemory>
         requires seat_of_this { seat.old.turn ≡ id_of self.now.turn }
-        ensures same { seat.new ≡ seat.old }
+        ensures seat { seat.new ≡ record seat.old { goals = seat.new.goals } }
+        ensures goals { GoesOn seat.old.goals seat.new.goals }
         ensures complete { IfOk result (IsCompleteFor E.Goal.eq E.answers seat.old) }
     {
         for _ in rt.forever() {

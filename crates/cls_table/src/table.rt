@@ -1,14 +1,14 @@
-ghost use Rattle.std.specs.Prelude.{◌≡◌, ◌<◌, ◌≤◌, ◌+◌, ◌-◌, [], true, false, length};
+ghost use Rattle.std.specs.Prelude.{◌≡◌, ◌<◌, ◌≤◌, ◌+◌, ◌-◌, [], true, false, Some, length, map};
 ghost use Rattle.std.specs.Prelude.{IfOk, IfErr, IfSome, IfNone, OnOk, OnErr, IsErr, IsErrOf};
 
-use crate::claim::{Claim, ClaimAnswer, Filed};
+use crate::claim::{Claim, ClaimAnswer, FileAnswer, Filed};
 use crate::fault::ExpandFault;
 use crate::limits::Limits;
 use crate::progress::Progress;
-use crate::tag::Tag;
+use crate::told::Told;
 use cls_base::OutOfMemory;
-use cls_core::{Expand, Filing, Finished};
-use cls_turn::Tagged;
+use cls_core::{ArgumentRows, Expand, Filing, Finished};
+use cls_turn::Known;
 use std::alloc::Global;
 use std::marker::Model;
 use std::sync::ledger::{Book, Ledger, Share};
@@ -41,8 +41,16 @@ impl<E: Expand, L: Ledger> Model for Table<E, L> {
         × (t.large ≡ true → IsLarge E.answers t.progress.tag) };
 }
 
-impl<E: Expand, L: Ledger> Tagged<Tag<E::Tag, E::Goal>> for Table<E, L> {
-    ghost tag = { λ t. t.tag };
+impl<E: Expand, L: Ledger> Known<Told<E::Tag, E::Goal>> for Table<E, L> {
+    ghost use Rattle.cls_table.specs.Growing.{told_of, HasGrown, has_grown_reflexive, has_grown_transitive};
+
+    ghost known = { told_of };
+
+    ghost goes_on = { HasGrown };
+
+    ghost goes_on_reflexive = { has_grown_reflexive };
+
+    ghost goes_on_transitive = { has_grown_transitive };
 }
 
 impl<E: Expand, L: Ledger> Table<E, L> {
@@ -52,7 +60,10 @@ impl<E: Expand, L: Ledger> Table<E, L> {
     ghost use Rattle.cls_table.specs.Seen.{progress_of, core_of};
     ghost use Rattle.cls_core.specs.Finishing.{IsFinished};
     ghost use Rattle.cls_table.specs.Lawful.{IsLawfulTable, IsLarge, claims_in};
-    ghost use Rattle.cls_table.specs.Holdings.{ClaimOutcome, FileOutcome, IsHeldClaim, claims_made_by, stopped_table};
+    ghost use Rattle.cls_table.specs.Holdings.{ClaimOutcome, FileOutcome, IsKept, claims_made_by, stopped_table};
+    ghost use Rattle.cls_core.specs.Adding.{GoesOn};
+    ghost use Rattle.cls_core.specs.Arguments.{arguments_of};
+    ghost use Rattle.cls_core.specs.ArgumentRows.{AreRowsOf};
 
     /// Does nothing, and says what holds of each table.
     pub fn facts(&self)
@@ -105,6 +116,7 @@ impl<E: Expand, L: Ledger> Table<E, L> {
         ensures outcome { IfOk result (λ a. ClaimOutcome self.old worker a self.new) }
         ensures large { self.old.large ≡ true → IsLarge E.answers self.old.tag }
         ensures tag { self.new.tag ≡ self.old.tag }
+        ensures goals { GoesOn self.old.rows.goals self.new.rows.goals }
         ensures amount { IfOk result (λ a. share.new.amount ≡ share.old.amount + claims_made_by a) }
         ensures parts { share.new.parts ≡ share.old.parts }
         ensures err { OnErr result ((self.new ≡ self.old) × (share.new.amount ≡ share.old.amount)) }
@@ -131,27 +143,43 @@ impl<E: Expand, L: Ledger> Table<E, L> {
     ///
     /// It hands the filing back if and only if the claim's row isn't held by its worker or has another goal, and the
     /// table is then as before. Otherwise it files the row if that stays within the limits, and marks the table as too
-    /// large if it doesn't. The Err means out of memory alone. It hands the filing back too, and the table is as
-    /// before.
-    pub fn file(&mut self, alloc: Global, filed: Filed<E>) -> Result<Option<Filed<E>>, Filed<E>>
-        requires { filed.claim.tag ≡ self.old.tag }
-        ensures outcome { IfOk result (λ r. IfNone r (FileOutcome E.Goal.eq self.old filed self.new)) }
-        ensures back { IfOk result (λ r. IfSome r (λ f. (f ≡ filed) × (self.new ≡ self.old))) }
-        ensures not_held { IfOk result (λ r. IfSome r (λ _. IsHeldClaim self.old.rows filed.claim → ⊥)) }
+    /// large if it doesn't. What `arguments` knows of the rows of the answer's arguments isn't looked up, and once the
+    /// row is filed it has found them all. The Err means out of memory alone. It hands the filing back too, and the
+    /// table is as before.
+    pub fn file(
+        &mut self,
+        alloc: Global,
+        filed: Filed<E>,
+        arguments: &mut ArgumentRows,
+    ) -> Result<FileAnswer<E>, Filed<E>>
+        requires tag { filed.claim.tag ≡ self.old.tag }
+        requires known { AreRowsOf self.old.rows.goals (arguments_of filed.answer) arguments.old.known.items }
+        ensures outcome { IfOk result (λ r. FileOutcome E.Goal.eq self.old filed r self.new) }
+        ensures found { IfOk result (λ r. IsKept r
+            → AreRowsOf self.new.rows.goals (arguments_of filed.answer) (map Some arguments.new.found.items)) }
+        ensures known { arguments.new.known ≡ arguments.old.known }
         ensures err { IfErr result (λ f. (f ≡ filed) × (self.new ≡ self.old)) }
         ensures tag { self.new.tag ≡ self.old.tag }
+        ensures goals { GoesOn self.old.rows.goals self.new.rows.goals }
     {
         if !self.progress.has_held(&filed.claim) {
-            return Ok(Some(filed));
+            return Ok(FileAnswer::NotHeld(filed));
         }
         let Filed { claim, answer } = filed;
-        match self.progress.file(alloc, claim.worker, claim.row, answer) {
-            Ok(Filing::Kept) => {}
-            Ok(Filing::OverLimits) => self.large = true,
-            Err(answer) => return Err(Filed { claim, answer }),
-        }
+        let filing = self
+            .progress
+            .file(alloc, claim.worker, claim.row, &answer, arguments);
+        let Ok(filing) = filing else {
+            return Err(Filed { claim, answer });
+        };
         claim.spend();
-        Ok(None)
+        match filing {
+            Filing::Kept => Ok(FileAnswer::Kept(answer)),
+            Filing::OverLimits => {
+                self.large = true;
+                Ok(FileAnswer::TooLarge)
+            }
+        }
     }
 
     /// How many rows nobody has claimed yet.

@@ -3,7 +3,6 @@ use Rattle.std.proofs.lemmas.Option.{slice_get_within}
 use Rattle.cls_core.specs.declared.state.RowState.TheVariants.{Held}
 use Rattle.cls_table.proofs.Lawful.{row-goal, seen}
 use Rattle.cls_table.proofs.Completing.{file-filed}
-use Rattle.cls_table.proofs.progress.Progress.file_held.Goals.{in-Ok-Kept, in-Ok-OverLimits, in-Err}
 use Rattle.cls_table.specs.Completing.{IsFiledAt}
 use Rattle.cls_table.proofs.progress.Progress.file_held.Goals as goal
 
@@ -17,11 +16,7 @@ goal-requires g c =
     c.self.invariant held in
     slice_get_within i.core.rows.goals c.args.row at.0 at.1
 
-pub returns-clause-filed : goal.returns-clause-filed
-returns-clause-filed g c = elim c.match-file.branch [
-  | in-Ok-Kept w ↦ subst (λ r. OnOk r (IsFiledAt c.file.new.self.rows c.args.row)) (sym w.result-is)
-      (let o = rw w.in-Ok-Kept.field-0-is at w.in-Ok-Kept.ensures.outcome in
-      file-filed g.E.Goal.PartialEq.eq c.args.self.now c.file.new.self c.args.worker c.args.row _ c.requires.held o.1)
-  | in-Ok-OverLimits w ↦ subst (λ r. OnOk r (IsFiledAt c.file.new.self.rows c.args.row)) (sym w.result-is) tt
-  | in-Err w ↦ subst (λ r. OnOk r (IsFiledAt c.file.new.self.rows c.args.row)) (sym w.result-is) tt
-]
+pub returns-in-Kept-clause-filed : goal.returns-in-Kept-clause-filed
+returns-in-Kept-clause-filed g c =
+    let o = rw c.in-Kept.is at c.in_ok-file.ensures.outcome in
+    file-filed g.E.Goal.PartialEq.eq c.args.self.now c.file.new.self c.args.worker c.args.row _ c.requires.held o.1

@@ -1,16 +1,19 @@
 use Rattle.std.proofs.Common.{arith, ◌∙◌, sym, ap}
-use Rattle.cls_table.proofs.Seating.{stays-seated, is-seated}
+use Rattle.cls_turn.specs.Seats.{known_in}
+use Rattle.cls_table.specs.Seating.{tag_in}
+use Rattle.cls_table.proofs.Seating.{is-seated}
 use Rattle.cls_table.proofs.shared.SharedTable.split.Goals as goal
 
 pub invariant_of-seat : goal.invariant_of-seat
 invariant_of-seat g c =
     let s = c.seat.invariant in
-    stays-seated _ c.seat.inside.seat _ _ _ s c.split.ensures.same_view.1 (c.split.ensures.same_holding ∙ s.is_free)
+    is-seated _ c.seat.inside.seat _ _ _ _ s c.split.ensures.same
     (omega (arith, ap (λ v. v.parts) c.seat.view_is, c.requires.parts, c.split_off-share.ensures.parts_left))
+    s.worker_named
 
 pub invariant_of-result : goal.invariant_of-result
 invariant_of-result g c =
     let s = c.seat.invariant in
-    is-seated _ c.seat.inside.seat _ _ _ _ s c.split.ensures.new_view.1 c.split.ensures.free
+    is-seated _ c.seat.inside.seat _ _ _ _ s c.split.ensures.new
     (omega (arith, c.split_off-share.ensures.parts))
-    (λ t e. c.requires.worker t (sym (ap (λ v. v.tag) c.seat.view_is) ∙ e))
+    (c.requires.worker s.told.tag (sym (ap (λ v. v.tag) c.seat.view_is) ∙ ap (λ v. tag_in (known_in v)) s.knows.0))
