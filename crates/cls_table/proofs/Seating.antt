@@ -82,7 +82,7 @@ module _ {T B G : Type 0} where
   seen-after seat was worker parts amount left n m v is turn tag p e =
       let goals = goals_in (known_of seat) in
       let here : seen seat worker left n ≡ record (seen was worker parts amount) { goals = goals; amount = amount + m } =
-          λ i. record { turn = turn i; tag = tag i; goals = goals; worker = worker; parts = p i; amount = e i } in
+      λ i. record { turn = turn i; tag = tag i; goals = goals; worker = worker; parts = p i; amount = e i } in
       here ∙ ap (λ (w : SeatSeen B G). record w { goals = goals; amount = w.amount + m }) is
 
   pub seen-same : (seat was : TurnSeat T (Told B G)) (worker parts amount left n : ℕ) (v : SeatSeen B G)
@@ -91,7 +91,7 @@ module _ {T B G : Type 0} where
   seen-same seat was worker parts amount left n v is turn tag p e =
       let goals = goals_in (known_of seat) in
       let here : seen seat worker left n ≡ record (seen was worker parts amount) { goals = goals } =
-          λ i. record { turn = turn i; tag = tag i; goals = goals; worker = worker; parts = p i; amount = e i } in
+      λ i. record { turn = turn i; tag = tag i; goals = goals; worker = worker; parts = p i; amount = e i } in
       here ∙ ap (λ (w : SeatSeen B G). record w { goals = goals }) is
 
 module _ {B G : Type 0} (IsAnswer : B → G → Answer G → Type 0) {E : Type 0} where

@@ -178,8 +178,7 @@ impl<E: Expand> Progress<E> {
             return Ok(Filing::OverLimits);
         }
         let most = self.origin.goals();
-        Ok(self.core
-            .file(alloc, worker, row, answer, arguments, most)?)
+        Ok(self.core.file(alloc, worker, row, answer, arguments, most)?)
     }
 
     /// The rows and the history. The Err comes if and only if some row isn't filed.

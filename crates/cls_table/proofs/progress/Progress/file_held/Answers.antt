@@ -1,9 +1,8 @@
-use Rattle.std.proofs.Common.{sym, subst, ◌≡◌, Some, slice_get, OnOk}
+use Rattle.std.proofs.Common.{sym, subst, ◌≡◌, Some, slice_get}
 use Rattle.std.proofs.lemmas.Option.{slice_get_within}
 use Rattle.cls_core.specs.declared.state.RowState.TheVariants.{Held}
 use Rattle.cls_table.proofs.Lawful.{row-goal, seen}
 use Rattle.cls_table.proofs.Completing.{file-filed}
-use Rattle.cls_table.specs.Completing.{IsFiledAt}
 use Rattle.cls_table.proofs.progress.Progress.file_held.Goals as goal
 
 pub goal-requires : goal.goal-requires

@@ -1,4 +1,4 @@
-use Rattle.std.proofs.Common.{arith, refl, ◌∙◌, ap, sym, subst, ◌≤◌}
+use Rattle.std.proofs.Common.{arith, ◌∙◌, ap, sym, subst, ◌≤◌}
 use Rattle.std.specs.Option.{ForSome}
 use Rattle.std.proofs.lemmas.Result.{IfOk-weaker, on_err_weaker}
 use Rattle.cls_table.specs.Growing.{told_of, has_grown_transitive}

@@ -6,7 +6,6 @@ use Rattle.cls_core.specs.ArgumentRows.{AreRowsOf}
 use Rattle.cls_core.proofs.FoundRows.{rows_stay}
 use Rattle.cls_turn.specs.Seats.{known_of, known_in}
 use Rattle.cls_table.specs.Growing.{told_of, has_grown_transitive}
-use Rattle.cls_table.specs.Holdings.{IsKept}
 use Rattle.cls_table.specs.Seating.{goals_in}
 use Rattle.cls_table.specs.Seen.{SeatSeen}
 use Rattle.cls_table.proofs.Seating.{stays-seated, stays-tagged, goals-grow, seen-same, tag-known, goals-known}

@@ -1,6 +1,6 @@
-use Rattle.std.proofs.Common.{arith, refl, ◌∙◌, ap, subst, sym}
+use Rattle.std.proofs.Common.{refl, ◌∙◌, ap, subst}
 use Rattle.cls_core.proofs.Insertion.{goes_same}
-use Rattle.cls_table.proofs.Seating.{stays-seated, stays-tagged, goals-grow, seen-same, tag-known, some-weaker}
+use Rattle.cls_table.proofs.Seating.{stays-seated, stays-tagged, seen-same, tag-known, some-weaker}
 use Rattle.cls_table.specs.Growing.{told_of}
 use Rattle.std.specs.Prelude.{IfSome}
 use Rattle.std.proofs.lemmas.Result.{IfOk-weaker}

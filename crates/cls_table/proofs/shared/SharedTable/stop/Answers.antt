@@ -1,7 +1,7 @@
 use Rattle.std.proofs.Common.{refl, ◌∙◌, ap}
 use Rattle.cls_core.proofs.Insertion.{goes_equal}
 use Rattle.cls_table.specs.Growing.{told_of, has_grown_transitive}
-use Rattle.cls_table.proofs.Seating.{stays-seated, stays-tagged, goals-grow, seen-same}
+use Rattle.cls_table.proofs.Seating.{stays-seated, stays-tagged, seen-same}
 use Rattle.cls_table.proofs.shared.SharedTable.stop.Goals as goal
 
 pub put-requires-clause-taken : goal.put-requires-clause-taken

@@ -1,4 +1,4 @@
-use Rattle.std.proofs.Common.{ap, subst, sym, Some, map}
+use Rattle.std.proofs.Common.{ap, subst, sym, Some, map, rules}
 use Rattle.cls_core.specs.Adding.{GoesOn}
 use Rattle.cls_core.specs.Arguments.{arguments_of}
 use Rattle.cls_core.specs.ArgumentRows.{AreRowsOf}
@@ -6,7 +6,6 @@ use Rattle.cls_core.specs.declared.answer.Answer.{Answer}
 use Rattle.cls_core.proofs.Insertion.{goes_equal}
 use Rattle.cls_table.specs.Seen.{TableSeen}
 use Rattle.cls_table.proofs.Growing.{filed-grows}
-use Rattle.cls_table.proofs.table.Table.file.Goals.{in-Rules-1, in-Wide-1}
 use Rattle.cls_table.proofs.table.Table.file.Goals as goal
 
 pub file-filing-requires-clause-known : goal.file-filing-requires-clause-known
@@ -44,7 +43,4 @@ returns-in-OverLimits-clause-goals g c =
     let o = rw c.in-OverLimits.is at c.in-Ok.ensures.outcome in
     let same = subst (λ (t : TableSeen B G). GoesOn t.rows.goals after) c.self.view_is
     (goes_equal before after (ap (λ p. p.rows.goals) o.1)) in
-    elim c.match-answer.branch [
-      | in-Rules-1 w ↦ subst (λ (t : TableSeen B G). GoesOn c.args.self.now.rows.goals t.rows.goals) (sym w.self-is) same
-      | in-Wide-1 w ↦ subst (λ (t : TableSeen B G). GoesOn c.args.self.now.rows.goals t.rows.goals) (sym w.self-is) same
-    ]
+    search (rules, same)
