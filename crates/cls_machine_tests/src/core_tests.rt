@@ -1,7 +1,7 @@
 use crate::heap::Node;
 use crate::renumbering::{heap_code, renumbered};
 use cls_base::OutOfMemory;
-use cls_core::{Answer, Core, Filing, Goals, RowState, Rule, Rules};
+use cls_core::{Answer, ArgumentRows, Core, Filing, Goals, RowState, Rule, Rules};
 use std::alloc::Global;
 use std::test::Fail;
 
@@ -37,7 +37,8 @@ fn file(alloc: Global, core: &mut Core<Node>, row: u32) -> Result<(), OutOfMemor
     if core.count() > 100 || core.rules() > 100 || answer.rule_count() > 100 {
         return Err(OutOfMemory);
     }
-    match core.file(alloc, 1, row, answer, 100) {
+    let mut arguments = ArgumentRows::unknown(alloc);
+    match core.file(alloc, 1, row, &answer, &mut arguments, 100) {
         Ok(Filing::Kept) => Ok(()),
         _ => Err(OutOfMemory),
     }

@@ -76,7 +76,8 @@ fn work_once<R: Wait, L: Ledger>(
                     return seat;
                 }
             };
-            if let Err(filed) = table.file(rt, alloc, &mut seat, filed) {
+            let mut arguments = ArgumentRows::unknown(alloc);
+            if let Err(filed) = table.file(rt, alloc, &mut seat, filed, &mut arguments) {
                 table.stop(rt, &mut seat, filed.claim());
             }
             seat
