@@ -1,7 +1,7 @@
-use cls_turn::{Tagged, Turn};
+use cls_turn::{Known, Turn};
 use std::test::Fail;
 
-// A number. All numbers have one tag.
+// A number, of which nothing is known.
 #[derive(Drop)]
 struct Counter {
     count: u32,
@@ -9,10 +9,16 @@ struct Counter {
 
 struct Plain;
 
-impl Tagged<Plain> for Counter {
+impl Known<Plain> for Counter {
     ghost use Rattle.cls_machine_tests.specs.declared.turn_tests.Plain.{Plain};
 
-    ghost tag = { λ _. record {} };
+    ghost known = { λ _. record {} };
+
+    ghost goes_on = { λ _ _. Unit {0} };
+
+    ghost goes_on_reflexive = { λ _. tt };
+
+    ghost goes_on_transitive = { λ _ _ _ _ _. tt };
 }
 
 #[test]
