@@ -1,10 +1,12 @@
 pub mod ClosedTypes
 pub mod CodeForms
+pub mod Comparisons
 pub mod FirstErrors
 pub mod FormParts
 pub mod GreatestNumbers
 pub mod HeldTerms
 pub mod LineSteps
+pub mod NodeBounds
 pub mod Numbering
 pub mod PartSearches
 pub mod QueryErrors

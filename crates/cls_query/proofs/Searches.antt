@@ -1,9 +1,9 @@
 -- Searches along lists.
 use Rattle.std.proofs.Common.{suc, ◌≡◌, ℕ, ◌+◌, ◌<◌, ◌≤◌, Bool, true, false, cond, not, List, [], ◌∷◌, ◌++◌, length, refl, ap, sym, ◌∙◌, arith, inl, inr}
-use Rattle.std.specs.Prelude.{Option, Some, None, is_some, find, position, ◌||◌}
+use Rattle.std.specs.Prelude.{Option, Some, None, is_some, IfNone, nat_lt, find, position, ◌||◌}
 use Rattle.std.specs.List.{list_any, position_or_len, AllByRecursion}
 use Rattle.std.specs.Option.{option_map}
-use Rattle.std.proofs.lemmas.Bool.{cases_lt, lt-ltb, le-ltb, true≢false}
+use Rattle.std.proofs.lemmas.Bool.{cases_lt, lt-ltb, le-ltb, ltb-true, true≢false}
 use Rattle.std.proofs.lemmas.List.Folds.{list_any-append}
 
 -- if neither holds, each doesn't
@@ -53,6 +53,14 @@ module _ {X : Type 0} (p : X → Bool) where
 
   found_none : (xs : List X) → length xs ≤ position_or_len p xs → position p xs ≡ None
   found_none xs l = ap (λ b. cond b (Some (position_or_len p xs)) None) (le-ltb (position_or_len p xs) (length xs) l)
+
+  -- a place that was found is in the list
+  pub place_inside : (xs : List X) (i : ℕ) → position p xs ≡ Some i → i < length xs
+  place_inside xs i h =
+      (elim (nat_lt (position_or_len p xs) (length xs)) as (λ b. nat_lt (position_or_len p xs) (length xs) ≡ b → cond b (Some (position_or_len p xs)) None ≡ Some i → i < length xs) [
+        | true ↦ λ t e. let is : position_or_len p xs ≡ i = ap (some_or i) e in let l = ltb-true (position_or_len p xs) (length xs) t in omega (arith, is, l)
+        | false ↦ λ t e. absurd (nothing_found i e)
+      ]) refl h
 
   place_yes : (x : X) (xs : List X) → p x ≡ true → position p (x ∷ xs) ≡ Some 0
   place_yes x xs h =
@@ -121,3 +129,8 @@ module _ {X : Type 0} (P : X → Type 0) where
 pub never_some : {A B : Type 0} (f : A → B) (o : Option A) → ((x : A) → o ≡ Some x → ⊥) → option_map f o ≡ None
 never_some f None n = refl
 never_some f (Some x) n = absurd (n x refl)
+
+-- what holds of nothing, where it is never something
+pub if_none : {A P : Type 0} (o : Option A) → IfNone o P → ((x : A) → o ≡ Some x → ⊥) → P
+if_none None h n = h
+if_none (Some x) h n = absurd (n x refl)

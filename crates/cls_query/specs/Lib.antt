@@ -1,5 +1,6 @@
--- To be read and believed: QueryForms, Queries, QueryErrors, ReadQueries and Readable. FormAnswers and Steps say what
+-- To be read and believed: QueryForms, Queries, QueryErrors, ReadQueries and Readable. Comparisons, FormAnswers and Steps say what
 -- parts of the code answer, and Laws states what is true of every line.
+pub mod Comparisons
 pub mod FormAnswers
 pub mod Laws
 pub mod Queries

@@ -11,6 +11,7 @@
 
 mod build;
 mod checks;
+mod comparison;
 mod fault;
 mod form;
 mod greatest;

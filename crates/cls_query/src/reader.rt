@@ -43,6 +43,9 @@ pub fn read_query<'a, 'p>(
         text,
         tokens: tokens.as_slice(),
     };
+    if let Some(comparison) = cut.comparison(alloc, constructors)? {
+        return Ok(comparison);
+    }
     let form = cut.form()?;
     form.check_types(&cut)?;
     let term = form.check_values(alloc, components, &cut)?;

@@ -6,13 +6,14 @@ use Rattle.cls_syntax.specs.ClosedTypes.{HasNoDollar}
 use Rattle.cls_syntax.specs.Faults.{Says}
 use Rattle.cls_syntax.specs.LineGrammars.{row_words, RowStands}
 use Rattle.cls_query.specs.FormAnswers.{form_says}
-use Rattle.cls_query.specs.Queries.{tables_of, query_of}
+use Rattle.cls_query.specs.Queries.{tables_of, row_parts, with_names, query_of}
 use Rattle.cls_query.specs.QueryForms.{query_rows}
-use Rattle.cls_query.specs.ReadQueries.{fault_words}
+use Rattle.cls_query.specs.ReadQueries.{fault_words, asked_of, ReadsQuery}
 use Rattle.cls_query.specs.Steps.{spelling_errors, type_errors, value_errors}
 use Rattle.cls_query.proofs.ClosedTypes.{closed_row}
 use Rattle.cls_query.proofs.LineSteps.{by_spelling, by_types, by_values, all_silent}
 use Rattle.cls_query.proofs.Readable.{query_readable, query_verify}
+use Rattle.cls_query.proofs.Searches.{if_none}
 use Rattle.cls_query.proofs.reader.read_query.Goals as goal
 
 pub returns-in_err-form-clause-fault : goal.returns-in_err-form-clause-fault
@@ -58,12 +59,14 @@ returns-clause-query c =
     let spelled = subst (λ (l : List ℕ). IsSilent (First (spelling_errors l))) same c.in_ok-form.ensures.tested in
     let typed = subst (λ (l : List ℕ). IsSilent (First (type_errors l))) same c.in_ok-check_types.ensures.tested in
     let valued = subst (λ (l : List ℕ). IsSilent (First (value_errors l c.args.components.now))) same c.in_ok-term.ensures.tested in
+    let left = if_none c.in_ok-comparison.field-0 c.in_ok-comparison.ensures.left c.in_default.not-Some in
+    let numbered = c.in_ok-query.ensures.constructors ∙ ap (λ (names : List (List ℕ)). with_names names (row_parts query_rows said)) left in
     record {
       faultless = all_silent tables c.args.line.now c.in_ok-text.ensures.tested spelled typed valued;
       said = said;
       spelled = subst (λ (l : List ℕ). Says (row_words query_rows) (RowStands query_rows) said (words_of l)) same c.in_ok-form.ensures.says;
-      asked = c.in_ok-query.ensures.query ∙ ap (λ (names : List (List ℕ)). query_of (tables_of names c.args.components.now) said) c.in_ok-query.ensures.constructors;
-      numbered = c.in_ok-query.ensures.constructors;
+      asked = c.in_ok-query.ensures.query ∙ ap (λ (names : List (List ℕ)). query_of (tables_of names c.args.components.now) said) numbered;
+      numbered = numbered;
     }
 
 pub returns-clause-readable : goal.returns-clause-readable
@@ -71,3 +74,15 @@ returns-clause-readable c = query_readable (returns-clause-query c)
 
 pub returns-clause-verify : goal.returns-clause-verify
 returns-clause-verify c = query_verify (returns-clause-query c)
+
+pub returns-in-Some-clause-query : goal.returns-in-Some-clause-query
+returns-in-Some-clause-query c =
+    let tables = tables_of c.args.constructors.now c.args.components.now in
+    let read = rw c.in-Some.is at c.in_ok-comparison.ensures.read in
+    subst (λ (l : List ℕ). ReadsQuery tables l (asked_of c.in-Some.comparison) c.comparison.new.constructors) c.in_ok-text.ensures.same (read c.args.components.now)
+
+pub returns-in-Some-clause-readable : goal.returns-in-Some-clause-readable
+returns-in-Some-clause-readable c = query_readable (returns-in-Some-clause-query c)
+
+pub returns-in-Some-clause-verify : goal.returns-in-Some-clause-verify
+returns-in-Some-clause-verify c = query_verify (returns-in-Some-clause-query c)

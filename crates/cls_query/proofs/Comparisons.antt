@@ -1,0 +1,114 @@
+-- A line is a comparison without errors where both its types are built.
+use Rattle.std.proofs.Common.{◌≡◌, ℕ, ◌*◌, ◌<◌, false, List, ◌∷◌, ◌++◌, length, ap, sym, ◌∙◌, subst, inl, append-nil}
+use Rattle.std.specs.Prelude.{◌||◌, codes}
+use Rattle.std.specs.List.{list_any}
+use Rattle.cls_base.specs.Firsts.{First, IsSilent}
+use Rattle.cls_base.specs.Limits.{max_type_nodes}
+use Rattle.cls_base.specs.Types.{ClosedType}
+use Rattle.cls_lexer.specs.Names.{number_of}
+use Rattle.cls_lexer.specs.Skipped.{IsText}
+use Rattle.cls_lexer.specs.Words.{Word, name, sign, words_of}
+use Rattle.cls_lexer.specs.declared.token.TokenKind.TheVariants.{AtMost}
+use Rattle.cls_syntax.specs.ClosedTypes.{HasNoDollar, Spells}
+use Rattle.cls_syntax.specs.Faults.{Says}
+use Rattle.cls_syntax.specs.Forms.{type_parts}
+use Rattle.cls_syntax.specs.LineGrammars.{LineOf, row_words, RowStands}
+use Rattle.cls_syntax.specs.Spans as spans
+use Rattle.cls_syntax.specs.SyntaxFaults.{IsFlat}
+use Rattle.cls_syntax.specs.TypeSchemas.{is_dollar, constructors_in, with_constructors}
+use Rattle.cls_syntax.specs.TypeTexts.{TypeText, type_words}
+use Rattle.cls_syntax.proofs.LineParts.{line_same, line_stands}
+use Rattle.cls_syntax.proofs.TypeSpans.{spelled_words}
+use Rattle.cls_query.specs.Comparisons.{IsWholeClosed, AreBuilt}
+use Rattle.cls_query.specs.Queries.{sub, tables_of, row_parts, type_in, with_names}
+use Rattle.cls_query.specs.QueryErrors.{line_errors}
+use Rattle.cls_query.specs.QueryForms.{comparison_form, query_rows}
+use Rattle.cls_query.specs.ReadQueries.{ReadsQuery}
+use Rattle.cls_query.proofs.FormParts.{comparison_inside, comparison_known, comparison_in_term, comparison_names}
+use Rattle.cls_query.proofs.LineSteps.{all_silent, text_silent, form_silent, types_silent, values_silent}
+use Rattle.cls_query.proofs.NodeBounds.{short_is_small}
+use Rattle.cls_query.proofs.Numbering.{names_of_type, spelled_is, type_stays}
+use Rattle.cls_query.proofs.Searches.{both_none, place_none}
+
+-- the comparison of both texts
+abbrev compares : TypeText → TypeText → LineOf query_rows
+compares s t = inl (s, (t, tt))
+
+module _ (line : List ℕ) (s t : TypeText) (spells : words_of line ≡ name (codes "sub") ∷ (type_words s ++ sign AtMost ∷ type_words t)) where
+  says : Says (row_words query_rows) (RowStands query_rows) (compares s t) (words_of line)
+  says = record {
+    spelled = ap (λ (ws : List Word). name (codes "sub") ∷ ws) (sym (line_same comparison_form (s, (t, tt))) ∙ ap (λ (ws : List Word). type_words s ++ sign AtMost ∷ ws) (append-nil (type_words t))) ∙ sym spells;
+    stands = line_stands comparison_form (s, (t, tt)) (tt, (tt, (tt, tt)));
+  }
+
+  closed : HasNoDollar (type_words s) → HasNoDollar (type_words t) → HasNoDollar (words_of line)
+  closed a b = ap (list_any is_dollar) spells ∙ both_none is_dollar (type_words s) (sign AtMost ∷ type_words t) a b
+
+  module _ (constructors components : List (List ℕ)) (text : IsText line) (flat : IsFlat line)
+      (short_lower : 3 * length (type_words s) < 2 * max_type_nodes) (short_upper : 3 * length (type_words t) < 2 * max_type_nodes)
+      (closed_lower : HasNoDollar (type_words s)) (closed_upper : HasNoDollar (type_words t)) where
+    faultless : IsSilent (First (line_errors (tables_of constructors components) line))
+    faultless =
+        all_silent (tables_of constructors components) line (text_silent line text)
+        (form_silent line (compares s t) flat says)
+        (types_silent line (compares s t) says (λ i. short_is_small s short_lower i || (short_is_small t short_upper i || false)) (place_none is_dollar (words_of line) (closed closed_lower closed_upper)))
+        (values_silent line (compares s t) says components (comparison_inside s t) (comparison_known components s t) (comparison_in_term components s t))
+
+-- the table and the query, where both types are built
+module _ (old : List (List ℕ)) (us vs : List Word) (new : List (List ℕ)) (lower upper : ClosedType)
+    (built : AreBuilt old us vs new lower upper) (a : IsWholeClosed us) (b : IsWholeClosed vs) where
+  abbrev s : TypeText
+  s = spans.type_in us
+
+  abbrev t : TypeText
+  t = spans.type_in vs
+
+  spelled_lower : us ≡ type_words s
+  spelled_lower = spelled_words us a.whole
+
+  spelled_upper : vs ≡ type_words t
+  spelled_upper = spelled_words vs b.whole
+
+  numbered : new ≡ with_names old (row_parts query_rows (compares s t))
+  numbered =
+      built.numbered
+      ∙ ((λ i. with_constructors (with_constructors old (spelled_lower i)) (spelled_upper i))
+      ∙ (names_of_type (with_constructors old (type_words s)) t
+      ∙ (ap (λ (names : List (List ℕ)). with_names names (type_parts t)) (names_of_type old s)
+      ∙ sym (comparison_names old s t))))
+
+  pub reads :
+      (line : List ℕ) → words_of line ≡ name (codes "sub") ∷ (us ++ sign AtMost ∷ vs) → IsText line → IsFlat line
+      → 3 * length us < 2 * max_type_nodes → 3 * length vs < 2 * max_type_nodes
+      → (components : List (List ℕ)) → ReadsQuery (tables_of old components) line (sub lower upper) new
+  reads line spells text flat short_lower short_upper components =
+      let spells_types = spells ∙ (λ i. name (codes "sub") ∷ (spelled_lower i ++ sign AtMost ∷ spelled_upper i)) in
+      record {
+        faultless =
+          faultless line s t spells_types old components text flat
+          (subst (λ (ws : List Word). 3 * length ws < 2 * max_type_nodes) spelled_lower short_lower)
+          (subst (λ (ws : List Word). 3 * length ws < 2 * max_type_nodes) spelled_upper short_upper)
+          (subst HasNoDollar spelled_lower a.closed)
+          (subst HasNoDollar spelled_upper b.closed);
+        said = compares s t;
+        spelled = says line s t spells_types;
+        asked = λ i. sub ((built.lower_is ∙ ap (λ (names : List (List ℕ)). type_in names s) numbered) i) ((built.upper_is ∙ ap (λ (names : List (List ℕ)). type_in names t) numbered) i);
+        numbered = numbered;
+      }
+
+-- the lower type keeps its meaning when the names of the upper one come
+pub both_built :
+    (old mid new : List (List ℕ)) (us vs : List Word) (lower upper : ClosedType) → IsWholeClosed us → mid ≡ with_constructors old us → new ≡ with_constructors mid vs
+    → Spells (number_of mid) (spans.type_in us) lower → Spells (number_of new) (spans.type_in vs) upper → AreBuilt old us vs new lower upper
+both_built old mid new us vs lower upper a first second is_lower is_upper =
+    let s = spans.type_in us in
+    let names = first ∙ (ap (with_constructors old) (spelled_words us a.whole) ∙ names_of_type old s) in
+    let all = second ∙ ap (λ (table : List (List ℕ)). with_constructors table vs) names in
+    record {
+      lower_is =
+        spelled_is mid s lower is_lower
+        ∙ (ap (λ (table : List (List ℕ)). type_in table s) names
+        ∙ sym (ap (λ (table : List (List ℕ)). type_in table s) all ∙ type_stays old (constructors_in false vs) s));
+      upper_is = spelled_is new (spans.type_in vs) upper is_upper;
+      numbered = second ∙ ap (λ (table : List (List ℕ)). with_constructors table vs) first;
+    }

@@ -1,0 +1,115 @@
+//! Reads a comparison in one pass. Where types can be built on both sides of its sign, the line has no error; any other line
+//! is left to the reading by forms, which finds the first error.
+ghost use Rattle.std.specs.Prelude.{◌≡◌, ◌↔◌, ◌<◌, ◌*◌, ◌++◌, ◌∷◌, codes, length, take, position, IsTrue, IfOk, OnOk, OnErr, OnSome, IfSome, IfNone};
+ghost use Rattle.cls_base.specs.Limits.{max_type_nodes};
+ghost use Rattle.cls_base.specs.Ty.{type_of};
+ghost use Rattle.cls_lexer.specs.Skipped.{IsText};
+ghost use Rattle.cls_lexer.specs.Words.{name, sign, words, words_of};
+ghost use Rattle.cls_lexer.specs.declared.token.TokenKind.TheVariants.{AtMost};
+ghost use Rattle.cls_syntax.specs.SyntaxFaults.{IsFlat};
+ghost use Rattle.cls_query.specs.Queries.{tables_of};
+ghost use Rattle.cls_query.specs.ReadQueries.{asked_of, ReadsQuery};
+ghost use Rattle.cls_query.specs.Comparisons.{is_at_most, IsWholeClosed, AreBuilt};
+
+use crate::line::CutLine;
+use crate::query::Query;
+use cls_base::limits::MAX_TYPE_NODES;
+use cls_base::{OutOfMemory, Ty};
+use cls_lexer::{Names, Token, TokenKind};
+use cls_syntax::{is_too_deep, read_closed_type, sign_at, word_at};
+use std::alloc::Global;
+
+impl<'t, 'a> CutLine<'t, 'a> {
+    /// The comparison that the line is. None where it is none, has an error or a type of many tokens, and then the table is
+    /// as before. The only error is out of memory, and leaves the table as before.
+    pub fn comparison(
+        &self,
+        alloc: Global,
+        constructors: &mut Names,
+    ) -> Result<Option<Query>, OutOfMemory>
+        requires { IsText self.now.text.now }
+        ensures read { IfOk result (λ read. IfSome read (λ query. (components : _)
+            → ReadsQuery (tables_of constructors.old components) self.now.text.now (asked_of query) constructors.new)) }
+        ensures left { IfOk result (λ read. IfNone read (constructors.new ≡ constructors.old)) }
+        ensures stay { OnErr result (constructors.new ≡ constructors.old) }
+    {
+        let Some((lower, upper)) = self.sides() else {
+            return Ok(None);
+        };
+        let count = constructors.len();
+        match closed_types(alloc, constructors, lower, upper) {
+            Ok(Some((lower, upper))) => Ok(Some(Query::Sub(lower, upper))),
+            Ok(None) => {
+                constructors.cut(count);
+                Ok(None)
+            }
+            Err(fault) => {
+                constructors.cut(count);
+                Err(fault)
+            }
+        }
+    }
+
+    /// What stands before and behind the first `<=`, where the first word is `sub`, few parentheses are open at once, and
+    /// both are short.
+    fn sides(&self) -> Option<(&'t [Token<'a>], &'t [Token<'a>])>
+        ensures spelled { IfSome result (λ sides. words_of self.now.text.now
+            ≡ name (codes "sub") ∷ (words sides.0.now ++ sign AtMost ∷ words sides.1.now)) }
+        ensures flat { OnSome result (IsFlat self.now.text.now) }
+        ensures lower { IfSome result (λ sides. 3 * length sides.0.now < 2 * max_type_nodes) }
+        ensures upper { IfSome result (λ sides. 3 * length sides.1.now < 2 * max_type_nodes) }
+    {
+        let rest = word_at(self.tokens, "sub").ok()?;
+        let (lower, behind) = rest.split_at(first_sign(rest)?);
+        let upper = sign_at(behind, TokenKind::AtMost).ok()?;
+        if is_short(lower) && is_short(upper) && !is_too_deep(self.tokens) {
+            Some((lower, upper))
+        } else {
+            None
+        }
+    }
+}
+
+/// The place of the first `<=`.
+fn first_sign(tokens: &[Token]) -> Option<usize>
+    ensures { result ≡ position (λ token. is_at_most token.kind) tokens.now }
+{
+    tokens.iter().position(|token| is_at_most(token))
+}
+
+fn is_at_most(token: &Token) -> bool
+    ensures { result ≡ is_at_most token.now.kind }
+{
+    matches!(token.kind, TokenKind::AtMost)
+}
+
+/// Whether the tokens are too few for a type of more than [`MAX_TYPE_NODES`] nodes: two of them, a name and an operator, make
+/// three nodes at most.
+fn is_short(tokens: &[Token]) -> bool
+    ensures { IsTrue result ↔ (3 * length tokens.now < 2 * max_type_nodes) }
+{
+    tokens.len() as u64 <= 2 * MAX_TYPE_NODES / 3
+}
+
+/// The types without variables that the tokens spell, with the names of the first one numbered first. Where one is none, or
+/// memory runs out, the table may have grown.
+fn closed_types(
+    alloc: Global,
+    constructors: &mut Names,
+    lower: &[Token],
+    upper: &[Token],
+) -> Result<Option<(Ty, Ty)>, OutOfMemory>
+    ensures lower { IfOk result (λ read. OnSome read (IsWholeClosed (words lower.now))) }
+    ensures upper { IfOk result (λ read. OnSome read (IsWholeClosed (words upper.now))) }
+    ensures built { IfOk result (λ read. IfSome read (λ types.
+        AreBuilt constructors.old (words lower.now) (words upper.now) constructors.new (type_of types.0) (type_of types.1))) }
+    ensures kept { take (length constructors.old) constructors.new ≡ constructors.old }
+{
+    let Some(lower) = read_closed_type(alloc, constructors, lower)? else {
+        return Ok(None);
+    };
+    match read_closed_type(alloc, constructors, upper)? {
+        Some(upper) => Ok(Some((lower, upper))),
+        None => Ok(None),
+    }
+}
