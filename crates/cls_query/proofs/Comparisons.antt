@@ -85,11 +85,11 @@ module _ (old : List (List ℕ)) (us vs : List Word) (new : List (List ℕ)) (lo
       let spells_types = spells ∙ (λ i. name (codes "sub") ∷ (spelled_lower i ++ sign AtMost ∷ spelled_upper i)) in
       record {
         faultless =
-          faultless line s t spells_types old components text flat
-          (subst (λ (ws : List Word). 3 * length ws < 2 * max_type_nodes) spelled_lower short_lower)
-          (subst (λ (ws : List Word). 3 * length ws < 2 * max_type_nodes) spelled_upper short_upper)
-          (subst HasNoDollar spelled_lower a.closed)
-          (subst HasNoDollar spelled_upper b.closed);
+            faultless line s t spells_types old components text flat
+            (subst (λ (ws : List Word). 3 * length ws < 2 * max_type_nodes) spelled_lower short_lower)
+            (subst (λ (ws : List Word). 3 * length ws < 2 * max_type_nodes) spelled_upper short_upper)
+            (subst HasNoDollar spelled_lower a.closed)
+            (subst HasNoDollar spelled_upper b.closed);
         said = compares s t;
         spelled = says line s t spells_types;
         asked = λ i. sub ((built.lower_is ∙ ap (λ (names : List (List ℕ)). type_in names s) numbered) i) ((built.upper_is ∙ ap (λ (names : List (List ℕ)). type_in names t) numbered) i);
@@ -106,9 +106,9 @@ both_built old mid new us vs lower upper a first second is_lower is_upper =
     let all = second ∙ ap (λ (table : List (List ℕ)). with_constructors table vs) names in
     record {
       lower_is =
-        spelled_is mid s lower is_lower
-        ∙ (ap (λ (table : List (List ℕ)). type_in table s) names
-        ∙ sym (ap (λ (table : List (List ℕ)). type_in table s) all ∙ type_stays old (constructors_in false vs) s));
+          spelled_is mid s lower is_lower
+          ∙ (ap (λ (table : List (List ℕ)). type_in table s) names
+          ∙ sym (ap (λ (table : List (List ℕ)). type_in table s) all ∙ type_stays old (constructors_in false vs) s));
       upper_is = spelled_is new (spans.type_in vs) upper is_upper;
       numbered = second ∙ ap (λ (table : List (List ℕ)). with_constructors table vs) first;
     }

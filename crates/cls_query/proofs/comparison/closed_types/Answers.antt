@@ -7,4 +7,4 @@ returns-in-Some-2-clause-built c =
     let lower = rw c.in-Some.is at c.in_ok-lower.ensures in
     let upper = rw c.in-Some-2.is at c.in_ok-upper.ensures in
     both_built c.args.constructors.now c.read_closed_type.new.constructors c.read_closed_type-2.new.constructors (words c.args.lower.now) (words c.args.upper.now) _ _
-    (record { whole = lower.whole; closed = lower.closed; }) lower.constructors upper.constructors lower.ty upper.ty
+    (record { whole = lower.whole; closed = lower.closed }) lower.constructors upper.constructors lower.ty upper.ty
