@@ -6,10 +6,9 @@ ghost use Rattle.cls_base.specs.Ty.{type_of};
 ghost use Rattle.cls_lexer.specs.Skipped.{IsText};
 ghost use Rattle.cls_lexer.specs.Words.{name, sign, words, words_of};
 ghost use Rattle.cls_lexer.specs.declared.token.TokenKind.TheVariants.{AtMost};
-ghost use Rattle.cls_syntax.specs.SyntaxFaults.{IsFlat};
 ghost use Rattle.cls_query.specs.Queries.{tables_of};
 ghost use Rattle.cls_query.specs.ReadQueries.{asked_of, ReadsQuery};
-ghost use Rattle.cls_query.specs.Comparisons.{is_at_most, IsWholeClosed, AreBuilt};
+ghost use Rattle.cls_query.specs.Comparisons.{is_at_most, IsSmall, IsWholeClosed, AreBuilt};
 
 use crate::line::CutLine;
 use crate::query::Query;
@@ -50,19 +49,17 @@ impl<'t, 'a> CutLine<'t, 'a> {
         }
     }
 
-    /// What stands before and behind the first `<=`, where the first word is `sub`, few parentheses are open at once, and
-    /// both are short.
+    /// What stands before and behind the first `<=`, where the first word is `sub` and both are small.
     fn sides(&self) -> Option<(&'t [Token<'a>], &'t [Token<'a>])>
         ensures spelled { IfSome result (λ sides. words_of self.now.text.now
             ≡ name (codes "sub") ∷ (words sides.0.now ++ sign AtMost ∷ words sides.1.now)) }
-        ensures flat { OnSome result (IsFlat self.now.text.now) }
-        ensures lower { IfSome result (λ sides. 3 * length sides.0.now < 2 * max_type_nodes) }
-        ensures upper { IfSome result (λ sides. 3 * length sides.1.now < 2 * max_type_nodes) }
+        ensures lower { IfSome result (λ sides. IsSmall sides.0.now) }
+        ensures upper { IfSome result (λ sides. IsSmall sides.1.now) }
     {
         let rest = word_at(self.tokens, "sub").ok()?;
         let (lower, behind) = rest.split_at(first_sign(rest)?);
         let upper = sign_at(behind, TokenKind::AtMost).ok()?;
-        if is_short(lower) && is_short(upper) && !is_too_deep(self.tokens) {
+        if is_small(lower) && is_small(upper) {
             Some((lower, upper))
         } else {
             None
@@ -81,6 +78,13 @@ fn is_at_most(token: &Token) -> bool
     ensures { result ≡ is_at_most token.now.kind }
 {
     matches!(token.kind, TokenKind::AtMost)
+}
+
+/// Whether the tokens are few, and few parentheses open at once.
+fn is_small(tokens: &[Token]) -> bool
+    ensures { IsTrue result ↔ IsSmall tokens.now }
+{
+    is_short(tokens) && !is_too_deep(tokens)
 }
 
 /// Whether the tokens are too few for a type of more than [`MAX_TYPE_NODES`] nodes: two of them, a name and an operator, make
