@@ -46,9 +46,28 @@ pub fn read_query<'a, 'p>(
     if let Some(comparison) = cut.comparison(alloc, constructors)? {
         return Ok(comparison);
     }
-    let form = cut.form()?;
-    form.check_types(&cut)?;
-    let term = form.check_values(alloc, components, &cut)?;
+    by_form(alloc, constructors, components, &cut)
+}
+
+/// The query that the line is, or its first error, by one reading after another. After any error the table is as before.
+// Not inlined: a frame is cleared whenever its function is called, and this one's is large.
+#[inline(never)]
+fn by_form<'a>(
+    alloc: Global,
+    constructors: &mut Names,
+    components: &Names,
+    line: &CutLine<'_, 'a>,
+) -> Result<Query, LineFault<'a>>
+    requires { IsText line.now.text.now }
+    ensures query { IfOk result (λ query. ReadsQuery (tables_of constructors.old components.now)
+        line.now.text.now (asked_of query) constructors.new) }
+    ensures fault { IfErr result (λ fault. IfSome (fault_words fault)
+        (First (line_errors (tables_of constructors.old components.now) line.now.text.now))) }
+    ensures stay { OnErr result (constructors.new ≡ constructors.old) }
+{
+    let form = line.form()?;
+    form.check_types(line)?;
+    let term = form.check_values(alloc, components, line)?;
     Ok(form.query(alloc, constructors, components, term)?)
 }
 
