@@ -1,1 +1,3 @@
+pub mod ArgumentRows
+pub mod Known
 pub mod Seats

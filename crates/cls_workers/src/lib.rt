@@ -5,6 +5,8 @@
 //! schedule, the rows are the closure of the goal.
 #![tactic(auto)]
 
+mod argument_rows;
+mod known_rows;
 mod run;
 mod work;
 
