@@ -7,6 +7,7 @@
 
 mod argument_rows;
 mod known_rows;
+mod memory;
 mod run;
 mod work;
 
