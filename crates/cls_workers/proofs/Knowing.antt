@@ -1,54 +1,40 @@
 -- Rows that are known of goals, and rows of arguments.
-use Rattle.std.proofs.Common.{◌≡◌, ℕ, zero, suc, ◌+◌, ◌<◌, Bool, true, false, if◌then◌else◌, List, [], ◌∷◌, ◌++◌, Option, Some, None, All, length, map, take, drop, get_or, slice_get, refl, sym, ap, ◌∙◌, subst, arith, append_assoc, append-nil, length-append}
-use Rattle.std.proofs.lemmas.List.{take_more, drop-drop}
+use Rattle.std.proofs.Common.{◌≡◌, ℕ, zero, suc, ◌+◌, ◌<◌, Bool, true, false, if◌then◌else◌, List, [], ◌∷◌, ◌++◌, Option, Some, None, All, length, map, take, drop, get_or, slice_get, refl, sym, ap, ◌∙◌, subst, arith, append_assoc}
+use Rattle.std.specs.Prelude.{IfSome}
+use Rattle.std.proofs.lemmas.List.{take_more, drop-drop, map-append}
 use Rattle.std.proofs.lemmas.List.Elements.{All-contains, All-cons, All-head, All-tail, All-weaker}
 use Rattle.std.proofs.lemmas.Map.Views.{Contains-from_lookup}
 use Rattle.cls_base.specs.declared.rule.Rule.{Rule}
 use Rattle.cls_rulebook.specs.Arguments.{arguments_of_rule, arguments_in}
 use Rattle.indexmap.specs.IndexMap.{insert_entry}
 use Rattle.cls_core.proofs.Columns.{get-front}
+use Rattle.cls_core.proofs.Insertion.{arguments-more}
 use Rattle.cls_core.specs.Adding.{GoesOn}
-use Rattle.cls_workers.specs.ArgumentRows.{AreRowsOf}
+use Rattle.cls_core.specs.ArgumentRows.{AreRowsOf}
 use Rattle.cls_workers.specs.Known.{AreKnownIn, known_row}
 
-map-append : {A B : Type 0} (f : A → B) (xs ys : List A) → map f (xs ++ ys) ≡ map f xs ++ map f ys
-map-append f [] ys = refl
-map-append f (x ∷ xs) ys = ap (λ l. f x ∷ l) (map-append f xs ys)
+module _ {G B : Type 0} (f : G → B) where
+  -- one step over goals: what stands behind the list so far, and what belongs to the next goal
+  pub goal-step : (before ks ms : List B) (b : B) (xs : List G) (i : ℕ) (x : G) → i < length xs → x ≡ get_or xs i x
+      → ks ≡ before ++ map f (take i xs) → b ≡ f x → ms ≡ ks ++ b ∷ [] → ms ≡ before ++ map f (take (i + 1) xs)
+  goal-step before ks ms b xs i x h is e n m =
+      let more : map f (take (i + 1) xs) ≡ map f (take i xs) ++ f (get_or xs i x) ∷ [] =
+      ap (map f) (take_more xs i x h) ∙ map-append f (take i xs) (get_or xs i x ∷ []) in
+      m ∙ (λ k. e k ++ (n ∙ ap f is) k ∷ []) ∙ append_assoc before (map f (take i xs)) (f (get_or xs i x) ∷ []) ∙ ap (λ l. before ++ l) (sym more)
+
+  -- one step over rules
+  pub rule-step : (before ks ms : List B) (rs : List (Rule G)) (i : ℕ) (r : Rule G) → i < length rs → r ≡ get_or rs i r
+      → ks ≡ before ++ map f (arguments_in (take i rs)) → ms ≡ ks ++ map f (arguments_of_rule r)
+      → ms ≡ before ++ map f (arguments_in (take (i + 1) rs))
+  rule-step before ks ms rs i r h is e m =
+      let args = arguments_of_rule (get_or rs i r) in
+      let more : map f (arguments_in (take (i + 1) rs)) ≡ map f (arguments_in (take i rs)) ++ map f args =
+      ap (map f) (arguments-more rs i r h) ∙ map-append f (arguments_in (take i rs)) args in
+      m ∙ (λ k. e k ++ map f (arguments_of_rule (is k))) ∙ append_assoc before (map f (arguments_in (take i rs))) (map f args) ∙ ap (λ l. before ++ l) (sym more)
 
 module _ {G : Type 0} where
-  arguments-append : (rs ss : List (Rule G)) → arguments_in (rs ++ ss) ≡ arguments_in rs ++ arguments_in ss
-  arguments-append [] ss = refl
-  arguments-append (r ∷ rs) ss =
-      ap (λ l. arguments_of_rule r ++ l) (arguments-append rs ss) ∙ sym (append_assoc (arguments_of_rule r) (arguments_in rs) (arguments_in ss))
-
-  -- the arguments of one rule more
-  pub arguments-more : (rs : List (Rule G)) (i : ℕ) (d : Rule G) → i < length rs
-      → arguments_in (take (i + 1) rs) ≡ arguments_in (take i rs) ++ arguments_of_rule (get_or rs i d)
-  arguments-more rs i d h =
-      ap arguments_in (take_more rs i d h) ∙ (arguments-append (take i rs) (get_or rs i d ∷ []) ∙ ap (λ l. arguments_in (take i rs) ++ l) (append-nil (arguments_of_rule (get_or rs i d))))
-
-  module _ {B : Type 0} (f : G → B) where
-    -- one step over goals: what stands behind the list, and the next goal's
-    pub goal-step : (before ks ms : List B) (xs : List G) (i : ℕ) (x : G) → i < length xs → x ≡ get_or xs i x
-        → ks ≡ before ++ map f (take i xs) → ms ≡ ks ++ f x ∷ [] → ms ≡ before ++ map f (take (i + 1) xs)
-    goal-step before ks ms xs i x h is e m =
-        let more : map f (take (i + 1) xs) ≡ map f (take i xs) ++ f (get_or xs i x) ∷ [] =
-        ap (map f) (take_more xs i x h) ∙ map-append f (take i xs) (get_or xs i x ∷ []) in
-        m ∙ (λ k. e k ++ f (is k) ∷ []) ∙ append_assoc before (map f (take i xs)) (f (get_or xs i x) ∷ []) ∙ ap (λ l. before ++ l) (sym more)
-
-    -- one step over rules
-    pub rule-step : (before ks ms : List B) (rs : List (Rule G)) (i : ℕ) (r : Rule G) → i < length rs → r ≡ get_or rs i r
-        → ks ≡ before ++ map f (arguments_in (take i rs)) → ms ≡ ks ++ map f (arguments_of_rule r)
-        → ms ≡ before ++ map f (arguments_in (take (i + 1) rs))
-    rule-step before ks ms rs i r h is e m =
-        let args = arguments_of_rule (get_or rs i r) in
-        let more : map f (arguments_in (take (i + 1) rs)) ≡ map f (arguments_in (take i rs)) ++ map f args =
-        ap (map f) (arguments-more rs i r h) ∙ map-append f (arguments_in (take i rs)) args in
-        m ∙ (λ k. e k ++ map f (arguments_of_rule (is k))) ∙ append_assoc before (map f (arguments_in (take i rs))) (map f args) ∙ ap (λ l. before ++ l) (sym more)
-
   module _ (eq : G → G → Bool) (exact : (x y : G) → eq x y ≡ true → x ≡ y) where
-    -- what is known of arguments are rows of theirs
-    pub known_right : (goals args : List G) (known : List (G × ℕ)) → AreKnownIn goals known
+    known_right : (goals args : List G) (known : List (G × ℕ)) → AreKnownIn goals known
         → AreRowsOf goals args (map (known_row eq known) args)
     known_right goals [] known h i row goal e f = cc
     known_right goals (x ∷ xs) known h zero row goal e f =
@@ -56,8 +42,12 @@ module _ {G : Type 0} where
         All-contains (λ k. slice_get goals k.1 ≡ Some k.0) known (x, row) h (Contains-from_lookup exact x row known is) ∙ f
     known_right goals (x ∷ xs) known h (suc i) row goal e f = known_right goals xs known h i row goal e f
 
-    -- a goal whose row is right may be put among those that are known
-    pub insert_right : (goals : List G) (known : List (G × ℕ)) (x : G) (row : ℕ) → AreKnownIn goals known
+    -- what is known of arguments are rows of theirs
+    pub looked_up_right : (goals args : List G) (known : List (G × ℕ)) (rows : List (Option ℕ)) → rows ≡ map (known_row eq known) args
+        → AreKnownIn goals known → AreRowsOf goals args rows
+    looked_up_right goals args known rows e h = subst (AreRowsOf goals args) (sym e) (known_right goals args known h)
+
+    insert_right : (goals : List G) (known : List (G × ℕ)) (x : G) (row : ℕ) → AreKnownIn goals known
         → slice_get goals row ≡ Some x → AreKnownIn goals (insert_entry eq known x row)
     insert_right goals [] x row h is = All-cons (λ k. slice_get goals k.1 ≡ Some k.0) (x, row) [] is h
     insert_right goals (k ∷ ks) x row h is =
@@ -69,29 +59,40 @@ module _ {G : Type 0} where
         by true e rest more = All-cons (λ j. slice_get goals j.1 ≡ Some j.0) (k.0, row) ks (is ∙ ap Some (exact x k.0 e)) rest
         by false e rest more = All-cons (λ j. slice_get goals j.1 ≡ Some j.0) k (insert_entry eq ks x row) (All-head (λ j. slice_get goals j.1 ≡ Some j.0) k ks h) more
 
-  -- what is known stays right when goals are put behind
-  pub known_later : (goals later : List G) (known : List (G × ℕ)) → GoesOn goals later → AreKnownIn goals known → AreKnownIn later known
+    -- a goal whose row is right may be put among those that are known
+    pub learned_right : (goals : List G) (known old new : List (G × ℕ)) (x : G) (row : ℕ) → old ≡ known
+        → new ≡ insert_entry eq old x row → AreKnownIn goals known → slice_get goals row ≡ Some x → AreKnownIn goals new
+    learned_right goals known old new x row e f h is =
+        subst (AreKnownIn goals) (sym f) (insert_right goals old x row (subst (AreKnownIn goals) (sym e) h) is)
+
+  known_later : (goals later : List G) (known : List (G × ℕ)) → GoesOn goals later → AreKnownIn goals known → AreKnownIn later known
   known_later goals later known on h =
       All-weaker (λ k. slice_get goals k.1 ≡ Some k.0) (λ k. slice_get later k.1 ≡ Some k.0)
       (λ k is. ap (λ l. slice_get l k.1) on.is ∙ get-front goals on.more k.1 k.0 is) known h
 
-  -- rows of the first arguments
-  pub rows_front : (goals xs ys : List G) (rows : List (Option ℕ)) → AreRowsOf goals (xs ++ ys) rows → AreRowsOf goals xs rows
-  rows_front goals xs ys rows h i row goal e f = h i row goal e (get-front xs ys i goal f)
+  -- what is known stays right when goals are put behind
+  pub known_stays : (goals later : List G) (known : Option (List (G × ℕ))) → GoesOn goals later
+      → IfSome known (AreKnownIn goals) → IfSome known (AreKnownIn later)
+  known_stays goals later None on h = h
+  known_stays goals later (Some known) on h = known_later goals later known on h
 
-  -- rows of the arguments behind the first
-  pub rows_behind : (goals xs ys : List G) (rows : List (Option ℕ)) → AreRowsOf goals (xs ++ ys) rows
+  -- rows of the first arguments
+  pub rows_front : (goals args xs ys : List G) (rows : List (Option ℕ)) → args ≡ xs ++ ys → AreRowsOf goals args rows
+      → AreRowsOf goals xs rows
+  rows_front goals args xs ys rows is h i row goal e f = h i row goal e (ap (λ l. slice_get l i) is ∙ get-front xs ys i goal f)
+
+  rows_behind : (goals xs ys : List G) (rows : List (Option ℕ)) → AreRowsOf goals (xs ++ ys) rows
       → AreRowsOf goals ys (drop (length xs) rows)
   rows_behind goals [] ys rows h = h
   rows_behind goals (x ∷ xs) ys [] h = λ i row goal e f. cc
   rows_behind goals (x ∷ xs) ys (r ∷ rs) h =
       rows_behind goals xs ys rs (λ i row goal e f. h (suc i) row goal e f)
 
-  -- rows of the arguments behind, where those behind a place are rows of all
-  pub rows_next : (goals xs ys : List G) (rows : List (Option ℕ)) (at next : ℕ) → next ≡ at + length xs
-      → AreRowsOf goals (xs ++ ys) (drop at rows) → AreRowsOf goals ys (drop next rows)
-  rows_next goals xs ys rows at next e h =
-      subst (AreRowsOf goals ys) (drop-drop (length xs) at rows ∙ ap (λ n. drop n rows) (sym e)) (rows_behind goals xs ys (drop at rows) h)
+  -- rows of the arguments behind the first
+  pub rows_next : (goals args xs ys : List G) (rows : List (Option ℕ)) (at next : ℕ) → args ≡ xs ++ ys → next ≡ at + length xs
+      → AreRowsOf goals args (drop at rows) → AreRowsOf goals ys (drop next rows)
+  rows_next goals args xs ys rows at next is e h =
+      subst (AreRowsOf goals ys) (drop-drop (length xs) at rows ∙ ap (λ n. drop n rows) (sym e)) (rows_behind goals xs ys (drop at rows) (subst (λ l. AreRowsOf goals l (drop at rows)) is h))
 
   -- the row at a place is the argument's
   pub row_here : (goals : List G) (x : G) (found : List ℕ) (at row : ℕ) → slice_get found at ≡ Some row

@@ -1,3 +1,2 @@
-pub mod ArgumentRows
 pub mod Known
 pub mod Seats

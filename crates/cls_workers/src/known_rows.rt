@@ -2,12 +2,11 @@
 ghost use Rattle.std.specs.Prelude.{◌≡◌, ◌+◌, ◌∷◌, [], ◌++◌, List, Some, map, drop, length, IfOk, IfSome, OnOk};
 ghost use Rattle.cls_core.specs.Arguments.{arguments_of};
 ghost use Rattle.cls_rulebook.specs.Arguments.{arguments_in, arguments_of_rule};
-ghost use Rattle.cls_workers.specs.ArgumentRows.{AreRowsOf};
+ghost use Rattle.cls_core.specs.ArgumentRows.{AreRowsOf};
 ghost use Rattle.cls_workers.specs.Known.{AreKnownIn, known_row};
 
-use crate::argument_rows::ArgumentRows;
 use cls_base::{Goals, Key, OutOfMemory, Rule};
-use cls_core::Answer;
+use cls_core::{Answer, ArgumentRows};
 use indexmap::IndexMap;
 use std::alloc::Global;
 use std::marker::Model;

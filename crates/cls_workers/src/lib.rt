@@ -5,7 +5,6 @@
 //! schedule, the rows are the closure of the goal.
 #![tactic(auto)]
 
-mod argument_rows;
 mod known_rows;
 mod memory;
 mod run;

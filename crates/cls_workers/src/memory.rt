@@ -1,13 +1,12 @@
 //! What a worker keeps from goal to goal.
 ghost use Rattle.std.specs.Prelude.{◌≡◌, List, None, Some, [], map, IfSome};
 ghost use Rattle.cls_core.specs.Arguments.{arguments_of};
-ghost use Rattle.cls_workers.specs.ArgumentRows.{AreRowsOf};
+ghost use Rattle.cls_core.specs.ArgumentRows.{AreRowsOf};
 ghost use Rattle.cls_workers.specs.Known.{AreKnownIn};
 
-use crate::argument_rows::ArgumentRows;
 use crate::known_rows::KnownRows;
 use cls_base::Key;
-use cls_core::Answer;
+use cls_core::{Answer, ArgumentRows};
 use std::alloc::Global;
 
 /// What a worker keeps from goal to goal.

@@ -1,7 +1,9 @@
-ghost use Rattle.std.specs.Prelude.{◌≡◌, ◌<◌};
+ghost use Rattle.std.specs.Prelude.{◌≡◌, ◌<◌, IfSome};
 ghost use Rattle.cls_turn.specs.Seats.{id_of};
+ghost use Rattle.cls_workers.specs.Known.{AreKnownIn};
 ghost use Rattle.cls_workers.specs.Seats.{IsAfterWork, HasMeaning};
 
+use crate::memory::Memory;
 use cls_base::Gate;
 use cls_core::Expand;
 use cls_table::{ClaimAnswer, SharedTable, TableSeat};
@@ -10,8 +12,9 @@ use std::sync::Wait;
 use std::sync::ledger::Ledger;
 use std::thread::yield_now;
 
-/// How often a worker beside others asks for a goal before it gives its seat back.
-const MOST_ASKS: u32 = 1_000;
+/// How often a worker beside others asks for a goal before it gives its seat back. It is as often as most closures have
+/// goals, since a worker that begins anew remembers no row.
+const MOST_ASKS: u32 = 100_000;
 
 /// How often in a row a worker beside others finds no goal to claim before it gives its seat back. Once all have done so
 /// the caller goes on alone.
@@ -35,8 +38,9 @@ enum StepOutcome {
     NothingLeft,
 }
 
-/// Claims a goal, and expands and files it. A worker that runs out of memory stops the table. The seat is given back,
-/// and what the asking came to.
+/// Claims a goal, and expands and files it. The rows of arguments that the worker remembers aren't looked up at the table,
+/// and it remembers the others that were found there. A worker that runs out of memory stops the table. The seat is given
+/// back, and what the asking came to.
 fn step<E: Expand, L: Ledger, T: Gate, R: Wait>(
     rt: &R,
     alloc: Global,
@@ -44,10 +48,13 @@ fn step<E: Expand, L: Ledger, T: Gate, R: Wait>(
     by: &E,
     gate: &T,
     seat: TableSeat<E, L>,
+    memory: &mut Memory<E::Goal>,
 ) -> (TableSeat<E, L>, StepOutcome)
     requires seat_of_table { seat.turn ≡ id_of table.now.turn }
     requires meaning { HasMeaning seat (E.tag by.now) }
-    ensures { IsAfterWork seat result.0 }
+    requires known { IfSome memory.old.known (AreKnownIn seat.goals) }
+    ensures after { IsAfterWork seat result.0 }
+    ensures known { IfSome memory.new.known (AreKnownIn result.0.goals) }
 {
     let mut seat = seat;
     let Ok(answer) = table.claim(rt, alloc, &mut seat) else {
@@ -63,9 +70,14 @@ fn step<E: Expand, L: Ledger, T: Gate, R: Wait>(
                     return (seat, StepOutcome::NothingLeft);
                 }
             };
-            if let Err(filed) = table.file(rt, alloc, &mut seat, filed) {
-                table.stop(rt, &mut seat, filed.claim());
-                return (seat, StepOutcome::NothingLeft);
+            memory.look_up(filed.answer());
+            match table.file(rt, alloc, &mut seat, filed, &mut memory.arguments) {
+                Ok(Some(answer)) => memory.learn(answer),
+                Ok(None) => {}
+                Err(filed) => {
+                    table.stop(rt, &mut seat, filed.claim());
+                    return (seat, StepOutcome::NothingLeft);
+                }
             }
             (seat, StepOutcome::DidGoal)
         }
@@ -93,9 +105,10 @@ pub(crate) fn work<E: Expand, L: Ledger, T: Gate, R: Wait>(
     ensures { IsAfterWork seat result }
 {
     let mut seat = seat;
+    let mut memory = Memory::new(alloc);
     let mut waits = 0;
     for _ in 0..MOST_ASKS {
-        let (back, outcome) = step(rt, alloc, table, by, gate, seat);
+        let (back, outcome) = step(rt, alloc, table, by, gate, seat, &mut memory);
         seat = back;
         match outcome {
             StepOutcome::DidGoal => waits = 0,
@@ -129,8 +142,9 @@ pub(crate) fn work_alone<E: Expand, L: Ledger, T: Gate, R: Wait>(
     ensures { IsAfterWork seat result.0 }
 {
     let mut seat = seat;
+    let mut memory = Memory::without_rows(alloc);
     for _ in rt.forever() {
-        let (back, outcome) = step(rt, alloc, table, by, gate, seat);
+        let (back, outcome) = step(rt, alloc, table, by, gate, seat, &mut memory);
         if matches!(outcome, StepOutcome::NothingLeft) {
             return (back, false);
         }

@@ -2,7 +2,7 @@ use Rattle.std.proofs.Common.{◌≡◌, ◌+◌, List, Some, map, drop, length}
 use Rattle.std.specs.Vec.Iter.{into_iter_items}
 use Rattle.cls_core.specs.Arguments.{arguments_of}
 use Rattle.cls_rulebook.specs.Arguments.{arguments_in}
-use Rattle.cls_workers.specs.ArgumentRows.{AreRowsOf}
+use Rattle.cls_core.specs.ArgumentRows.{AreRowsOf}
 use Rattle.cls_workers.specs.Known.{AreKnownIn}
 use Rattle.cls_workers.proofs.known_rows.KnownRows.learn.Given as goal
 

@@ -1,10 +1,8 @@
-use Rattle.std.proofs.Common.{◌≡◌, ◌+◌, ◌∷◌, ◌++◌, [], ℕ, List, Some, map, drop, length, ap, sym, subst, ◌∙◌, arith, length-append}
-use Rattle.std.specs.Vec.Iter.{into_iter_items}
-use Rattle.cls_rulebook.specs.Arguments.{arguments_in, arguments_of_rule}
+use Rattle.std.proofs.Common.{◌≡◌, ◌++◌, map, ap, sym, ◌∙◌}
+use Rattle.cls_rulebook.specs.Arguments.{arguments_in}
 use Rattle.cls_core.specs.Arguments.{arguments_of}
-use Rattle.cls_workers.specs.ArgumentRows.{AreRowsOf}
-use Rattle.cls_workers.specs.Known.{AreKnownIn, known_row}
-use Rattle.cls_workers.proofs.Knowing.{insert_right, known_right, rows_front, rows_next, row_here}
+use Rattle.cls_workers.specs.Known.{known_row}
+use Rattle.cls_workers.proofs.Knowing.{looked_up_right}
 use Rattle.cls_workers.proofs.known_rows.KnownRows.look_up.Goals as goal
 
 pub returns-in-Ok-clause-right : goal.returns-in-Ok-clause-right
@@ -15,4 +13,4 @@ returns-in-Ok-clause-right g c goals h =
     let rows : c.look_up_rules.new.known.items ≡ map row args =
     c.in-Ok.ensures ∙ ap (λ ks. ks ++ map row (arguments_in c.as_slice.result.now)) c.clear.ensures.items
     ∙ ap (λ rs. map row (arguments_in rs)) c.as_slice.ensures ∙ ap (λ a. map row (arguments_of a)) (sym c.in-Rules.is) in
-    subst (AreRowsOf goals args) (sym rows) (known_right eq g.met.G.Key.exact goals args c.args.self.now h)
+    looked_up_right eq g.met.G.Key.exact goals args c.args.self.now c.look_up_rules.new.known.items rows h
