@@ -29,7 +29,7 @@ module _ {G B : Type 0} (f : G → B) where
   rule-step before ks ms rs i r h is e m =
       let args = arguments_of_rule (get_or rs i r) in
       let more : map f (arguments_in (take (i + 1) rs)) ≡ map f (arguments_in (take i rs)) ++ map f args =
-      ap (map f) (arguments-more rs i r h) ∙ map-append f (arguments_in (take i rs)) args in
+      ap (map f) (arguments-more (λ x y. true) rs i r h) ∙ map-append f (arguments_in (take i rs)) args in
       m ∙ (λ k. e k ++ map f (arguments_of_rule (is k))) ∙ append_assoc before (map f (arguments_in (take i rs))) (map f args) ∙ ap (λ l. before ++ l) (sym more)
 
 module _ {G : Type 0} where

@@ -10,7 +10,8 @@ returns-in-Ok-clause-right g c goals h =
     let eq = g.G.PartialEq.eq in
     let args = arguments_of c.args.answer.now in
     let row = known_row eq c.args.self.now in
+    let is : map row (arguments_in c.as_slice.result.now) ≡ map row args =
+    ap (λ rs. map row (arguments_in rs)) c.as_slice.ensures ∙ ap (λ a. map row (arguments_of a)) (sym c.in-Rules.is) in
     let rows : c.look_up_rules.new.known.items ≡ map row args =
-    c.in-Ok.ensures ∙ ap (λ ks. ks ++ map row (arguments_in c.as_slice.result.now)) c.clear.ensures.items
-    ∙ ap (λ rs. map row (arguments_in rs)) c.as_slice.ensures ∙ ap (λ a. map row (arguments_of a)) (sym c.in-Rules.is) in
+    c.in-Ok.ensures ∙ (λ k. c.clear.ensures.items k ++ is k) in
     looked_up_right eq g.met.G.Key.exact goals args c.args.self.now c.look_up_rules.new.known.items rows h
