@@ -1,5 +1,5 @@
 -- Rows that are known of goals, and rows of arguments.
-use Rattle.std.proofs.Common.{◌≡◌, ℕ, zero, suc, ◌+◌, ◌<◌, Bool, true, false, if◌then◌else◌, List, [], ◌∷◌, ◌++◌, Option, Some, None, All, length, map, take, drop, get_or, slice_get, refl, sym, ap, ◌∙◌, subst, arith, append_assoc}
+use Rattle.std.proofs.Common.{◌≡◌, ℕ, zero, suc, ◌+◌, ◌<◌, Bool, true, false, if◌then◌else◌, List, [], ◌∷◌, ◌++◌, Option, Some, None, length, map, take, drop, get_or, slice_get, refl, sym, ap, ◌∙◌, subst, append_assoc}
 use Rattle.std.specs.Prelude.{IfSome}
 use Rattle.std.proofs.lemmas.List.{take_more, drop-drop, map-append}
 use Rattle.std.proofs.lemmas.List.Elements.{All-contains, All-cons, All-head, All-tail, All-weaker}
@@ -31,6 +31,10 @@ module _ {G B : Type 0} (f : G → B) where
       let more : map f (arguments_in (take (i + 1) rs)) ≡ map f (arguments_in (take i rs)) ++ map f args =
       ap (map f) (arguments-more (λ x y. true) rs i r h) ∙ map-append f (arguments_in (take i rs)) args in
       m ∙ (λ k. e k ++ map f (arguments_of_rule (is k))) ∙ append_assoc before (map f (arguments_in (take i rs))) (map f args) ∙ ap (λ l. before ++ l) (sym more)
+
+-- what is put behind nothing
+pub put_behind_none : {A : Type 0} (new old more all : List A) → new ≡ old ++ more → old ≡ [] → more ≡ all → new ≡ all
+put_behind_none new old more all e f h = e ∙ (λ k. f k ++ h k)
 
 module _ {G : Type 0} where
   module _ (eq : G → G → Bool) (exact : (x y : G) → eq x y ≡ true → x ≡ y) where

@@ -69,7 +69,11 @@ impl<G: Key + Drop> KnownRows<G> {
     }
 
     // Puts what is known of the arguments of rules behind the list. The only error is out of memory.
-    fn look_up_rules(&self, rules: &[Rule<G>], known: &mut Vec<Option<u32>>) -> Result<(), OutOfMemory>
+    fn look_up_rules(
+        &self,
+        rules: &[Rule<G>],
+        known: &mut Vec<Option<u32>>,
+    ) -> Result<(), OutOfMemory>
         ensures { OnOk result (known.new.items
             ≡ known.old.items ++ map (known_row G.eq self.now) (arguments_in rules.now)) }
     {
@@ -81,7 +85,11 @@ impl<G: Key + Drop> KnownRows<G> {
 
     /// Makes the list say for each argument, in the order of rules and of arguments within a rule, the row if it is
     /// known. The only error is out of memory, which leaves an empty list.
-    pub(crate) fn look_up(&self, answer: &Answer<G>, known: &mut Vec<Option<u32>>) -> Result<(), OutOfMemory>
+    pub(crate) fn look_up(
+        &self,
+        answer: &Answer<G>,
+        known: &mut Vec<Option<u32>>,
+    ) -> Result<(), OutOfMemory>
         ensures rows { OnOk result (known.new.items ≡ map (known_row G.eq self.now) (arguments_of answer.now)) }
         ensures right { (goals : List G) → AreKnownIn goals self.now
             → AreRowsOf goals (arguments_of answer.now) known.new.items }

@@ -41,6 +41,7 @@ enum StepOutcome {
 /// Claims a goal, and expands and files it. The rows of arguments that the worker remembers aren't looked up at the table,
 /// and it remembers the others that were found there. A worker that runs out of memory stops the table. The seat is given
 /// back, and what the asking came to.
+#[tactic(auto, using(crate::proofs::Knowing::known_stays))]
 fn step<E: Expand, L: Ledger, T: Gate, R: Wait>(
     rt: &R,
     alloc: Global,
@@ -72,14 +73,16 @@ fn step<E: Expand, L: Ledger, T: Gate, R: Wait>(
             };
             memory.look_up(filed.answer());
             match table.file(rt, alloc, &mut seat, filed, &mut memory.arguments) {
-                Ok(Some(answer)) => memory.learn(answer),
-                Ok(None) => {}
+                Ok(Some(answer)) => {
+                    memory.learn(answer);
+                    (seat, StepOutcome::DidGoal)
+                }
+                Ok(None) => (seat, StepOutcome::NothingLeft),
                 Err(filed) => {
                     table.stop(rt, &mut seat, filed.claim());
-                    return (seat, StepOutcome::NothingLeft);
+                    (seat, StepOutcome::NothingLeft)
                 }
             }
-            (seat, StepOutcome::DidGoal)
         }
         ClaimAnswer::Again => {
             yield_now();

@@ -1,4 +1,4 @@
-use Rattle.std.proofs.Common.{◌≡◌, ◌∷◌, [], ◌++◌, Some, map, drop, ap, sym, append-nil, ◌∙◌}
+use Rattle.std.proofs.Common.{◌≡◌, [], ◌++◌, Some, map, drop, ap, sym, append-nil, ◌∙◌}
 use Rattle.std.specs.Vec.Iter.{into_iter_items}
 use Rattle.cls_rulebook.specs.Arguments.{arguments_in, arguments_of_rule}
 use Rattle.cls_core.specs.Arguments.{arguments_of}

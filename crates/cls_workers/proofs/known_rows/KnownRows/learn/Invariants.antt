@@ -1,4 +1,4 @@
-use Rattle.std.proofs.Common.{◌≡◌, ◌+◌, List, Some, map, drop, length}
+use Rattle.std.proofs.Common.{List, Some, map, drop}
 use Rattle.std.specs.Vec.Iter.{into_iter_items}
 use Rattle.cls_core.specs.Arguments.{arguments_of}
 use Rattle.cls_rulebook.specs.Arguments.{arguments_in}

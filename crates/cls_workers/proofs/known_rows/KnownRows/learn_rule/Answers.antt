@@ -1,4 +1,4 @@
-use Rattle.std.proofs.Common.{◌∷◌, ◌++◌, [], Some, map, drop, ap, sym, append-nil, ◌∙◌}
+use Rattle.std.proofs.Common.{◌∷◌, [], Some, map, drop, ap, sym, append-nil, ◌∙◌}
 use Rattle.cls_rulebook.specs.Arguments.{arguments_of_rule}
 use Rattle.cls_workers.proofs.Knowing.{rows_front, rows_next}
 use Rattle.cls_workers.proofs.known_rows.KnownRows.learn_rule.Goals as goal
