@@ -4,7 +4,7 @@ ghost use Rattle.cls_workers.specs.Seats.{IsAfterWork, HasMeaning};
 
 use crate::heap::{Heap, Node};
 use cls_base::OutOfMemory;
-use cls_core::Finished;
+use cls_core::{ArgumentRows, Finished};
 use cls_table::{ClaimAnswer, ExpandFault, Limits, SharedTable, TableSeat};
 use std::alloc::Global;
 use std::marker::Brand;
