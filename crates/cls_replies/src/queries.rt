@@ -59,12 +59,13 @@ impl Serving {
         }
     }
 
-    fn sub(&self, alloc: Global, lower: &Ty, upper: &Ty) -> Result<String, OutOfMemory>
-        ensures { IfOk result (λ text.
-            Answers self.now (sub (type_of lower.now) (type_of upper.now)) (string_bytes text)) }
+    fn sub(&mut self, alloc: Global, lower: &Ty, upper: &Ty) -> Result<String, OutOfMemory>
+        ensures answers { IfOk result (λ text.
+            Answers self.old (sub (type_of lower.now) (type_of upper.now)) (string_bytes text)) }
+        ensures same { self.new ≡ self.old }
     {
         match self.engine.subtype(alloc, lower, upper) {
-            Ok(yes) => says(alloc, yes, "yes", "no"),
+            Ok(yes) => says(self.empty_text(alloc), yes, "yes", "no"),
             Err(fault) => engine_fault(alloc, &self.names, fault),
         }
     }
@@ -76,12 +77,13 @@ impl Serving {
         print_paths(alloc, &self.names, self.engine.library().paths(component.0))
     }
 
-    fn typed(&self, alloc: Global, term: &CodedTerm, ty: &Ty) -> Result<String, OutOfMemory>
-        requires { IsTermOver (length self.now.components) term.now }
-        ensures { IfOk result (λ text. Answers self.now (typed term.now (type_of ty.now)) (string_bytes text)) }
+    fn typed(&mut self, alloc: Global, term: &CodedTerm, ty: &Ty) -> Result<String, OutOfMemory>
+        requires { IsTermOver (length self.old.components) term.now }
+        ensures answers { IfOk result (λ text. Answers self.old (typed term.now (type_of ty.now)) (string_bytes text)) }
+        ensures same { self.new ≡ self.old }
     {
         match self.engine.typed(alloc, term, ty) {
-            Ok(yes) => says(alloc, yes, "yes", "no"),
+            Ok(yes) => says(self.empty_text(alloc), yes, "yes", "no"),
             Err(fault) => engine_fault(alloc, &self.names, fault),
         }
     }
@@ -97,7 +99,7 @@ impl Serving {
         ensures same { self.new ≡ self.old }
     {
         match self.engine.inhabit(rt, alloc, ty, gate) {
-            Ok(yes) => says(alloc, yes, "inhabited", "uninhabited"),
+            Ok(yes) => says(self.empty_text(alloc), yes, "inhabited", "uninhabited"),
             Err(fault) => engine_fault(alloc, &self.names, fault),
         }
     }

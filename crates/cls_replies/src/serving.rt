@@ -42,7 +42,7 @@ pub struct Serving {
     pub(crate) templates: Templates,
     pub(crate) engine: Engine,
     held: Option<Held>,
-    // Room for the text of a page: that of an earlier text.
+    // Room for the text of a reply: that of an earlier text.
     room: String,
 }
 
@@ -113,19 +113,21 @@ impl Serving {
         ensures goes { IfOk result (λ text. Goes self.old line.entry (string_bytes text) self.new) }
         ensures counted { OnOk result (length self.new.held ≤ length self.old.held + 1) }
     {
-        let Some(mut held) = self.held.take() else {
-            return self.feed_free(rt, alloc, line, gate, room);
-        };
-        let ends = is_qed(alloc, &line)?;
-        held.inside.push(&line)?;
-        self.held = Some(held);
-        if ends {
-            return self.answer_held(alloc);
+        match &mut self.held {
+            None => self.feed_free(rt, alloc, line, gate, room),
+            Some(held) => {
+                let ends = is_qed(alloc, &line)?;
+                held.inside.push(&line)?;
+                if ends {
+                    self.answer_held(alloc)
+                } else {
+                    Ok(String::new(alloc))
+                }
+            }
         }
-        Ok(String::new(alloc))
     }
 
-    /// Takes back a text that was written, so that a later page may be written in its room. It takes no memory.
+    /// Takes back a text that was written, so that a later one may be written in its room. It takes no memory.
     pub fn reuse(&mut self, text: String)
         ensures { self.new ≡ self.old }
     {

@@ -1,5 +1,5 @@
 //! Replies of one line.
-ghost use Rattle.std.specs.Prelude.{◌≡◌, if◌then◌else◌, IfOk, string_bytes};
+ghost use Rattle.std.specs.Prelude.{◌≡◌, [], if◌then◌else◌, IfOk, string_bytes};
 ghost use Rattle.cls_engine.specs.declared.verdict.Verdict.TheVariants.{Refused};
 ghost use Rattle.cls_replies.specs.Texts.{reply_line, reason_word, verdict_text};
 
@@ -9,11 +9,17 @@ use cls_engine::Verdict;
 use itoa::Buffer;
 use std::alloc::Global;
 
-/// One of two lines, by whether the answer is yes.
-pub(crate) fn says(alloc: Global, yes: bool, so: &str, not_so: &str) -> Result<String, OutOfMemory>
+/// One of two lines, by whether the answer is yes, in the empty text.
+pub(crate) fn says(
+    mut text: String,
+    yes: bool,
+    so: &str,
+    not_so: &str,
+) -> Result<String, OutOfMemory>
+    requires { string_bytes text ≡ [] }
     ensures { IfOk result (λ text. string_bytes text ≡ reply_line (if yes then so.now else not_so.now)) }
 {
-    let mut text = String::from_str(alloc, if yes { so } else { not_so })?;
+    text.push_str(if yes { so } else { not_so })?;
     text.push('\n')?;
     Ok(text)
 }

@@ -8,8 +8,8 @@ use Rattle.cls_replies.specs.Steps.{held_lines}
 use Rattle.cls_replies.proofs.Faulting.{fault_answers}
 use Rattle.cls_replies.proofs.serving.Serving.sub.Goals as goal
 
-pub returns-in-Err : goal.returns-in-Err
-returns-in-Err c =
+pub returns-in-Err-clause-answers : goal.returns-in-Err-clause-answers
+returns-in-Err-clause-answers c =
     let i = c.self.inside in
     let q = sub (type_of c.args.lower.now) (type_of c.args.upper.now) in
     subst (λ (s : Serving). IfOk c.engine_fault.result (λ text. Answers s q (string_bytes text))) c.self.view_is
