@@ -23,5 +23,7 @@ pub returns : goal.returns
 returns c =
     let names = c.self.inside.places in
     let held : AreHeld c.args.self.now.pairs names = subst (λ (d : Declared). AreHeld d.pairs names) c.self.view_is c.self.invariant.closure.held in
-    record { alone = λ h a. (let beyond : length names ≤ place_of names c.args.name.0 = grind (arith, nat_tests, h, c.place.ensures, c.len.ensures.count) in
-        alone c.args.self.now names a c.args.name.0 held beyond) }
+    record {
+      alone = λ h a. (let beyond : length names ≤ place_of names c.args.name.0 = grind (arith, nat_tests, h, c.place.ensures, c.len.ensures.count) in
+          alone c.args.self.now names a c.args.name.0 held beyond);
+    }
