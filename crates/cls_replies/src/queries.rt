@@ -79,7 +79,8 @@ impl Serving {
 
     fn typed(&mut self, alloc: Global, term: &CodedTerm, ty: &Ty) -> Result<String, OutOfMemory>
         requires { IsTermOver (length self.old.components) term.now }
-        ensures answers { IfOk result (λ text. Answers self.old (typed term.now (type_of ty.now)) (string_bytes text)) }
+        ensures answers { IfOk result (λ text.
+            Answers self.old (typed term.now (type_of ty.now)) (string_bytes text)) }
         ensures same { self.new ≡ self.old }
     {
         match self.engine.typed(alloc, term, ty) {
