@@ -107,8 +107,8 @@ impl<G: Key + Drop> KnownRows<G> {
         }
     }
 
-    // Takes over the argument at a place with its row, unless the row was known, and gives the next place. None comes where
-    // there is no row, or memory ran out.
+    // Takes over the argument at a place with its row, unless the row was known, and gives the next place. None comes
+    // where there is no row, or memory ran out.
     fn learn_goal(&mut self, goal: G, arguments: &ArgumentRows, at: usize) -> Option<usize>
         ensures next { IfSome result (λ n. n ≡ at + 1) }
         ensures right { (goals : List G) → AreKnownIn goals self.old
@@ -153,8 +153,8 @@ impl<G: Key + Drop> KnownRows<G> {
         }
     }
 
-    /// Takes over each argument whose row wasn't known, with its row. Where memory runs out it stops, since nothing rests
-    /// on how much is known.
+    /// Takes over each argument whose row wasn't known, with its row. Where memory runs out it stops, since nothing
+    /// rests on how much is known.
     pub(crate) fn learn(&mut self, answer: Answer<G>, arguments: &ArgumentRows)
         ensures { (goals : List G) → AreKnownIn goals self.old
             → AreRowsOf goals (arguments_of answer) (map Some arguments.now.found.items) → AreKnownIn goals self.new }

@@ -19,8 +19,8 @@ pub(crate) struct Memory<G: Key + Drop> {
 }
 
 impl<G: Key + Drop> Memory<G> {
-    /// The memory of a worker that remembers no row: of one that works alone, which is never waited for while it looks up
-    /// rows. It takes no memory.
+    /// The memory of a worker that remembers no row: of one that works alone, so that none waits while it looks them up.
+    /// It takes no memory.
     pub(crate) fn without_rows(alloc: Global) -> Memory<G>
         ensures known { result.known ≡ None }
     {

@@ -38,9 +38,9 @@ enum StepOutcome {
     NothingLeft,
 }
 
-/// Claims a goal, and expands and files it. The rows of arguments that the worker remembers aren't looked up at the table,
-/// and it remembers the others that were found there. A worker that runs out of memory stops the table. The seat is given
-/// back, and what the asking came to.
+/// Claims a goal, and expands and files it. The rows of arguments that the worker remembers aren't looked up at the
+/// table, and it remembers the others that were found there. A worker that runs out of memory stops the table. The seat
+/// is given back, and what the asking came to.
 #[tactic(auto, using(crate::proofs::Knowing::known_stays))]
 fn step<E: Expand, L: Ledger, T: Gate, R: Wait>(
     rt: &R,
