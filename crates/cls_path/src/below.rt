@@ -5,7 +5,7 @@ ghost use Rattle.cls_base.specs.Subtyping.{Subtype};
 ghost use Rattle.cls_path.specs.Paths.{PathLe, PathsLe, Suits, SuitsAll, type_of_path, type_of_paths, listed};
 ghost use Rattle.cls_path.specs.Tests.{path_below, list_below, some_below, same_paths, sealed_below};
 
-use crate::path::{Form, Nf, Path, PathList};
+use crate::path::{Form, Nf, Path};
 use cls_base::{Taxa, Variance};
 
 impl Path {
@@ -30,11 +30,21 @@ impl Path {
     {
         match (&self.form, &other.form) {
             (Form::Atom(c), Form::Atom(d)) => taxa.below(*c, *d),
-            (Form::Con(c, _), Form::Atom(d)) => taxa.below(*c, *d),
+            (Form::Over(c, _) | Form::Con(c, _), Form::Atom(d)) => taxa.below(*c, *d),
+            (Form::Over(c, e), Form::Over(d, f)) => taxa.below(*c, *d) && taxa.below(*e, *f),
+            (Form::Over(c, e), Form::Con(d, q)) => taxa.below(*c, *d) && q.is_above_name(taxa, *e),
+            (Form::Con(c, p), Form::Over(d, f)) => taxa.below(*c, *d) && p.is_below_name(taxa, *f),
             (Form::Con(c, p), Form::Con(d, q)) => taxa.below(*c, *d) && p.is_below(taxa, q),
             (Form::Unit | Form::Left(_) | Form::Right(_), Form::Unit) => true,
             (Form::Left(p), Form::Left(q)) => p.is_below(taxa, q),
             (Form::Right(p), Form::Right(q)) => p.is_below(taxa, q),
+            (Form::From(c, p), Form::From(d, q)) => taxa.below(*d, *c) && p.is_below(taxa, q),
+            (Form::From(c, p), Form::Arrow(b)) => {
+                b.source.is_some_below_name(taxa, *c) && p.is_below(taxa, &b.target)
+            }
+            (Form::Arrow(a), Form::From(d, q)) => {
+                a.source.are_above_name(taxa, *d) && a.target.is_below(taxa, q)
+            }
             (Form::Arrow(a), Form::Arrow(b)) => {
                 b.source.may_be_below(taxa, &a.source)
                     && a.target.is_below(taxa, &b.target)
@@ -83,11 +93,8 @@ impl Nf {
         ensures { IsTrue (list_below (T.is_below taxa.now) (T.variance_of_name taxa.now)
             (listed self.now) (listed other.now)) → IsTrue result }
     {
-        let (PathList::One(one, _), PathList::One(another, _)) = (&self.paths, &other.paths) else {
-            return true;
-        };
-        match (&one.form, &another.form) {
-            (Form::Atom(c), Form::Atom(d)) => taxa.below(*c, *d),
+        match (self.bare_name(), other.bare_name()) {
+            (Some(c), Some(d)) => taxa.below(c, d),
             _ => true,
         }
     }

@@ -26,6 +26,10 @@ impl Path {
     {
         match &self.form {
             Form::Atom(name) => state.write_u64(u64::from(name.0)),
+            Form::Over(name, inner) => {
+                state.write_u64(u64::from(name.0) + CON);
+                state.write_u64(u64::from(inner.0));
+            }
             Form::Con(name, rest) => {
                 state.write_u64(u64::from(name.0) + CON);
                 rest.feed(state);
@@ -37,6 +41,12 @@ impl Path {
             }
             Form::Right(rest) => {
                 state.write_u64(RIGHT);
+                rest.feed(state);
+            }
+            Form::From(name, rest) => {
+                state.write_u64(ARROW);
+                state.write_u64(u64::from(name.0));
+                state.write_u64(END);
                 rest.feed(state);
             }
             Form::Arrow(arrow) => {

@@ -1,10 +1,10 @@
 //! Labels of paths, by which most pairs are told apart.
 ghost use Rattle.std.specs.Prelude.{◌≡◌, Contains};
-ghost use Rattle.cls_path.specs.Paths.{TypePath, listed};
+ghost use Rattle.cls_path.specs.Paths.{TypePath, atom, none, more, listed};
 ghost use Rattle.cls_path.specs.Labels.{one_span, join, plus, within, names_of, head_of, inner_of, join_all, all_names_of, sources_of, first_of, later_of, label_of, admits, is_single, narrowed, key_of, mask_from, Fits};
 
 use crate::path::{Form, Nf, Path};
-use cls_base::Taxa;
+use cls_base::{Name, Taxa};
 
 /// The numbers from the low to the high one, none if the low one is the greater.
 #[derive(Clone, Copy, Debug, PartialEq, Eq)]
@@ -187,9 +187,12 @@ fn names<T: Taxa>(taxa: &T, path: &Path) -> Span
 {
     match &path.form {
         Form::Atom(name) | Form::Sealed(name, _) => Span::one(taxa.class(*name)),
+        Form::Over(name, inner) => {
+            Span::one(taxa.class(*name)).join(Span::one(taxa.class(*inner)))
+        }
         Form::Con(name, rest) => Span::one(taxa.class(*name)).join(names(taxa, rest)),
         Form::Unit => NONE,
-        Form::Left(rest) | Form::Right(rest) => names(taxa, rest),
+        Form::Left(rest) | Form::Right(rest) | Form::From(_, rest) => names(taxa, rest),
         Form::Arrow(arrow) => names(taxa, &arrow.target),
     }
 }
@@ -198,10 +201,11 @@ fn head<T: Taxa>(taxa: &T, path: &Path) -> Span
     ensures { result ≡ head_of (T.class taxa.now) path.now }
 {
     match &path.form {
-        Form::Atom(name) | Form::Sealed(name, _) | Form::Con(name, _) => {
+        Form::Atom(name) | Form::Over(name, _) | Form::Con(name, _) | Form::Sealed(name, _) => {
             Span::one(taxa.class(*name))
         }
         Form::Unit | Form::Left(_) | Form::Right(_) => NONE,
+        Form::From(_, rest) => head(taxa, rest),
         Form::Arrow(arrow) => head(taxa, &arrow.target),
     }
 }
@@ -211,9 +215,18 @@ fn inner<T: Taxa>(taxa: &T, path: &Path) -> Span
 {
     match &path.form {
         Form::Atom(_) | Form::Sealed(..) | Form::Unit => NONE,
+        Form::Over(_, name) => Span::one(taxa.class(*name)),
+        Form::From(_, rest) => inner(taxa, rest),
         Form::Con(_, rest) | Form::Left(rest) | Form::Right(rest) => names(taxa, rest),
         Form::Arrow(arrow) => inner(taxa, &arrow.target),
     }
+}
+
+/// The names of the list of one bare name.
+fn bare_names<T: Taxa>(taxa: &T, name: Name) -> Span
+    ensures { result ≡ all_names_of (T.class taxa.now) (more (atom name.0) none) }
+{
+    NONE.join(Span::one(taxa.class(name)))
 }
 
 fn all_names<T: Taxa>(taxa: &T, nf: &Nf) -> Span
@@ -230,6 +243,7 @@ fn sources<T: Taxa>(taxa: &T, path: &Path) -> Span
     ensures { result ≡ sources_of (T.class taxa.now) path.now }
 {
     match &path.form {
+        Form::From(name, rest) => bare_names(taxa, *name).plus(sources(taxa, rest)),
         Form::Arrow(arrow) => all_names(taxa, &arrow.source).plus(sources(taxa, &arrow.target)),
         _ => ZERO,
     }
@@ -239,6 +253,7 @@ fn first<T: Taxa>(taxa: &T, path: &Path) -> Span
     ensures { result ≡ first_of (T.class taxa.now) path.now }
 {
     match &path.form {
+        Form::From(name, _) => bare_names(taxa, *name),
         Form::Arrow(arrow) => all_names(taxa, &arrow.source),
         Form::Sealed(_, argument) => all_names(taxa, argument),
         _ => ZERO,
@@ -249,6 +264,7 @@ fn later<T: Taxa>(taxa: &T, path: &Path) -> Span
     ensures { result ≡ later_of (T.class taxa.now) path.now }
 {
     match &path.form {
+        Form::From(_, rest) => sources(taxa, rest),
         Form::Arrow(arrow) => sources(taxa, &arrow.target),
         _ => ZERO,
     }

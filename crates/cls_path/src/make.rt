@@ -17,10 +17,15 @@ impl Path {
         }
     }
 
-    /// A name over a path. The only error is out of memory.
+    /// A name over a path. It takes no memory over a bare name. The only error is out of memory.
     pub fn con(alloc: Global, name: Name, rest: Path) -> Result<Path, OutOfMemory>
         ensures { IfOk result (λ path. path ≡ inside name.0 rest) }
     {
+        if let Form::Atom(inner) = &rest.form {
+            return Ok(Path {
+                form: Form::Over(name, *inner),
+            });
+        }
         // For the prover: opens the model of the inner path, whose lists are sorted.
         let _ = &rest.form;
         let rest = Box::new(alloc, rest)?;
@@ -60,13 +65,20 @@ impl Path {
         })
     }
 
-    /// The functions from an intersection of paths to a path. The only error is out of memory.
+    /// The functions from an intersection of paths to a path. It takes less memory from a bare name. The only error is out of
+    /// memory.
     pub fn arrow(alloc: Global, source: Nf, target: Path) -> Result<Path, OutOfMemory>
         ensures { IfOk result (λ path. path ≡ function (listed source) target) }
     {
         // For the prover: opens the models of the intersection and the inner path, whose lists are sorted.
         let _ = &source.paths;
         let _ = &target.form;
+        if let Some(name) = source.bare_name() {
+            let target = Box::new(alloc, target)?;
+            return Ok(Path {
+                form: Form::From(name, target),
+            });
+        }
         let arrow = Box::new(alloc, Arrow { source, target })?;
         Ok(Path {
             form: Form::Arrow(arrow),
@@ -111,10 +123,12 @@ impl Path {
     {
         let form = match &self.form {
             Form::Atom(name) => Form::Atom(*name),
+            Form::Over(name, inner) => Form::Over(*name, *inner),
             Form::Con(name, rest) => Form::Con(*name, Box::new(alloc, rest.copy_deep(alloc)?)?),
             Form::Unit => Form::Unit,
             Form::Left(rest) => Form::Left(Box::new(alloc, rest.copy_deep(alloc)?)?),
             Form::Right(rest) => Form::Right(Box::new(alloc, rest.copy_deep(alloc)?)?),
+            Form::From(name, rest) => Form::From(*name, Box::new(alloc, rest.copy_deep(alloc)?)?),
             Form::Arrow(arrow) => {
                 let source = arrow.source.copy(alloc)?;
                 let target = arrow.target.copy_deep(alloc)?;

@@ -15,11 +15,11 @@ impl Form {
     {
         match self {
             Form::Atom(_) => 0,
-            Form::Con(..) => 1,
+            Form::Over(..) | Form::Con(..) => 1,
             Form::Unit => 2,
             Form::Left(_) => 3,
             Form::Right(_) => 4,
-            Form::Arrow(..) => 5,
+            Form::From(..) | Form::Arrow(..) => 5,
             Form::Sealed(..) => 6,
         }
     }
@@ -57,6 +57,27 @@ impl Path {
     {
         match (&self.form, &other.form) {
             (Form::Atom(c), Form::Atom(d)) => c.0.cmp(&d.0),
+            (Form::Over(c, e), Form::Over(d, f)) => {
+                let names = c.0.cmp(&d.0);
+                if names.is_ne() {
+                    return names;
+                }
+                e.0.cmp(&f.0)
+            }
+            (Form::Over(c, e), Form::Con(d, q)) => {
+                let names = c.0.cmp(&d.0);
+                if names.is_ne() {
+                    return names;
+                }
+                q.order_to_name(*e).reverse()
+            }
+            (Form::Con(c, p), Form::Over(d, f)) => {
+                let names = c.0.cmp(&d.0);
+                if names.is_ne() {
+                    return names;
+                }
+                p.order_to_name(*f)
+            }
             (Form::Con(c, p), Form::Con(d, q)) => {
                 let names = c.0.cmp(&d.0);
                 if names.is_ne() {
@@ -66,6 +87,27 @@ impl Path {
             }
             (Form::Left(p), Form::Left(q)) => p.order_by_kind(q),
             (Form::Right(p), Form::Right(q)) => p.order_by_kind(q),
+            (Form::From(c, p), Form::From(d, q)) => {
+                let names = c.0.cmp(&d.0);
+                if names.is_ne() {
+                    return names;
+                }
+                p.order_by_kind(q)
+            }
+            (Form::From(c, p), Form::Arrow(b)) => {
+                let sources = b.source.order_to_name(*c).reverse();
+                if sources.is_ne() {
+                    return sources;
+                }
+                p.order_by_kind(&b.target)
+            }
+            (Form::Arrow(a), Form::From(d, q)) => {
+                let sources = a.source.order_to_name(*d);
+                if sources.is_ne() {
+                    return sources;
+                }
+                a.target.order_by_kind(q)
+            }
             (Form::Arrow(a), Form::Arrow(b)) => {
                 let sources = a.source.order_by_path(&b.source);
                 if sources.is_ne() {

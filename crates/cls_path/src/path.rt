@@ -11,12 +11,15 @@ pub struct Path {
     pub(crate) form: Form,
 }
 
-/// The seven kinds of path, in their order.
+/// The seven kinds of path, in their order. Two of them are kept in two ways, so that the shortest take no box, or a small
+/// one.
 #[cycle(path)]
 #[derive(Drop)]
 pub enum Form {
     /// A covariant name over omega.
     Atom(Name),
+    /// A covariant name over a bare name, which is one over omega.
+    Over(Name, Name),
     /// A covariant name over a path.
     Con(Name, Box<Path>),
     /// The product of omega and omega.
@@ -25,6 +28,8 @@ pub enum Form {
     Left(Box<Path>),
     /// The product of omega and a path.
     Right(Box<Path>),
+    /// The functions from a bare name to a path.
+    From(Name, Box<Path>),
     /// The functions from an intersection of paths to a path.
     Arrow(Box<Arrow>),
     /// A contravariant or invariant name over an intersection of paths.
