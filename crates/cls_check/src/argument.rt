@@ -51,19 +51,9 @@ fn argument(
     let mut paths = Vec::new(alloc);
     for position in positions {
         match arrows.get(*position as usize).source(number as usize) {
-            Some(source) => put_paths(alloc, source, &mut paths)?,
+            Some(source) => source.copy_onto(alloc, &mut paths)?,
             None => {}
         }
     }
     Ok(Nf::from_paths(alloc, lib.taxonomy(), paths)?)
-}
-
-/// Puts copies of the paths last.
-fn put_paths(alloc: Global, source: &Nf, paths: &mut Vec<Path>) -> Result<(), OutOfMemory>
-    ensures { OnOk result (paths.new.items ≡ paths.old.items ++ source.now) }
-{
-    for path in source.paths() {
-        paths.push(path.copy(alloc)?)?;
-    }
-    Ok(())
 }

@@ -6,7 +6,7 @@ ghost use Rattle.cls_check.specs.Deciding.{AllSuitIn, IsLeading, SomeAbove, Suit
 
 use crate::kept::KeptArrows;
 use cls_library::{Library, MultiArrow};
-use cls_path::{Nf, Path};
+use cls_path::{Nf, Path, Source};
 
 /// What is asked of a term.
 #[derive(Drop)]
@@ -38,7 +38,8 @@ fn leads_to_source(lib: &Library, target: &Path, arrow: &MultiArrow<'_>, place: 
     ensures { IsTrue result ↔ SomeAbove lib.now (source_of arrow.now place) target.now }
 {
     match arrow.source(place) {
-        Some(source) => leads_to(lib, target, source),
+        Some(Source::Name(name)) => target.le(lib.taxonomy(), &Path::atom(name)),
+        Some(Source::Paths(source)) => leads_to(lib, target, source),
         None => false,
     }
 }

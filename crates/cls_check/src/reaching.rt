@@ -10,7 +10,7 @@ use crate::asked::{Asked, leads_to_asked};
 use crate::kept::KeptArrows;
 use cls_base::OutOfMemory;
 use cls_library::{Arrows, Library, MultiArrow};
-use cls_path::{Nf, Path};
+use cls_path::{Nf, Path, Source};
 use smallvec::SmallVec;
 use std::alloc::Global;
 
@@ -74,7 +74,8 @@ fn has_source(lib: &Library, arrow: &MultiArrow<'_>, place: usize, had: &KeptArr
     ensures { IsTrue result ↔ PathsLeIn lib.now (targets_of had.now) (source_of arrow.now place) }
 {
     match arrow.source(place) {
-        Some(source) => are_above(lib, had, source),
+        Some(Source::Name(name)) => is_above(lib, had, &Path::atom(name)),
+        Some(Source::Paths(source)) => are_above(lib, had, source),
         None => true,
     }
 }

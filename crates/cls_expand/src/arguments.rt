@@ -14,16 +14,6 @@ use cls_norm::fit;
 use cls_path::{Nf, Path};
 use std::alloc::Global;
 
-/// Puts copies of the paths last.
-fn copy_onto(alloc: Global, paths: &[Path], all: &mut Vec<Path>) -> Result<(), OutOfMemory>
-    ensures { OnOk result (all.new.items ≡ all.old.items ++ paths.now) }
-{
-    for path in paths {
-        all.push(path.copy(alloc)?)?;
-    }
-    Ok(())
-}
-
 /// Puts copies of the paths of the arrow's source at this place last.
 fn put_source(
     alloc: Global,
@@ -35,7 +25,7 @@ fn put_source(
         (listed all.new.items ≡ append (listed all.old.items) (slice_index_or arrow.now.sources place none)) }
 {
     match arrow.source(place) {
-        Some(source) => copy_onto(alloc, source.paths(), all),
+        Some(source) => source.copy_onto(alloc, all),
         None => Ok(()),
     }
 }
@@ -62,7 +52,7 @@ fn source_at(alloc: Global, arrow: &MultiArrow<'_>, place: usize) -> Result<Nf, 
     ensures { IfOk result (λ nf. listed nf ≡ slice_index_or arrow.now.sources place none) }
 {
     match arrow.source(place) {
-        Some(source) => Ok(source.copy(alloc)?),
+        Some(source) => source.copy(alloc),
         None => Ok(Nf::empty(alloc)),
     }
 }

@@ -3,11 +3,11 @@
 ghost use Rattle.std.specs.Prelude.{◌≡◌, ◌<◌, length, slice_get, Some};
 ghost use Rattle.std.specs.Option.{option_map};
 ghost use Rattle.cls_base.specs.Lists.{AreBelow};
-ghost use Rattle.cls_path.specs.Paths.{listed};
-ghost use Rattle.cls_library.specs.Splits.{arrows_at_places, paths_of_form, source_at, split_at, target_at};
+ghost use Rattle.cls_path.specs.Seen.{paths_of_source};
+ghost use Rattle.cls_library.specs.Splits.{arrows_at_places, source_at, split_at, target_at};
 
 use crate::column::Column;
-use cls_path::{Form, Nf, Path};
+use cls_path::{Form, Path, Source};
 use std::marker::Model;
 
 /// A path that is split at its first arrows. It is seen as what these take and what is left of the path behind them.
@@ -38,8 +38,8 @@ impl<'a> MultiArrow<'a> {
     }
 
     /// What the arrow with this number takes, counted from 0. There is none if the number isn't below that of the sources.
-    pub fn source(&self, i: usize) -> Option<&'a Nf>
-        ensures { option_map paths_of_form result ≡ slice_get self.now.sources i }
+    pub fn source(&self, i: usize) -> Option<Source<'a>>
+        ensures { option_map paths_of_source result ≡ slice_get self.now.sources i }
     {
         if i < self.count {
             source_of(self.path, i)
@@ -119,19 +119,27 @@ pub(crate) fn target_of(path: &Path, count: usize) -> &Path
         return path;
     }
     match path.form() {
+        Form::From(_, target) => target_of(target, count - 1),
         Form::Arrow(arrow) => target_of(&arrow.target, count - 1),
         _ => path,
     }
 }
 
 /// What the leading arrow of the path with this number takes, if there is one.
-fn source_of(path: &Path, i: usize) -> Option<&Nf>
-    ensures { option_map paths_of_form result ≡ source_at i path.now }
+fn source_of(path: &Path, i: usize) -> Option<Source<'_>>
+    ensures { option_map paths_of_source result ≡ source_at i path.now }
 {
     match path.form() {
+        Form::From(name, target) => {
+            if i == 0 {
+                Some(Source::Name(*name))
+            } else {
+                source_of(target, i - 1)
+            }
+        }
         Form::Arrow(arrow) => {
             if i == 0 {
-                Some(&arrow.source)
+                Some(Source::Paths(&arrow.source))
             } else {
                 source_of(&arrow.target, i - 1)
             }

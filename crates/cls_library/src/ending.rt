@@ -34,8 +34,9 @@ impl Head {
         ensures { result ≡ head_of path.now }
     {
         match path.form() {
-            Form::Atom(name) | Form::Con(name, _) => Head::Covariant(*name),
+            Form::Atom(name) | Form::Over(name, _) | Form::Con(name, _) => Head::Covariant(*name),
             Form::Unit | Form::Left(_) | Form::Right(_) => Head::Product,
+            Form::From(_, target) => Head::of(target),
             Form::Arrow(arrow) => Head::of(&arrow.target),
             Form::Sealed(name, _) => Head::Sealed(*name),
         }

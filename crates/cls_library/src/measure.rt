@@ -25,6 +25,7 @@ pub(crate) fn leading_arrows(path: &Path) -> usize
     ensures { result ≡ min TOO_MANY (leading_arrows path.now) }
 {
     match path.form() {
+        Form::From(_, target) => TOO_MANY.min(leading_arrows(target) + 1),
         Form::Arrow(arrow) => TOO_MANY.min(leading_arrows(&arrow.target) + 1),
         _ => 0,
     }

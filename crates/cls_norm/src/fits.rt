@@ -92,9 +92,11 @@ fn path_nodes(path: &Path) -> u64
 {
     match path.form() {
         Form::Atom(_) => 2,
+        Form::Over(..) => 3,
         Form::Con(_, rest) => TOO_MANY.min(1 + path_nodes(rest)),
         Form::Unit => 3,
         Form::Left(rest) | Form::Right(rest) => TOO_MANY.min(2 + path_nodes(rest)),
+        Form::From(_, target) => TOO_MANY.min(3 + path_nodes(target)),
         Form::Arrow(arrow) => TOO_MANY.min(
             1 + list_nodes(&arrow.source) + path_nodes(&arrow.target),
         ),

@@ -32,6 +32,7 @@ pub fn path_type(alloc: Global, path: &Path) -> Result<Ty, OutOfMemory>
 {
     match path.form() {
         Form::Atom(name) => Ok(Ty::Bare(*name)),
+        Form::Over(name, inner) => Ok(Ty::Con(*name, Box::new(alloc, Ty::Bare(*inner))?)),
         Form::Con(name, rest) => {
             let rest = path_type(alloc, rest)?;
             Ok(Ty::Con(*name, Box::new(alloc, rest)?))
@@ -44,6 +45,10 @@ pub fn path_type(alloc: Global, path: &Path) -> Result<Ty, OutOfMemory>
         Form::Right(rest) => {
             let rest = path_type(alloc, rest)?;
             Ok(Ty::Prod(Box::new(alloc, (Ty::Omega, rest))?))
+        }
+        Form::From(name, target) => {
+            let target = path_type(alloc, target)?;
+            Ok(Ty::Arrow(Box::new(alloc, (Ty::Bare(*name), target))?))
         }
         Form::Arrow(arrow) => {
             let source = type_of(alloc, &arrow.source)?;

@@ -30,10 +30,15 @@ fn path_weight(path: &Path) -> (u64, u64)
 {
     match path.form() {
         Form::Atom(_) | Form::Unit => (1, 1),
+        Form::Over(..) => (1, 2),
         Form::Con(_, rest) | Form::Left(rest) | Form::Right(rest) => {
             let (p, s) = path_weight(rest);
             let paths = p.max(1);
             (paths, CAP.min(s + paths))
+        }
+        Form::From(_, target) => {
+            let (q, t) = path_weight(target);
+            (q, CAP.min(t + q * 2))
         }
         Form::Arrow(arrow) => {
             let (_, s) = list_weight(&arrow.source);
