@@ -146,12 +146,13 @@ fn rules_between(
         return Ok(Answer::Rules(Rules::new(rules)));
     }
     let mut finder = Finder::new(alloc, lib, goal)?;
+    let mut cover = Vec::new(alloc);
     let mut from = Place {
         component: begin,
         count: 0,
     };
     while let Some(place) = next_before(&mut finder, from, end) {
-        if !add_place(alloc, lib, &mut finder, place, &mut rules)? {
+        if !add_place(alloc, lib, &mut finder, place, &mut cover, &mut rules)? {
             return Ok(Answer::Wide);
         }
         from = Place {
@@ -174,12 +175,13 @@ fn next_before(finder: &mut Finder<'_>, from: Place, end: u32) -> Option<Place>
     }
 }
 
-/// Adds the rules of one place, and answers whether the goal isn't wide by them.
+/// Adds the rules of one place, and answers whether the goal isn't wide by them. `cover` is room for a cover, whatever it holds.
 fn add_place(
     alloc: Global,
     lib: &Library,
     finder: &mut Finder<'_>,
     place: Place,
+    cover: &mut Vec<u32>,
     rules: &mut Vec<Rule<Nf>>,
 ) -> Result<bool, OutOfMemory>
     requires library { finder.old.library ≡ lib.now }
@@ -192,8 +194,8 @@ fn add_place(
     let Place { component, count } = place;
     match finder.families(alloc, place)? {
         Families::Single(positions) => {
-            let cover = lone_cover(alloc, positions.as_slice())?;
-            add_lone(alloc, lib, component, count, cover.as_slice(), rules)
+            lone_cover(positions.as_slice(), cover)?;
+            add_lone(alloc, lib, component, count, cover, rules)
         }
         Families::Several(families) => match covers(alloc, families.as_slice(), MAX_COVERS) {
             Ok(list) => add_covers(alloc, lib, component, count, &list, rules),

@@ -42,7 +42,7 @@ impl<'a> MultiArrow<'a> {
         ensures { option_map paths_of_source result ≡ slice_get self.now.sources i }
     {
         if i < self.count {
-            source_of(self.path, i)
+            leading_source(target_of(self.path, i))
         } else {
             None
         }
@@ -125,25 +125,13 @@ pub(crate) fn target_of(path: &Path, count: usize) -> &Path
     }
 }
 
-/// What the leading arrow of the path with this number takes, if there is one.
-fn source_of(path: &Path, i: usize) -> Option<Source<'_>>
-    ensures { option_map paths_of_source result ≡ source_at i path.now }
+/// What the first arrow of the path takes, if it begins with one.
+fn leading_source(path: &Path) -> Option<Source<'_>>
+    ensures { option_map paths_of_source result ≡ source_at 0 path.now }
 {
     match path.form() {
-        Form::From(name, target) => {
-            if i == 0 {
-                Some(Source::Name(*name))
-            } else {
-                source_of(target, i - 1)
-            }
-        }
-        Form::Arrow(arrow) => {
-            if i == 0 {
-                Some(Source::Paths(&arrow.source))
-            } else {
-                source_of(&arrow.target, i - 1)
-            }
-        }
+        Form::From(name, _) => Some(Source::Name(*name)),
+        Form::Arrow(arrow) => Some(Source::Paths(&arrow.source)),
         _ => None,
     }
 }

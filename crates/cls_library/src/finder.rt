@@ -91,7 +91,7 @@ impl<'a> Finder<'a> {
             lib,
             leads,
             hints,
-            ends: Vec::new(alloc),
+            ends: Vec::with_capacity(alloc, goal.paths().len())?,
         })
     }
 

@@ -27,6 +27,10 @@ const ROWS_FOR_ONE: u64 = 2;
 /// So many free rows are enough to start any number of workers.
 const ROWS_FOR_ANY: u64 = 4_096;
 
+/// Several workers are started where a row has so many arguments on average. One with fewer is done so quickly that they would
+/// wait for one another.
+const ARGUMENTS_FOR_SEVERAL: u64 = 8;
+
 /// What a worker's asking for a goal came to.
 #[derive(Clone, Copy)]
 enum StepOutcome {
@@ -125,9 +129,27 @@ pub(crate) fn work<E: Expand, L: Ledger, T: Gate, R: Wait>(
     seat
 }
 
-/// Whether so many free rows are enough for the other workers to start.
-fn are_worth(others: u64, free: u64) -> bool {
-    free >= ROWS_FOR_ANY || free >= others.saturating_pow(6).saturating_mul(ROWS_FOR_ONE)
+/// What a worker that works alone has done.
+#[derive(Drop)]
+struct Tally {
+    rows: u64,
+    arguments: u64,
+}
+
+impl Tally {
+    /// Counts a row whose answer has so many arguments.
+    fn count(&mut self, arguments: usize) {
+        self.rows = self.rows.saturating_add(1);
+        self.arguments = self.arguments.saturating_add(arguments as u64);
+    }
+
+    /// Whether so many free rows are enough for the other workers to start.
+    fn is_worth(&self, others: u64, free: u64) -> bool {
+        let are_heavy = self.arguments >= self.rows.saturating_mul(ARGUMENTS_FOR_SEVERAL);
+        (others == 1 || are_heavy)
+            && (free >= ROWS_FOR_ANY
+                || free >= others.saturating_pow(6).saturating_mul(ROWS_FOR_ONE))
+    }
 }
 
 /// Works alone, until nothing is left to do or there are enough free rows for `others` more workers, which it says.
@@ -146,13 +168,18 @@ pub(crate) fn work_alone<E: Expand, L: Ledger, T: Gate, R: Wait>(
 {
     let mut seat = seat;
     let mut memory = Memory::without_rows(alloc);
+    let mut tally = Tally {
+        rows: 0,
+        arguments: 0,
+    };
     for _ in rt.forever() {
         let (back, outcome) = step(rt, alloc, table, by, gate, seat, &mut memory);
         if matches!(outcome, StepOutcome::NothingLeft) {
             return (back, false);
         }
         seat = back;
-        if others > 0 && are_worth(u64::from(others), table.unclaimed(rt, &mut seat)) {
+        tally.count(memory.arguments.found.len());
+        if others > 0 && tally.is_worth(u64::from(others), table.unclaimed(rt, &mut seat)) {
             return (seat, true);
         }
     }
