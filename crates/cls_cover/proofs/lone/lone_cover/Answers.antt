@@ -1,4 +1,4 @@
-use Rattle.std.proofs.Common.{ℕ, ◌≡◌, ◌∙◌, ◌∷◌, [], List, sym, subst, take, get_or}
+use Rattle.std.proofs.Common.{ℕ, ◌≡◌, ◌∙◌, ◌∷◌, ◌++◌, [], List, ap, sym, subst, take, get_or}
 use Rattle.std.specs.Prelude.{map}
 use Rattle.std.proofs.lemmas.List.{take_more}
 use Rattle.cls_base.proofs.Lists.{take_whole}
@@ -10,7 +10,7 @@ use Rattle.cls_cover.proofs.LoneCovers.{lone_none, lone_set, lone_more, lone_cov
 use Rattle.cls_cover.proofs.lone.lone_cover.Goals as goal
 
 pub loop-position-init : goal.loop-position-init
-loop-position-init c = lone_none _ c.in_ok-cover.ensures.items
+loop-position-init c = lone_none _ c.clear.ensures.items
 
 pub loop-position-preserved : goal.loop-position-preserved
 loop-position-preserved c =
@@ -26,8 +26,9 @@ put-requires c = c.loop-position.invariant.ascending
 pub returns-in-Some-clause-covers : goal.returns-in-Some-clause-covers
 returns-in-Some-clause-covers c =
     let xs = c.args.positions.now in
-    let e : c.new.result ≡ members c.in-Some.set = c.new.ensures ∙ c.in_ok-members_of.ensures in
-    subst (λ (s : List ℕ). AreCovers (map single xs) (s ∷ [])) (sym e) (lone_covers xs (members c.in-Some.set) (lone_set xs c.in-Some.set c.in-Some.ensures))
+    let set = c.in-Some.set in
+    let e : c.put_members.new.list.items ≡ members set = c.in_ok-put_members.ensures ∙ ap (λ (list : List ℕ). list ++ members set) c.clear.ensures.items in
+    subst (λ (s : List ℕ). AreCovers (map single xs) (s ∷ [])) (sym e) (lone_covers xs (members set) (lone_set xs set c.in-Some.ensures))
 
 pub returns-in-Some-clause-within : goal.returns-in-Some-clause-within
 returns-in-Some-clause-within c =
@@ -39,7 +40,7 @@ returns-clause-covers c =
     let cover = c.loop-position.cover.items in
     let h : IsForced (map single xs) cover =
     subst (λ (ys : List ℕ). IsForced (map single ys) cover) (take_whole xs c.loop-position.position-index c.loop-position-test.false) c.loop-position.invariant in
-    subst (λ (s : List ℕ). AreCovers (map single xs) (s ∷ [])) (sym c.new-2.ensures) (lone_covers xs cover h)
+    lone_covers xs cover h
 
 pub returns-clause-within : goal.returns-clause-within
 returns-clause-within c =
