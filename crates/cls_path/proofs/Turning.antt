@@ -74,7 +74,7 @@ module _ (test : ℕ → ℕ → Bool) (variance : ℕ → Variance) where
       ends false y g = refl
       ends true false g = refl
 
-  -- the tests of arrows by those of their sources, of which one bare name or both are kept as such
+  -- the tests of arrows by those of their sources, one of which is kept as a bare name
   arrow_below :
       (p q : TypePath) (n m : Paths) (sources : Bool) → list_below test variance m n ≡ sources
       → path_below test variance (function n p) (function m q) ≡ (sources && path_below test variance p q)
@@ -90,15 +90,6 @@ module _ (test : ℕ → ℕ → Bool) (variance : ℕ → Variance) where
   and_true : (x : Bool) → (x && true) ≡ x
   and_true true = refl
   and_true false = refl
-
-  or_false : (x : Bool) → (x || false) ≡ x
-  or_false true = refl
-  or_false false = refl
-
-  pub from_from :
-      (c d : ℕ) (p q : TypePath)
-      → path_below test variance (function (more (atom c) none) p) (function (more (atom d) none) q) ≡ (test d c && path_below test variance p q)
-  from_from c d p q = arrow_below p q (more (atom c) none) (more (atom d) none) (test d c) (and_true (test d c || false) ∙ or_false (test d c))
 
   pub from_arrow :
       (c : ℕ) (p q : TypePath) (m : Paths)

@@ -1,6 +1,6 @@
 //! The order of paths and of lists of paths.
 ghost use Rattle.std.specs.Prelude.{◌≡◌, ◌↔◌};
-ghost use Rattle.std.specs.Ordering.{ordering_then};
+ghost use Rattle.std.specs.Ordering.{is_eq, ordering_then};
 ghost use Rattle.cls_path.specs.Paths.{listed};
 ghost use Rattle.cls_path.specs.NormalForms.{kind_of, PathBefore, PathsBefore};
 ghost use Rattle.cls_path.specs.PathOrder.{path_order, list_order};
@@ -123,5 +123,21 @@ impl Nf {
             i += 1;
         }
         ones.len().cmp(&others.len())
+    }
+
+    /// Whether the lists are equal. Most that are compared are of bare names, and need no call.
+    pub(crate) fn is_same(&self, other: &Nf) -> bool
+        ensures { result ≡ is_eq (list_order self.now other.now) }
+    {
+        let (ones, others) = (self.paths.as_slice(), other.paths.as_slice());
+        if ones.len() != others.len() {
+            return false;
+        }
+        for (i, one) in ones.iter().enumerate() {
+            if one.order_by_kind(&others[i]).is_ne() {
+                return false;
+            }
+        }
+        true
     }
 }
