@@ -12,6 +12,7 @@ pub mod PathLaws
 pub mod Remains
 pub mod RisingHeads
 pub mod RoundTrip
+pub mod Same
 pub mod Sorting
 pub mod Soundness
 pub mod Transitivity

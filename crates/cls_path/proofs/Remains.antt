@@ -132,7 +132,11 @@ module _ (below : ℕ → ℕ → Type 0) (variance : ℕ → Variance) where
           | inr b ↦ into_right out rest q (self rest q h.suits (back q b))
         ])
 
--- the paths of a list that ends with one more
+-- the paths of two lists, and of a list that ends with one more
+pub listed-append : (xs ys : List TypePath) → listed (xs ++ ys) ≡ append (listed xs) (listed ys)
+listed-append [] ys = refl
+listed-append (x ∷ xs) ys = ap (more x) (listed-append xs ys)
+
 pub listed-last : (n : List TypePath) (p : TypePath) → listed (n ++ p ∷ []) ≡ append (listed n) (more p none)
 listed-last [] p = refl
 listed-last (q ∷ n) p = ap (more q) (listed-last n p)

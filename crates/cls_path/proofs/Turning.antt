@@ -1,4 +1,4 @@
--- To be above is to be below the other way round.
+-- To be above is to be below the other way round, and so with sources of arrows.
 use Rattle.std.proofs.Common.{◌≡◌, ◌∙◌, refl, sym, ℕ, Bool, true, false, IsTrue, ◌&&◌, ◌||◌}
 use Rattle.std.proofs.lemmas.Bool.{false≢true}
 use Rattle.cls_base.specs.Taxonomies.{Variance}
@@ -73,3 +73,30 @@ module _ (test : ℕ → ℕ → Bool) (variance : ℕ → Variance) where
       ends true true g = absurd (false≢true (sym e ∙ g refl))
       ends false y g = refl
       ends true false g = refl
+
+  -- the tests of arrows by those of their sources, one of which is kept as a bare name
+  arrow_below :
+      (p q : TypePath) (n m : Paths) (sources : Bool) → list_below test variance m n ≡ sources
+      → path_below test variance (function n p) (function m q) ≡ (sources && path_below test variance p q)
+  arrow_below p q n m sources e =
+      (λ i. path_below test variance p q && (each_above-list_below n m ∙ e) i) ∙ turned (path_below test variance p q) sources
+    where
+      turned : (x y : Bool) → (x && y) ≡ (y && x)
+      turned true true = refl
+      turned true false = refl
+      turned false true = refl
+      turned false false = refl
+
+  and_true : (x : Bool) → (x && true) ≡ x
+  and_true true = refl
+  and_true false = refl
+
+  pub from_arrow :
+      (c : ℕ) (p q : TypePath) (m : Paths)
+      → path_below test variance (function (more (atom c) none) p) (function m q) ≡ (some_below test variance m (atom c) && path_below test variance p q)
+  from_arrow c p q m = arrow_below p q (more (atom c) none) m (some_below test variance m (atom c)) (and_true (some_below test variance m (atom c)))
+
+  pub arrow_from :
+      (d : ℕ) (p q : TypePath) (n : Paths)
+      → path_below test variance (function n p) (function (more (atom d) none) q) ≡ (list_below test variance (more (atom d) none) n && path_below test variance p q)
+  arrow_from d p q n = arrow_below p q n (more (atom d) none) (list_below test variance (more (atom d) none) n) refl

@@ -13,7 +13,7 @@ impl PartialEq for Nf {
     ghost eq = { eq_by_cmp list_order };
 
     fn eq(&self, other: &Nf) -> bool {
-        self.order_by_path(other).is_eq()
+        self.is_same(other)
     }
 
     ghost laws = { partial_equiv_from_equiv list_equal };

@@ -216,3 +216,17 @@ fn copy_all(alloc: Global, list: &Vec<Path>) -> Result<Vec<Path>, OutOfMemory>
     }
     Ok(paths)
 }
+
+/// Puts copies of the paths behind the others, in order.
+pub(crate) fn copy_behind(
+    alloc: Global,
+    more: &[Path],
+    paths: &mut Vec<Path>,
+) -> Result<(), OutOfMemory>
+    ensures { OnOk result (paths.new.items ≡ paths.old.items ++ more.now) }
+{
+    for path in more {
+        paths.push(path.copy(alloc)?)?;
+    }
+    Ok(())
+}

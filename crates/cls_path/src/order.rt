@@ -1,5 +1,6 @@
 //! The order of paths and of lists of paths.
 ghost use Rattle.std.specs.Prelude.{◌≡◌, ◌↔◌};
+ghost use Rattle.std.specs.Ordering.{is_eq, ordering_then};
 ghost use Rattle.cls_path.specs.Paths.{listed};
 ghost use Rattle.cls_path.specs.NormalForms.{kind_of, PathBefore, PathsBefore};
 ghost use Rattle.cls_path.specs.PathOrder.{path_order, list_order};
@@ -57,63 +58,19 @@ impl Path {
     {
         match (&self.form, &other.form) {
             (Form::Atom(c), Form::Atom(d)) => c.0.cmp(&d.0),
-            (Form::Over(c, e), Form::Over(d, f)) => {
-                let names = c.0.cmp(&d.0);
-                if names.is_ne() {
-                    return names;
-                }
-                e.0.cmp(&f.0)
-            }
-            (Form::Over(c, e), Form::Con(d, q)) => {
-                let names = c.0.cmp(&d.0);
-                if names.is_ne() {
-                    return names;
-                }
-                q.order_to_name(*e).reverse()
-            }
-            (Form::Con(c, p), Form::Over(d, f)) => {
-                let names = c.0.cmp(&d.0);
-                if names.is_ne() {
-                    return names;
-                }
-                p.order_to_name(*f)
-            }
-            (Form::Con(c, p), Form::Con(d, q)) => {
-                let names = c.0.cmp(&d.0);
-                if names.is_ne() {
-                    return names;
-                }
-                p.order_by_kind(q)
-            }
+            (Form::Over(c, e), Form::Over(d, f)) => c.0.cmp(&d.0).then(e.0.cmp(&f.0)),
+            (Form::Over(c, e), Form::Con(d, q)) => c.0.cmp(&d.0).then(q.order_to_name(*e).reverse()),
+            (Form::Con(c, p), Form::Over(d, f)) => c.0.cmp(&d.0).then(p.order_to_name(*f)),
+            (Form::Con(c, p), Form::Con(d, q)) => p.order_behind(c.0.cmp(&d.0), q),
             (Form::Left(p), Form::Left(q)) => p.order_by_kind(q),
             (Form::Right(p), Form::Right(q)) => p.order_by_kind(q),
-            (Form::From(c, p), Form::From(d, q)) => {
-                let names = c.0.cmp(&d.0);
-                if names.is_ne() {
-                    return names;
-                }
-                p.order_by_kind(q)
-            }
+            (Form::From(c, p), Form::From(d, q)) => p.order_behind(c.0.cmp(&d.0), q),
             (Form::From(c, p), Form::Arrow(b)) => {
-                let sources = b.source.order_to_name(*c).reverse();
-                if sources.is_ne() {
-                    return sources;
-                }
-                p.order_by_kind(&b.target)
+                p.order_behind(b.source.order_to_name(*c).reverse(), &b.target)
             }
-            (Form::Arrow(a), Form::From(d, q)) => {
-                let sources = a.source.order_to_name(*d);
-                if sources.is_ne() {
-                    return sources;
-                }
-                a.target.order_by_kind(q)
-            }
+            (Form::Arrow(a), Form::From(d, q)) => a.target.order_behind(a.source.order_to_name(*d), q),
             (Form::Arrow(a), Form::Arrow(b)) => {
-                let sources = a.source.order_by_path(&b.source);
-                if sources.is_ne() {
-                    return sources;
-                }
-                a.target.order_by_kind(&b.target)
+                a.target.order_behind(a.source.order_by_path(&b.source), &b.target)
             }
             (Form::Sealed(c, n), Form::Sealed(d, m)) => {
                 let names = c.0.cmp(&d.0);
@@ -124,6 +81,18 @@ impl Path {
             }
             (one, another) => one.kind().cmp(&another.kind()),
         }
+    }
+
+    /// The order of what stands before the paths, and theirs if that is equal.
+    #[inline]
+    #[cycle(order)]
+    fn order_behind(&self, before: Ordering, another: &Path) -> Ordering
+        ensures { result ≡ ordering_then before (path_order self.now another.now) }
+    {
+        if before.is_ne() {
+            return before;
+        }
+        self.order_by_kind(another)
     }
 }
 
@@ -154,5 +123,21 @@ impl Nf {
             i += 1;
         }
         ones.len().cmp(&others.len())
+    }
+
+    /// Whether the lists are equal. Most that are compared are of bare names, and need no call.
+    pub(crate) fn is_same(&self, other: &Nf) -> bool
+        ensures { result ≡ is_eq (list_order self.now other.now) }
+    {
+        let (ones, others) = (self.paths.as_slice(), other.paths.as_slice());
+        if ones.len() != others.len() {
+            return false;
+        }
+        for (i, one) in ones.iter().enumerate() {
+            if one.order_by_kind(&others[i]).is_ne() {
+                return false;
+            }
+        }
+        true
     }
 }

@@ -3,6 +3,7 @@ ghost use Rattle.std.specs.Prelude.{◌≡◌, IfOk, OnOk};
 ghost use Rattle.cls_path.specs.Paths.{append, listed};
 ghost use Rattle.cls_path.specs.Seen.{paths_of_source};
 
+use crate::make::copy_behind;
 use crate::path::{Nf, Path};
 use cls_base::{Name, OutOfMemory};
 use std::alloc::Global;
@@ -33,11 +34,7 @@ impl Source<'_> {
     {
         match self {
             Source::Name(name) => paths.push(Path::atom(*name))?,
-            Source::Paths(nf) => {
-                for path in nf.paths() {
-                    paths.push(path.copy(alloc)?)?;
-                }
-            }
+            Source::Paths(nf) => copy_behind(alloc, nf.paths(), paths)?,
         }
         Ok(())
     }
