@@ -22,7 +22,7 @@ use Rattle.cls_path.specs.NormalForms.{PathBefore, LeadsAntichain, IsCanonical, 
 use Rattle.cls_path.specs.PathOrder.{path_order}
 use Rattle.cls_path.specs.OrderLaws.{path_order_total, order_same}
 use Rattle.cls_path.specs.Tests.{path_below}
-use Rattle.cls_path.specs.Labels.{label_of, key_of, Fits}
+use Rattle.cls_path.specs.Labels.{label_of, key_of, digest_of, Fits}
 use Rattle.cls_path.specs.Groups.{Holds, AreKeyed, comparable, AreApart, AreGroups, IsReduced}
 use Rattle.cls_path.proofs.Sorting.{path_order-greater}
 use Rattle.cls_path.proofs.Completeness.{covered, covers_all, covers_subset, le_refl}
@@ -441,21 +441,22 @@ module _ (test : ℕ → ℕ → Bool) (variance : ℕ → Variance) where
           → ((p : TypePath) → Holds gs p ↔ Contains paths p) → AreGroups test variance paths gs
       groups_of ks gs h same = record { same = same; apart = keyed_apart ks gs h (λ p i. (same p).0 i) }
 
-      heads_apart : (P : GroupKey → Type 0) (n : List TypePath) → AllByRecursion P (map (key_of class mask) n) → AllByRecursion (λ q. P (key_of class mask q)) n
-      heads_apart P [] h = tt
-      heads_apart P (q ∷ n) h = (h.0, heads_apart P n h.1)
+      digests_apart : (P : ℕ → Type 0) (n : List TypePath) → AllByRecursion P (map (λ q. digest_of (key_of class mask q)) n) → AllByRecursion (λ q. P (digest_of (key_of class mask q))) n
+      digests_apart P [] h = tt
+      digests_apart P (q ∷ n) h = (h.0, digests_apart P n h.1)
 
-      -- paths with different keys are apart
-      pub distinct_keys :
-          (same : GroupKey → GroupKey → Bool) (same_self : (x : GroupKey) → same x x ≡ true) (n : List TypePath)
-          → ((p : TypePath) → Contains n p → Contains paths p) → IsDistinct same (map (key_of class mask) n)
+      -- paths whose keys have different digests are apart
+      pub distinct_digests :
+          (same : ℕ → ℕ → Bool) (same_self : (x : ℕ) → same x x ≡ true) (n : List TypePath)
+          → ((p : TypePath) → Contains n p → Contains paths p) → IsDistinct same (map (λ q. digest_of (key_of class mask q)) n)
           → IsDistinct (comparable test variance) n
-      distinct_keys same same_self [] f d = distinct_none (comparable test variance)
-      distinct_keys same same_self (p ∷ n) f d =
-          let k = key_of class mask p in
-          let ks = map (key_of class mask) n in
-          let differ = heads_apart (λ x. same k x ≡ false) n (IsDistinct-head same k ks d) in
+      distinct_digests same same_self [] f d = distinct_none (comparable test variance)
+      distinct_digests same same_self (p ∷ n) f d =
+          let digest : TypePath → ℕ = λ q. digest_of (key_of class mask q) in
+          let k = digest p in
+          let ks = map digest n in
+          let differ = digests_apart (λ x. same k x ≡ false) n (IsDistinct-head same k ks d) in
           IsDistinct-cons (comparable test variance) p n
           (all_by (λ q. comparable test variance p q ≡ false) n (λ q c. keys_apart p q (f p (Contains-here p n)) (f q (Contains-later q p n c))
-          (λ e. false≢true (sym (by_all (λ q. same k (key_of class mask q) ≡ false) n differ q c) ∙ subst (λ x. same k x ≡ true) e (same_self k)))))
-          (distinct_keys same same_self n (λ q c. f q (Contains-later q p n c)) (IsDistinct-tail same k ks d))
+          (λ e. false≢true (sym (by_all (λ q. same k (digest q) ≡ false) n differ q c) ∙ subst (λ x. same k (digest_of x) ≡ true) e (same_self k)))))
+          (distinct_digests same same_self n (λ q c. f q (Contains-later q p n c)) (IsDistinct-tail same k ks d))

@@ -1,6 +1,6 @@
 -- internal: labels of paths, made of spans of the classes of their names. If a path is below another one, the span of its
 -- end has that of the other's end, and the spans of its sources lie in those of the other's. So labels tell most pairs apart.
-use Rattle.std.specs.Prelude.{ℕ, ◌+◌, ◌≡◌, ◌==◌, min, max, cond, Bool, true, ◌&&◌, nat_le, List, [], ◌∷◌}
+use Rattle.std.specs.Prelude.{ℕ, ◌+◌, ◌*◌, ◌%◌, ◌^◌, ◌≡◌, ◌==◌, min, max, cond, Bool, true, ◌&&◌, nat_le, List, [], ◌∷◌}
 use Rattle.cls_path.specs.Paths.{TypePath, atom, inside, unit, left, right, function, sealed, Paths, none, more}
 use Rattle.cls_path.specs.declared.label.Span.{Span}
 use Rattle.cls_path.specs.declared.label.Label.{Label}
@@ -147,3 +147,11 @@ module _ (class : ℕ → ℕ) where
   abbrev pub mask_from : Mask → List TypePath → Mask
   mask_from m [] = m
   mask_from m (p ∷ n) = mask_from (narrowed m (label_of class p)) n
+
+-- the first number spread over 64 bits, and the second added
+abbrev pub mixed : ℕ → ℕ → ℕ
+mixed m n = ((m * 11400714819323198485) % 2 ^ 64 + n) % 2 ^ 64
+
+-- a number that few other keys have
+abbrev pub digest_of : GroupKey → ℕ
+digest_of k = mixed (mixed (mixed k.head k.inner) k.first) k.later

@@ -74,7 +74,7 @@ pub(crate) fn reduced<T: Taxa>(
     Ok(least)
 }
 
-/// Whether no two of the paths have one key by the mask. Then no path is below another.
+/// True only if no two of the paths have one key by the mask. Then no path is below another.
 fn are_apart<T: Taxa>(
     alloc: Global,
     taxa: &T,
@@ -86,9 +86,10 @@ fn are_apart<T: Taxa>(
     ensures { IfOk result (λ apart. IsTrue apart
         → IsDistinct (comparable (T.is_below taxa.now) (T.variance_of_name taxa.now)) paths.now) }
 {
-    let mut keys = IndexSet::with_capacity(alloc, paths.len())?;
+    // The digests of all keys take much less memory than the keys, and few keys share one.
+    let mut digests = IndexSet::with_capacity(alloc, paths.len())?;
     for path in paths {
-        if !keys.insert(GroupKey::of(taxa, path, mask))? {
+        if !digests.insert(GroupKey::of(taxa, path, mask).digest())? {
             return Ok(false);
         }
     }

@@ -1,7 +1,7 @@
 //! Labels of paths, by which most pairs are told apart.
 ghost use Rattle.std.specs.Prelude.{◌≡◌, Contains};
 ghost use Rattle.cls_path.specs.Paths.{TypePath, atom, none, more, listed};
-ghost use Rattle.cls_path.specs.Labels.{one_span, join, plus, within, names_of, head_of, inner_of, join_all, all_names_of, sources_of, first_of, later_of, label_of, admits, is_single, narrowed, key_of, mask_from, Fits};
+ghost use Rattle.cls_path.specs.Labels.{one_span, join, plus, within, names_of, head_of, inner_of, join_all, all_names_of, sources_of, first_of, later_of, label_of, admits, is_single, narrowed, key_of, mask_from, mixed, digest_of, Fits};
 
 use crate::path::{Form, Nf, Path};
 use cls_base::{Name, Taxa};
@@ -63,6 +63,9 @@ pub(crate) struct GroupKey {
     first: u64,
     later: u64,
 }
+
+/// Spreads small numbers over 64 bits.
+const SPREAD: u64 = 0x9e37_79b9_7f4a_7c15;
 
 impl Span {
     /// The number alone.
@@ -169,6 +172,20 @@ impl GroupKey {
             later: if mask.later { later(taxa, path).low } else { 0 },
         }
     }
+
+    /// A number that few other keys have.
+    pub fn digest(self) -> u64
+        ensures { result ≡ digest_of self }
+    {
+        mixed(mixed(mixed(self.head, self.inner), self.first), self.later)
+    }
+}
+
+/// The first number spread over 64 bits, and the second added.
+fn mixed(first: u64, second: u64) -> u64
+    ensures { result ≡ mixed first second }
+{
+    first.wrapping_mul(SPREAD).wrapping_add(second)
 }
 
 /// The class of the name at the head of the path, or the greatest number for a product.

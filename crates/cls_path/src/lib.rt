@@ -17,8 +17,8 @@ pub mod laws;
 mod list;
 mod make;
 mod meet;
-mod order;
 mod name;
+mod order;
 mod path;
 mod source;
 

@@ -59,7 +59,10 @@ impl Path {
         match (&self.form, &other.form) {
             (Form::Atom(c), Form::Atom(d)) => c.0.cmp(&d.0),
             (Form::Over(c, e), Form::Over(d, f)) => c.0.cmp(&d.0).then(e.0.cmp(&f.0)),
-            (Form::Over(c, e), Form::Con(d, q)) => c.0.cmp(&d.0).then(q.order_to_name(*e).reverse()),
+            (Form::Over(c, e), Form::Con(d, q)) => c
+                .0
+                .cmp(&d.0)
+                .then(q.order_to_name(*e).reverse()),
             (Form::Con(c, p), Form::Over(d, f)) => c.0.cmp(&d.0).then(p.order_to_name(*f)),
             (Form::Con(c, p), Form::Con(d, q)) => p.order_behind(c.0.cmp(&d.0), q),
             (Form::Left(p), Form::Left(q)) => p.order_by_kind(q),
@@ -68,9 +71,12 @@ impl Path {
             (Form::From(c, p), Form::Arrow(b)) => {
                 p.order_behind(b.source.order_to_name(*c).reverse(), &b.target)
             }
-            (Form::Arrow(a), Form::From(d, q)) => a.target.order_behind(a.source.order_to_name(*d), q),
+            (Form::Arrow(a), Form::From(d, q)) => a
+                .target
+                .order_behind(a.source.order_to_name(*d), q),
             (Form::Arrow(a), Form::Arrow(b)) => {
-                a.target.order_behind(a.source.order_by_path(&b.source), &b.target)
+                a.target
+                    .order_behind(a.source.order_by_path(&b.source), &b.target)
             }
             (Form::Sealed(c, n), Form::Sealed(d, m)) => {
                 let names = c.0.cmp(&d.0);

@@ -17,7 +17,6 @@ Nf::order_by_path-returns t c =
     let e = exhausted c.loop-i.i xs ys c.loop-i.invariant.in_one c.loop-i.invariant.in_two over in
     search rules
 
-
 pub Path::order_deep-returns-in-From-Arrow : goal.Path::order_deep-returns-in-From-Arrow
 Path::order_deep-returns-in-From-Arrow t c =
     let e = name_first c.in-From-Arrow.c.0 c.in-From-Arrow.b.value.source in

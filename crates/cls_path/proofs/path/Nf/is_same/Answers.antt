@@ -1,6 +1,4 @@
-use Rattle.std.proofs.Common.{arith, sym, ap, ◌≡◌, ◌<◌, ◌≤◌, ◌∙◌, false, true, length}
-use Rattle.std.specs.Ordering.{is_eq}
-use Rattle.cls_path.specs.PathOrder.{list_order}
+use Rattle.std.proofs.Common.{arith, sym, ◌∙◌}
 use Rattle.cls_path.proofs.Same.{other_lengths, other_paths, all_paths}
 use Rattle.cls_path.proofs.path.Nf.is_same.Goals as goal
 

@@ -1,4 +1,4 @@
-use Rattle.std.proofs.Common.{rules, arith, sym, ◌∙◌, ap, ◌<◌, length}
+use Rattle.std.proofs.Common.{rules, arith, sym, ◌∙◌, ◌<◌, length}
 use Rattle.cls_path.proofs.Orders.{only_name, tied}
 use Rattle.cls_path.proofs.path.Nf.order_to_name.Goals as goal
 
