@@ -6,6 +6,7 @@ use Rattle.cls_base.specs.Ty.{type_of}
 use Rattle.cls_lexer.specs.Words.{words_of}
 use Rattle.cls_syntax.specs.Faults.{Says}
 use Rattle.cls_syntax.specs.LineGrammars.{LineOf, row_words, RowStands}
+use Rattle.cls_syntax.specs.MeasuredTypes.{measured_type}
 use Rattle.cls_query.specs.declared.fault.LineFault.{LineFault}
 use Rattle.cls_query.specs.declared.fault.LineFault.TheVariants as faults
 use Rattle.cls_query.specs.declared.query.Query as code
@@ -34,7 +35,7 @@ abbrev pub listing_of : listings.Listing → Listing
 listing_of l = record { goal = type_of l.goal; max = l.max; take = l.take; after = l.after }
 
 abbrev pub asked_of : code.Query → Query
-asked_of (forms.Sub s t) = sub (type_of s) (type_of t)
+asked_of (forms.Sub s t) = sub (measured_type s) (measured_type t)
 asked_of (forms.Paths x) = paths x.0
 asked_of (forms.Typed e t) = typed e (type_of t)
 asked_of (forms.Inhabit t) = inhabit (type_of t)

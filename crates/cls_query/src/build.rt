@@ -4,6 +4,7 @@ ghost use Rattle.std.specs.List.{AllByRecursion, list_any};
 ghost use Rattle.std.specs.Option.{option_map};
 ghost use Rattle.cls_base.specs.Ty.{type_of};
 ghost use Rattle.cls_syntax.specs.ClosedTypes.{HasNoDollar};
+ghost use Rattle.cls_syntax.specs.MeasuredTypes.{measured_type};
 ghost use Rattle.cls_syntax.specs.SpelledTypes.{type_text, words_in};
 ghost use Rattle.cls_syntax.specs.TypeSchemas.{with_constructors};
 ghost use Rattle.cls_syntax.specs.TypeTexts.{type_words};
@@ -18,7 +19,7 @@ use crate::form::{GoalForm, GoalWord, ListingForm, ListingWord, QueryForm};
 use crate::query::{Listing, Query};
 use cls_base::{OutOfMemory, Ty};
 use cls_lexer::Names;
-use cls_syntax::SpelledType;
+use cls_syntax::{MeasuredTy, SpelledType};
 use cls_term::{CodedTerm, Term};
 use std::alloc::Global;
 
@@ -158,18 +159,18 @@ fn both_types(
     constructors: &mut Names,
     lower: &SpelledType,
     upper: &SpelledType,
-) -> Result<(Ty, Ty), OutOfMemory>
+) -> Result<(MeasuredTy, MeasuredTy), OutOfMemory>
     requires lower { HasNoDollar (words_in lower.now) }
     requires upper { HasNoDollar (words_in upper.now) }
-    ensures lower { IfOk result (λ r. type_of r.0 ≡ type_in constructors.new (type_text lower.now)) }
-    ensures upper { IfOk result (λ r. type_of r.1 ≡ type_in constructors.new (type_text upper.now)) }
+    ensures lower { IfOk result (λ r. measured_type r.0 ≡ type_in constructors.new (type_text lower.now)) }
+    ensures upper { IfOk result (λ r. measured_type r.1 ≡ type_in constructors.new (type_text upper.now)) }
     ensures constructors { OnOk result (constructors.new
         ≡ with_constructors (with_constructors constructors.old (words_in lower.now)) (words_in upper.now)) }
     ensures stay { OnErr result (constructors.new ≡ constructors.old) }
 {
     let count = constructors.len();
-    let lower = lower.ty(alloc, constructors)?;
-    match upper.ty(alloc, constructors) {
+    let lower = lower.measured_ty(alloc, constructors)?;
+    match upper.measured_ty(alloc, constructors) {
         Ok(upper) => Ok((lower, upper)),
         Err(fault) => {
             constructors.cut(count);

@@ -2,20 +2,20 @@
 //! is left to the reading by forms, which finds the first error.
 ghost use Rattle.std.specs.Prelude.{◌≡◌, ◌↔◌, ◌<◌, ◌*◌, ◌++◌, ◌∷◌, codes, length, take, position, IsTrue, IfOk, OnOk, OnErr, OnSome, IfSome, IfNone};
 ghost use Rattle.cls_base.specs.Limits.{max_type_nodes};
-ghost use Rattle.cls_base.specs.Ty.{type_of};
 ghost use Rattle.cls_lexer.specs.Skipped.{IsText};
 ghost use Rattle.cls_lexer.specs.Words.{name, sign, words, words_of};
 ghost use Rattle.cls_lexer.specs.declared.token.TokenKind.TheVariants.{AtMost};
+ghost use Rattle.cls_syntax.specs.MeasuredTypes.{measured_type};
 ghost use Rattle.cls_query.specs.Queries.{tables_of};
 ghost use Rattle.cls_query.specs.ReadQueries.{asked_of, ReadsQuery};
 ghost use Rattle.cls_query.specs.Comparisons.{is_at_most, IsSmall, IsWholeClosed, AreBuilt};
 
 use crate::line::CutLine;
 use crate::query::Query;
+use cls_base::OutOfMemory;
 use cls_base::limits::MAX_TYPE_NODES;
-use cls_base::{OutOfMemory, Ty};
 use cls_lexer::{Names, Token, TokenKind};
-use cls_syntax::{is_too_deep, read_closed_type, sign_at, word_at};
+use cls_syntax::{MeasuredTy, is_too_deep, read_measured_type, sign_at, word_at};
 use std::alloc::Global;
 
 impl<'t, 'a> CutLine<'t, 'a> {
@@ -36,7 +36,7 @@ impl<'t, 'a> CutLine<'t, 'a> {
             return Ok(None);
         };
         let count = constructors.len();
-        match closed_types(alloc, constructors, lower, upper) {
+        match measured_types(alloc, constructors, lower, upper) {
             Ok(Some((lower, upper))) => Ok(Some(Query::Sub(lower, upper))),
             Ok(None) => {
                 constructors.cut(count);
@@ -95,24 +95,25 @@ fn is_short(tokens: &[Token]) -> bool
     tokens.len() as u64 <= 2 * MAX_TYPE_NODES / 3
 }
 
-/// The types without variables that the tokens spell, with the names of the first one numbered first. Where one is none, or
-/// memory runs out, the table may have grown.
-fn closed_types(
+/// The types without variables that the tokens spell, with their measures and the names of the first one numbered first. Where
+/// one is none, or memory runs out, the table may have grown.
+fn measured_types(
     alloc: Global,
     constructors: &mut Names,
     lower: &[Token],
     upper: &[Token],
-) -> Result<Option<(Ty, Ty)>, OutOfMemory>
+) -> Result<Option<(MeasuredTy, MeasuredTy)>, OutOfMemory>
     ensures lower { IfOk result (λ read. OnSome read (IsWholeClosed (words lower.now))) }
     ensures upper { IfOk result (λ read. OnSome read (IsWholeClosed (words upper.now))) }
     ensures built { IfOk result (λ read. IfSome read (λ types.
-        AreBuilt constructors.old (words lower.now) (words upper.now) constructors.new (type_of types.0) (type_of types.1))) }
+        AreBuilt constructors.old (words lower.now) (words upper.now) constructors.new
+        (measured_type types.0) (measured_type types.1))) }
     ensures kept { take (length constructors.old) constructors.new ≡ constructors.old }
 {
-    let Some(lower) = read_closed_type(alloc, constructors, lower)? else {
+    let Some(lower) = read_measured_type(alloc, constructors, lower)? else {
         return Ok(None);
     };
-    match read_closed_type(alloc, constructors, upper)? {
+    match read_measured_type(alloc, constructors, upper)? {
         Some(upper) => Ok(Some((lower, upper))),
         None => Ok(None),
     }

@@ -1,4 +1,5 @@
 use cls_base::{Name, Ty};
+use cls_syntax::MeasuredTy;
 use cls_term::{CodedTerm, Term};
 
 /// A page that is asked for.
@@ -18,7 +19,7 @@ pub struct Listing {
 #[derive(Drop)]
 pub enum Query {
     /// `sub TYPE <= TYPE`: whether the first type is below the second.
-    Sub(Ty, Ty),
+    Sub(MeasuredTy, MeasuredTy),
     /// `paths NAME`: the paths of the component.
     Paths(Name),
     /// `typed TERM : TYPE`: whether the term has the type.

@@ -3,6 +3,7 @@ ghost use Rattle.std.specs.Prelude.{◌≡◌, ◌<◌, ◌^◌, All, length, If
 ghost use Rattle.cls_base.specs.Firsts.{First, IsSilent};
 ghost use Rattle.cls_base.specs.Terms.{IsTermOver};
 ghost use Rattle.cls_base.specs.Ty.{type_of};
+ghost use Rattle.cls_syntax.specs.MeasuredTypes.{measured_type};
 ghost use Rattle.cls_proof.specs.Seen.{certificate_of};
 ghost use Rattle.cls_check.specs.Verdicts.{rows_in};
 ghost use Rattle.cls_query.specs.Queries.{sub, paths, typed, inhabit, grammar, audit, certify, finite, list, texts};
@@ -25,6 +26,7 @@ use cls_engine::EngineFault;
 use cls_enum::Page;
 use cls_proof::{Certificate, print_certificate};
 use cls_query::{Listing, Query};
+use cls_syntax::MeasuredTy;
 use cls_term::CodedTerm;
 use std::alloc::Global;
 use std::sync::Wait;
@@ -59,9 +61,14 @@ impl Serving {
         }
     }
 
-    fn sub(&mut self, alloc: Global, lower: &Ty, upper: &Ty) -> Result<String, OutOfMemory>
+    fn sub(
+        &mut self,
+        alloc: Global,
+        lower: &MeasuredTy,
+        upper: &MeasuredTy,
+    ) -> Result<String, OutOfMemory>
         ensures answers { IfOk result (λ text.
-            Answers self.old (sub (type_of lower.now) (type_of upper.now)) (string_bytes text)) }
+            Answers self.old (sub (measured_type lower.now) (measured_type upper.now)) (string_bytes text)) }
         ensures same { self.new ≡ self.old }
     {
         match self.engine.subtype(alloc, lower, upper) {

@@ -1,6 +1,6 @@
 -- To be read and believed: TypeTexts, TermTexts, TypeSchemas, ClosedTypes, TypePrinting, Roles, Forms, GoodForms, LineGrammars,
--- Faults, SyntaxFaults, Depths and RoundTrips. Laws tie LineReading and Fronts to them; Readings, Stops, TokenTexts and Spelled..
--- say what the code's values mean. The other modules are marked internal: they follow the code.
+-- Faults, SyntaxFaults, Depths and RoundTrips. Laws tie LineReading and Fronts to them; Readings, Stops, TokenTexts, Spelled..
+-- and MeasuredTypes say what the code's values mean. The other modules are marked internal: they follow the code.
 pub mod ClosedTypes
 pub mod Depths
 pub mod Faults
@@ -10,6 +10,7 @@ pub mod GoodForms
 pub mod LineGrammars
 pub mod LineReading
 pub mod Machines
+pub mod MeasuredTypes
 pub mod Numberings
 pub mod Readings
 pub mod Roles

@@ -3,9 +3,9 @@
 //! - From a slice of tokens a line form is read from the left by [`word_at`], [`name_at`], [`number_at`], [`numbers_at`],
 //!   [`sign_at`], [`type_at`], [`types_at`], [`term_at`] and [`end_at`]. Each answers what stands there and what follows, or the
 //!   [`Stop`]: the first token that can't follow.
-//! - What spells a type is recognised with no memory, as [`SpelledType`]; [`SpelledType::schema`] and [`SpelledType::ty`] build
-//!   it, with a stack of their own. [`read_closed_type`] builds over tokens that may spell a type, [`closed_type`] over tokens
-//!   that are known to spell one.
+//! - What spells a type is recognised with no memory, as [`SpelledType`]; [`SpelledType::schema`], [`SpelledType::ty`] and
+//!   [`SpelledType::measured_ty`] build it, with a stack of their own. [`read_measured_type`] builds over tokens that may spell a
+//!   type, [`closed_type`] over tokens that are known to spell one. A [`MeasuredTy`] is a closed type with its measures.
 //! - [`read_schema`] and [`read_type`] read a text that is one type, and [`print_type`] prints a type, [`write_type`] at the
 //!   end of a text.
 //! - [`laws`] holds what is true of every form of line and of every type.
@@ -15,6 +15,7 @@ mod cursor;
 mod depth;
 mod interning;
 pub mod laws;
+mod measured;
 mod numeral_list;
 mod print;
 mod read;
@@ -35,6 +36,7 @@ mod word_list;
 
 pub use cursor::{end_at, name_at, number_at, sign_at, term_at, type_at, types_at, word_at};
 pub use depth::is_too_deep;
+pub use measured::MeasuredTy;
 pub use numeral_list::NumeralList;
 pub use print::{print_type, write_type};
 pub use read::{first_variable, read_schema, read_type};
@@ -45,5 +47,5 @@ pub use spelled_type::SpelledType;
 pub use spelled_types::SpelledTypes;
 pub use stop::Stop;
 pub use syntax_fault::SyntaxFault;
-pub use type_builder::{closed_type, read_closed_type};
+pub use type_builder::{closed_type, read_measured_type};
 pub use word_list::{names_at, numbers_at};

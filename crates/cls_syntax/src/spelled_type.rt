@@ -6,9 +6,10 @@ ghost use Rattle.cls_syntax.specs.TypeReading.{type_front};
 ghost use Rattle.cls_syntax.specs.TypeShapes.{held};
 ghost use Rattle.cls_syntax.specs.Spans.{is_whole, type_in};
 
+use crate::measured::MeasuredTy;
 use crate::schema_builder::build;
 use crate::stop::begins_reserved;
-use crate::type_builder::closed_type;
+use crate::type_builder::measured_closed_type;
 use cls_base::limits::MAX_TYPE_NODES;
 use cls_base::{OutOfMemory, Schema, Ty};
 use cls_lexer::{Names, Token};
@@ -30,6 +31,7 @@ impl SpelledType<'_, '_> {
     ghost use Rattle.cls_base.specs.Schemas.{schema_of};
     ghost use Rattle.cls_base.specs.Ty.{type_of};
     ghost use Rattle.cls_syntax.specs.ClosedTypes.{HasNoDollar, Spells};
+    ghost use Rattle.cls_syntax.specs.MeasuredTypes.{measured_type};
     ghost use Rattle.cls_syntax.specs.TypePrinting.{HasNamesBelow};
     ghost use Rattle.cls_syntax.specs.Spans.{omega_text};
     ghost use Rattle.cls_lexer.specs.Names.{number_of};
@@ -97,9 +99,30 @@ impl SpelledType<'_, '_> {
         }
     }
 
+    /// The type that the tokens spell, which has no variable, with its measures. Its names are numbered in the order of
+    /// their tokens. The only error is out of memory, and leaves the table as before.
+    #[tactic(auto, using(crate::proofs::TypeSpans::spelled_words))]
+    pub fn measured_ty(
+        &self,
+        alloc: Global,
+        constructors: &mut Names,
+    ) -> Result<MeasuredTy, OutOfMemory>
+        requires { HasNoDollar (words_in self.now) }
+        ensures ty { IfOk result (λ ty. Spells (number_of constructors.new) (type_text self.now) (measured_type ty)) }
+        ensures held { IfOk result (λ ty. HasNamesBelow (length constructors.new) (measured_type ty)) }
+        ensures constructors { OnOk result (constructors.new ≡ with_constructors constructors.old (words_in self.now)) }
+        ensures constructors_stay { OnErr result (constructors.new ≡ constructors.old) }
+    {
+        let count = constructors.len();
+        let made = measured_closed_type(alloc, constructors, self.tokens);
+        if made.is_err() {
+            constructors.cut(count);
+        }
+        made
+    }
+
     /// The type that the tokens spell, which has no variable. Its names are numbered in the order of their tokens. The only
     /// error is out of memory, and leaves the table as before.
-    #[tactic(auto, using(crate::proofs::TypeSpans::spelled_words))]
     pub fn ty(&self, alloc: Global, constructors: &mut Names) -> Result<Ty, OutOfMemory>
         requires { HasNoDollar (words_in self.now) }
         ensures ty { IfOk result (λ ty. Spells (number_of constructors.new) (type_text self.now) (type_of ty)) }
@@ -107,11 +130,6 @@ impl SpelledType<'_, '_> {
         ensures constructors { OnOk result (constructors.new ≡ with_constructors constructors.old (words_in self.now)) }
         ensures constructors_stay { OnErr result (constructors.new ≡ constructors.old) }
     {
-        let count = constructors.len();
-        let made = closed_type(alloc, constructors, self.tokens);
-        if made.is_err() {
-            constructors.cut(count);
-        }
-        made
+        Ok(self.measured_ty(alloc, constructors)?.into_ty())
     }
 }

@@ -1,12 +1,10 @@
-//! The trees that a builder makes: schemas, or closed types.
-ghost use Rattle.std.specs.Prelude.{◌≡◌, ℕ, Option, Some, None, IfOk};
+//! The trees that a builder makes: schemas, or closed types with their measures.
+ghost use Rattle.std.specs.Prelude.{◌≡◌, ℕ, Option, Some, IfOk};
 ghost use Rattle.std.specs.Option.{option_map};
 ghost use Rattle.cls_base.specs.Schemas.{OpenType, schema_of};
 ghost use Rattle.cls_base.specs.Schemas as schema;
-ghost use Rattle.cls_base.specs.Ty.{type_of};
-ghost use Rattle.cls_syntax.specs.ClosedTypes.{opened};
 
-use cls_base::{Name, OutOfMemory, Schema, Ty};
+use cls_base::{Name, OutOfMemory, Schema};
 use std::alloc::Global;
 
 /// A tree of the forms of types. The only error of its calls is out of memory.
@@ -91,39 +89,5 @@ impl Tree for Schema {
 
     fn meet(alloc: Global, left: Schema, right: Schema) -> Result<Schema, OutOfMemory> {
         Ok(Schema::Meet(Box::new(alloc, (left, right))?))
-    }
-}
-
-impl Tree for Ty {
-    ghost tree = { λ ty. opened (type_of ty) };
-
-    ghost leaf = { λ _. None };
-
-    fn omega() -> Ty {
-        Ty::Omega
-    }
-
-    fn variable(_name: Name) -> Option<Ty> {
-        None
-    }
-
-    fn bare(name: Name) -> Ty {
-        Ty::Bare(name)
-    }
-
-    fn constructor(alloc: Global, name: Name, argument: Ty) -> Result<Ty, OutOfMemory> {
-        Ty::over(alloc, name, argument)
-    }
-
-    fn product(alloc: Global, left: Ty, right: Ty) -> Result<Ty, OutOfMemory> {
-        Ok(Ty::Prod(Box::new(alloc, (left, right))?))
-    }
-
-    fn arrow(alloc: Global, source: Ty, target: Ty) -> Result<Ty, OutOfMemory> {
-        Ok(Ty::Arrow(Box::new(alloc, (source, target))?))
-    }
-
-    fn meet(alloc: Global, left: Ty, right: Ty) -> Result<Ty, OutOfMemory> {
-        Ok(Ty::Meet(Box::new(alloc, (left, right))?))
     }
 }

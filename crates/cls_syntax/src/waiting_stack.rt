@@ -134,6 +134,8 @@ pub(crate) fn put_source<T: Tree>(
 }
 
 /// The product that ends with what was read.
+// Always inlined for speed: so the tree stays in registers where none waits.
+#[inline(always)]
 fn factor<T: Tree>(alloc: Global, stack: &mut Vec<Waiting<T>>, last: T) -> Result<T, OutOfMemory>
     ensures { IfOk result (λ t. (o : Outer) (l : Level) → Stands T.tree stack.old.items o l
         → IsFactor T.tree stack.new.items o l (T.tree last) (T.tree t)) }

@@ -1,4 +1,7 @@
+use cls_base::limits::MAX_LINE_BYTES;
 use cls_base::{Name, Schema, Ty};
+use cls_lexer::{Names, tokens};
+use cls_syntax::read_measured_type;
 use std::alloc::Global;
 use std::test::Fail;
 
@@ -45,6 +48,38 @@ fn spread_of_towers(rt: HostRuntime) -> Result<(), Fail> {
         let copy = ty.copy(rt.alloc())?;
         assert!(rt; copy.order(&ty).is_eq());
         assert!(rt; tower(rt.alloc(), 3)?.order(&ty).is_eq() == (height == 3));
+    }
+    Ok(())
+}
+
+/// The spread of the type that the text spells, as it is known when the type is read.
+fn measured(alloc: Global, text: &str) -> Result<u64, Fail> {
+    if text.len() > MAX_LINE_BYTES {
+        return Err("a long text".into());
+    }
+    let tokens = tokens(alloc, text)?;
+    let mut names = Names::new(alloc);
+    let read = read_measured_type(alloc, &mut names, &tokens)?.ok_or("no type")?;
+    let spread = read.spread();
+    if read.into_ty().spread() != spread {
+        return Err("another spread of the type alone".into());
+    }
+    Ok(spread)
+}
+
+#[test]
+fn a_type_is_measured_while_it_is_read(rt: HostRuntime) -> Result<(), Fail> {
+    for (text, spread) in [
+        ("omega", 0),
+        ("a", 1),
+        ("a & b", 2),
+        ("c(a & b)", 4),
+        ("c(omega)", 1),
+        ("a * b", 4),
+        ("omega * omega", 1),
+        ("a & b -> c & d & e", 12),
+    ] {
+        assert_eq!(rt; measured(rt.alloc(), text)?, spread, "in {text}");
     }
     Ok(())
 }

@@ -25,5 +25,5 @@ returns-in-Err-clause-stay c =
     let s = type_text c.args.lower.now in
     let old = c.args.constructors.now in
     let first = c.in_ok-lower.ensures.constructors ∙ names_of_type old s in
-    let grown : IsGrown old c.ty.new.constructors = subst (λ (new : List (List ℕ)). IsGrown old new) (sym first) (grown_texts old (constructors_named (type_parts s))) in
-    c.cut.ensures.kept ∙ ((λ i. take (c.len-count.ensures.count i) (c.in-Err.ensures.constructors_stay i)) ∙ old_stays old c.ty.new.constructors grown)
+    let grown : IsGrown old c.measured_ty.new.constructors = subst (λ (new : List (List ℕ)). IsGrown old new) (sym first) (grown_texts old (constructors_named (type_parts s))) in
+    c.cut.ensures.kept ∙ ((λ i. take (c.len-count.ensures.count i) (c.in-Err.ensures.constructors_stay i)) ∙ old_stays old c.measured_ty.new.constructors grown)

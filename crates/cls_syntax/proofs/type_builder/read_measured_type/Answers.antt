@@ -3,12 +3,12 @@ use Rattle.std.proofs.Common.{◌≡◌, ℕ, List, IsTrue, IsSome, IfSome, OnSo
 use Rattle.std.specs.Prelude.{false, Option, Some, None}
 use Rattle.std.specs.Option.{option_map}
 use Rattle.cls_base.specs.Schemas.{OpenType}
-use Rattle.cls_base.specs.Ty.{type_of}
-use Rattle.cls_base.specs.declared.ty.Ty.{Ty}
 use Rattle.cls_lexer.specs.Names.{number_of}
 use Rattle.cls_lexer.specs.Words.{Word, words}
 use Rattle.cls_lexer.specs.declared.token.Token.{Token}
 use Rattle.cls_syntax.specs.ClosedTypes.{opened, HasNoDollar, Spells}
+use Rattle.cls_syntax.specs.MeasuredTypes.{measured_type}
+use Rattle.cls_syntax.specs.declared.measured.MeasuredTy.{MeasuredTy}
 use Rattle.cls_syntax.specs.Numberings.{numbered_reading}
 use Rattle.cls_syntax.specs.SchemaReading.{operand, whole, empty_level}
 use Rattle.cls_syntax.specs.Spans.{is_whole, type_in}
@@ -20,7 +20,7 @@ use Rattle.cls_syntax.proofs.ReadTypes.{read_below}
 use Rattle.cls_syntax.proofs.ClosedReading.{closed_is}
 use Rattle.cls_syntax.proofs.TypeSpans.{spelled_words}
 use Rattle.cls_syntax.proofs.WholeReadings.{whole_reading, closed_reading}
-use Rattle.cls_syntax.proofs.type_builder.read_closed_type.Goals as goal
+use Rattle.cls_syntax.proofs.type_builder.read_measured_type.Goals as goal
 
 -- what the builder makes of the tokens, which name no variable
 abbrev reading : (cs vs : List (List ℕ)) (ls : List Token) → Option OpenType
@@ -33,31 +33,31 @@ made cs vs ls v spelled free =
     numbered_is (λ (n : ℕ). none) ls cs vs ∙ closed_is (number_of (with_constructors cs (words ls))) v (λ (x : List ℕ). none) ls (type_in (words ls)) (spelled_words (words ls) spelled) free
 
 -- the type that was read
-abbrev tree_of : Option Ty → Option OpenType
-tree_of o = option_map (λ (ty : Ty). opened (type_of ty)) o
+abbrev tree_of : Option MeasuredTy → Option OpenType
+tree_of o = option_map (λ (ty : MeasuredTy). opened (measured_type ty)) o
 
-of_read : (P : Ty → Type 0) (Q : Type 0) (o : Option Ty) (r : Option OpenType) → tree_of o ≡ r → OnSome o Q → ((ty : Ty) → r ≡ Some (opened (type_of ty)) → Q → P ty) → IfSome o P
+of_read : (P : MeasuredTy → Type 0) (Q : Type 0) (o : Option MeasuredTy) (r : Option OpenType) → tree_of o ≡ r → OnSome o Q → ((ty : MeasuredTy) → r ≡ Some (opened (measured_type ty)) → Q → P ty) → IfSome o P
 of_read P Q None r e q f = tt
 of_read P Q (Some ty) r e q f = f ty (sym e) q
 
-is_read : (o : Option Ty) (t : OpenType) → tree_of o ≡ Some t → IsSome o
+is_read : (o : Option MeasuredTy) (t : OpenType) → tree_of o ≡ Some t → IsSome o
 is_read None t e = cc
 is_read (Some ty) t e = refl
 
-spells : (cs vs names : List (List ℕ)) (ls : List Token) (ty : Ty) → reading cs vs ls ≡ Some (opened (type_of ty)) → names ≡ with_constructors cs (words ls) → Spells (number_of names) (type_in (words ls)) (type_of ty)
+spells : (cs vs names : List (List ℕ)) (ls : List Token) (ty : MeasuredTy) → reading cs vs ls ≡ Some (opened (measured_type ty)) → names ≡ with_constructors cs (words ls) → Spells (number_of names) (type_in (words ls)) (measured_type ty)
 spells cs vs names ls ty e con = λ v.
-    let is : Path (Option OpenType) (Some (opened (type_of ty))) (Some (type_schema (number_of (with_constructors cs (words ls))) v (type_in (words ls)))) = sym e ∙ made cs vs ls v (whole_reading (λ _. None) ls cs vs _ e) (closed_reading ls cs vs _ e) in
-    let same : opened (type_of ty) ≡ type_schema (number_of (with_constructors cs (words ls))) v (type_in (words ls)) = cc in
+    let is : Path (Option OpenType) (Some (opened (measured_type ty))) (Some (type_schema (number_of (with_constructors cs (words ls))) v (type_in (words ls)))) = sym e ∙ made cs vs ls v (whole_reading (λ _. None) ls cs vs _ e) (closed_reading ls cs vs _ e) in
+    let same : opened (measured_type ty) ≡ type_schema (number_of (with_constructors cs (words ls))) v (type_in (words ls)) = cc in
     rw (con) same
 
-names_below : (cs vs names : List (List ℕ)) (ls : List Token) (ty : Ty) → reading cs vs ls ≡ Some (opened (type_of ty)) → names ≡ with_constructors cs (words ls) → HasNamesBelow (length names) (type_of ty)
+names_below : (cs vs names : List (List ℕ)) (ls : List Token) (ty : MeasuredTy) → reading cs vs ls ≡ Some (opened (measured_type ty)) → names ≡ with_constructors cs (words ls) → HasNamesBelow (length names) (measured_type ty)
 names_below cs vs names ls ty e con =
     let text = type_in (words ls) in
     let said = spelled_words (words ls) (whole_reading (λ _. None) ls cs vs _ e) in
     let all = con ∙ ap (λ (ws : List Word). with_constructors cs ws) said in
-    subst (λ (table : List (List ℕ)). HasNamesBelow (length table) (type_of ty)) (sym all)
-    (read_below cs text (type_of ty) (subst (λ (ws : List Word). HasNoDollar ws) said (closed_reading ls cs vs _ e))
-    (subst (λ (table : List (List ℕ)). Spells (number_of table) text (type_of ty)) all (spells cs vs names ls ty e con)))
+    subst (λ (table : List (List ℕ)). HasNamesBelow (length table) (measured_type ty)) (sym all)
+    (read_below cs text (measured_type ty) (subst (λ (ws : List Word). HasNoDollar ws) said (closed_reading ls cs vs _ e))
+    (subst (λ (table : List (List ℕ)). Spells (number_of table) text (measured_type ty)) all (spells cs vs names ls ty e con)))
 
 pub returns-clause-whole : goal.returns-clause-whole
 returns-clause-whole c =
