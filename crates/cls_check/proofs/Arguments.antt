@@ -2,19 +2,18 @@
 use Rattle.std.proofs.Common.{ℕ, ◌≡◌, sym, subst, ap, ◌∙◌, List, [], ◌∷◌, ◌++◌, get_or, Option, None, Some}
 use Rattle.std.specs.Prelude.{slice_get}
 use Rattle.std.specs.Option.{option_map, unwrap_or}
-use Rattle.std.specs.Borrow.{Bor}
 use Rattle.std.proofs.lemmas.Option.{get_or_from_slice_get, unwrap_or-slice_get}
-use Rattle.cls_library.specs.Splits.{paths_of_form}
 use Rattle.cls_base.specs.Taxonomies.{Variance}
 use Rattle.cls_base.specs.Types.{ClosedType, meet}
 use Rattle.cls_path.specs.Paths.{TypePath, Paths, none, PathsLe, append, paths_of, type_of_paths, listed}
+use Rattle.cls_path.specs.declared.source.Source.{Source}
 use Rattle.cls_path.specs.NormalForms.{IsNormal}
 use Rattle.cls_path.specs.PathLists.{ArePathsOf}
+use Rattle.cls_path.specs.Seen.{paths_of_source}
 use Rattle.cls_path.proofs.Completeness.{covers_refl}
 use Rattle.cls_path.proofs.Remains.{canonical_each}
 use Rattle.cls_path.proofs.RoundTrip.{paths_back, append_none, append_assoc}
 use Rattle.cls_path.proofs.TypeParts.{omega_paths, meet_paths, form_of_paths}
-use Rattle.cls_norm.proofs.PathLists.{listed-append}
 use Rattle.cls_library.specs.Arrows.{MultiArrow}
 use Rattle.cls_library.specs.Libraries.{Library, below_in, variances_in}
 use Rattle.cls_check.specs.Arguments.{no_arrow, source_type, argument_type}
@@ -55,11 +54,11 @@ module _ (l : Library) (arrows : List MultiArrow) where
       }
 
   module _ (s : List ℕ) (k i : ℕ) (ps : List TypePath) (h : AreTaken s i ps) where
-    pub taken_more : (m : List TypePath) → listed m ≡ get_or (get_or arrows k no_arrow).sources i none → IsNormal (below_in l.taxonomy) (variances_in l.taxonomy) (get_or (get_or arrows k no_arrow).sources i none) → AreTaken (s ++ k ∷ []) i (ps ++ m)
-    taken_more m e n =
+    pub taken_more : (m : Paths) (qs : List TypePath) → m ≡ get_or (get_or arrows k no_arrow).sources i none → listed qs ≡ append (listed ps) m → IsNormal (below_in l.taxonomy) (variances_in l.taxonomy) (get_or (get_or arrows k no_arrow).sources i none) → AreTaken (s ++ k ∷ []) i qs
+    taken_more m qs e f n =
         let source = get_or (get_or arrows k no_arrow).sources i none in
-        same_paths (argument_type arrows (s ++ k ∷ []) i) (meet (argument_type arrows s i) (type_of_paths source)) (listed (ps ++ m)) (argument-last (variances_in l.taxonomy) arrows s k i)
-        (subst (λ q. ArePathsOf (below_in l.taxonomy) (variances_in l.taxonomy) (meet (argument_type arrows s i) (type_of_paths source)) q) (ap (append (listed ps)) (sym e) ∙ sym (listed-append ps m))
+        same_paths (argument_type arrows (s ++ k ∷ []) i) (meet (argument_type arrows s i) (type_of_paths source)) (listed qs) (argument-last (variances_in l.taxonomy) arrows s k i)
+        (subst (λ q. ArePathsOf (below_in l.taxonomy) (variances_in l.taxonomy) (meet (argument_type arrows s i) (type_of_paths source)) q) (ap (append (listed ps)) (sym e) ∙ sym f)
         (meet_paths (below_in l.taxonomy) (variances_in l.taxonomy) (reflexive l) (transitive l) (argument_type arrows s i) (type_of_paths source) (listed ps) source h (normal_paths source n)))
 
     pub taken_same : none ≡ get_or (get_or arrows k no_arrow).sources i none → AreTaken (s ++ k ∷ []) i ps
@@ -69,11 +68,11 @@ module _ (l : Library) (arrows : List MultiArrow) where
         ∙ append_none (paths_of (variances_in l.taxonomy) (argument_type arrows s i)))) h
 
 -- what a call for a source tells
-pub found_source : (a : MultiArrow) (k : ℕ) (o : Option (Bor (List TypePath))) (m : Bor (List TypePath)) → option_map paths_of_form o ≡ slice_get a.sources k → o ≡ Some m → listed m.now ≡ get_or a.sources k none
-found_source a k o m h e = sym (get_or_from_slice_get a.sources k (listed m.now) none (sym h ∙ ap (λ (p : Option (Bor (List TypePath))). option_map paths_of_form p) e))
+pub found_source : (a : MultiArrow) (k : ℕ) (o : Option Source) (m : Source) → option_map paths_of_source o ≡ slice_get a.sources k → o ≡ Some m → paths_of_source m ≡ get_or a.sources k none
+found_source a k o m h e = sym (get_or_from_slice_get a.sources k (paths_of_source m) none (sym h ∙ ap (λ (p : Option Source). option_map paths_of_source p) e))
 
-pub no_source : (a : MultiArrow) (k : ℕ) (o : Option (Bor (List TypePath))) → option_map paths_of_form o ≡ slice_get a.sources k → o ≡ None → none ≡ get_or a.sources k none
-no_source a k o h e = ap (λ (p : Option Paths). unwrap_or p none) (sym (ap (λ (p : Option (Bor (List TypePath))). option_map paths_of_form p) e) ∙ h) ∙ unwrap_or-slice_get a.sources k none
+pub no_source : (a : MultiArrow) (k : ℕ) (o : Option Source) → option_map paths_of_source o ≡ slice_get a.sources k → o ≡ None → none ≡ get_or a.sources k none
+no_source a k o h e = ap (λ (p : Option Paths). unwrap_or p none) (sym (ap (λ (p : Option Source). option_map paths_of_source p) e) ∙ h) ∙ unwrap_or-slice_get a.sources k none
 
 -- what the whole loop has put together
 pub taken_form : (l : Library) (arrows : List MultiArrow) (s : List ℕ) (i : ℕ) (ps nf : List TypePath) → AreTaken l arrows s i ps → IsForm l (type_of_paths (listed ps)) (listed nf) → IsForm l (argument_type arrows s i) (listed nf)

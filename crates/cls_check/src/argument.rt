@@ -1,5 +1,5 @@
 //! The intersections of what arrows take, argument by argument.
-ghost use Rattle.std.specs.Prelude.{ℕ, ◌≡◌, ◌++◌, ◌<◌, length, IfOk, OnOk, slice_index_or, []};
+ghost use Rattle.std.specs.Prelude.{ℕ, ◌≡◌, ◌<◌, length, IfOk, slice_index_or, []};
 ghost use Rattle.cls_base.specs.Lists.{AreBelow};
 ghost use Rattle.cls_path.specs.Paths.{listed};
 ghost use Rattle.cls_check.specs.Arguments.{argument_type};

@@ -29,10 +29,6 @@ pub record AreArrows (l : Library) (n : ℕ) (arrows : List MultiArrow) : Type 0
   pub suits : (a : MultiArrow) → Member arrows a → (m : Paths) → Member a.sources m → SuitsAll (variances_in l.taxonomy) m
   pub canonical : (a : MultiArrow) → Member arrows a → (m : Paths) → Member a.sources m → IsCanonical (below_in l.taxonomy) (variances_in l.taxonomy) m
 
-pub listed_append : (xs ys : List TypePath) → listed (xs ++ ys) ≡ append (listed xs) (listed ys)
-listed_append [] ys = refl
-listed_append (x ∷ xs) ys = ap (more x) (listed_append xs ys)
-
 gathered_more : (place : ℕ) (xs : List MultiArrow) (a : MultiArrow) → gathered place (xs ++ a ∷ []) ≡ append (gathered place xs) (get_or a.sources place none)
 gathered_more place [] a = append_none (get_or a.sources place none)
 gathered_more place (x ∷ xs) a = ap (λ n. append (get_or x.sources place none) n) (gathered_more place xs a) ∙ sym (append_assoc (get_or x.sources place none) (gathered place xs) (get_or a.sources place none))

@@ -1,5 +1,5 @@
 //! The arguments of the rule of a cover.
-ghost use Rattle.std.specs.Prelude.{◌≡◌, ℕ, ◌<◌, ◌≤◌, ◌++◌, Contains, IfOk, OnOk, MatchBool, length, map, slice_index_or};
+ghost use Rattle.std.specs.Prelude.{◌≡◌, ℕ, ◌<◌, ◌≤◌, Contains, IfOk, OnOk, MatchBool, length, map, slice_index_or};
 ghost use Rattle.cls_base.specs.declared.rule.Rule.TheVariants.{Head};
 ghost use Rattle.cls_path.specs.Paths.{Paths, none, append, listed, type_of_paths};
 ghost use Rattle.cls_norm.specs.Fit.{IsFit};

@@ -7,7 +7,7 @@ use Rattle.std.proofs.Math.Seq.{get_or-append_seam}
 use Rattle.cls_base.specs.Lists.{AreBelow}
 use Rattle.cls_path.specs.Paths.{TypePath, atom, inside, unit, left, right, function, sealed, listed}
 use Rattle.cls_library.specs.Arrows.{MultiArrow, leading_arrows, with_source, split, onto, arrows_of}
-use Rattle.cls_library.specs.Splits.{numbers_from, sources_at, split_at, source_at, places_from, arrows_at_places}
+use Rattle.cls_library.specs.Splits.{numbers_from, sources_at, target_at, split_at, source_at, places_from, arrows_at_places}
 
 -- a path with fewer leading arrows isn't split
 pub split-few : (n : ℕ) (p : TypePath) → leading_arrows p < n → split n p ≡ None
@@ -154,6 +154,17 @@ source-within (suc n) (suc i) unit l = refl
 source-within (suc n) (suc i) (left p) l = refl
 source-within (suc n) (suc i) (right p) l = refl
 source-within (suc n) (suc i) (sealed c s) l = refl
+
+-- the source of an arrow is that of the first one behind the arrows before it
+pub source-behind : (i : ℕ) (p : TypePath) → source_at 0 (target_at i p) ≡ source_at i p
+source-behind zero p = refl
+source-behind (suc i) (function s p) = source-behind i p
+source-behind (suc i) (atom c) = refl
+source-behind (suc i) (inside c p) = refl
+source-behind (suc i) unit = refl
+source-behind (suc i) (left p) = refl
+source-behind (suc i) (right p) = refl
+source-behind (suc i) (sealed c s) = refl
 
 pub source-past : (n i : ℕ) (p : TypePath) → n ≤ i → None ≡ slice_get (sources_at n p) i
 source-past zero i p l = refl

@@ -1,7 +1,6 @@
 -- internal: arrows as the code finds them, by the places of their paths
 use Rattle.std.specs.Prelude.{ℕ, zero, suc, ◌≡◌, ◌⊎◌, ◌+◌, ◌++◌, nat_lt, if◌then◌else◌, List, [], ◌∷◌, map, Contains, slice_get, slice_index_or, Option, None, Some}
-use Rattle.std.specs.Borrow.{Bor}
-use Rattle.cls_path.specs.Paths.{TypePath, unit, function, Paths, listed}
+use Rattle.cls_path.specs.Paths.{TypePath, unit, function, Paths}
 use Rattle.cls_library.specs.declared.column.Places.{Places}
 use Rattle.cls_library.specs.declared.column.Places.TheVariants.{All, Listed}
 use Rattle.cls_library.specs.Arrows.{MultiArrow, leading_arrows}
@@ -27,10 +26,6 @@ abbrev pub source_at : ℕ → TypePath → Option Paths
 source_at zero (function n p) = Some n
 source_at (suc k) (function n p) = source_at k p
 source_at _ p = None
-
--- an intersection of the code as one of the definition
-abbrev pub paths_of_form : Bor (List TypePath) → Paths
-paths_of_form nf = listed nf.now
 
 -- the places of the paths with at least n leading arrows, counted from i
 abbrev pub places_from : ℕ → ℕ → List TypePath → List ℕ

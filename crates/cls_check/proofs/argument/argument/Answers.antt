@@ -4,6 +4,7 @@ use Rattle.std.proofs.lemmas.List.{take_more, take_all}
 use Rattle.std.proofs.lemmas.Option.{get_or_from_slice_get}
 use Rattle.cls_base.proofs.Lists.{AreBelow-at}
 use Rattle.cls_path.specs.Paths.{TypePath, none, listed, type_of_paths}
+use Rattle.cls_path.specs.Seen.{paths_of_source}
 use Rattle.cls_library.specs.Arrows.{MultiArrow}
 use Rattle.cls_check.specs.Arguments.{no_arrow}
 use Rattle.cls_check.specs.Places.{arrows_in}
@@ -11,7 +12,7 @@ use Rattle.cls_check.proofs.Arguments.{AreTaken, taken_none, taken_more, taken_s
 use Rattle.cls_check.proofs.Arrows.{takes_normal}
 use Rattle.cls_check.proofs.Order.{form_by}
 use Rattle.cls_check.proofs.argument.argument.Goals as goal
-use Rattle.cls_check.proofs.argument.argument.Goals.{in-Some+in_ok-put_paths-in-Some, in-None}
+use Rattle.cls_check.proofs.argument.argument.Goals.{in-Some+in_ok-copy_onto-in-Some, in-None}
 
 pub loop-position-init : goal.loop-position-init
 loop-position-init c = subst (λ (ps : List TypePath). AreTaken c.args.lib.now (arrows_in c.args.lib.now c.args.place) [] c.args.number ps) (sym c.new-paths.ensures.items) (taken_none c.args.lib.now (arrows_in c.args.lib.now c.args.place) c.args.number)
@@ -34,10 +35,10 @@ loop-position-preserved c =
     let same : a ≡ get_or arrows k no_arrow = sym (get_or_from_slice_get arrows k a no_arrow at) in
     subst (λ (t : List ℕ). AreTaken l arrows t i c.match-source.paths.items) (sym (take_more s j 0 c.loop-position-test.true))
     (elim c.match-source.branch [
-      | in-Some+in_ok-put_paths-in-Some w ↦ (
+      | in-Some+in_ok-copy_onto-in-Some w ↦ (
           let e = found_source a i c.source.result w.in-Some.source c.source.ensures w.in-Some.is ∙ ap (λ (b : MultiArrow). get_or b.sources i none) same in
-          rw w.paths-is (subst (λ (ps : List TypePath). AreTaken l arrows (take j s ++ k ∷ []) i ps) (sym w.in_ok-put_paths-in-Some.ensures)
-          (taken_more l arrows (take j s) k i c.loop-position.paths.items c.loop-position.invariant w.in-Some.source.now e (takes_normal l c.args.place.component c.args.place.n k i c.arrows-arrows.ensures.library c.requires.place.declared))))
+          rw w.paths-is
+          (taken_more l arrows (take j s) k i c.loop-position.paths.items c.loop-position.invariant (paths_of_source w.in-Some.source) w.copy_onto-in-Some.new.paths.items e w.in_ok-copy_onto-in-Some.ensures (takes_normal l c.args.place.component c.args.place.n k i c.arrows-arrows.ensures.library c.requires.place.declared)))
       | in-None w ↦ (
           let e = no_source a i c.source.result c.source.ensures w.in-None.is ∙ ap (λ (b : MultiArrow). get_or b.sources i none) same in
           rw w.paths-is (taken_same l arrows (take j s) k i c.loop-position.paths.items c.loop-position.invariant e))
