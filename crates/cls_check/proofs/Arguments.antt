@@ -6,7 +6,7 @@ use Rattle.std.proofs.lemmas.Option.{get_or_from_slice_get, unwrap_or-slice_get}
 use Rattle.cls_base.specs.Taxonomies.{Variance}
 use Rattle.cls_base.specs.Types.{ClosedType, meet}
 use Rattle.cls_path.specs.Paths.{TypePath, Paths, none, PathsLe, append, paths_of, type_of_paths, listed}
-use Rattle.cls_path.specs.declared.source.Source.{Source}
+use Rattle.cls_path.specs.declared.source.ArrowSource.{ArrowSource}
 use Rattle.cls_path.specs.NormalForms.{IsNormal}
 use Rattle.cls_path.specs.PathLists.{ArePathsOf}
 use Rattle.cls_path.specs.Seen.{paths_of_source}
@@ -68,11 +68,11 @@ module _ (l : Library) (arrows : List MultiArrow) where
         ∙ append_none (paths_of (variances_in l.taxonomy) (argument_type arrows s i)))) h
 
 -- what a call for a source tells
-pub found_source : (a : MultiArrow) (k : ℕ) (o : Option Source) (m : Source) → option_map paths_of_source o ≡ slice_get a.sources k → o ≡ Some m → paths_of_source m ≡ get_or a.sources k none
-found_source a k o m h e = sym (get_or_from_slice_get a.sources k (paths_of_source m) none (sym h ∙ ap (λ (p : Option Source). option_map paths_of_source p) e))
+pub found_source : (a : MultiArrow) (k : ℕ) (o : Option ArrowSource) (m : ArrowSource) → option_map paths_of_source o ≡ slice_get a.sources k → o ≡ Some m → paths_of_source m ≡ get_or a.sources k none
+found_source a k o m h e = sym (get_or_from_slice_get a.sources k (paths_of_source m) none (sym h ∙ ap (λ (p : Option ArrowSource). option_map paths_of_source p) e))
 
-pub no_source : (a : MultiArrow) (k : ℕ) (o : Option Source) → option_map paths_of_source o ≡ slice_get a.sources k → o ≡ None → none ≡ get_or a.sources k none
-no_source a k o h e = ap (λ (p : Option Paths). unwrap_or p none) (sym (ap (λ (p : Option Source). option_map paths_of_source p) e) ∙ h) ∙ unwrap_or-slice_get a.sources k none
+pub no_source : (a : MultiArrow) (k : ℕ) (o : Option ArrowSource) → option_map paths_of_source o ≡ slice_get a.sources k → o ≡ None → none ≡ get_or a.sources k none
+no_source a k o h e = ap (λ (p : Option Paths). unwrap_or p none) (sym (ap (λ (p : Option ArrowSource). option_map paths_of_source p) e) ∙ h) ∙ unwrap_or-slice_get a.sources k none
 
 -- what the whole loop has put together
 pub taken_form : (l : Library) (arrows : List MultiArrow) (s : List ℕ) (i : ℕ) (ps nf : List TypePath) → AreTaken l arrows s i ps → IsForm l (type_of_paths (listed ps)) (listed nf) → IsForm l (argument_type arrows s i) (listed nf)

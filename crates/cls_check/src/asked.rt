@@ -6,7 +6,7 @@ ghost use Rattle.cls_check.specs.Deciding.{AllSuitIn, IsLeading, SomeAbove, Suit
 
 use crate::kept::KeptArrows;
 use cls_library::{Library, MultiArrow};
-use cls_path::{Nf, Path, Source};
+use cls_path::{ArrowSource, Nf, Path};
 
 /// What is asked of a term.
 #[derive(Drop)]
@@ -38,8 +38,8 @@ fn leads_to_source(lib: &Library, target: &Path, arrow: &MultiArrow<'_>, place: 
     ensures { IsTrue result ↔ SomeAbove lib.now (source_of arrow.now place) target.now }
 {
     match arrow.source(place) {
-        Some(Source::Name(name)) => target.le(lib.taxonomy(), &Path::atom(name)),
-        Some(Source::Paths(source)) => leads_to(lib, target, source),
+        Some(ArrowSource::Name(name)) => target.le(lib.taxonomy(), &Path::atom(name)),
+        Some(ArrowSource::Paths(source)) => leads_to(lib, target, source),
         None => false,
     }
 }

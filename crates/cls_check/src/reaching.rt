@@ -10,7 +10,7 @@ use crate::asked::{Asked, leads_to_asked};
 use crate::kept::KeptArrows;
 use cls_base::OutOfMemory;
 use cls_library::{Arrows, Library, MultiArrow};
-use cls_path::{Nf, Path, Source};
+use cls_path::{ArrowSource, Nf, Path};
 use smallvec::SmallVec;
 use std::alloc::Global;
 
@@ -74,8 +74,8 @@ fn has_source(lib: &Library, arrow: &MultiArrow<'_>, place: usize, had: &KeptArr
     ensures { IsTrue result ↔ PathsLeIn lib.now (targets_of had.now) (source_of arrow.now place) }
 {
     match arrow.source(place) {
-        Some(Source::Name(name)) => is_above(lib, had, &Path::atom(name)),
-        Some(Source::Paths(source)) => are_above(lib, had, source),
+        Some(ArrowSource::Name(name)) => is_above(lib, had, &Path::atom(name)),
+        Some(ArrowSource::Paths(source)) => are_above(lib, had, source),
         None => true,
     }
 }

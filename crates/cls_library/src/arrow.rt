@@ -7,7 +7,7 @@ ghost use Rattle.cls_path.specs.Seen.{paths_of_source};
 ghost use Rattle.cls_library.specs.Splits.{arrows_at_places, source_at, split_at, target_at};
 
 use crate::column::Column;
-use cls_path::{Form, Path, Source};
+use cls_path::{ArrowSource, Form, Path};
 use std::marker::Model;
 
 /// A path that is split at its first arrows. It is seen as what these take and what is left of the path behind them.
@@ -38,7 +38,7 @@ impl<'a> MultiArrow<'a> {
     }
 
     /// What the arrow with this number takes, counted from 0. There is none if the number isn't below that of the sources.
-    pub fn source(&self, i: usize) -> Option<Source<'a>>
+    pub fn source(&self, i: usize) -> Option<ArrowSource<'a>>
         ensures { option_map paths_of_source result ≡ slice_get self.now.sources i }
     {
         if i < self.count {
@@ -126,12 +126,12 @@ pub(crate) fn target_of(path: &Path, count: usize) -> &Path
 }
 
 /// What the first arrow of the path takes, if it begins with one.
-fn leading_source(path: &Path) -> Option<Source<'_>>
+fn leading_source(path: &Path) -> Option<ArrowSource<'_>>
     ensures { option_map paths_of_source result ≡ source_at 0 path.now }
 {
     match path.form() {
-        Form::From(name, _) => Some(Source::Name(*name)),
-        Form::Arrow(arrow) => Some(Source::Paths(&arrow.source)),
+        Form::From(name, _) => Some(ArrowSource::Name(*name)),
+        Form::Arrow(arrow) => Some(ArrowSource::Paths(&arrow.source)),
         _ => None,
     }
 }

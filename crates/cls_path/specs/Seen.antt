@@ -5,8 +5,8 @@ use Rattle.cls_path.specs.declared.path.Form.{Form}
 use Rattle.cls_path.specs.declared.path.Form.TheVariants.{Atom, Over, Con, Unit, Left, Right, From, Arrow, Sealed}
 use Rattle.cls_path.specs.declared.path.PathList.{PathList}
 use Rattle.cls_path.specs.declared.path.PathList.TheVariants.{One, Several}
-use Rattle.cls_path.specs.declared.source.Source.{Source}
-use Rattle.cls_path.specs.declared.source.Source.TheVariants as source
+use Rattle.cls_path.specs.declared.source.ArrowSource.{ArrowSource}
+use Rattle.cls_path.specs.declared.source.ArrowSource.TheVariants as source
 
 abbrev pub path_of : Form → TypePath
 path_of (Atom c) = atom c.0
@@ -23,6 +23,6 @@ abbrev pub items_of : PathList → List TypePath
 items_of (One p alloc) = p ∷ []
 items_of (Several ps) = ps.items
 
-abbrev pub paths_of_source : Source → Paths
+abbrev pub paths_of_source : ArrowSource → Paths
 paths_of_source (source.Name c) = more (atom c.0) none
 paths_of_source (source.Paths n) = listed n.now

@@ -10,21 +10,21 @@ use std::alloc::Global;
 
 /// What an arrow takes, as its path keeps it: a bare name, or an intersection of paths.
 #[derive(Clone, Copy)]
-pub enum Source<'a> {
+pub enum ArrowSource<'a> {
     /// A covariant name over omega.
     Name(Name),
     /// An intersection of paths.
     Paths(&'a Nf),
 }
 
-impl Source<'_> {
+impl ArrowSource<'_> {
     /// The intersection of the paths. It takes no memory for a name. The only error is out of memory.
     pub fn copy(&self, alloc: Global) -> Result<Nf, OutOfMemory>
         ensures { IfOk result (λ nf. listed nf ≡ paths_of_source self.now) }
     {
         match self {
-            Source::Name(name) => Ok(Nf::one(alloc, Path::atom(*name))),
-            Source::Paths(nf) => nf.copy(alloc),
+            ArrowSource::Name(name) => Ok(Nf::one(alloc, Path::atom(*name))),
+            ArrowSource::Paths(nf) => nf.copy(alloc),
         }
     }
 
@@ -33,8 +33,8 @@ impl Source<'_> {
         ensures { OnOk result (listed paths.new.items ≡ append (listed paths.old.items) (paths_of_source self.now)) }
     {
         match self {
-            Source::Name(name) => paths.push(Path::atom(*name))?,
-            Source::Paths(nf) => copy_behind(alloc, nf.paths(), paths)?,
+            ArrowSource::Name(name) => paths.push(Path::atom(*name))?,
+            ArrowSource::Paths(nf) => copy_behind(alloc, nf.paths(), paths)?,
         }
         Ok(())
     }

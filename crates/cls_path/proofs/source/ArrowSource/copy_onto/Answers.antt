@@ -1,5 +1,5 @@
 use Rattle.cls_path.proofs.Remains.{listed-append, listed-last}
-use Rattle.cls_path.proofs.source.Source.copy_onto.Goals as goal
+use Rattle.cls_path.proofs.source.ArrowSource.copy_onto.Goals as goal
 
 pub returns-in_ok-push-in-Name : goal.returns-in_ok-push-in-Name
 returns-in_ok-push-in-Name c =
