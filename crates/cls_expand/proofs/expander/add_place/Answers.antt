@@ -18,11 +18,11 @@ add_lone-requires-clause-below c = λ i k.
     let goal = c.args.finder.now.goal in
     let p = c.args.place in
     let fs = map alone c.as_slice.result.now in
-    let cover = c.in_ok-cover-in-Single.cover in
+    let cover = c.lone_cover.new.cover.items in
     let h = families_at c.args.finder.now.library l goal p (families_in c.in_ok-positions.field-0) fs c.requires.library
     (ap families_in c.in-Single.is ∙ sym (ap (map alone) c.as_slice.ensures)) c.in_ok-positions.ensures.families in
-    cover_below l (arrows_at l p.component p.count) goal fs h cover ((c.in_ok-cover-in-Single.ensures.covers.exactly cover).0 (Contains-here cover [])) i
-    (subst (λ (s : List ℕ). Contains s i) c.as_slice-in-Single.ensures k)
+    cover_below l (arrows_at l p.component p.count) goal fs h cover ((c.in_ok-lone_cover-in-Single.ensures.covers.exactly cover).0 (Contains-here cover [])) i
+    (subst (λ (s : List ℕ). Contains s i) c.deref.ensures.value k)
 
 pub returns-in-Single-clause-rules : goal.returns-in-Single-clause-rules
 returns-in-Single-clause-rules c =
@@ -32,11 +32,11 @@ returns-in-Single-clause-rules c =
     let fs = map alone c.as_slice.result.now in
     let h = families_at c.args.finder.now.library l goal p (families_in c.in_ok-positions.field-0) fs c.requires.library
     (ap families_in c.in-Single.is ∙ sym (ap (map alone) c.as_slice.ensures)) c.in_ok-positions.ensures.families in
-    let m = subst (λ (s : List ℕ). AreMinimal (MeetsEach fs) (s ∷ [])) (sym c.as_slice-in-Single.ensures) c.in_ok-cover-in-Single.ensures.covers in
-    let slice = c.as_slice-in-Single.result.now in
+    let m = subst (λ (s : List ℕ). AreMinimal (MeetsEach fs) (s ∷ [])) (sym c.deref.ensures.value) c.in_ok-lone_cover-in-Single.ensures.covers in
+    let slice = c.deref.result.now in
     if_ok_map c.add_lone.result _ _
     (λ narrow f. covers_added l goal p fs (slice ∷ []) c.args.rules.now.items c.add_lone.new.rules.items narrow c.requires.path c.requires.place h
-    m (c.in_ok-cover-in-Single.ensures.within 1024 (omega arith)) (λ q rest begin le choice b. f q rest begin le (choice slice (Contains-here slice [])) b)) c.add_lone.ensures
+    m (c.in_ok-lone_cover-in-Single.ensures.within 1024 (omega arith)) (λ q rest begin le choice b. f q rest begin le (choice slice (Contains-here slice [])) b)) c.add_lone.ensures
 
 pub covers-requires : goal.covers-requires
 covers-requires c =
