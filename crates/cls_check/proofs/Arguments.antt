@@ -1,11 +1,11 @@
 -- The intersection of what arrows take, position after position.
-use Rattle.std.proofs.Common.{ℕ, ◌≡◌, sym, subst, ap, ◌∙◌, List, [], ◌∷◌, ◌++◌, get_or, Option, None, Some}
+use Rattle.std.proofs.Common.{ℕ, ◌≡◌, refl, sym, subst, ap, ◌∙◌, List, [], ◌∷◌, ◌++◌, get_or, Option, None, Some}
 use Rattle.std.specs.Prelude.{slice_get}
 use Rattle.std.specs.Option.{option_map, unwrap_or}
 use Rattle.std.proofs.lemmas.Option.{get_or_from_slice_get, unwrap_or-slice_get}
 use Rattle.cls_base.specs.Taxonomies.{Variance}
 use Rattle.cls_base.specs.Types.{ClosedType, meet}
-use Rattle.cls_path.specs.Paths.{TypePath, Paths, none, PathsLe, append, paths_of, type_of_paths, listed}
+use Rattle.cls_path.specs.Paths.{TypePath, Paths, none, more, InPaths, first_in, later_in, PathsLe, append, paths_of, type_of_paths, listed}
 use Rattle.cls_path.specs.declared.source.ArrowSource.{ArrowSource}
 use Rattle.cls_path.specs.NormalForms.{IsNormal}
 use Rattle.cls_path.specs.PathLists.{ArePathsOf}
@@ -73,6 +73,11 @@ found_source a k o m h e = sym (get_or_from_slice_get a.sources k (paths_of_sour
 
 pub no_source : (a : MultiArrow) (k : ℕ) (o : Option ArrowSource) → option_map paths_of_source o ≡ slice_get a.sources k → o ≡ None → none ≡ get_or a.sources k none
 no_source a k o h e = ap (λ (p : Option Paths). unwrap_or p none) (sym (ap (λ (p : Option ArrowSource). option_map paths_of_source p) e) ∙ h) ∙ unwrap_or-slice_get a.sources k none
+
+-- the only path of a list of one
+pub sole : (p q : TypePath) → InPaths (more p none) q → q ≡ p
+sole p _ first_in = refl
+sole p q (later_in i) = elim i [ ]
 
 -- what the whole loop has put together
 pub taken_form : (l : Library) (arrows : List MultiArrow) (s : List ℕ) (i : ℕ) (ps nf : List TypePath) → AreTaken l arrows s i ps → IsForm l (type_of_paths (listed ps)) (listed nf) → IsForm l (argument_type arrows s i) (listed nf)

@@ -73,6 +73,8 @@ fn has_source(lib: &Library, arrow: &MultiArrow<'_>, place: usize, had: &KeptArr
     requires had { AllSuitIn lib.now (targets_of had.now) }
     ensures { IsTrue result ↔ PathsLeIn lib.now (targets_of had.now) (source_of arrow.now place) }
 {
+    // For the prover: what holds of each library.
+    let _count = lib.count();
     match arrow.source(place) {
         Some(ArrowSource::Name(name)) => is_above(lib, had, &Path::atom(name)),
         Some(ArrowSource::Paths(source)) => are_above(lib, had, source),

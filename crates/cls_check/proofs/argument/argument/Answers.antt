@@ -1,4 +1,4 @@
-use Rattle.std.proofs.Common.{ℕ, ◌≡◌, length, get_or, take, subst, sym, ap, ◌∙◌, ◌∷◌, ◌++◌, arith, List, [], Some}
+use Rattle.std.proofs.Common.{ℕ, ◌≡◌, length, get_or, take, subst, sym, ap, ◌∙◌, ◌∷◌, arith, List, [], Some}
 use Rattle.std.specs.Prelude.{slice_get}
 use Rattle.std.proofs.lemmas.List.{take_more, take_all}
 use Rattle.std.proofs.lemmas.Option.{get_or_from_slice_get}
@@ -38,7 +38,7 @@ loop-position-preserved c =
       | in-Some+in_ok-copy_onto-in-Some w ↦ (
           let e = found_source a i c.source.result w.in-Some.source c.source.ensures w.in-Some.is ∙ ap (λ (b : MultiArrow). get_or b.sources i none) same in
           rw w.paths-is
-          (taken_more l arrows (take j s) k i c.loop-position.paths.items c.loop-position.invariant (paths_of_source w.in-Some.source) w.copy_onto-in-Some.new.paths.items e w.in_ok-copy_onto-in-Some.ensures (takes_normal l c.args.place.component c.args.place.n k i c.arrows-arrows.ensures.library c.requires.place.declared)))
+          (taken_more l arrows (take j s) k i c.loop-position.paths.items c.loop-position.invariant (paths_of_source w.in-Some.source) w.copy_onto.new.paths.items e w.in_ok-copy_onto-in-Some.ensures (takes_normal l c.args.place.component c.args.place.n k i c.arrows-arrows.ensures.library c.requires.place.declared)))
       | in-None w ↦ (
           let e = no_source a i c.source.result c.source.ensures w.in-None.is ∙ ap (λ (b : MultiArrow). get_or b.sources i none) same in
           rw w.paths-is (taken_same l arrows (take j s) k i c.loop-position.paths.items c.loop-position.invariant e))
