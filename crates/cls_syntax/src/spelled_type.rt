@@ -63,7 +63,8 @@ impl SpelledType<'_, '_> {
     ) -> Result<Schema, OutOfMemory>
         ensures schema { IfOk result (λ s. schema_of s
             ≡ type_schema (number_of constructors.new) (number_of variables.new) (type_text self.now)) }
-        ensures constructors { OnOk result (constructors.new ≡ with_constructors constructors.old (words_in self.now)) }
+        ensures constructors { OnOk result
+            (constructors.new ≡ with_constructors constructors.old (words_in self.now)) }
         ensures variables { OnOk result (variables.new ≡ with_variables variables.old (words_in self.now)) }
         ensures constructors_stay { OnErr result (constructors.new ≡ constructors.old) }
         ensures variables_stay { OnErr result (variables.new ≡ variables.old) }
@@ -88,7 +89,8 @@ impl SpelledType<'_, '_> {
     ) -> Result<Schema, OutOfMemory>
         ensures schema { IfOk result (λ s. schema_of s
             ≡ type_schema (number_of constructors.new) (number_of variables.new) (type_text self.now)) }
-        ensures constructors { OnOk result (constructors.new ≡ with_constructors constructors.old (words_in self.now)) }
+        ensures constructors { OnOk result
+            (constructors.new ≡ with_constructors constructors.old (words_in self.now)) }
         ensures variables { OnOk result (variables.new ≡ with_variables variables.old (words_in self.now)) }
         ensures kept { take (length constructors.old) constructors.new ≡ constructors.old }
         ensures variables_kept { take (length variables.old) variables.new ≡ variables.old }
@@ -110,7 +112,8 @@ impl SpelledType<'_, '_> {
         requires { HasNoDollar (words_in self.now) }
         ensures ty { IfOk result (λ ty. Spells (number_of constructors.new) (type_text self.now) (measured_type ty)) }
         ensures held { IfOk result (λ ty. HasNamesBelow (length constructors.new) (measured_type ty)) }
-        ensures constructors { OnOk result (constructors.new ≡ with_constructors constructors.old (words_in self.now)) }
+        ensures constructors { OnOk result
+            (constructors.new ≡ with_constructors constructors.old (words_in self.now)) }
         ensures constructors_stay { OnErr result (constructors.new ≡ constructors.old) }
     {
         let count = constructors.len();
@@ -127,7 +130,8 @@ impl SpelledType<'_, '_> {
         requires { HasNoDollar (words_in self.now) }
         ensures ty { IfOk result (λ ty. Spells (number_of constructors.new) (type_text self.now) (type_of ty)) }
         ensures held { IfOk result (λ ty. HasNamesBelow (length constructors.new) (type_of ty)) }
-        ensures constructors { OnOk result (constructors.new ≡ with_constructors constructors.old (words_in self.now)) }
+        ensures constructors { OnOk result
+            (constructors.new ≡ with_constructors constructors.old (words_in self.now)) }
         ensures constructors_stay { OnErr result (constructors.new ≡ constructors.old) }
     {
         Ok(self.measured_ty(alloc, constructors)?.into_ty())
