@@ -6,7 +6,7 @@
 //!   [`SureSource`] and [`SureSink`] never do.
 //! - [`Taxa`] is what the layers above ask of an order of names, [`Flat`] the order in which a name is below itself
 //!   alone, and [`Key`] what serves as a key of a table.
-//! - [`Rule`] is one way in which a goal can be met, with goals for arguments. [`Goals`] and [`Rules`] are lists.
+//! - [`Rule`] is one way in which a goal can be met, with goals for arguments. [`Goals`] is a list of goals.
 //! - [`limits`] has the numbers that the language fixes.
 //! - [`Numbers`] is a list of numbers, [`NumberLists`] a list of such lists, and [`OutOfMemory`] what a call answers that found no memory.
 #![tactic(auto)]
@@ -35,7 +35,7 @@ pub use memory_source::MemorySource;
 pub use number_lists::NumberLists;
 pub use numbers::Numbers;
 pub use out_of_memory::OutOfMemory;
-pub use rule::{Goals, Rule, Rules};
+pub use rule::{Goals, Rule};
 pub use schema::Schema;
 pub use sink::Sink;
 pub use source::{Failed, Source};

@@ -25,6 +25,8 @@ impl Model for NumberLists {
 }
 
 impl NumberLists {
+    ghost use Rattle.cls_base.specs.Cuts.{cut, AreEnds};
+
     /// No lists. They take no memory.
     pub fn new(alloc: Global) -> NumberLists
         ensures { result ≡ [] }
@@ -47,6 +49,14 @@ impl NumberLists {
             numbers: Vec::with_capacity(alloc, numbers)?,
             ends: Vec::with_capacity(alloc, lists)?,
         })
+    }
+
+    /// The lists that are cut from the numbers, one after another, up to these ends. It takes no memory.
+    pub fn of_columns(numbers: Vec<u32>, ends: Vec<u32>) -> NumberLists
+        requires { AreEnds 0 (length numbers.items) ends.items }
+        ensures { result ≡ cut numbers.items 0 ends.items }
+    {
+        NumberLists { numbers, ends }
     }
 
     /// The same lists once more. The only error is out of memory.

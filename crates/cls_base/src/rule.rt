@@ -1,4 +1,4 @@
-//! The rules of a goal, and the lists that they are kept in.
+//! The rules of a goal, and the lists of goals that they have.
 ghost use Rattle.std.specs.Prelude.{◌≡◌};
 
 use std::marker::Model;
@@ -46,45 +46,6 @@ impl<G> Goals<G> {
         ensures { result.items ≡ self }
     {
         let Goals { items } = self;
-        items
-    }
-}
-
-/// A list of rules, seen as that list. It is made from a `Vec` and gives it back, neither of which takes memory.
-#[derive(Drop)]
-pub struct Rules<G> {
-    items: Vec<Rule<G>>,
-}
-
-impl<G> Model for Rules<G> {
-    ghost use Rattle.std.specs.Prelude.{List};
-    ghost use Rattle.cls_base.specs.declared.rule.Rule.{Rule};
-
-    ghost Value = { List (Rule G) };
-
-    ghost view = { λ r. r.items.items };
-}
-
-impl<G> Rules<G> {
-    /// The list of these rules.
-    pub fn new(items: Vec<Rule<G>>) -> Rules<G>
-        ensures { result ≡ items.items }
-    {
-        Rules { items }
-    }
-
-    /// The rules as a slice.
-    pub fn as_slice(&self) -> &[Rule<G>]
-        ensures { result.now ≡ self.now }
-    {
-        self.items.as_slice()
-    }
-
-    /// The vector of the rules.
-    pub fn into_vec(self) -> Vec<Rule<G>>
-        ensures { result.items ≡ self }
-    {
-        let Rules { items } = self;
         items
     }
 }

@@ -5,6 +5,7 @@ pub mod Canonical
 pub mod Closure
 pub mod Columns
 pub mod Consistency
+pub mod Filings
 pub mod Finishing
 pub mod Grammar
 pub mod Laws

@@ -1,6 +1,7 @@
 //! The core machine: which goals were reached, who works on which, and what became of each.
 //!
-//! - [`Rule`] is one way in which a goal can be met, with goals for arguments. [`Goals`] and [`Rules`] are lists.
+//! - [`Rule`] is one way in which a goal can be met, with goals for arguments. [`Goals`] is a list of goals, and
+//!   [`GoalRules`] a list of rules in flat columns.
 //! - [`Answer`] is what is known of a goal once it was worked on, and [`Expand`] is what works on it. Which answer a
 //!   goal has is a relation, not a function. [`TypedExpand`] is an expander whose answers are the rules of a typing.
 //! - [`Core`] has a row for each goal that was reached. A row is free, held by a worker, or filed with its answer.
@@ -19,6 +20,7 @@ mod entry;
 mod expand;
 mod filing;
 mod finished;
+mod goal_rules;
 pub mod laws;
 mod machine;
 mod node_answer;
@@ -28,11 +30,12 @@ mod typed_expand;
 
 pub use answer::Answer;
 pub use argument_rows::ArgumentRows;
-pub use cls_base::{Goals, Rule, Rules};
+pub use cls_base::{Goals, Rule};
 pub use entry::{Entry, History};
 pub use expand::Expand;
 pub use filing::Filing;
 pub use finished::{Finished, Rows};
+pub use goal_rules::GoalRules;
 pub use machine::Core;
 pub use node_answer::NodeAnswer;
 pub use state::RowState;

@@ -1,9 +1,10 @@
-ghost use Rattle.std.specs.Prelude.{◌≡◌, ◌<◌, ◌≤◌, ◌+◌, ◌^◌, [], ◌∷◌, ◌++◌, Some, IfOk, IfErr, IfSome, IfNone, OnOk, OnErr, IsTrue, true, false, ◌↔◌, ℕ, ◌≢◌, length, slice_get, vec_len, replicate};
+ghost use Rattle.std.specs.Prelude.{◌≡◌, ◌<◌, ◌≤◌, ◌+◌, ◌^◌, [], ◌∷◌, ◌++◌, Some, IfOk, IfErr, IfSome, IfNone, OnOk, OnErr, IsTrue, true, false, ◌↔◌, ℕ, ◌≢◌, length, map, slice_get, vec_len, replicate};
 ghost use Rattle.std.specs.Vec.{vec_capacity};
 ghost use Rattle.indexmap.specs.IndexSet.{spare, insert_all};
 ghost use Rattle.cls_core.specs.Machine.{rules_in, IsFiled, SomeUnfiled};
 ghost use Rattle.cls_core.specs.ArgumentRows.{AreRowsOf};
-ghost use Rattle.cls_core.specs.Arguments.{arguments_of, rule_count};
+ghost use Rattle.cls_core.specs.Arguments.{arguments_of, map_answer, rule_count};
+ghost use Rattle.cls_core.specs.Filings.{IfKept};
 ghost use Rattle.cls_core.specs.Numbers.{numbers_from};
 ghost use Rattle.cls_core.specs.declared.state.RowState.{RowState};
 ghost use Rattle.cls_core.specs.declared.state.RowState.TheVariants.{Free, Held};
@@ -14,9 +15,10 @@ use crate::copying::{copy_goals, copy_states};
 use crate::entry::{Entry, History};
 use crate::filing::Filing;
 use crate::finished::{Finished, Rows};
+use crate::node_answer::NodeAnswer;
 use crate::numbering::number_whole;
 use crate::state::RowState;
-use cls_base::{Key, OutOfMemory};
+use cls_base::{Goals, Key, OutOfMemory};
 use indexmap::IndexSet;
 use std::alloc::Global;
 use std::marker::Model;
@@ -60,6 +62,21 @@ fn add_free(states: &mut Vec<RowState>, count: usize)
 {
     for _row in 0..count {
         states.push_reserved(RowState::Free);
+    }
+}
+
+// The answer with these numbers in place of its arguments, one after another, and the arguments.
+fn number_answer<G>(alloc: Global, answer: Answer<G>, numbers: Vec<u32>) -> (NodeAnswer, Goals<G>)
+    requires { length numbers.items ≡ length (arguments_of answer) }
+    ensures answer { (f : G → ℕ) → numbers.items ≡ map f (arguments_of answer) → result.0 ≡ map_answer f answer }
+    ensures goals { result.1 ≡ arguments_of answer }
+{
+    match answer {
+        Answer::Rules(rules) => {
+            let (numbered, goals) = rules.numbered(numbers);
+            (NodeAnswer::new(numbered), goals)
+        }
+        Answer::Wide => (NodeAnswer::wide(), Goals::new(Vec::new(alloc))),
     }
 }
 
@@ -185,52 +202,55 @@ impl<G: Key + Drop> Core<G> {
 
     /// The event File: the row, which the worker holds, is filed with the answer. Each argument goal that has no row
     /// yet gets a free one. An argument whose row is known isn't looked for. Once the row is filed, `arguments` says in
-    /// which row each argument stands. If there would be more than `most` rows, nothing changes, which `OverLimits`
-    /// says. All memory is taken before a row changes. The only error is out of memory, which leaves the core as it
-    /// was.
+    /// which row each argument stands, and the arguments are handed back. If there would be more than `most` rows,
+    /// nothing changes, which `OverLimits` says. All memory is taken before a row changes. The Err means out of memory,
+    /// which leaves the core as it was, and hands the answer back.
     pub fn file(
         &mut self,
         alloc: Global,
         worker: u32,
         row: u32,
-        answer: &Answer<G>,
+        answer: Answer<G>,
         arguments: &mut ArgumentRows,
         most: u32,
-    ) -> Result<Filing, OutOfMemory>
+    ) -> Result<Filing<G>, Answer<G>>
         requires held { slice_get self.old.rows.states row ≡ Some (Held worker) }
         requires few { length self.old.rows.goals ≤ most }
-        requires rules { rules_in self.old.rows.states + rule_count answer.now < 2 ^ 64 }
-        requires known { AreRowsOf self.old.rows.goals (arguments_of answer.now) arguments.old.known.items }
+        requires rules { rules_in self.old.rows.states + rule_count answer < 2 ^ 64 }
+        requires known { AreRowsOf self.old.rows.goals (arguments_of answer) arguments.old.known.items }
         ensures room { IfOk result (λ f.
-            (f ≡ Filing.Kept) ↔ (length (grown G.eq self.old.rows.goals answer.now) ≤ most)) }
-        ensures rows { IfOk result (λ f. f ≡ Filing.Kept
-            → self.new.rows ≡ filed G.eq self.old.rows row answer.now) }
-        ensures history { IfOk result (λ f. f ≡ Filing.Kept
-            → self.new.history ≡ self.old.history ++ File worker row ∷ []) }
+            (f ≡ Filing.OverLimits) ↔ (most < length (grown G.eq self.old.rows.goals answer))) }
+        ensures goals { IfOk result (IfKept (λ goals. goals ≡ arguments_of answer)) }
+        ensures rows { IfOk result (IfKept (λ _. self.new.rows ≡ filed G.eq self.old.rows row answer)) }
+        ensures history { IfOk result (IfKept (λ _. self.new.history ≡ self.old.history ++ File worker row ∷ [])) }
         ensures over { IfOk result (λ f. f ≡ Filing.OverLimits → self.new ≡ self.old) }
         ensures known { arguments.new.known ≡ arguments.old.known }
-        ensures found { IfOk result (λ f. f ≡ Filing.Kept → arguments.new.found.items
-            ≡ numbers_from G.eq self.old.rows.goals (arguments_of answer.now)) }
-        ensures unchanged { OnErr result (self.new ≡ self.old) }
+        ensures found { IfOk result (IfKept (λ _.
+            arguments.new.found.items ≡ numbers_from G.eq self.old.rows.goals (arguments_of answer))) }
+        ensures err { IfErr result (λ a. (a ≡ answer) × (self.new ≡ self.old)) }
     {
         let known = arguments.known.as_slice();
         let found = &mut arguments.found;
-        let numbered = number_whole(alloc, &mut self.goals, most, answer, known, found)?;
-        let Some(numbers) = numbered else {
+        let numbers = number_whole(alloc, &mut self.goals, most, answer.goals(), known, found);
+        let Ok(numbers) = numbers else {
+            return Err(answer);
+        };
+        let Some(numbers) = numbers else {
             return Ok(Filing::OverLimits);
         };
         let rows = self.states.len();
         let count = self.goals.len() - rows;
         let Ok(()) = self.states.reserve(count) else {
             self.goals.truncate(rows);
-            return Err(OutOfMemory);
+            return Err(answer);
         };
         add_free(&mut self.states, count);
         self.rules += answer.rule_count() as u64;
-        self.states[row as usize] = RowState::Filed(numbers);
+        let (numbered, goals) = number_answer(alloc, answer, numbers);
+        self.states[row as usize] = RowState::Filed(numbered);
         self.held -= 1;
         self.history.push_reserved(Entry::File { worker, row });
-        Ok(Filing::Kept)
+        Ok(Filing::Kept(goals))
     }
 
     /// The rows and the history, copied. It is None if and only if some row isn't filed. The only error is out of

@@ -10,10 +10,7 @@ ghost use Rattle.cls_rulebook.specs.Arguments.{arguments_of_rule, arguments_in};
 ghost use Rattle.cls_core.specs.Machine.{grown};
 ghost use Rattle.cls_core.specs.Numbers.{numbers_from, rule_from, rules_from, answer_from};
 
-use crate::answer::Answer;
-use crate::node_answer::NodeAnswer;
-use cls_base::{Key, OutOfMemory, Rule};
-use cls_rulebook::{NodeRules, RuleRef};
+use cls_base::{Key, OutOfMemory};
 use indexmap::IndexSet;
 use std::alloc::Global;
 
@@ -120,178 +117,58 @@ fn number_goals<G: Key + Drop>(
     Ok(Some(()))
 }
 
-// Puts a rule in numbers behind the others, and the numbers of its arguments behind those found so far. None comes if
-// and only if there would be too many rows.
+// The numbers of goals, one after another. The rows take up each goal that isn't among them. The numbers take the place of those
+// that the list had. None comes if and only if there would be too many rows.
 #[tactic(auto, using(crate::proofs::Insertion::goes_same, crate::proofs::Insertion::goes_on))]
-fn number_rule<G: Key + Drop>(
+fn number_all<G: Key + Drop>(
     alloc: Global,
     rows: &mut IndexSet<G>,
     most: u32,
-    rule: &Rule<G>,
+    goals: &[G],
     known: &[Option<u32>],
     found: &mut Vec<u32>,
-    numbered: &mut NodeRules,
-) -> Result<Option<()>, OutOfMemory>
+) -> Result<Option<Vec<u32>>, OutOfMemory>
     requires within { length rows.old.keys ≤ most }
-    requires known { AreRowsOf rows.old.keys (arguments_of_rule rule.now) (drop (length found.old.items) known.now) }
-    ensures added { IfOk result (λ r. IfSome r (λ _.
-        rows.new.keys ≡ insert_all G.eq rows.old.keys (arguments_of_rule rule.now))) }
-    ensures found { IfOk result (λ r. IfSome r (λ _.
-        found.new.items ≡ found.old.items ++ numbers_from G.eq rows.old.keys (arguments_of_rule rule.now))) }
-    ensures numbers { IfOk result (λ r. IfSome r (λ _.
-        numbered.new ≡ numbered.old ++ rule_from G.eq rows.old.keys rule.now ∷ [])) }
+    requires known { AreRowsOf rows.old.keys goals.now known.now }
+    ensures added { IfOk result (λ r. IfSome r (λ _. rows.new.keys ≡ insert_all G.eq rows.old.keys goals.now)) }
+    ensures numbers { IfOk result (λ r. IfSome r (λ n. n.items ≡ numbers_from G.eq rows.old.keys goals.now)) }
+    ensures found { IfOk result (λ r. IfSome r (λ _. found.new.items ≡ numbers_from G.eq rows.old.keys goals.now)) }
     ensures few { IfOk result (λ r. IfSome r (λ _. length rows.new.keys ≤ most)) }
-    ensures many { IfOk result (λ r. IfNone r
-        (most
-        < length (insert_all G.eq rows.old.keys (arguments_of_rule rule.now)))) }
-    ensures front { GoesOn rows.old.keys rows.new.keys }
-{
-    match rule {
-        Rule::Head { component, args } => {
-            let from = found.len();
-            let Some(()) = number_goals(alloc, rows, most, args.as_slice(), known, found)? else {
-                return Ok(None);
-            };
-            numbered.push(RuleRef::Head {
-                component: *component,
-                args: &found.as_slice()[from..],
-            })?;
-        }
-        Rule::Any { left, right } => {
-            let Some(left) = number_argument(alloc, rows, most, left, known, found)? else {
-                return Ok(None);
-            };
-            let Some(right) = number_argument(alloc, rows, most, right, known, found)? else {
-                return Ok(None);
-            };
-            numbered.push(RuleRef::Any { left, right })?;
-        }
-    }
-    Ok(Some(()))
-}
-
-// The number of arguments of a rule.
-fn arity<G>(rule: &Rule<G>) -> usize
-    ensures { result ≡ length (arguments_of_rule rule.now) }
-{
-    match rule {
-        Rule::Head { component: _, args } => args.as_slice().len(),
-        Rule::Any { left: _, right: _ } => 2,
-    }
-}
-
-// The number of arguments of rules together. The only error is out of memory.
-fn argument_count<G>(rules: &[Rule<G>]) -> Result<usize, OutOfMemory>
-    ensures { IfOk result (λ n. n ≡ length (arguments_in rules.now)) }
-{
-    let mut count: usize = 0;
-    for rule in rules {
-        // More arguments than a number counts take more memory than there is.
-        let Some(sum) = count.checked_add(arity(rule)) else {
-            return Err(OutOfMemory);
-        };
-        count = sum;
-    }
-    Ok(count)
-}
-
-// Rules in numbers, one after the other. The numbers of their arguments are put behind those found so far. None comes if
-// and only if there would be too many rows.
-#[tactic(auto, using(crate::proofs::Insertion::goes_same, crate::proofs::Insertion::goes_on))]
-fn number_rules<G: Key + Drop>(
-    alloc: Global,
-    rows: &mut IndexSet<G>,
-    most: u32,
-    rules: &[Rule<G>],
-    known: &[Option<u32>],
-    found: &mut Vec<u32>,
-) -> Result<Option<NodeRules>, OutOfMemory>
-    requires within { length rows.old.keys ≤ most }
-    requires known { AreRowsOf rows.old.keys (arguments_in rules.now) (drop (length found.old.items) known.now) }
-    ensures added { IfOk result (λ r. IfSome r (λ _.
-        rows.new.keys ≡ insert_all G.eq rows.old.keys (arguments_in rules.now))) }
-    ensures numbers { IfOk result (λ r. IfSome r (λ n.
-        n ≡ rules_from G.eq rows.old.keys rules.now)) }
-    ensures found { IfOk result (λ r. IfSome r (λ _.
-        found.new.items ≡ found.old.items ++ numbers_from G.eq rows.old.keys (arguments_in rules.now))) }
-    ensures many { IfOk result (λ r. IfNone r
-        (most < length (insert_all G.eq rows.old.keys (arguments_in rules.now)))) }
-    ensures few { IfOk result (λ r. IfSome r (λ _. length rows.new.keys ≤ most)) }
-    ensures front { GoesOn rows.old.keys rows.new.keys }
-{
-    let arguments = argument_count(rules)?;
-    found.reserve(arguments)?;
-    let mut numbered = NodeRules::with_room(alloc, rules.len(), arguments)?;
-    for rule in rules {
-        let Some(()) = number_rule(alloc, rows, most, rule, known, found, &mut numbered)? else {
-            return Ok(None);
-        };
-    }
-    Ok(Some(numbered))
-}
-
-// An answer in numbers. The numbers of its arguments take the place of those that the list had. None comes if and only
-// if there would be too many rows.
-#[tactic(auto, using(crate::proofs::Insertion::goes_same, crate::proofs::Insertion::goes_on))]
-fn number_answer<G: Key + Drop>(
-    alloc: Global,
-    rows: &mut IndexSet<G>,
-    most: u32,
-    answer: &Answer<G>,
-    known: &[Option<u32>],
-    found: &mut Vec<u32>,
-) -> Result<Option<NodeAnswer>, OutOfMemory>
-    requires within { length rows.old.keys ≤ most }
-    requires known { AreRowsOf rows.old.keys (arguments_of answer.now) known.now }
-    ensures added { IfOk result (λ r. IfSome r (λ _.
-        rows.new.keys ≡ grown G.eq rows.old.keys answer.now)) }
-    ensures numbers { IfOk result (λ r. IfSome r (λ n.
-        n ≡ answer_from G.eq rows.old.keys answer.now)) }
-    ensures found { IfOk result (λ r. IfSome r (λ _.
-        found.new.items ≡ numbers_from G.eq rows.old.keys (arguments_of answer.now))) }
-    ensures few { IfOk result (λ r. IfSome r (λ _.
-        length (grown G.eq rows.old.keys answer.now) ≤ most)) }
-    ensures many { IfOk result (λ r. IfNone r
-        (most < length (grown G.eq rows.old.keys answer.now))) }
+    ensures many { IfOk result (λ r. IfNone r (most < length (insert_all G.eq rows.old.keys goals.now))) }
     ensures front { GoesOn rows.old.keys rows.new.keys }
 {
     found.clear();
-    match answer {
-        Answer::Rules(rules) => {
-            let Some(rules) = number_rules(alloc, rows, most, rules.as_slice(), known, found)?
-            else {
-                return Ok(None);
-            };
-            Ok(Some(NodeAnswer::new(rules)))
-        }
-        Answer::Wide => Ok(Some(NodeAnswer::wide())),
-    }
+    found.reserve(goals.len())?;
+    let Some(()) = number_goals(alloc, rows, most, goals, known, found)? else {
+        return Ok(None);
+    };
+    Ok(Some(Vec::from_slice(alloc, found.as_slice())?))
 }
 
-/// An answer in numbers. The numbers of its arguments take the place of those that the list had. None comes if and only
-/// if there would be too many rows, and leaves the rows as they were, as does the Err. The only error is out of memory.
+/// The numbers of goals, one after another. Each goal that isn't among the rows is put behind them. The numbers take the place
+/// of those that the list had, too. None comes if and only if there would be too many rows, and leaves the rows as they were, as
+/// does the Err. The only error is out of memory.
 #[tactic(auto, using(crate::proofs::Insertion::goes_cut))]
 pub(crate) fn number_whole<G: Key + Drop>(
     alloc: Global,
     rows: &mut IndexSet<G>,
     most: u32,
-    answer: &Answer<G>,
+    goals: &[G],
     known: &[Option<u32>],
     found: &mut Vec<u32>,
-) -> Result<Option<NodeAnswer>, OutOfMemory>
+) -> Result<Option<Vec<u32>>, OutOfMemory>
     requires within { length rows.old.keys ≤ most }
-    requires known { AreRowsOf rows.old.keys (arguments_of answer.now) known.now }
-    ensures added { IfOk result (λ r. IfSome r (λ _. rows.new.keys ≡ grown G.eq rows.old.keys answer.now)) }
-    ensures numbers { IfOk result (λ r. IfSome r (λ n. n ≡ answer_from G.eq rows.old.keys answer.now)) }
-    ensures found { IfOk result (λ r. IfSome r (λ _.
-        found.new.items ≡ numbers_from G.eq rows.old.keys (arguments_of answer.now))) }
-    ensures few { IfOk result (λ r. IfSome r (λ _. length (grown G.eq rows.old.keys answer.now) ≤ most)) }
-    ensures many { IfOk result (λ r. IfNone r (most < length (grown G.eq rows.old.keys answer.now))) }
+    requires known { AreRowsOf rows.old.keys goals.now known.now }
+    ensures added { IfOk result (λ r. IfSome r (λ _. rows.new.keys ≡ insert_all G.eq rows.old.keys goals.now)) }
+    ensures numbers { IfOk result (λ r. IfSome r (λ n. n.items ≡ numbers_from G.eq rows.old.keys goals.now)) }
+    ensures found { IfOk result (λ r. IfSome r (λ _. found.new.items ≡ numbers_from G.eq rows.old.keys goals.now)) }
+    ensures few { IfOk result (λ r. IfSome r (λ _. length rows.new.keys ≤ most)) }
+    ensures many { IfOk result (λ r. IfNone r (most < length (insert_all G.eq rows.old.keys goals.now))) }
     ensures over { IfOk result (λ r. IfNone r (rows.new.keys ≡ rows.old.keys)) }
     ensures unchanged { OnErr result (rows.new.keys ≡ rows.old.keys) }
 {
     let count = rows.len();
-    let numbered = number_answer(alloc, rows, most, answer, known, found);
+    let numbered = number_all(alloc, rows, most, goals, known, found);
     if !matches!(numbered, Ok(Some(_))) {
         rows.truncate(count);
     }

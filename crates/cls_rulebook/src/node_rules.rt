@@ -1,6 +1,7 @@
 ghost use Rattle.std.specs.Prelude.{◌≡◌, ℕ, ◌<◌, Some, [], ◌∷◌, ◌++◌, length, map, slice_get, IfOk, OnOk, OnErr};
 ghost use Rattle.cls_rulebook.specs.Arguments.{arguments_in, map_rule};
-ghost use Rattle.cls_rulebook.specs.Columns.{HasArguments, rule_of, rule_with};
+ghost use Rattle.cls_base.specs.Cuts.{AreEnds, cut};
+ghost use Rattle.cls_rulebook.specs.Columns.{AreColumns, HasArguments, rule_of, rule_with, rules_with};
 
 use crate::RuleRef;
 use cls_base::{NumberLists, OutOfMemory};
@@ -19,7 +20,7 @@ pub struct NodeRules {
 impl Model for NodeRules {
     ghost use Rattle.std.specs.Prelude.{ℕ, List};
     ghost use Rattle.cls_base.specs.declared.rule.Rule.{Rule};
-    ghost use Rattle.cls_rulebook.specs.Columns.{rules_with, AreColumns};
+    ghost use Rattle.cls_rulebook.specs.Columns.{AreColumns, rules_with};
 
     ghost Value = { List (Rule ℕ) };
 
@@ -51,6 +52,18 @@ impl NodeRules {
             heads: Vec::with_capacity(alloc, rules)?,
             args: NumberLists::with_room(alloc, rules, arguments)?,
         })
+    }
+
+    /// The rules with these heads, whose arguments are the numbers, one after another, up to these ends. They take no memory.
+    pub fn of_columns(heads: Vec<Option<u32>>, numbers: Vec<u32>, ends: Vec<u32>) -> NodeRules
+        requires ends { AreEnds 0 (length numbers.items) ends.items }
+        requires columns { AreColumns heads.items (cut numbers.items 0 ends.items) }
+        ensures { result ≡ rules_with heads.items (cut numbers.items 0 ends.items) }
+    {
+        NodeRules {
+            heads,
+            args: NumberLists::of_columns(numbers, ends),
+        }
     }
 
     /// The same rules once more. The only error is out of memory.
