@@ -8,7 +8,8 @@
 //!   alone, and [`Key`] what serves as a key of a table.
 //! - [`Rule`] is one way in which a goal can be met, with goals for arguments. [`Goals`] is a list of goals.
 //! - [`limits`] has the numbers that the language fixes.
-//! - [`Numbers`] is a list of numbers, [`NumberLists`] a list of such lists, and [`OutOfMemory`] what a call answers that found no memory.
+//! - [`Numbers`] is a list of numbers, [`NumberLists`] a list of such lists, and [`OutOfMemory`] what a call answers
+//!   that found no memory.
 #![tactic(auto)]
 
 mod gate;

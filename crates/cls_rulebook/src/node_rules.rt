@@ -54,7 +54,8 @@ impl NodeRules {
         })
     }
 
-    /// The rules with these heads, whose arguments are the numbers, one after another, up to these ends. They take no memory.
+    /// The rules with these heads, whose arguments are the numbers, one after another, up to these ends. They take no
+    /// memory.
     pub fn of_columns(heads: Vec<Option<u32>>, numbers: Vec<u32>, ends: Vec<u32>) -> NodeRules
         requires ends { AreEnds 0 (length numbers.items) ends.items }
         requires columns { AreColumns heads.items (cut numbers.items 0 ends.items) }
