@@ -4,12 +4,10 @@ use Rattle.std.specs.Prelude.{IfSome}
 use Rattle.std.specs.List.{position_or_len, list_any, IsDistinct, AllByRecursion}
 use Rattle.std.proofs.lemmas.List.{take_more, take-append-drop}
 use Rattle.indexmap.specs.IndexSet.{insert_key, insert_all}
-use Rattle.cls_base.specs.declared.rule.Rule.{Rule}
-use Rattle.cls_rulebook.specs.Arguments.{arguments_of_rule, arguments_in}
 use Rattle.cls_core.specs.Adding.{GoesOn}
 use Rattle.cls_core.specs.ArgumentRows.{AreRowsOf}
 use Rattle.cls_core.specs.Numbers.{numbers_from}
-use Rattle.cls_core.proofs.Insertion.{all-front, arguments-append, arguments-more}
+use Rattle.cls_core.proofs.Insertion.{all-front}
 
 module _ {A : Type 0} where
   get-drop : (xs : List A) (n i : ℕ) → slice_get (drop n xs) i ≡ slice_get xs (n + i)
@@ -46,7 +44,7 @@ module _ {G : Type 0} where
       subst (λ l. slice_get l row ≡ Some goal) (sym on.is) (get-front goals on.more row goal (are i row goal h k))
 
   -- what is known of the rows of arguments is known of those of some that stand one after the other among them
-  pub part_rows : (goals more before part behind args : List G) (rows : List (Option ℕ)) (n m : ℕ)
+  part_rows : (goals more before part behind args : List G) (rows : List (Option ℕ)) (n m : ℕ)
       → args ≡ before ++ (part ++ behind) → m ≡ n + length before → GoesOn goals more
       → AreRowsOf goals args (drop n rows) → AreRowsOf more part (drop m rows)
   part_rows goals more before part behind args rows n m e f on are i row goal h k =
@@ -67,7 +65,7 @@ module _ {G : Type 0} where
       are 0 row goal (get-drop rows n 0 ∙ (ap (slice_get rows) place ∙ h)) refl
 
 module _ {G : Type 0} (eq : G → G → Bool) where
-  numbers-count : (gs xs : List G) → length (numbers_from eq gs xs) ≡ length xs
+  pub numbers-count : (gs xs : List G) → length (numbers_from eq gs xs) ≡ length xs
   numbers-count gs [] = refl
   numbers-count gs (x ∷ xs) = ap suc (numbers-count (insert_key eq gs x) xs)
 
@@ -84,21 +82,6 @@ module _ {G : Type 0} (eq : G → G → Bool) where
       let split : xs ≡ take i xs ++ (x ∷ [] ++ drop (i + 1) xs) =
       sym (take-append-drop (i + 1) xs) ∙ (ap (λ l. l ++ drop (i + 1) xs) next ∙ append_assoc (take i xs) (x ∷ []) (drop (i + 1) xs)) in
       part_rows gs ks (take i xs) (x ∷ []) (drop (i + 1) xs) xs known (length base) (length ns) split (behind-numbers gs (take i xs) base ns f) on are
-
-  -- one step over rules
-  pub rule_of_rows : (gs ks : List G) (rs : List (Rule G)) (known : List (Option ℕ)) (base ns : List ℕ) (i : ℕ) (r : Rule G)
-      → i < length rs → r ≡ get_or rs i r → ns ≡ base ++ numbers_from eq gs (arguments_in (take i rs)) → GoesOn gs ks
-      → AreRowsOf gs (arguments_in rs) (drop (length base) known)
-      → AreRowsOf ks (arguments_of_rule r) (drop (length ns) known)
-  rule_of_rows gs ks rs known base ns i r h is f on are =
-      let before = arguments_in (take i rs) in
-      let behind = arguments_in (drop (i + 1) rs) in
-      let next : arguments_in (take (i + 1) rs) ≡ before ++ arguments_of_rule r =
-      arguments-more eq rs i r h ∙ ap (λ q. before ++ arguments_of_rule q) (sym is) in
-      let split : arguments_in rs ≡ before ++ (arguments_of_rule r ++ behind) =
-      ap arguments_in (sym (take-append-drop (i + 1) rs)) ∙ (arguments-append eq (take (i + 1) rs) (drop (i + 1) rs)
-      ∙ (ap (λ l. l ++ behind) next ∙ append_assoc before (arguments_of_rule r) behind)) in
-      part_rows gs ks before (arguments_of_rule r) behind (arguments_in rs) known (length base) (length ns) split (behind-numbers gs before base ns f) on are
 
   -- what holds of all is so of one
   apart : (x y : G) (ys : List G) (i : ℕ) → AllByRecursion (λ z. eq x z ≡ false) ys → slice_get ys i ≡ Some y → eq x y ≡ false

@@ -7,13 +7,9 @@ use Rattle.std.proofs.lemmas.List.Quantifiers.{position-Some}
 use Rattle.std.proofs.lemmas.List.Sums.{position_or_len_is}
 use Rattle.indexmap.specs.IndexSet.{insert_key, insert_all}
 use Rattle.cls_core.specs.Adding.{GoesOn}
-use Rattle.cls_core.specs.Numbers.{numbers_from, rule_from, rules_from, answer_from}
-use Rattle.cls_core.specs.Arguments.{arguments_of, map_answer, rule_count}
-use Rattle.cls_rulebook.specs.Arguments.{arguments_of_rule, arguments_in, map_rule}
+use Rattle.cls_core.specs.Numbers.{numbers_from}
+use Rattle.cls_rulebook.specs.Arguments.{arguments_of_rule, arguments_in}
 use Rattle.cls_base.specs.declared.rule.Rule.{Rule}
-use Rattle.cls_base.specs.declared.rule.Rule.TheVariants.{Head, Any}
-use Rattle.cls_core.specs.declared.answer.Answer.{Answer}
-use Rattle.cls_core.specs.declared.answer.Answer.TheVariants.{Rules, Wide}
 
 module _ {A : Type 0} (p : A → Bool) where
   -- what stands in the front is found there
@@ -134,40 +130,6 @@ module _ {G : Type 0} (eq : G → G → Bool) where
   arguments-append (r ∷ rs) ss =
       ap (λ l. arguments_of_rule r ++ l) (arguments-append rs ss) ∙ sym (append_assoc (arguments_of_rule r) (arguments_in rs) (arguments_in ss))
 
-  arguments-one : (r : Rule G) → arguments_in (r ∷ []) ≡ arguments_of_rule r
-  arguments-one r = append-nil (arguments_of_rule r)
-
-  -- the arguments of one rule more
-  pub arguments-more : (rs : List (Rule G)) (i : ℕ) (d : Rule G) → i < length rs
-      → arguments_in (take (i + 1) rs) ≡ arguments_in (take i rs) ++ arguments_of_rule (get_or rs i d)
-  arguments-more rs i d h =
-      ap arguments_in (take_more rs i d h)
-      ∙ (arguments-append (take i rs) (get_or rs i d ∷ []) ∙ ap (λ l. arguments_in (take i rs) ++ l) (arguments-one (get_or rs i d)))
-
-  -- the first rules of a list make no more than all of them
-  pub rules-take : (gs : List G) (rs : List (Rule G)) (i : ℕ)
-      → length (insert_all eq gs (arguments_in (take i rs))) ≤ length (insert_all eq gs (arguments_in rs))
-  rules-take gs rs i =
-      all-split gs (arguments_in (take i rs)) (arguments_in (drop i rs)) (arguments_in rs) (sym (arguments-append (take i rs) (drop i rs)) ∙ ap arguments_in (take-append-drop i rs))
-
-  -- the goals of one rule more
-  pub rules-more : (gs : List G) (rs : List (Rule G)) (i : ℕ) (d : Rule G) → i < length rs
-      → insert_all eq gs (arguments_in (take (i + 1) rs)) ≡ insert_all eq (insert_all eq gs (arguments_in (take i rs))) (arguments_of_rule (get_or rs i d))
-  rules-more gs rs i d h =
-      ap (insert_all eq gs) (arguments-more rs i d h) ∙ all-append gs (arguments_in (take i rs)) (arguments_of_rule (get_or rs i d))
-
-  rules-append : (gs : List G) (rs ss : List (Rule G))
-      → rules_from eq gs (rs ++ ss) ≡ rules_from eq gs rs ++ rules_from eq (insert_all eq gs (arguments_in rs)) ss
-  rules-append gs [] ss = refl
-  rules-append gs (r ∷ rs) ss =
-      let step = rules-append (insert_all eq gs (arguments_of_rule r)) rs ss in
-      ap (λ l. rule_from eq gs r ∷ l) (step ∙ ap (λ k. rules_from eq (insert_all eq gs (arguments_of_rule r)) rs ++ rules_from eq k ss) (sym (all-append gs (arguments_of_rule r) (arguments_in rs))))
-
-  -- one rule more, in numbers
-  pub numbered-more : (gs : List G) (rs : List (Rule G)) (i : ℕ) (d : Rule G) → i < length rs
-      → rules_from eq gs (take (i + 1) rs) ≡ rules_from eq gs (take i rs) ++ rule_from eq (insert_all eq gs (arguments_in (take i rs))) (get_or rs i d) ∷ []
-  numbered-more gs rs i d h = ap (rules_from eq gs) (take_more rs i d h) ∙ rules-append gs (take i rs) (get_or rs i d ∷ [])
-
   -- one step over goals: the goals so far, and the next one
   pub goal-step : (gs xs ks : List G) (i : ℕ) (x : G) → i < length xs → ks ≡ insert_all eq gs (take i xs)
       → x ≡ get_or xs i x → insert_key eq ks x ≡ insert_all eq gs (take (i + 1) xs)
@@ -181,40 +143,6 @@ module _ {G : Type 0} (eq : G → G → Bool) where
       g ∙ ((λ k. f k ++ (m ∙ (λ j. position_or_len (eq (is j)) (e j))) k ∷ [])
       ∙ (append_assoc base (numbers_from eq gs (take i xs)) (position_or_len (eq (get_or xs i x)) (insert_all eq gs (take i xs)) ∷ [])
       ∙ ap (λ l. base ++ l) (sym (numbers-more gs xs i x h))))
-
-  -- one step over rules
-  pub rule-step : (gs : List G) (rs : List (Rule G)) (ks : List G) (i : ℕ) (r : Rule G) → i < length rs
-      → ks ≡ insert_all eq gs (arguments_in (take i rs)) → r ≡ get_or rs i r
-      → insert_all eq ks (arguments_of_rule r) ≡ insert_all eq gs (arguments_in (take (i + 1) rs))
-  rule-step gs rs ks i r h e is =
-      ap (λ l. insert_all eq l (arguments_of_rule r)) e ∙ (ap (λ q. insert_all eq (insert_all eq gs (arguments_in (take i rs))) (arguments_of_rule q)) is ∙ sym (rules-more gs rs i r h))
-
-  pub arguments-step : (gs : List G) (rs : List (Rule G)) (ks : List G) (base ns ms : List ℕ) (i : ℕ) (r : Rule G)
-      → i < length rs → ks ≡ insert_all eq gs (arguments_in (take i rs)) → r ≡ get_or rs i r
-      → ns ≡ base ++ numbers_from eq gs (arguments_in (take i rs)) → ms ≡ ns ++ numbers_from eq ks (arguments_of_rule r)
-      → ms ≡ base ++ numbers_from eq gs (arguments_in (take (i + 1) rs))
-  arguments-step gs rs ks base ns ms i r h e is f g =
-      let before = arguments_in (take i rs) in
-      let next = arguments_of_rule (get_or rs i r) in
-      g ∙ ((λ k. f k ++ numbers_from eq (e k) (arguments_of_rule (is k)))
-      ∙ (append_assoc base (numbers_from eq gs before) (numbers_from eq (insert_all eq gs before) next)
-      ∙ ap (λ l. base ++ l) (sym (ap (numbers_from eq gs) (arguments-more rs i r h) ∙ numbers-append gs before next))))
-
-  pub numbered-step : (gs : List G) (rs : List (Rule G)) (ks : List G) (ns ms : List (Rule ℕ)) (n : Rule ℕ) (i : ℕ) (r : Rule G)
-      → i < length rs → ks ≡ insert_all eq gs (arguments_in (take i rs)) → r ≡ get_or rs i r
-      → ns ≡ rules_from eq gs (take i rs) → n ≡ rule_from eq ks r → ms ≡ ns ++ n ∷ []
-      → ms ≡ rules_from eq gs (take (i + 1) rs)
-  numbered-step gs rs ks ns ms n i r h e is f m g =
-      g ∙ ((λ k. f k ++ (m ∙ (λ j. rule_from eq (e j) (is j))) k ∷ []) ∙ sym (numbered-more gs rs i r h))
-
-  rules-count : (gs : List G) (rs : List (Rule G)) → length (rules_from eq gs rs) ≡ length rs
-  rules-count gs [] = refl
-  rules-count gs (r ∷ rs) = ap suc (rules-count (insert_all eq gs (arguments_of_rule r)) rs)
-
-  -- an answer in numbers has as many rules
-  pub answer-count : (gs : List G) (a : Answer G) → rule_count (answer_from eq gs a) ≡ rule_count a
-  answer-count gs (Rules rs) = rules-count gs rs
-  answer-count gs Wide = refl
 
   -- a goal that stands among the goals stays at its place
   pub stays : (y : G) (gs xs : List G) → list_any (eq y) gs ≡ true
@@ -232,26 +160,13 @@ module _ {G : Type 0} (eq : G → G → Bool) where
         → position_or_len (eq x) gs ≡ position_or_len (eq x) (insert_all eq (insert_key eq gs x) more)
     place-kept gs x more = let h = comes gs x (reflexive x) (list_any (eq x) gs) refl in sym (stays x (insert_key eq gs x) more h.1 ∙ h.0)
 
-    numbers-kept : (gs xs more : List G)
+    numbers-before : (gs xs more : List G)
         → numbers_from eq gs xs ≡ map (λ a. position_or_len (eq a) (insert_all eq gs (xs ++ more))) xs
-    numbers-kept gs [] more = refl
-    numbers-kept gs (x ∷ xs) more = λ k. place-kept gs x (xs ++ more) k ∷ numbers-kept (insert_key eq gs x) xs more k
+    numbers-before gs [] more = refl
+    numbers-before gs (x ∷ xs) more = λ k. place-kept gs x (xs ++ more) k ∷ numbers-before (insert_key eq gs x) xs more k
 
-    rule-kept : (gs : List G) (r : Rule G) (more : List G)
-        → rule_from eq gs r ≡ map_rule (λ a. position_or_len (eq a) (insert_all eq gs (arguments_of_rule r ++ more))) r
-    rule-kept gs (Head component args) more = ap (Head component) (numbers-kept gs args more)
-    rule-kept gs (Any left right) more =
-        λ k. Any (place-kept gs left (right ∷ more) k) (place-kept (insert_key eq gs left) right more k)
-
-    rules-kept : (gs : List G) (rs : List (Rule G))
-        → rules_from eq gs rs ≡ map (map_rule (λ a. position_or_len (eq a) (insert_all eq gs (arguments_in rs)))) rs
-    rules-kept gs [] = refl
-    rules-kept gs (r ∷ rs) =
-        let step = rules-kept (insert_all eq gs (arguments_of_rule r)) rs ∙ ap (λ l. map (map_rule (λ a. position_or_len (eq a) l)) rs) (sym (all-append gs (arguments_of_rule r) (arguments_in rs))) in
-        λ k. rule-kept gs r (arguments_in rs) k ∷ step k
-
-    -- The numbers that were given one after the other are the places at which the goals stand in the end.
-    pub answer-kept : (gs : List G) (a : Answer G)
-        → answer_from eq gs a ≡ map_answer (λ g. position_or_len (eq g) (insert_all eq gs (arguments_of a))) a
-    answer-kept gs (Rules rs) = ap Rules (rules-kept gs rs)
-    answer-kept gs Wide = refl
+    -- the numbers that were given one after the other are the places at which the goals stand in the end
+    pub numbers-kept : (gs xs : List G)
+        → numbers_from eq gs xs ≡ map (λ a. position_or_len (eq a) (insert_all eq gs xs)) xs
+    numbers-kept gs xs =
+        numbers-before gs xs [] ∙ ap (λ l. map (λ a. position_or_len (eq a) (insert_all eq gs l)) xs) (append-nil xs)

@@ -4,6 +4,7 @@ pub mod FiledRows
 pub mod AfterFiling
 pub mod Finding
 pub mod FoundRows
+pub mod GoalColumns
 pub mod Grammar
 pub mod Insertion
 pub mod Members

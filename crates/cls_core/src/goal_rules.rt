@@ -1,5 +1,6 @@
 //! Rules of a goal in flat columns.
-ghost use Rattle.std.specs.Prelude.{◌≡◌, ◌≤◌, ◌↔◌, ℕ, [], ◌∷◌, ◌++◌, Contains, IfOk, IsTrue, OnErr, OnOk, drop, length, map};
+ghost use Rattle.std.specs.Prelude.{◌≡◌, ◌<◌, ◌≤◌, ◌↔◌, ℕ, [], ◌∷◌, ◌++◌, Some, Contains, IfOk, IsTrue, OnErr, OnOk, drop, length, map, slice_get, slice_index, slice_index_or};
+ghost use Rattle.cls_base.specs.Cuts.{AreEnds, cut};
 ghost use Rattle.cls_base.specs.declared.rule.Rule.TheVariants.{Any, Head};
 ghost use Rattle.cls_rulebook.specs.Arguments.{arguments_in, map_rule};
 
@@ -46,6 +47,7 @@ impl<G> GoalRules<G> {
     }
 
     /// The number of rules.
+    #[tactic(auto, using(cls_rulebook::proofs::Columns::columns))]
     pub fn len(&self) -> usize
         ensures { result ≡ length self.now }
     {
@@ -53,13 +55,16 @@ impl<G> GoalRules<G> {
     }
 
     /// The arguments of all rules, one after another.
+    #[tactic(auto, using(crate::proofs::GoalColumns::fillings))]
     pub fn goals(&self) -> &[G]
         ensures { result.now ≡ arguments_in self.now }
     {
         self.goals.as_slice()
     }
 
-    /// The rules with these numbers in place of their arguments, one after another, and the arguments. It takes no memory.
+    /// The rules with these numbers in place of their arguments, one after another, and the arguments. It takes no
+    /// memory.
+    #[tactic(auto, using(crate::proofs::GoalColumns::fillings))]
     pub(crate) fn numbered(self, numbers: Vec<u32>) -> (NodeRules, Goals<G>)
         requires { length numbers.items ≡ length (arguments_in self) }
         ensures rules { (f : G → ℕ) → numbers.items ≡ map f (arguments_in self) → result.0 ≡ map (map_rule f) self }
@@ -75,11 +80,7 @@ impl<G> GoalRules<G> {
 
 impl<G: Drop> GoalRules<G> {
     /// No rules, and room for so many, which have so many arguments together. The only error is out of memory.
-    pub fn with_room(
-        alloc: Global,
-        rules: usize,
-        goals: usize,
-    ) -> Result<GoalRules<G>, OutOfMemory>
+    pub fn with_room(alloc: Global, rules: usize, goals: usize) -> Result<GoalRules<G>, OutOfMemory>
         ensures { IfOk result (λ r. r ≡ []) }
     {
         Ok(GoalRules {
@@ -89,9 +90,10 @@ impl<G: Drop> GoalRules<G> {
         })
     }
 
-    /// Adds the rule of the component at the end, with the goals of the list for arguments, which leaves the list empty. The
-    /// only error is out of memory, and then the rules and the list are as before. Where the rules would have more arguments
-    /// together than a `u32` counts, that is out of memory too.
+    /// Adds the rule of the component at the end, with the goals of the list for arguments, which leaves the list empty.
+    /// The only error is out of memory, and then the rules and the list are as before. Where the rules would have more
+    /// arguments together than a `u32` counts, that is out of memory too.
+    #[tactic(auto, using(crate::proofs::GoalColumns::pushes))]
     pub fn push_head(&mut self, component: u32, args: &mut Vec<G>) -> Result<(), OutOfMemory>
         ensures ok { OnOk result (self.new ≡ self.old ++ Head component args.old.items ∷ []) }
         ensures taken { OnOk result (args.new.items ≡ []) }
@@ -108,8 +110,9 @@ impl<G: Drop> GoalRules<G> {
         Ok(())
     }
 
-    /// Adds the rule for any term at the end. The only error is out of memory, and then the rules are as before. Where the
-    /// rules would have more arguments together than a `u32` counts, that is out of memory too.
+    /// Adds the rule for any term at the end. The only error is out of memory, and then the rules are as before. Where
+    /// they would have more arguments together than a `u32` counts, that is out of memory too.
+    #[tactic(auto, using(crate::proofs::GoalColumns::pairs))]
     pub fn push_any(&mut self, left: G, right: G) -> Result<(), OutOfMemory>
         ensures ok { OnOk result (self.new ≡ self.old ++ Any left right ∷ []) }
         ensures err { OnErr result (self.new ≡ self.old) }
@@ -134,17 +137,44 @@ impl<G: Key> GoalRules<G> {
         requires { begin ≤ length self.now }
         ensures { IsTrue result ↔ Contains (drop begin self.now) (Head component args.now) }
     {
-        for place in begin..self.heads.len() {
-            let start = if place == 0 {
-                0
-            } else {
-                self.ends[place - 1] as usize
-            };
-            let own = &self.goals[start..self.ends[place] as usize];
-            if self.heads[place] == Some(component) && own == args {
+        for place in begin..self.len() {
+            if self.is_head(place, component, args) {
                 return true;
             }
         }
         false
+    }
+
+    // Whether the rule at a place is that of the component with these arguments.
+    #[tactic(auto, using(cls_rulebook::proofs::Columns::columns, cls_base::proofs::Cutting::cuts))]
+    fn is_head(&self, place: usize, component: u32, args: &[G]) -> bool
+        requires { place < length self.now }
+        ensures { IsTrue result ↔ (slice_get self.now place ≡ Some (Head component args.now)) }
+    {
+        self.heads[place] == Some(component)
+            && part(self.goals.as_slice(), self.ends.as_slice(), place) == args
+    }
+}
+
+// The list at a place, of those that are cut from the goals at these ends.
+#[tactic(auto, using(cls_base::proofs::Cutting::cuts))]
+fn part<'a, G>(goals: &'a [G], ends: &[u32], place: usize) -> &'a [G]
+    requires ends { AreEnds 0 (length goals.now) ends.now }
+    requires within { place < length ends.now }
+    ensures { result.now ≡ slice_index_or (cut goals.now 0 ends.now) place [] }
+{
+    let start = start_of(ends, place);
+    &goals[start..ends[place] as usize]
+}
+
+// Where the list at a place begins, which is where the one before it ends.
+fn start_of(ends: &[u32], place: usize) -> usize
+    requires { place ≤ length ends.now }
+    ensures { result ≡ slice_index (0 ∷ ends.now) place }
+{
+    if place == 0 {
+        0
+    } else {
+        ends[place - 1] as usize
     }
 }

@@ -1,14 +1,11 @@
-//! An answer's goals as numbers of rows. Each goal that has no row yet is put behind those that have one, as long as there
-//! are no more rows than there may be. A row that is there stays. A goal whose row is known isn't looked for.
+//! Goals as numbers of rows. Each goal that has no row yet is put behind those that have one, as long as there are no
+//! more rows than there may be. A row that is there stays. A goal whose row is known isn't looked for.
 ghost use Rattle.std.specs.Prelude.{◌≡◌, ◌<◌, ◌≤◌, Some, [], ◌∷◌, ◌++◌, IfOk, OnErr, IfNone, IfSome, drop, length, slice_get};
 ghost use Rattle.std.specs.List.{position_or_len};
 ghost use Rattle.indexmap.specs.IndexSet.{insert_key, insert_all};
 ghost use Rattle.cls_core.specs.Adding.{GoesOn};
 ghost use Rattle.cls_core.specs.ArgumentRows.{AreRowsOf};
-ghost use Rattle.cls_core.specs.Arguments.{arguments_of};
-ghost use Rattle.cls_rulebook.specs.Arguments.{arguments_of_rule, arguments_in};
-ghost use Rattle.cls_core.specs.Machine.{grown};
-ghost use Rattle.cls_core.specs.Numbers.{numbers_from, rule_from, rules_from, answer_from};
+ghost use Rattle.cls_core.specs.Numbers.{numbers_from};
 
 use cls_base::{Key, OutOfMemory};
 use indexmap::IndexSet;
@@ -117,8 +114,8 @@ fn number_goals<G: Key + Drop>(
     Ok(Some(()))
 }
 
-// The numbers of goals, one after another. The rows take up each goal that isn't among them. The numbers take the place of those
-// that the list had. None comes if and only if there would be too many rows.
+// The numbers of goals, one after another. The rows take up each goal that isn't among them. The numbers take the place
+// of those that the list had, too. None comes if and only if there would be too many rows.
 #[tactic(auto, using(crate::proofs::Insertion::goes_same, crate::proofs::Insertion::goes_on))]
 fn number_all<G: Key + Drop>(
     alloc: Global,
@@ -145,9 +142,9 @@ fn number_all<G: Key + Drop>(
     Ok(Some(Vec::from_slice(alloc, found.as_slice())?))
 }
 
-/// The numbers of goals, one after another. Each goal that isn't among the rows is put behind them. The numbers take the place
-/// of those that the list had, too. None comes if and only if there would be too many rows, and leaves the rows as they were, as
-/// does the Err. The only error is out of memory.
+/// The numbers of goals, one after another. Each goal that isn't among the rows is put behind them. The numbers take the
+/// place of those that the list had, too. None comes if and only if there would be too many rows, and leaves the rows as
+/// they were, as does the Err. The only error is out of memory.
 #[tactic(auto, using(crate::proofs::Insertion::goes_cut))]
 pub(crate) fn number_whole<G: Key + Drop>(
     alloc: Global,
