@@ -136,13 +136,15 @@ module _ {G : Type 0} (eq : G → G → Bool) where
   goal-step gs xs ks i x h e is =
       ap (λ l. insert_key eq l x) e ∙ (ap (insert_key eq (insert_all eq gs (take i xs))) is ∙ sym (all-more gs xs i x h))
 
-  pub number-step : (gs xs ks : List G) (base ns ms : List ℕ) (n i : ℕ) (x : G) → i < length xs
-      → ks ≡ insert_all eq gs (take i xs) → x ≡ get_or xs i x → ns ≡ base ++ numbers_from eq gs (take i xs)
-      → n ≡ position_or_len (eq x) ks → ms ≡ ns ++ n ∷ [] → ms ≡ base ++ numbers_from eq gs (take (i + 1) xs)
-  number-step gs xs ks base ns ms n i x h e is f m g =
-      g ∙ ((λ k. f k ++ (m ∙ (λ j. position_or_len (eq (is j)) (e j))) k ∷ [])
-      ∙ (append_assoc base (numbers_from eq gs (take i xs)) (position_or_len (eq (get_or xs i x)) (insert_all eq gs (take i xs)) ∷ [])
-      ∙ ap (λ l. base ++ l) (sym (numbers-more gs xs i x h))))
+  pub number-step : (gs xs ks : List G) (ns ms : List ℕ) (n i : ℕ) (x : G) → i < length xs
+      → ks ≡ insert_all eq gs (take i xs) → x ≡ get_or xs i x → ns ≡ numbers_from eq gs (take i xs)
+      → n ≡ position_or_len (eq x) ks → ms ≡ ns ++ n ∷ [] → ms ≡ numbers_from eq gs (take (i + 1) xs)
+  number-step gs xs ks ns ms n i x h e is f m g =
+      g ∙ ((λ k. f k ++ (m ∙ (λ j. position_or_len (eq (is j)) (e j))) k ∷ []) ∙ sym (numbers-more gs xs i x h))
+
+  pub numbers-count : (gs xs : List G) → length (numbers_from eq gs xs) ≡ length xs
+  numbers-count gs [] = refl
+  numbers-count gs (x ∷ xs) = ap suc (numbers-count (insert_key eq gs x) xs)
 
   -- a goal that stands among the goals stays at its place
   pub stays : (y : G) (gs xs : List G) → list_any (eq y) gs ≡ true

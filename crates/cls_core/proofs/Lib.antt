@@ -3,7 +3,6 @@ pub mod Columns
 pub mod FiledRows
 pub mod AfterFiling
 pub mod Finding
-pub mod FoundRows
 pub mod GoalColumns
 pub mod Grammar
 pub mod Insertion

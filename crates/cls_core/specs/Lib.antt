@@ -1,5 +1,4 @@
 pub mod Adding
-pub mod ArgumentRows
 pub mod Arguments
 pub mod Canonical
 pub mod Closure

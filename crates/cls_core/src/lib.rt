@@ -6,7 +6,7 @@
 //!   goal has is a relation, not a function. [`TypedExpand`] is an expander whose answers are the rules of a typing.
 //! - [`Core`] has a row for each goal that was reached. A row is free, held by a worker, or filed with its answer.
 //!   [`Core::claim`] and [`Core::file`] are its two events, and [`Entry`] and [`History`] record them. [`Filing`] says
-//!   what became of a filing, and [`ArgumentRows`] which rows the answer's arguments have.
+//!   what became of a filing.
 //! - [`Finished`] is a core whose rows are all filed: [`Rows`] and the history. [`Core::finish`] makes it of a core,
 //!   and [`Core::read`] copies it out of one.
 //! - [`laws`] holds what is true of every history: which goals it reaches, and that the rows of a complete history
@@ -14,7 +14,6 @@
 #![tactic(auto)]
 
 mod answer;
-mod argument_rows;
 mod copying;
 mod entry;
 mod expand;
@@ -29,7 +28,6 @@ mod state;
 mod typed_expand;
 
 pub use answer::Answer;
-pub use argument_rows::ArgumentRows;
 pub use cls_base::{Goals, Rule};
 pub use entry::{Entry, History};
 pub use expand::Expand;

@@ -2,15 +2,12 @@ ghost use Rattle.std.specs.Prelude.{◌≡◌, ◌<◌, ◌≤◌, ◌+◌, ◌^
 ghost use Rattle.std.specs.Vec.{vec_capacity};
 ghost use Rattle.indexmap.specs.IndexSet.{spare, insert_all};
 ghost use Rattle.cls_core.specs.Machine.{rules_in, IsFiled, SomeUnfiled};
-ghost use Rattle.cls_core.specs.ArgumentRows.{AreRowsOf};
 ghost use Rattle.cls_core.specs.Arguments.{arguments_of, map_answer, rule_count};
 ghost use Rattle.cls_core.specs.Filings.{IfKept};
-ghost use Rattle.cls_core.specs.Numbers.{numbers_from};
 ghost use Rattle.cls_core.specs.declared.state.RowState.{RowState};
 ghost use Rattle.cls_core.specs.declared.state.RowState.TheVariants.{Free, Held};
 
 use crate::answer::Answer;
-use crate::argument_rows::ArgumentRows;
 use crate::copying::{copy_goals, copy_states};
 use crate::entry::{Entry, History};
 use crate::filing::Filing;
@@ -201,38 +198,29 @@ impl<G: Key + Drop> Core<G> {
     }
 
     /// The event File: the row, which the worker holds, is filed with the answer. Each argument goal that has no row
-    /// yet gets a free one. An argument whose row is known isn't looked for. Once the row is filed, `arguments` says in
-    /// which row each argument stands, and the arguments are handed back. If there would be more than `most` rows,
-    /// nothing changes, which `OverLimits` says. All memory is taken before a row changes. The Err means out of memory,
-    /// which leaves the core as it was, and hands the answer back.
+    /// yet gets a free one. The arguments are handed back. If there would be more than `most` rows, nothing changes,
+    /// which `OverLimits` says. All memory is taken before a row changes. The Err means out of memory, which leaves the
+    /// core as it was, and hands the answer back.
     pub fn file(
         &mut self,
         alloc: Global,
         worker: u32,
         row: u32,
         answer: Answer<G>,
-        arguments: &mut ArgumentRows,
         most: u32,
     ) -> Result<Filing<G>, Answer<G>>
         requires held { slice_get self.old.rows.states row ≡ Some (Held worker) }
         requires few { length self.old.rows.goals ≤ most }
         requires rules { rules_in self.old.rows.states + rule_count answer < 2 ^ 64 }
-        requires known { AreRowsOf self.old.rows.goals (arguments_of answer) arguments.old.known.items }
         ensures room { IfOk result (λ f.
             (f ≡ Filing.OverLimits) ↔ (most < length (grown G.eq self.old.rows.goals answer))) }
         ensures goals { IfOk result (IfKept (λ goals. goals ≡ arguments_of answer)) }
         ensures rows { IfOk result (IfKept (λ _. self.new.rows ≡ filed G.eq self.old.rows row answer)) }
         ensures history { IfOk result (IfKept (λ _. self.new.history ≡ self.old.history ++ File worker row ∷ [])) }
         ensures over { IfOk result (λ f. f ≡ Filing.OverLimits → self.new ≡ self.old) }
-        ensures known { arguments.new.known ≡ arguments.old.known }
-        ensures found { IfOk result (IfKept (λ _.
-            arguments.new.found.items ≡ numbers_from G.eq self.old.rows.goals (arguments_of answer))) }
         ensures err { IfErr result (λ a. (a ≡ answer) × (self.new ≡ self.old)) }
     {
-        let known = arguments.known.as_slice();
-        let found = &mut arguments.found;
-        let numbers = number_whole(alloc, &mut self.goals, most, answer.goals(), known, found);
-        let Ok(numbers) = numbers else {
+        let Ok(numbers) = number_whole(alloc, &mut self.goals, most, answer.goals()) else {
             return Err(answer);
         };
         let Some(numbers) = numbers else {

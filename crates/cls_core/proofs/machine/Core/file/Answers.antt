@@ -13,8 +13,7 @@ use Rattle.cls_core.specs.Rows.{machine}
 use Rattle.cls_core.proofs.Closure.{mapped-count}
 use Rattle.cls_core.proofs.Columns.{held-counts, kept-file}
 use Rattle.cls_core.proofs.AfterFiling.{filed-rows}
-use Rattle.cls_core.proofs.FoundRows.{numbers-count}
-use Rattle.cls_core.proofs.Insertion.{all-front, all-length, numbers-kept, goes_cut}
+use Rattle.cls_core.proofs.Insertion.{all-front, all-length, numbers-count, numbers-kept, goes_cut}
 use Rattle.cls_core.proofs.machine.Core.file.Goals as goal
 
 pub overflow_sub-count : goal.overflow_sub-count
@@ -22,7 +21,7 @@ overflow_sub-count g c =
     let eq = g.G.PartialEq.eq in
     let goals = c.self.inside.goals.keys in
     let args = c.goals.result.now in
-    let new = c.number_whole-numbers.new.rows.keys in
+    let new = c.number_whole.new.rows.keys in
     let more = subst (λ r. IfSome r (λ _. new ≡ insert_all eq goals args)) c.in-Some.is c.in-Ok.ensures.added in
     omega (arith, ap length more, c.len.ensures.len, c.len-rows.ensures, c.self.invariant.paired, all-length eq goals args)
 
@@ -32,7 +31,7 @@ returns-in_default-reserve-clause-err g c =
     let i = c.self.inside in
     let goals = i.goals.keys in
     let args = c.goals.result.now in
-    let new = c.number_whole-numbers.new.rows.keys in
+    let new = c.number_whole.new.rows.keys in
     let more = subst (λ r. IfSome r (λ _. new ≡ insert_all eq goals args)) c.in-Some.is c.in-Ok.ensures.added in
     let behind = all-front eq goals args in
     let rows : c.len-rows.result ≡ length goals = omega (arith, c.len-rows.ensures, c.self.invariant.paired) in
@@ -82,7 +81,7 @@ invariant_of-self-2 g c =
     let args = c.goals.result.now in
     let held = subst (λ v. slice_get v.rows.states c.args.row ≡ Some (Held c.args.worker)) (sym c.self.view_is) c.requires.held in
     let some = held-counts i.states.items c.args.row c.args.worker held in
-    let new = c.number_whole-numbers.new.rows.keys in
+    let new = c.number_whole.new.rows.keys in
     let more = subst (λ r. IfSome r (λ _. new ≡ insert_all eq goals args)) c.in-Some.is c.in-Ok.ensures.added in
     let given = subst (λ r. IfSome r (λ n. n.items ≡ numbers_from eq goals args)) c.in-Some.is c.in-Ok.ensures.numbers in
     let few = subst (λ r. IfSome r (λ _. length new ≤ c.args.most)) c.in-Some.is c.in-Ok.ensures.few in
@@ -106,7 +105,7 @@ returns-clause-rows g c =
     let answer = c.args.answer in
     let args = c.goals.result.now in
     let held = subst (λ v. slice_get v.rows.states c.args.row ≡ Some (Held c.args.worker)) (sym c.self.view_is) c.requires.held in
-    let new = c.number_whole-numbers.new.rows.keys in
+    let new = c.number_whole.new.rows.keys in
     let added = subst (λ r. IfSome r (λ _. new ≡ insert_all eq goals args)) c.in-Some.is c.in-Ok.ensures.added in
     let more : new ≡ grown eq goals answer = added ∙ ap (insert_all eq goals) c.goals.ensures in
     let given = subst (λ r. IfSome r (λ n. n.items ≡ numbers_from eq goals args)) c.in-Some.is c.in-Ok.ensures.numbers in
