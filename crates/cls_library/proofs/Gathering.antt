@@ -9,10 +9,9 @@ use Rattle.cls_base.specs.Types.{ClosedType, meet, spread}
 use Rattle.cls_base.specs.Schemas.{OpenType}
 use Rattle.cls_path.specs.Paths.{TypePath, Paths, none, more, PathsLe, append, paths_of, type_of_paths, listed}
 use Rattle.cls_path.specs.NormalForms.{IsNormalForm}
-use Rattle.cls_path.proofs.Remains.{canonical_each}
+use Rattle.cls_path.proofs.Remains.{canonical_each, listed-append}
 use Rattle.cls_path.specs.PathLists.{ArePathsOf}
 use Rattle.cls_path.proofs.TypeParts.{omega_paths, meet_paths, form_of_paths}
-use Rattle.cls_norm.proofs.PathLists.{listed-append}
 use Rattle.cls_taxon.specs.Orders.{Declared}
 use Rattle.cls_taxon.specs.DecisionLaws.{is_below-reflexive, is_below-transitive}
 use Rattle.cls_kind.specs.declared.fault.KindFault.{KindFault}

@@ -2,15 +2,12 @@
 use Rattle.std.proofs.Common.{◌≡◌, refl, ◌∙◌, ap, ℕ, List, [], ◌∷◌, ◌++◌}
 use Rattle.std.specs.Prelude.{map}
 use Rattle.cls_path.specs.Paths.{TypePath, atom, inside, unit, left, right, more, append, map_paths, or_one, listed}
+use Rattle.cls_path.proofs.Remains.{listed-append}
 use Rattle.cls_norm.specs.PathLists.{or_else}
 
 pub listed-map : (f : TypePath → TypePath) (n : List TypePath) → listed (map f n) ≡ map_paths f (listed n)
 listed-map f [] = refl
 listed-map f (p ∷ n) = ap (more (f p)) (listed-map f n)
-
-pub listed-append : (n m : List TypePath) → listed (n ++ m) ≡ append (listed n) (listed m)
-listed-append [] m = refl
-listed-append (p ∷ n) m = ap (more p) (listed-append n m)
 
 pub listed-or_else : (p : TypePath) (n : List TypePath) → listed (or_else p n) ≡ or_one p (listed n)
 listed-or_else p [] = refl

@@ -8,9 +8,10 @@ use Rattle.cls_base.specs.Taxonomies.{Variance}
 use Rattle.cls_path.specs.Paths.{TypePath, unit, left, right, listed}
 use Rattle.cls_path.specs.NormalForms.{IsNormalForm}
 use Rattle.cls_path.specs.PathLists.{ArePathsOf}
+use Rattle.cls_path.proofs.Remains.{listed-append}
 use Rattle.cls_path.proofs.TypeParts.{product_paths, meet_paths}
 use Rattle.cls_norm.specs.PathLists.{or_else, PutsPathsOf}
-use Rattle.cls_norm.proofs.PathLists.{listed-append, listed-product}
+use Rattle.cls_norm.proofs.PathLists.{listed-product}
 
 -- what lies behind the old list is changed, and the old list stays
 seam :
