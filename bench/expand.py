@@ -143,14 +143,6 @@ fn nested(alloc: Global, count: u32) -> Result<Term, OutOfMemory>
     Ok(term)
 }
 
-/// The number of rules, and none for a wide goal.
-fn count_rules(answer: &Answer<Nf>) -> usize {
-    match answer {
-        Answer::Rules(rules) => rules.as_slice().len(),
-        Answer::Wide => 0,
-    }
-}
-
 fn main(rt: HostRuntime) -> io::Result<()> {
     let alloc = rt.alloc();
     for line in rt.lines(alloc) {
@@ -173,7 +165,7 @@ fn main(rt: HostRuntime) -> io::Result<()> {
             let Ok(answer) = answer else {
                 return Ok(());
             };
-            println!(rt; "{} {time}", count_rules(&answer))?;
+            println!(rt; "{} {time}", answer.rule_count())?;
         } else if library.count() == 2 {
             let Ok(term) = nested(alloc, count) else {
                 return Ok(());

@@ -19,7 +19,7 @@ PROGRAM = '''// Reads a line of two numbers, of goals and of workers, and works 
 ghost use Rattle.std.specs.Prelude.{◌≡◌, ◌<◌, ◌+◌, ◌*◌, ◌%◌, IfOk};
 
 use cls_base::{Key, OpenGate, OutOfMemory};
-use cls_core::{Answer, Expand, Goals, Rule, Rules};
+use cls_core::{Answer, Expand, GoalRules};
 use cls_table::Limits;
 use cls_workers::expand_all;
 use std::alloc::Global;
@@ -84,13 +84,10 @@ impl Expand for Ring {
             next(size, id, 9),
             next(size, id, 10),
         ];
-        let args = Vec::from_slice(alloc, args.as_slice())?;
-        let mut rules = Vec::new(alloc);
-        rules.push(Rule::Head {
-            component: id,
-            args: Goals::new(args),
-        })?;
-        Ok(Answer::Rules(Rules::new(rules)))
+        let mut args = Vec::from_slice(alloc, args.as_slice())?;
+        let mut rules = GoalRules::new(alloc);
+        rules.push_head(id, &mut args)?;
+        Ok(Answer::Rules(rules))
     }
 
     ghost one_answer = { one_ring_answer };

@@ -29,7 +29,7 @@ fn goal(alloc: Global, library: &Library, text: &str) -> Result<Nf, Fail>
 /// The number of rules, None for a wide goal.
 fn count(answer: &Answer<Nf>) -> Option<usize> {
     match answer {
-        Answer::Rules(rules) => Some(rules.as_slice().len()),
+        Answer::Rules(rules) => Some(rules.len()),
         Answer::Wide => None,
     }
 }
