@@ -22,7 +22,6 @@ ghost use Rattle.cls_expand.specs.Answers.{IsReady};
 
 use cls_base::{Name, OutOfMemory, Schema, Ty};
 use cls_check::has_type;
-use cls_core::Answer;
 use cls_expand::Expander;
 use cls_kind::{Choices, Kinds};
 use cls_library::Library;
