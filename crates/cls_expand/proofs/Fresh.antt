@@ -1,11 +1,11 @@
 -- A rule of a component with so many arguments is none of those made before.
-use Rattle.std.proofs.Common.{ℕ, ◌≡◌, ◌<◌, ◌≤◌, sym, ◌∙◌, subst, ap, ◌⊎◌, inl, inr, List, [], ◌∷◌, ◌++◌, length, length-append, get_or, take, drop, ◌+◌, arith, Contains, Some}
+use Rattle.std.proofs.Common.{ℕ, ◌≡◌, ◌<◌, ◌≤◌, sym, ◌∙◌, subst, ap, ◌⊎◌, inl, inr, List, [], ◌∷◌, ◌++◌, length, length-append, take, drop, ◌+◌, arith, Contains, Some}
 use Rattle.std.specs.Prelude.{map, slice_get}
 use Rattle.std.proofs.lemmas.List.{take-append-drop, take-append-le}
-use Rattle.std.proofs.lemmas.List.Elements.{Contains-push_cases, Contains-append_right, Contains-append_cases}
+use Rattle.std.proofs.lemmas.List.Elements.{Contains-append_right, Contains-append_cases}
 use Rattle.cls_base.specs.declared.rule.Rule.{Rule}
 use Rattle.cls_base.specs.declared.rule.Rule.TheVariants.{Head}
-use Rattle.cls_base.proofs.Lists.{Contains-map, Contains-from_map, map_last, take_next}
+use Rattle.cls_base.proofs.Lists.{Contains-map, Contains-from_map, map_last}
 use Rattle.cls_path.specs.Paths.{TypePath, Paths, listed}
 use Rattle.cls_cover.specs.Members.{Member}
 use Rattle.cls_cover.proofs.Lists.{contains_member, member_contains}
@@ -29,15 +29,6 @@ kept_front {A} some x begin start old new (inr u) l e = (
   subst (λ (xs : List A). begin ≤ length xs) (sym u.1) (let k : length (old ++ x ∷ []) ≡ length old + 1 = length-append old (x ∷ []) in omega arith),
   ap (λ (xs : List A). take begin xs) u.1 ∙ (take-append-le begin old (x ∷ []) l ∙ e),
 )
-
--- what isn't among the first ones, nor is the next
-pub none_yet : {A : Type 0} (xs : List A) (i : ℕ) (x next : A) → i < length xs → next ≡ get_or xs i next → (next ≡ x → ⊥) → (Contains (take i xs) x → ⊥) → Contains (take (i + 1) xs) x → ⊥
-none_yet {A} xs i x next l e n h m =
-    let cut : take (i + 1) xs ≡ take i xs ++ next ∷ [] = take_next xs i next l ∙ ap (λ (z : A). take i xs ++ z ∷ []) (sym e) in
-    elim (Contains-push_cases (take i xs) next x (subst (λ (zs : List A). Contains zs x) cut m)) [
-      | inl k ↦ h k
-      | inr k ↦ n k
-    ]
 
 -- the only rule of omega
 pub only_rule : (start all : List (Rule (List TypePath))) (x : ℕ) (args : List (List TypePath)) → start ≡ [] → args ≡ [] → all ≡ start ++ Head x args ∷ [] → map rule_of all ≡ Head x [] ∷ []

@@ -2,13 +2,12 @@
 use Rattle.std.proofs.Common.{ℕ, ◌≡◌, ◌+◌, ◌<◌, refl, sym, ◌∙◌, subst, ap, ◌⊎◌, inl, inr, List, [], ◌∷◌, ◌++◌, length, take, Bool, true, false, Contains}
 use Rattle.std.specs.Prelude.{map, if◌then◌else◌, ◌&&◌, ◌||◌, slice_index_or}
 use Rattle.std.specs.List.{list_any}
-use Rattle.std.specs.Cmp.Lexicographic.{pointwise}
 use Rattle.std.proofs.lemmas.List.{get_or_default}
 use Rattle.std.proofs.lemmas.Slice.Eq.{slice_eq-Decides}
 use Rattle.std.proofs.lemmas.Bool.Decides.{Decides-eqb}
 use Rattle.std.specs.Ordering.{eq_by_cmp}
 use Rattle.cls_base.specs.declared.rule.Rule.{Rule}
-use Rattle.cls_base.specs.declared.rule.Rule.TheVariants.{Head, Any}
+use Rattle.cls_base.specs.declared.rule.Rule.TheVariants.{Head}
 use Rattle.cls_base.proofs.Lists.{Contains-nil, Contains-here, Contains-later, Contains-cases, map_last, take_next}
 use Rattle.cls_path.specs.Paths.{TypePath, Paths, more, listed, type_of_paths}
 use Rattle.cls_path.specs.PathOrder.{list_order}
@@ -33,20 +32,6 @@ both_back false b e f = absurd (let g : false ≡ true = e in cc)
 
 lists_same : (a b : List TypePath) → (eq_by_cmp list_order a b ≡ true → a ≡ b) × (a ≡ b → eq_by_cmp list_order a b ≡ true)
 lists_same a b = (list_same a b, λ e. subst (λ (z : List TypePath). eq_by_cmp list_order a z ≡ true) e (list_equal.refl a))
-
-args_of_rule : Rule (List TypePath) → List (List TypePath)
-args_of_rule (Head x args) = args
-args_of_rule (Any m n) = []
-
-same_args : (x y : ℕ) (own args : List (List TypePath)) → ◌≡◌ {A = Rule (List TypePath)} (Head y own) (Head x args) → own ≡ args
-unfolding args_of_rule
-same_args x y own args e = ap args_of_rule e
-
--- whether a rule is that of a component with these arguments
-pub rule_is : (r : Rule (List TypePath)) (x y : ℕ) (own slice args : List (List TypePath)) (b : Bool) → r ≡ Head y own → y ≡ x → slice ≡ own → b ≡ pointwise (eq_by_cmp list_order) slice args → (b ≡ true → r ≡ Head x args) × (r ≡ Head x args → b ≡ true)
-rule_is r x y own slice args b e f g h =
-    let d = slice_eq-Decides lists_same slice args b h in
-    ((λ t. e ∙ (let k : own ≡ args = sym g ∙ d.0 t in (λ i. Head (f i) (k i)))), (λ k. d.1 (g ∙ same_args x y own args (sym e ∙ k))))
 
 -- spines are the same if and only if their rules are equal
 same_rule : (s t : Spine) → spine_same s t ≡ true → rule_of_spine s ≡ rule_of_spine t

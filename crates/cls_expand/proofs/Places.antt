@@ -62,22 +62,22 @@ heads_last : (ns : List ℕ) (n : ℕ) → heads (ns ++ n ∷ []) ≡ heads ns +
 heads_last [] n = refl
 heads_last (x ∷ ns) n = ap (λ rs. Head x [] ∷ rs) (heads_last ns n)
 
-pub omega_step : (old new : List (Rule (List TypePath))) (r : Rule (List TypePath)) (k : ℕ) → new ≡ old ++ r ∷ [] → rule_of r ≡ Head k [] → map rule_of old ≡ heads (numbers_from 0 k) → map rule_of new ≡ heads (numbers_from 0 (k + 1))
-omega_step old new r k e f h =
+pub omega_step : (old new : List (Rule (List TypePath))) (args : List (List TypePath)) (k : ℕ) → args ≡ [] → new ≡ old ++ Head k args ∷ [] → map rule_of old ≡ heads (numbers_from 0 k) → map rule_of new ≡ heads (numbers_from 0 (k + 1))
+omega_step old new args k f e h =
     ap (map rule_of) e
-    ∙ (map_last rule_of old r
-    ∙ (ap (λ (rs : List (Rule Paths)). rs ++ rule_of r ∷ []) h
-    ∙ (ap (λ (q : Rule Paths). heads (numbers_from 0 k) ++ q ∷ []) f
+    ∙ (map_last rule_of old (Head k args)
+    ∙ (ap (λ (rs : List (Rule Paths)). rs ++ Head k (map listed args) ∷ []) h
+    ∙ (ap (λ (ns : List (List TypePath)). heads (numbers_from 0 k) ++ Head k (map listed ns) ∷ []) f
     ∙ (sym (heads_last (numbers_from 0 k) k)
     ∙ (ap (λ (n : ℕ). heads (numbers_from 0 k ++ n ∷ [])) (let e : k ≡ 0 + k = omega arith in e)
     ∙ ap heads (sym (from_last 0 k) ∙ ap (numbers_from 0) (let e : suc k ≡ k + 1 = omega arith in e)))))))
 
-pub omega_last : (old new : List (Rule (List TypePath))) (r : Rule (List TypePath)) (k count : ℕ) → new ≡ old ++ r ∷ [] → rule_of r ≡ Any none none → k ≡ count → map rule_of old ≡ heads (numbers_from 0 k) → map rule_of new ≡ omega_rules count
-omega_last old new r k count e f c h =
+pub omega_last : (old new : List (Rule (List TypePath))) (left right : List TypePath) (k count : ℕ) → left ≡ [] → right ≡ [] → new ≡ old ++ Any left right ∷ [] → k ≡ count → map rule_of old ≡ heads (numbers_from 0 k) → map rule_of new ≡ omega_rules count
+omega_last old new left right k count l r e c h =
     ap (map rule_of) e
-    ∙ (map_last rule_of old r
-    ∙ (ap (λ (rs : List (Rule Paths)). rs ++ rule_of r ∷ []) h
-    ∙ (ap (λ (q : Rule Paths). heads (numbers_from 0 k) ++ q ∷ []) f
+    ∙ (map_last rule_of old (Any left right)
+    ∙ (ap (λ (rs : List (Rule Paths)). rs ++ Any (listed left) (listed right) ∷ []) h
+    ∙ ((λ i. heads (numbers_from 0 k) ++ Any (listed (l i)) (listed (r i)) ∷ [])
     ∙ ap (λ (n : ℕ). heads (numbers_from 0 n) ++ Any none none ∷ []) c)))
 
 module _ (l : Library) (arrows : List MultiArrow) where
@@ -124,21 +124,18 @@ module _ (l : Library) (x n : ℕ) (goal : List TypePath) (fs list : List (List 
       (λ k. subst (λ (p : Paths). IsWideBy l x p) (sym e) k)
       (f choice (subst (λ (p : Paths). AreBegun l p from x n [] old) e b))
 
--- the rules of the spines, put behind others
-pub heads_init : (old rs : List (Rule (List TypePath))) (iterator keys : List Spine) → rs ≡ old → iterator ≡ keys → map rule_of rs ++ map rule_of_spine iterator ≡ map rule_of old ++ map rule_of_spine keys
-heads_init old rs iterator keys e f = ap (λ (qs : List (Rule (List TypePath))). map rule_of qs ++ map rule_of_spine iterator) e ∙ ap (λ (ss : List Spine). map rule_of old ++ map rule_of_spine ss) f
-
 last_apart : {A : Type 0} (xs ys : List A) (x : A) → (xs ++ x ∷ []) ++ ys ≡ xs ++ x ∷ ys
 last_apart [] ys x = refl
 last_apart (z ∷ xs) ys x = ap (λ l. z ∷ l) (last_apart xs ys x)
 
-pub heads_step : (old new : List (Rule (List TypePath))) (r : Rule (List TypePath)) (before after : List Spine) (all : List (Rule Paths)) (s : Spine) → new ≡ old ++ r ∷ [] → rule_of r ≡ rule_of_spine s → before ≡ s ∷ after → map rule_of old ++ map rule_of_spine before ≡ all → map rule_of new ++ map rule_of_spine after ≡ all
-heads_step old new r before after all s e f g h =
+-- one rule of the spines more, put behind others
+pub heads_step : (old new : List (Rule (List TypePath))) (before after : List Spine) (all : List (Rule Paths)) (s : Spine) → new ≡ old ++ Head s.component s.args.items ∷ [] → before ≡ s ∷ after → map rule_of old ++ map rule_of_spine before ≡ all → map rule_of new ++ map rule_of_spine after ≡ all
+heads_step old new before after all s e g h =
+    let r : Rule (List TypePath) = Head s.component s.args.items in
     ap (λ (qs : List (Rule (List TypePath))). map rule_of qs ++ map rule_of_spine after) e
     ∙ (ap (λ (qs : List (Rule Paths)). qs ++ map rule_of_spine after) (map_last rule_of old r)
     ∙ (last_apart (map rule_of old) (map rule_of_spine after) (rule_of r)
-    ∙ (ap (λ (q : Rule Paths). map rule_of old ++ q ∷ map rule_of_spine after) f
-    ∙ (ap (λ (ss : List Spine). map rule_of old ++ map rule_of_spine ss) (sym g) ∙ h))))
+    ∙ (ap (λ (ss : List Spine). map rule_of old ++ map rule_of_spine ss) (sym g) ∙ h)))
 
 pub heads_done : (rs : List (Rule (List TypePath))) (iterator : List Spine) (all : List (Rule Paths)) → iterator ≡ [] → map rule_of rs ++ map rule_of_spine iterator ≡ all → map rule_of rs ≡ all
 heads_done rs iterator all e h = sym (append_nothing (map rule_of rs)) ∙ (ap (λ (ss : List Spine). map rule_of rs ++ map rule_of_spine ss) (sym e) ∙ h)

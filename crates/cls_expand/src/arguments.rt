@@ -57,43 +57,49 @@ fn source_at(alloc: Global, arrow: &MultiArrow<'_>, place: usize) -> Result<Nf, 
     }
 }
 
-/// Copies of what the arrow takes, place by place.
-fn sources(alloc: Global, arrow: &MultiArrow<'_>, count: u32) -> Result<Vec<Nf>, OutOfMemory>
+/// Makes the list copies of what the arrow takes, place by place.
+fn sources(
+    alloc: Global,
+    arrow: &MultiArrow<'_>,
+    count: u32,
+    args: &mut Vec<Nf>,
+) -> Result<(), OutOfMemory>
     requires { length arrow.now.sources ≡ count }
-    ensures { IfOk result (λ args. map listed args.items ≡ arrow.now.sources) }
+    ensures { OnOk result (map listed args.new.items ≡ arrow.now.sources) }
 {
-    let mut args = Vec::with_capacity(alloc, count as usize)?;
+    args.clear();
     for place in 0..count {
         args.push(source_at(alloc, arrow, place as usize)?)?;
     }
-    Ok(args)
+    Ok(())
 }
 
-/// The arguments of the rule that the component makes by the cover of its arrows with `count` sources: for each place
-/// the normal form of the intersection of the sources there. The sources of a single arrow are normal forms as they are.
-/// The only error is out of memory.
+/// Makes the list the arguments of the rule that the component makes by the cover of its arrows with `count` sources, whatever
+/// it held: for each place the normal form of the intersection of the sources there. The sources of a single arrow are normal
+/// forms as they are. The only error is out of memory.
 pub fn arguments(
     alloc: Global,
     lib: &Library,
     x: u32,
     count: u32,
     cover: &[u32],
-) -> Result<Vec<Nf>, OutOfMemory>
+    args: &mut Vec<Nf>,
+) -> Result<(), OutOfMemory>
     requires declared { x < length lib.now.components }
     requires within { count ≤ arity_of (paths_at lib.now x) }
     requires below { (i : ℕ) → Contains cover.now i → i < length (arrows_at lib.now x count) }
-    ensures { IfOk result (λ args. IsRuleFor lib.now (choice_at x count cover.now) (Head x (map listed args.items))) }
+    ensures { OnOk result (IsRuleFor lib.now (choice_at x count cover.now) (Head x (map listed args.new.items))) }
 {
     let arrows = lib.arrows(x, count);
     if let [i] = cover {
-        return Ok(sources(alloc, &arrows.get(*i as usize), count)?);
+        return sources(alloc, &arrows.get(*i as usize), count, args);
     }
-    let mut args = Vec::with_capacity(alloc, count as usize)?;
+    args.clear();
     for place in 0..count {
         let paths = gather(alloc, &arrows, cover, place as usize)?;
         args.push(Nf::from_paths(alloc, lib.taxonomy(), paths)?)?;
     }
-    Ok(args)
+    Ok(())
 }
 
 /// Whether each of the arguments is fit; if not, one of them isn't.

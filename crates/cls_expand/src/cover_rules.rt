@@ -1,6 +1,7 @@
 //! The rules that a component makes by covers of one number of arguments. They differ from those of other components and
-//! of other numbers, so equal ones are looked for among themselves alone.
-ghost use Rattle.std.specs.Prelude.{◌≡◌, ℕ, ◌<◌, ◌≤◌, ◌↔◌, ◌++◌, ◌∷◌, Contains, IfOk, OnOk, IsTrue, MatchBool, List, [], length, map, drop};
+//! of other numbers, so equal ones are looked for among themselves alone. A list of arguments that is passed is room for those of
+//! one rule, whatever it holds.
+ghost use Rattle.std.specs.Prelude.{◌≡◌, ℕ, ◌<◌, ◌≤◌, ◌++◌, ◌∷◌, Contains, IfOk, OnOk, MatchBool, List, [], length, map, drop};
 ghost use Rattle.cls_base.specs.declared.rule.Rule.TheVariants.{Head};
 ghost use Rattle.cls_path.specs.Paths.{TypePath, Paths, more};
 ghost use Rattle.cls_library.specs.Arrows.{arity_of};
@@ -11,7 +12,8 @@ ghost use Rattle.cls_expand.specs.Making.{AreBegun, PutsNew, rule_of_spine, choi
 
 use crate::arguments::{all_fit, arguments};
 use crate::spine::Spine;
-use cls_base::{Goals, NumberLists, OutOfMemory, Rule};
+use cls_base::{NumberLists, OutOfMemory};
+use cls_core::GoalRules;
 use cls_library::Library;
 use cls_path::Nf;
 use indexmap::IndexSet;
@@ -27,7 +29,8 @@ pub(crate) fn add_lone(
     x: u32,
     n: u32,
     cover: &[u32],
-    rules: &mut Vec<Rule<Nf>>,
+    args: &mut Vec<Nf>,
+    rules: &mut GoalRules<Nf>,
 ) -> Result<bool, OutOfMemory>
     requires declared { x < length lib.now.components }
     requires within { n ≤ arity_of (paths_at lib.now x) }
@@ -35,16 +38,15 @@ pub(crate) fn add_lone(
     requires library { IsLibrary lib.now }
     ensures { IfOk result (λ narrow. (q : TypePath) (rest : Paths) (from : ℕ) → from ≤ x
         → IsChoice lib.now (more q rest) (choice_at x n cover.now)
-        → AreBegun lib.now (more q rest) from x n [] (map rule_of rules.old.items)
-        → MatchBool narrow (AreBegun lib.now (more q rest) from x n (cover.now ∷ []) (map rule_of rules.new.items))
+        → AreBegun lib.now (more q rest) from x n [] (map rule_of rules.old)
+        → MatchBool narrow (AreBegun lib.now (more q rest) from x n (cover.now ∷ []) (map rule_of rules.new))
         (IsWideBy lib.now x (more q rest))) }
 {
-    let args = arguments(alloc, lib, x, n, cover)?;
+    arguments(alloc, lib, x, n, cover, args)?;
     if !all_fit(alloc, args.as_slice())? {
         return Ok(false);
     }
-    let args = Goals::new(args);
-    rules.push(Rule::Head { component: x, args })?;
+    rules.push_head(x, args)?;
     Ok(true)
 }
 
@@ -55,7 +57,8 @@ pub(crate) fn add_covers(
     x: u32,
     n: u32,
     covers: &NumberLists,
-    rules: &mut Vec<Rule<Nf>>,
+    args: &mut Vec<Nf>,
+    rules: &mut GoalRules<Nf>,
 ) -> Result<bool, OutOfMemory>
     requires declared { x < length lib.now.components }
     requires within { n ≤ arity_of (paths_at lib.now x) }
@@ -64,12 +67,12 @@ pub(crate) fn add_covers(
     requires library { IsLibrary lib.now }
     ensures { IfOk result (λ narrow. (q : TypePath) (rest : Paths) (from : ℕ) → from ≤ x
         → ((s : List ℕ) → Contains covers.now s → IsChoice lib.now (more q rest) (choice_at x n s))
-        → AreBegun lib.now (more q rest) from x n [] (map rule_of rules.old.items)
-        → MatchBool narrow (AreBegun lib.now (more q rest) from x n covers.now (map rule_of rules.new.items))
+        → AreBegun lib.now (more q rest) from x n [] (map rule_of rules.old)
+        → MatchBool narrow (AreBegun lib.now (more q rest) from x n covers.now (map rule_of rules.new))
         (IsWideBy lib.now x (more q rest))) }
 {
     if covers.len() <= FEW {
-        return add_few(alloc, lib, x, n, covers, rules);
+        return add_few(alloc, lib, x, n, covers, args, rules);
     }
     add_many(alloc, lib, x, n, covers, rules)
 }
@@ -81,7 +84,8 @@ fn add_few(
     x: u32,
     n: u32,
     covers: &NumberLists,
-    rules: &mut Vec<Rule<Nf>>,
+    args: &mut Vec<Nf>,
+    rules: &mut GoalRules<Nf>,
 ) -> Result<bool, OutOfMemory>
     requires declared { x < length lib.now.components }
     requires within { n ≤ arity_of (paths_at lib.now x) }
@@ -90,13 +94,13 @@ fn add_few(
     requires library { IsLibrary lib.now }
     ensures { IfOk result (λ narrow. (q : TypePath) (rest : Paths) (from : ℕ) → from ≤ x
         → ((s : List ℕ) → Contains covers.now s → IsChoice lib.now (more q rest) (choice_at x n s))
-        → AreBegun lib.now (more q rest) from x n [] (map rule_of rules.old.items)
-        → MatchBool narrow (AreBegun lib.now (more q rest) from x n covers.now (map rule_of rules.new.items))
+        → AreBegun lib.now (more q rest) from x n [] (map rule_of rules.old)
+        → MatchBool narrow (AreBegun lib.now (more q rest) from x n covers.now (map rule_of rules.new))
         (IsWideBy lib.now x (more q rest))) }
 {
     let begin = rules.len();
     for place in 0..covers.len() {
-        let args = arguments(alloc, lib, x, n, covers.get(place))?;
+        arguments(alloc, lib, x, n, covers.get(place), args)?;
         if !all_fit(alloc, args.as_slice())? {
             return Ok(false);
         }
@@ -107,45 +111,18 @@ fn add_few(
 
 /// Adds the rule, unless it is among the rules from `begin` on.
 fn add_new(
-    rules: &mut Vec<Rule<Nf>>,
+    rules: &mut GoalRules<Nf>,
     begin: usize,
     x: u32,
-    args: Vec<Nf>,
+    args: &mut Vec<Nf>,
 ) -> Result<(), OutOfMemory>
-    requires { begin ≤ length rules.old.items }
-    ensures { OnOk result (PutsNew (drop begin rules.old.items) (Head x args.items) rules.old.items rules.new.items) }
+    requires { begin ≤ length rules.old }
+    ensures { OnOk result (PutsNew (drop begin rules.old) (Head x args.old.items) rules.old rules.new) }
 {
-    if some_is(&rules[begin..], x, args.as_slice()) {
+    if rules.has_head(begin, x, args.as_slice()) {
         return Ok(());
     }
-    let args = Goals::new(args);
-    rules.push(Rule::Head { component: x, args })?;
-    Ok(())
-}
-
-/// Whether one of the rules is that of the component with these arguments.
-fn some_is(rules: &[Rule<Nf>], x: u32, args: &[Nf]) -> bool
-    ensures { IsTrue result ↔ Contains rules.now (Head x args.now) }
-{
-    for rule in rules {
-        if is(rule, x, args) {
-            return true;
-        }
-    }
-    false
-}
-
-/// Whether the rule is that of the component with these arguments.
-fn is(rule: &Rule<Nf>, x: u32, args: &[Nf]) -> bool
-    ensures { IsTrue result ↔ (rule.now ≡ Head x args.now) }
-{
-    match rule {
-        Rule::Head {
-            component,
-            args: own,
-        } => *component == x && own.as_slice() == args,
-        Rule::Any { .. } => false,
-    }
+    rules.push_head(x, args)
 }
 
 /// The same for many covers.
@@ -155,7 +132,7 @@ fn add_many(
     x: u32,
     n: u32,
     covers: &NumberLists,
-    rules: &mut Vec<Rule<Nf>>,
+    rules: &mut GoalRules<Nf>,
 ) -> Result<bool, OutOfMemory>
     requires declared { x < length lib.now.components }
     requires within { n ≤ arity_of (paths_at lib.now x) }
@@ -164,13 +141,14 @@ fn add_many(
     requires library { IsLibrary lib.now }
     ensures { IfOk result (λ narrow. (q : TypePath) (rest : Paths) (from : ℕ) → from ≤ x
         → ((s : List ℕ) → Contains covers.now s → IsChoice lib.now (more q rest) (choice_at x n s))
-        → AreBegun lib.now (more q rest) from x n [] (map rule_of rules.old.items)
-        → MatchBool narrow (AreBegun lib.now (more q rest) from x n covers.now (map rule_of rules.new.items))
+        → AreBegun lib.now (more q rest) from x n [] (map rule_of rules.old)
+        → MatchBool narrow (AreBegun lib.now (more q rest) from x n covers.now (map rule_of rules.new))
         (IsWideBy lib.now x (more q rest))) }
 {
     let mut spines = IndexSet::with_capacity(alloc, covers.len())?;
     for place in 0..covers.len() {
-        let args = arguments(alloc, lib, x, n, covers.get(place))?;
+        let mut args = Vec::with_capacity(alloc, n as usize)?;
+        arguments(alloc, lib, x, n, covers.get(place), &mut args)?;
         if !all_fit(alloc, args.as_slice())? {
             return Ok(false);
         }
@@ -181,15 +159,15 @@ fn add_many(
 }
 
 /// Puts the rules of the spines last.
-fn add_spines(spines: IndexSet<Spine>, rules: &mut Vec<Rule<Nf>>) -> Result<(), OutOfMemory>
-    ensures { OnOk result (map rule_of rules.new.items
-        ≡ map rule_of rules.old.items ++ map rule_of_spine spines.keys) }
+fn add_spines(spines: IndexSet<Spine>, rules: &mut GoalRules<Nf>) -> Result<(), OutOfMemory>
+    ensures { OnOk result (map rule_of rules.new ≡ map rule_of rules.old ++ map rule_of_spine spines.keys) }
 {
-    rules.reserve(spines.len())?;
     for spine in spines {
-        let Spine { component, args } = spine;
-        let args = Goals::new(args);
-        rules.push(Rule::Head { component, args })?;
+        let Spine {
+            component,
+            mut args,
+        } = spine;
+        rules.push_head(component, &mut args)?;
     }
     Ok(())
 }

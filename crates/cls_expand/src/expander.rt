@@ -11,8 +11,8 @@ ghost use Rattle.cls_expand.specs.Answers.{IsAnswer, IsAnswerBy, IsReady, rule_o
 ghost use Rattle.cls_expand.specs.Making.{AddsPlace, AreRulesBetween, IsNextBefore};
 
 use crate::cover_rules::{add_covers, add_lone};
-use cls_base::{Goals, Numbers, OutOfMemory, Rule, Rules};
-use cls_core::{Answer, Expand, TypedExpand};
+use cls_base::{Numbers, OutOfMemory};
+use cls_core::{Answer, Expand, GoalRules, TypedExpand};
 use cls_cover::{CoverFault, covers, lone_cover};
 use cls_library::{Families, Finder, Library, Place};
 use cls_path::Nf;
@@ -21,6 +21,29 @@ use std::marker::Model;
 
 /// The greatest number of minimal covers.
 const MAX_COVERS: u32 = 1024;
+
+/// The greatest number of rules that room is made for before they are found. What a goal doesn't need stays with its answer.
+const MAX_ROOM: usize = 64;
+
+/// Room for what is worked out at one place. No answer rests on what it holds.
+#[derive(Drop)]
+struct Room {
+    // The positions of families of one position each, and the cover that they make.
+    positions: Vec<u32>,
+    cover: Vec<u32>,
+    // The arguments of a rule.
+    args: Vec<Nf>,
+}
+
+impl Room {
+    fn new(alloc: Global) -> Room {
+        Room {
+            positions: Vec::new(alloc),
+            cover: Vec::new(alloc),
+            args: Vec::new(alloc),
+        }
+    }
+}
 
 /// Gives the rules of goals by a library, and is seen as that.
 #[derive(Drop)]
@@ -141,18 +164,18 @@ fn rules_between(
     requires within { end ≤ length lib.now.components }
     ensures { IfOk result (AreRulesBetween lib.now goal.now begin end) }
 {
-    let mut rules = Vec::new(alloc);
-    if Finder::finds_nothing(lib, goal) {
-        return Ok(Answer::Rules(Rules::new(rules)));
-    }
-    let mut finder = Finder::new(alloc, lib, goal)?;
-    let mut cover = Vec::new(alloc);
+    let Some(mut finder) = Finder::new(alloc, lib, goal)? else {
+        return Ok(Answer::Rules(GoalRules::new(alloc)));
+    };
+    let places = finder.room().min(MAX_ROOM);
+    let mut rules = GoalRules::with_room(alloc, places, places)?;
+    let mut room = Room::new(alloc);
     let mut from = Place {
         component: begin,
         count: 0,
     };
     while let Some(place) = next_before(&mut finder, from, end) {
-        if !add_place(alloc, lib, &mut finder, place, &mut cover, &mut rules)? {
+        if !add_place(alloc, lib, &mut finder, place, &mut room, &mut rules)? {
             return Ok(Answer::Wide);
         }
         from = Place {
@@ -160,7 +183,7 @@ fn rules_between(
             count: place.count + 1,
         };
     }
-    Ok(Answer::Rules(Rules::new(rules)))
+    Ok(Answer::Rules(rules))
 }
 
 /// The next place from this one on, before a component, where an arrow may lead to the goal's first path.
@@ -175,30 +198,35 @@ fn next_before(finder: &mut Finder<'_>, from: Place, end: u32) -> Option<Place>
     }
 }
 
-/// Adds the rules of one place, and answers whether the goal isn't wide by them. `cover` is room for a cover, whatever it holds.
+/// Adds the rules of one place, and answers whether the goal isn't wide by them.
 fn add_place(
     alloc: Global,
     lib: &Library,
     finder: &mut Finder<'_>,
     place: Place,
-    cover: &mut Vec<u32>,
-    rules: &mut Vec<Rule<Nf>>,
+    room: &mut Room,
+    rules: &mut GoalRules<Nf>,
 ) -> Result<bool, OutOfMemory>
     requires library { finder.old.library ≡ lib.now }
     requires ready { IsReady lib.now finder.old.goal }
     requires path { 0 < length finder.old.goal }
     requires place { IsPlace lib.now place }
     ensures same { finder.new ≡ finder.old }
-    ensures rules { IfOk result (AddsPlace lib.now finder.old.goal place rules.old.items rules.new.items) }
+    ensures rules { IfOk result (AddsPlace lib.now finder.old.goal place rules.old rules.new) }
 {
     let Place { component, count } = place;
-    match finder.families(alloc, place)? {
+    let Room {
+        positions,
+        cover,
+        args,
+    } = room;
+    match finder.families(alloc, place, positions)? {
         Families::Single(positions) => {
-            lone_cover(positions.as_slice(), cover)?;
-            add_lone(alloc, lib, component, count, cover, rules)
+            lone_cover(positions, cover)?;
+            add_lone(alloc, lib, component, count, cover, args, rules)
         }
         Families::Several(families) => match covers(alloc, families.as_slice(), MAX_COVERS) {
-            Ok(list) => add_covers(alloc, lib, component, count, &list, rules),
+            Ok(list) => add_covers(alloc, lib, component, count, &list, args, rules),
             Err(CoverFault::TooManyCovers(_)) => Ok(false),
             Err(CoverFault::OutOfMemory) => Err(OutOfMemory),
         },
@@ -206,27 +234,24 @@ fn add_place(
 }
 
 /// The rule of the component alone.
-fn head_alone(alloc: Global, x: u32) -> Result<Rules<Nf>, OutOfMemory>
+fn head_alone(alloc: Global, x: u32) -> Result<GoalRules<Nf>, OutOfMemory>
     ensures { IfOk result (λ rules. map rule_of rules ≡ Head x [] ∷ []) }
 {
-    let mut rules = Vec::new(alloc);
-    let args = Goals::new(Vec::new(alloc));
-    rules.push(Rule::Head { component: x, args })?;
-    Ok(Rules::new(rules))
+    let mut rules = GoalRules::new(alloc);
+    rules.push_head(x, &mut Vec::new(alloc))?;
+    Ok(rules)
 }
 
 /// The rules of omega: each component alone, and any term applied to any.
-fn omega(alloc: Global, count: u32) -> Result<Rules<Nf>, OutOfMemory>
+fn omega(alloc: Global, count: u32) -> Result<GoalRules<Nf>, OutOfMemory>
     ensures { IfOk result (λ rules. map rule_of rules ≡ omega_rules count) }
 {
-    let mut rules = Vec::new(alloc);
+    let mut rules = GoalRules::with_room(alloc, count as usize + 1, 2)?;
     for component in 0..count {
-        let args = Goals::new(Vec::new(alloc));
-        rules.push(Rule::Head { component, args })?;
+        rules.push_head(component, &mut Vec::new(alloc))?;
     }
-    let (left, right) = (Nf::empty(alloc), Nf::empty(alloc));
-    rules.push(Rule::Any { left, right })?;
-    Ok(Rules::new(rules))
+    rules.push_any(Nf::empty(alloc), Nf::empty(alloc))?;
+    Ok(rules)
 }
 
 /// For each path of the goal the positions of the arrows that lead to it. The only error is out of memory.

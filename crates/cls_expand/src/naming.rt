@@ -1,11 +1,11 @@
 //! Goals in place of the numbers of an answer.
-ghost use Rattle.std.specs.Prelude.{◌≡◌, IfOk, map, slice_index_or};
+ghost use Rattle.std.specs.Prelude.{◌≡◌, ◌∷◌, ◌++◌, [], IfOk, OnOk, map, slice_index_or};
 ghost use Rattle.cls_core.specs.Arguments.{map_answer};
 ghost use Rattle.cls_rulebook.specs.Arguments.{map_rule};
 ghost use Rattle.cls_rulebook.specs.Columns.{rule_of};
 
-use cls_base::{Goals, Key, OutOfMemory, Rule, Rules};
-use cls_core::{Answer, NodeAnswer};
+use cls_base::{Key, OutOfMemory};
+use cls_core::{Answer, GoalRules, NodeAnswer};
 use cls_rulebook::{NodeRules, RuleRef};
 use std::alloc::Global;
 
@@ -16,39 +16,45 @@ fn name<G: Key + Drop>(alloc: Global, goals: &[G], other: &G, number: u32) -> Re
     goals.get(number as usize).unwrap_or(other).copy(alloc)
 }
 
+/// Makes the list the goals with these numbers.
 fn name_goals<G: Key + Drop>(
     alloc: Global,
     goals: &[G],
     other: &G,
     numbers: &[u32],
-) -> Result<Goals<G>, OutOfMemory>
-    ensures { IfOk result (λ named. named ≡ map (λ i. slice_index_or goals.now i other.now) numbers.now) }
+    named: &mut Vec<G>,
+) -> Result<(), OutOfMemory>
+    ensures { OnOk result (named.new.items ≡ map (λ i. slice_index_or goals.now i other.now) numbers.now) }
 {
-    let mut named = Vec::with_capacity(alloc, numbers.len())?;
+    named.clear();
     for number in numbers {
         named.push(name(alloc, goals, other, *number)?)?;
     }
-    Ok(Goals::new(named))
+    Ok(())
 }
 
+/// Puts the rule last, with goals in place of its numbers. `room` is room for its arguments, whatever it holds.
 fn name_rule<G: Key + Drop>(
     alloc: Global,
     goals: &[G],
     other: &G,
     rule: RuleRef<'_>,
-) -> Result<Rule<G>, OutOfMemory>
-    ensures { IfOk result (λ named.
-        named ≡ map_rule (λ i. slice_index_or goals.now i other.now) (rule_of rule.entry)) }
+    room: &mut Vec<G>,
+    named: &mut GoalRules<G>,
+) -> Result<(), OutOfMemory>
+    ensures { OnOk result
+        (named.new ≡ named.old ++ map_rule (λ i. slice_index_or goals.now i other.now) (rule_of rule.entry) ∷ []) }
 {
     match rule {
-        RuleRef::Head { component, args } => Ok(Rule::Head {
-            component,
-            args: name_goals(alloc, goals, other, args)?,
-        }),
-        RuleRef::Any { left, right } => Ok(Rule::Any {
-            left: name(alloc, goals, other, left)?,
-            right: name(alloc, goals, other, right)?,
-        }),
+        RuleRef::Head { component, args } => {
+            name_goals(alloc, goals, other, args, room)?;
+            named.push_head(component, room)
+        }
+        RuleRef::Any { left, right } => {
+            let left = name(alloc, goals, other, left)?;
+            let right = name(alloc, goals, other, right)?;
+            named.push_any(left, right)
+        }
     }
 }
 
@@ -57,14 +63,15 @@ fn name_rules<G: Key + Drop>(
     goals: &[G],
     other: &G,
     rules: &NodeRules,
-) -> Result<Rules<G>, OutOfMemory>
+) -> Result<GoalRules<G>, OutOfMemory>
     ensures { IfOk result (λ named. named ≡ map (map_rule (λ i. slice_index_or goals.now i other.now)) rules.now) }
 {
-    let mut named = Vec::with_capacity(alloc, rules.len())?;
+    let mut named = GoalRules::with_room(alloc, rules.len(), rules.arguments().len())?;
+    let mut room = Vec::new(alloc);
     for place in 0..rules.len() {
-        named.push(name_rule(alloc, goals, other, rules.get(place))?)?;
+        name_rule(alloc, goals, other, rules.get(place), &mut room, &mut named)?;
     }
-    Ok(Rules::new(named))
+    Ok(named)
 }
 
 /// The answer with goals in place of their numbers, and with the other goal in place of a number that no goal has. The

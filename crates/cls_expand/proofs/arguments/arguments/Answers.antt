@@ -9,6 +9,7 @@ use Rattle.cls_library.specs.Arrows.{MultiArrow}
 use Rattle.cls_library.specs.Libraries.{arrows_at, below_in, variances_in}
 use Rattle.cls_library.specs.Reaching.{IsReduced, columns}
 use Rattle.cls_expand.specs.Making.{gathered, picked_of}
+use Rattle.cls_expand.proofs.Places.{on_ok_map}
 use Rattle.cls_expand.proofs.Sources.{gather_suits, gather_canonical, argument_step, columns_size, rule_made, own_sources, picked_one, first_in_cover, picked_long}
 use Rattle.cls_expand.proofs.arguments.arguments.Goals as goal
 
@@ -26,7 +27,7 @@ from_paths-requires-clause-canonical c = subst (λ (t : Declared). EachCanonical
     (c.in_ok-paths.ensures ∙ ap (λ (arrows : List MultiArrow). gathered c.loop-place.place (picked_of arrows c.args.cover.now)) c.arrows-arrows.ensures.arrows))
 
 pub loop-place-init : goal.loop-place-init
-loop-place-init c = subst (λ (ns : List (List TypePath)). AllZip (IsReduced c.args.lib.now) [] (map listed ns)) (sym c.in_ok-args.ensures.items) tt
+loop-place-init c = subst (λ (ns : List (List TypePath)). AllZip (IsReduced c.args.lib.now) [] (map listed ns)) (sym c.clear.ensures.items) tt
 
 pub loop-place-preserved : goal.loop-place-preserved
 loop-place-preserved c =
@@ -55,6 +56,9 @@ pub returns-in-len1 : goal.returns-in-len1
 returns-in-len1 c =
     let e = picked_one (arrows_at c.args.lib.now c.args.x c.args.count) c.args.cover.now c.get.result c.in-len1.len_at_least c.in-len1.len_below
     (subst (λ (arrows : List MultiArrow). slice_get arrows (get_or c.args.cover.now 0 0) ≡ Some c.get.result) c.arrows-arrows.ensures.arrows c.get.ensures) in
-    rule_made c.args.lib.now c.arrows-arrows.ensures.library c.args.x c.args.count c.args.cover.now c.requires.below (map listed c.in_ok-sources.field-0.items)
-    (subst (λ (ns : List Paths). AllZip (IsReduced c.args.lib.now) (columns c.args.count (picked_of (arrows_at c.args.lib.now c.args.x c.args.count) c.args.cover.now)) ns) (sym c.in_ok-sources.ensures)
-    (own_sources c.args.lib.now c.arrows-arrows.ensures.library c.args.x c.args.count c.args.cover.now c.requires.below c.get.result e))
+    on_ok_map c.sources.result
+    (λ (same : map listed c.sources.new.args.items ≡ c.get.result.sources).
+    rule_made c.args.lib.now c.arrows-arrows.ensures.library c.args.x c.args.count c.args.cover.now c.requires.below (map listed c.sources.new.args.items)
+    (subst (λ (ns : List Paths). AllZip (IsReduced c.args.lib.now) (columns c.args.count (picked_of (arrows_at c.args.lib.now c.args.x c.args.count) c.args.cover.now)) ns) (sym same)
+    (own_sources c.args.lib.now c.arrows-arrows.ensures.library c.args.x c.args.count c.args.cover.now c.requires.below c.get.result e)))
+    c.sources.ensures

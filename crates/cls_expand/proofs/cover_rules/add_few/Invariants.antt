@@ -8,7 +8,7 @@ use Rattle.cls_expand.proofs.cover_rules.add_few.Given as goal
 
 abbrev pub invariant-loop-place : goal.invariant-loop-place
 invariant-loop-place l = record {
-  begun : (q : TypePath) (rest : Paths) (from : ℕ) → from ≤ l.x → ((s : List ℕ) → Contains l.covers s → IsChoice l.lib (more q rest) (choice_at l.x l.n s)) → AreBegun l.lib (more q rest) from l.x l.n [] (map rule_of l.fn.rules.items) → AreBegun l.lib (more q rest) from l.x l.n (take l.place l.covers) (map rule_of l.rules.items);
-  within : l.begin ≤ length l.rules.items;
-  front : take l.begin l.rules.items ≡ l.fn.rules.items;
+  begun : (q : TypePath) (rest : Paths) (from : ℕ) → from ≤ l.x → ((s : List ℕ) → Contains l.covers s → IsChoice l.lib (more q rest) (choice_at l.x l.n s)) → AreBegun l.lib (more q rest) from l.x l.n [] (map rule_of l.fn.rules) → AreBegun l.lib (more q rest) from l.x l.n (take l.place l.covers) (map rule_of l.rules);
+  within : l.begin ≤ length l.rules;
+  front : take l.begin l.rules ≡ l.fn.rules;
 }

@@ -7,4 +7,4 @@ use Rattle.cls_expand.specs.Making.{AreBegun, choice_at, rules_of_spines}
 use Rattle.cls_expand.proofs.cover_rules.add_many.Given as goal
 
 abbrev pub invariant-loop-place : goal.invariant-loop-place
-invariant-loop-place l = (q : TypePath) (rest : Paths) (from : ℕ) → from ≤ l.x → ((s : List ℕ) → Contains l.covers s → IsChoice l.lib (more q rest) (choice_at l.x l.n s)) → AreBegun l.lib (more q rest) from l.x l.n [] (map rule_of l.fn.rules.items) → AreBegun l.lib (more q rest) from l.x l.n (take l.place l.covers) (map rule_of l.rules.items ++ rules_of_spines l.spines.keys)
+invariant-loop-place l = (q : TypePath) (rest : Paths) (from : ℕ) → from ≤ l.x → ((s : List ℕ) → Contains l.covers s → IsChoice l.lib (more q rest) (choice_at l.x l.n s)) → AreBegun l.lib (more q rest) from l.x l.n [] (map rule_of l.fn.rules) → AreBegun l.lib (more q rest) from l.x l.n (take l.place l.covers) (map rule_of l.rules ++ rules_of_spines l.spines.keys)

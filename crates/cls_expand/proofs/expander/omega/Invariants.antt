@@ -5,4 +5,4 @@ use Rattle.cls_library.specs.Rules.{heads, numbers_from}
 use Rattle.cls_expand.proofs.expander.omega.Given as goal
 
 abbrev pub invariant-loop-component : goal.invariant-loop-component
-invariant-loop-component l = map rule_of l.rules.items ≡ heads (numbers_from 0 l.component)
+invariant-loop-component l = map rule_of l.rules ≡ heads (numbers_from 0 l.component)

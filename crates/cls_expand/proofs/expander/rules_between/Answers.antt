@@ -1,34 +1,33 @@
-use Rattle.std.proofs.Common.{◌≡◌, ◌∙◌, ap, ◌≤◌, inl, [], List, length, sym, subst, arith}
+use Rattle.std.proofs.Common.{◌≡◌, ◌∙◌, ◌≤◌, inl, [], List, length, sym, subst, arith}
 use Rattle.std.specs.Prelude.{None, Some, map}
 use Rattle.cls_base.specs.declared.rule.Rule.{Rule}
-use Rattle.cls_path.specs.Paths.{TypePath, Paths, listed}
-use Rattle.cls_core.specs.declared.answer.Answer.TheVariants.{Rules}
+use Rattle.cls_path.specs.Paths.{TypePath, listed}
 use Rattle.cls_library.specs.declared.place.Place.{Place}
 use Rattle.cls_library.specs.Arrows.{arity_of}
 use Rattle.cls_library.specs.Families.{Finder}
 use Rattle.cls_library.specs.Libraries.{paths_at}
 use Rattle.cls_expand.specs.Answers.{rule_of}
-use Rattle.cls_expand.specs.Making.{AddsPlace, AreBegun, AreRulesBetween, IsNextBefore}
+use Rattle.cls_expand.specs.Making.{AddsPlace, AreBegun, IsNextBefore}
 use Rattle.cls_expand.proofs.Making.{begun_none}
 use Rattle.cls_expand.proofs.Places.{when_false, when_true, some_parts, next_added, arity_within}
 use Rattle.cls_expand.proofs.Unreached.{reached, reached_at_most, reached_start, begun_before, fewer_left}
 use Rattle.cls_expand.proofs.expander.rules_between.Goals as goal
 
-pub returns-then-finds_nothing : goal.returns-then-finds_nothing
-returns-then-finds_nothing c =
+pub returns-in_default : goal.returns-in_default
+returns-in_default c =
     let l = c.args.lib.now in
     let goal = c.args.goal.now in
     let q = some_parts goal c.requires.path in
     let from : Place = record { component = c.args.begin; count = 0 } in
-    let rules = ap (map rule_of) (c.new.ensures ∙ c.new-rules.ensures.items) in
-    subst (λ (rs : List (Rule Paths)). AreBegun l (listed goal) c.args.begin c.args.end 0 [] rs) (sym rules)
+    let none = rw c.in_default.is at c.in_ok-finder.ensures.none in
+    subst (λ (rs : List (Rule (List TypePath))). AreBegun l (listed goal) c.args.begin c.args.end 0 [] (map rule_of rs)) (sym c.new-in_default.ensures)
     (begun_before l (listed goal) q.0 q.1 q.2 c.args.begin from [] (begun_none l (listed goal) c.args.begin) c.args.end c.requires.within
-    (reached_start c.args.begin c.args.end c.requires.order) (λ p place later before. c.finds_nothing.ensures c.if-finds_nothing.true from p place later))
+    (reached_start c.args.begin c.args.end c.requires.order) (λ p place later before. none from p place later))
 
 pub loop-place-init : goal.loop-place-init
 loop-place-init c = record {
-  finder = c.in_ok-finder.ensures;
-  begun = subst (λ (rs : List (Rule (List TypePath))). AreBegun c.args.lib.now (listed c.args.goal.now) c.args.begin c.args.begin 0 [] (map rule_of rs)) (sym c.new-rules.ensures.items) (begun_none c.args.lib.now (listed c.args.goal.now) c.args.begin);
+  finder = rw c.in-Some.is at c.in_ok-finder.ensures.finder;
+  begun = subst (λ (rs : List (Rule (List TypePath))). AreBegun c.args.lib.now (listed c.args.goal.now) c.args.begin c.args.begin 0 [] (map rule_of rs)) (sym c.in_ok-rules.ensures) (begun_none c.args.lib.now (listed c.args.goal.now) c.args.begin);
   after = omega arith;
   left = reached_start c.args.begin c.args.end c.requires.order;
   count = omega arith;
@@ -39,18 +38,18 @@ loop-place-preserved c =
     let l = c.args.lib.now in
     let goal = c.args.goal.now in
     let from = c.loop-place.from in
-    let p = c.in-Some.place in
+    let p = c.in-Some-next_before.place in
     let inv = c.loop-place.invariant in
-    let same : c.next_before.new.finder ≡ record { library = l; goal = goal } = c.in-Some.ensures.same ∙ inv.finder in
-    let h = subst (λ (f : Finder). IsNextBefore f.library (listed f.goal) from c.args.end (Some p)) inv.finder c.in-Some.ensures.next in
-    let a = subst (λ (f : Finder). AddsPlace l f.goal p c.loop-place.rules.items c.add_place.new.rules.items c.in_ok-add_place.field-0) same c.in_ok-add_place.ensures.rules in
+    let same : c.next_before.new.finder ≡ record { library = l; goal = goal } = c.in-Some-next_before.ensures.same ∙ inv.finder in
+    let h = subst (λ (f : Finder). IsNextBefore f.library (listed f.goal) from c.args.end (Some p)) inv.finder c.in-Some-next_before.ensures.next in
+    let a = subst (λ (f : Finder). AddsPlace l f.goal p c.loop-place.rules c.add_place.new.rules c.in_ok-add_place.field-0) same c.in_ok-add_place.ensures.rules in
     let later : from.component ≤ p.component = reached_at_most from.component from.count p.component p.count (reached from.component from.count p.component p.count h.0.later) in
     let arity : arity_of (paths_at l p.component) ≤ 32 = arity_within l p.component c.requires.ready.library h.0.place.declared in
     let within : p.count ≤ arity_of (paths_at l p.component) = h.0.place.within in
     let after : c.args.begin ≤ from.component = inv.after in
     record {
       finder = c.in_ok-add_place.ensures.same ∙ same;
-      begun = when_true _ c.if-not-branch.false (next_added l goal c.args.begin from p c.loop-place.rules.items c.add_place.new.rules.items c.in_ok-add_place.field-0 c.requires.path after inv.begun h.0 a);
+      begun = when_true _ c.if-not-branch.false (next_added l goal c.args.begin from p c.loop-place.rules c.add_place.new.rules c.in_ok-add_place.field-0 c.requires.path after inv.begun h.0 a);
       after = omega arith;
       left = inl h.1;
       count = omega arith;
@@ -60,9 +59,9 @@ pub loop-place-smaller : goal.loop-place-smaller
 loop-place-smaller c =
     let l = c.args.lib.now in
     let from = c.loop-place.from in
-    let p = c.in-Some.place in
+    let p = c.in-Some-next_before.place in
     let inv = c.loop-place.invariant in
-    let h = subst (λ (f : Finder). IsNextBefore f.library (listed f.goal) from c.args.end (Some p)) inv.finder c.in-Some.ensures.next in
+    let h = subst (λ (f : Finder). IsNextBefore f.library (listed f.goal) from c.args.end (Some p)) inv.finder c.in-Some-next_before.ensures.next in
     let arity : arity_of (paths_at l p.component) ≤ 32 = arity_within l p.component c.requires.ready.library h.0.place.declared in
     let within : p.count ≤ arity_of (paths_at l p.component) = h.0.place.within in
     let left : from.component ≤ c.args.end = reached_at_most from.component from.count c.args.end 0 inv.left in
@@ -75,14 +74,14 @@ returns-then-not-branch c =
     let l = c.args.lib.now in
     let goal = c.args.goal.now in
     let from = c.loop-place.from in
-    let p = c.in-Some.place in
+    let p = c.in-Some-next_before.place in
     let inv = c.loop-place.invariant in
-    let same : c.next_before.new.finder ≡ record { library = l; goal = goal } = c.in-Some.ensures.same ∙ inv.finder in
-    let h = subst (λ (f : Finder). IsNextBefore f.library (listed f.goal) from c.args.end (Some p)) inv.finder c.in-Some.ensures.next in
-    let a = subst (λ (f : Finder). AddsPlace l f.goal p c.loop-place.rules.items c.add_place.new.rules.items c.in_ok-add_place.field-0) same c.in_ok-add_place.ensures.rules in
+    let same : c.next_before.new.finder ≡ record { library = l; goal = goal } = c.in-Some-next_before.ensures.same ∙ inv.finder in
+    let h = subst (λ (f : Finder). IsNextBefore f.library (listed f.goal) from c.args.end (Some p)) inv.finder c.in-Some-next_before.ensures.next in
+    let a = subst (λ (f : Finder). AddsPlace l f.goal p c.loop-place.rules c.add_place.new.rules c.in_ok-add_place.field-0) same c.in_ok-add_place.ensures.rules in
     let later : from.component ≤ p.component = reached_at_most from.component from.count p.component p.count (reached from.component from.count p.component p.count h.0.later) in
     let after : c.args.begin ≤ from.component = inv.after in
-    (p.component, omega arith, h.1, when_false _ c.if-not-branch.true (next_added l goal c.args.begin from p c.loop-place.rules.items c.add_place.new.rules.items c.in_ok-add_place.field-0 c.requires.path after inv.begun h.0 a))
+    (p.component, omega arith, h.1, when_false _ c.if-not-branch.true (next_added l goal c.args.begin from p c.loop-place.rules c.add_place.new.rules c.in_ok-add_place.field-0 c.requires.path after inv.begun h.0 a))
 
 pub returns : goal.returns
 returns c =
@@ -90,7 +89,6 @@ returns c =
     let goal = c.args.goal.now in
     let from = c.loop-place.from in
     let inv = c.loop-place.invariant in
-    let h = subst (λ (f : Finder). IsNextBefore f.library (listed f.goal) from c.args.end None) inv.finder c.in_default.ensures.next in
+    let h = subst (λ (f : Finder). IsNextBefore f.library (listed f.goal) from c.args.end None) inv.finder c.in_default-next_before.ensures.next in
     let q = some_parts goal c.requires.path in
-    subst (λ (rs : List (Rule (List TypePath))). AreRulesBetween l goal c.args.begin c.args.end (Rules rs)) (sym c.new-3.ensures)
-    (begun_before l (listed goal) q.0 q.1 q.2 c.args.begin from (map rule_of c.loop-place.rules.items) inv.begun c.args.end c.requires.within inv.left h)
+    begun_before l (listed goal) q.0 q.1 q.2 c.args.begin from (map rule_of c.loop-place.rules) inv.begun c.args.end c.requires.within inv.left h

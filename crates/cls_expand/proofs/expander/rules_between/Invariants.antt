@@ -9,7 +9,7 @@ use Rattle.cls_expand.proofs.expander.rules_between.Given as goal
 abbrev pub invariant-loop-place : goal.invariant-loop-place
 invariant-loop-place l = record {
   finder : l.finder ≡ record { library = l.lib; goal = l.goal };
-  begun : AreBegun l.lib (listed l.goal) l.begin l.from.component l.from.count [] (map rule_of l.rules.items);
+  begun : AreBegun l.lib (listed l.goal) l.begin l.from.component l.from.count [] (map rule_of l.rules);
   after : l.begin ≤ l.from.component;
   left : IsReached l.from.component l.from.count l.end 0;
   count : l.from.count ≤ 33;

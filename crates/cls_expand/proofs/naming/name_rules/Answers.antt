@@ -1,4 +1,4 @@
-use Rattle.std.proofs.Common.{ℕ, [], ◌∷◌, ◌++◌, slice_index_or, ap, sym, ◌∙◌}
+use Rattle.std.proofs.Common.{ℕ, [], ◌∷◌, ◌++◌, slice_index_or, sym, ◌∙◌}
 use Rattle.std.proofs.lemmas.List.{map_more}
 use Rattle.std.proofs.lemmas.Option.{get_or_from_slice_get, slice_get_within}
 use Rattle.cls_rulebook.specs.Arguments.{map_rule}
@@ -12,5 +12,5 @@ loop-place-preserved g c =
     let q = rule_of c.get.result in
     let f = λ (n : ℕ). slice_index_or c.args.goals.now n c.args.other.now in
     let next = map_more (map_rule f) rs i q (slice_get_within rs i q c.get.ensures) in
-    let named = c.in_ok-name_rule.ensures ∙ ap (map_rule f) (sym (get_or_from_slice_get rs i q q c.get.ensures)) in
-    c.in_ok-push.ensures.items ∙ ((λ j. c.loop-place.invariant j ++ named j ∷ []) ∙ sym next)
+    let same = sym (get_or_from_slice_get rs i q q c.get.ensures) in
+    c.in_ok-name_rule.ensures ∙ ((λ j. c.loop-place.invariant j ++ map_rule f (same j) ∷ []) ∙ sym next)

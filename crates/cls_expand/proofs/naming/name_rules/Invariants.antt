@@ -4,4 +4,4 @@ use Rattle.cls_expand.proofs.naming.name_rules.Given as goal
 
 abbrev pub invariant-loop-place : goal.invariant-loop-place
 invariant-loop-place g l =
-    l.named.items ≡ map (map_rule (λ i. slice_index_or l.goals i l.other)) (take l.place l.rules)
+    l.named ≡ map (map_rule (λ i. slice_index_or l.goals i l.other)) (take l.place l.rules)
