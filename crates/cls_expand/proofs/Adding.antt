@@ -9,7 +9,7 @@ use Rattle.cls_core.specs.Closure.{goals_of}
 use Rattle.cls_core.specs.Numbers.{numbers_from}
 use Rattle.cls_core.specs.Rows.{Row}
 use Rattle.cls_core.proofs.Columns.{some-inside}
-use Rattle.cls_core.proofs.Insertion.{all-append, all-front, place-kept}
+use Rattle.cls_core.proofs.Insertion.{all-append, all-front}
 use Rattle.cls_expand.specs.Memos.{newcomers}
 
 module _ {G : Type 0} where
@@ -69,21 +69,6 @@ module _ {G : Type 0} (eq : G → G → Bool) where
   number-at gs [] i x e = cc
   number-at gs (y ∷ xs) zero x e = let same : y ≡ x = cc in ap (λ z. position_or_len (eq z) gs) same
   number-at gs (y ∷ xs) (suc i) x e = number-at (insert_key eq gs y) xs i x e
-
-  pub numbers-count : (gs xs : List G) → length (numbers_from eq gs xs) ≡ length xs
-  numbers-count gs [] = refl
-  numbers-count gs (x ∷ xs) = ap suc (numbers-count (insert_key eq gs x) xs)
-
-  module _ (reflexive : (x : G) → eq x x ≡ true) where
-    numbers-kept : (gs xs more : List G)
-        → numbers_from eq gs xs ≡ map (λ a. position_or_len (eq a) (insert_all eq gs (xs ++ more))) xs
-    numbers-kept gs [] more = refl
-    numbers-kept gs (x ∷ xs) more = λ k. place-kept eq reflexive gs x (xs ++ more) k ∷ numbers-kept (insert_key eq gs x) xs more k
-
-    -- the numbers are the places at which the goals stand in the end
-    pub numbers-are : (gs xs : List G) → numbers_from eq gs xs ≡ map (λ a. position_or_len (eq a) (insert_all eq gs xs)) xs
-    numbers-are gs xs =
-        numbers-kept gs xs [] ∙ ap (λ (l : List G). map (λ a. position_or_len (eq a) (insert_all eq gs l)) xs) (append-nil xs)
 
   module _ (change : Answer ℕ → Answer ℕ) where
     newcomers-push : (gs : List G) (rows : List (Row G)) (r : Row G)

@@ -5,7 +5,8 @@ use Rattle.cls_core.specs.declared.answer.Answer.{Answer}
 use Rattle.cls_core.specs.Arguments.{map_answer}
 use Rattle.cls_core.specs.Closure.{goals_of}
 use Rattle.cls_core.proofs.Columns.{get-some}
-use Rattle.cls_expand.proofs.Adding.{goals-count, numbers-count, number-at, up-to, with-answer, row-new, row-old}
+use Rattle.cls_core.proofs.Insertion.{numbers-count}
+use Rattle.cls_expand.proofs.Adding.{goals-count, number-at, up-to, with-answer, row-new, row-old}
 use Rattle.cls_expand.proofs.additions.new_answers.Goals as goal
 use Rattle.cls_expand.proofs.additions.new_answers.Goals.{then-numbers-row+in_ok-renumber_answer+in_ok-push, else-numbers-row}
 
