@@ -124,11 +124,13 @@ fn has_first(families: &[Numbers]) -> bool
     }
 }
 
-/// Adds the block of the arrows at a place to the last member, if one of them leads to the first path of the goal.
+/// Adds the block of the arrows at a place to the last member, if one of them leads to the first path of the goal. `room` is
+/// room for positions, whatever it holds.
 fn add_block(
     alloc: Global,
     finder: &mut Finder<'_>,
     place: Place,
+    room: &mut Vec<u32>,
     members: &mut Members,
 ) -> Result<(), OutOfMemory>
     requires place { IsPlace finder.old.library place }
@@ -141,10 +143,10 @@ fn add_block(
     ensures block { OnOk result (AddsBlock finder.old.library (listed finder.old.goal) place.component place.count
         (last_blocks members.old) (last_blocks members.new)) }
 {
-    match finder.families(alloc, place)? {
+    match finder.families(alloc, place, room)? {
         Families::Single(positions) => {
             members.push_block(place.component, place.count)?;
-            add_lone_covers(alloc, positions.as_slice(), members)
+            add_lone_covers(alloc, positions, members)
         }
         Families::Several(families) => {
             if !has_first(families.as_slice()) {
@@ -174,13 +176,16 @@ pub(crate) fn add_blocks(
     if goal.paths().is_empty() {
         return Ok(());
     }
-    let mut finder = Finder::new(alloc, lib, goal)?;
+    let Some(mut finder) = Finder::new(alloc, lib, goal)? else {
+        return Ok(());
+    };
+    let mut room = Vec::new(alloc);
     let mut from = Place {
         component: 0,
         count: 0,
     };
     while let Some(place) = finder.next(from) {
-        add_block(alloc, &mut finder, place, members)?;
+        add_block(alloc, &mut finder, place, &mut room, members)?;
         from = Place {
             component: place.component,
             count: place.count + 1,

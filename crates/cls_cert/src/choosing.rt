@@ -111,7 +111,8 @@ fn gives(
     requires below { (i : ℕ) → Contains cover.now i → i < length (arrows_at lib.now x (length args.now)) }
     ensures { IfOk result (λ answer. IsTrue answer ↔ GivesRule lib.now (forms_of grammar.now) x args.now cover.now) }
 {
-    let made = arguments_of(alloc, lib, x, args.len() as u32, cover)?;
+    let mut made = Vec::with_capacity(alloc, args.len())?;
+    arguments_of(alloc, lib, x, args.len() as u32, cover, &mut made)?;
     Ok(are_goals(grammar, args, made.as_slice()))
 }
 

@@ -171,8 +171,10 @@ fn are_others_walked(
     ensures { IfOk result (λ answer. IsTrue answer ↔ ((x n : ℕ) → IsPlace lib.now x n
         → IsOtherWalked lib.now goals.now places.now.keys (listed form.now) (record { component = x; n = n }))) }
 {
+    let Some(mut finder) = Finder::new(alloc, lib, form)? else {
+        return Ok(true);
+    };
     let none = no_layers(alloc, form.paths().len())?;
-    let mut finder = Finder::new(alloc, lib, form)?;
     let mut from = cls_library::Place {
         component: 0,
         count: 0,

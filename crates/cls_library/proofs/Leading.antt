@@ -1,8 +1,8 @@
 -- The arrows of one ending that lead to a path, and where they stand.
-use Rattle.std.proofs.Common.{◌≡◌, ℕ, zero, suc, ◌+◌, ◌-◌, ◌<◌, ◌≤◌, min, ◌⊎◌, inl, inr, true, List, [], ◌∷◌, length, drop, get_or, Option, None, Some, refl, sym, subst, ap, ◌∙◌, arith, IsTrue}
+use Rattle.std.proofs.Common.{◌≡◌, ℕ, zero, suc, ◌+◌, ◌<◌, ◌≤◌, min, ◌⊎◌, inl, inr, true, List, [], ◌∷◌, length, Option, None, Some, refl, sym, subst, ap, ◌∙◌, arith, IsTrue}
+use Rattle.std.specs.Borrow.{Bor}
 use Rattle.std.specs.Prelude.{Contains, slice_get, slice_index_or, IsSomeAnd}
-use Rattle.std.proofs.lemmas.List.Elements.{Contains-push, Contains-push_cases}
-use Rattle.std.proofs.lemmas.Option.{slice_get_within, slice_get-get_or}
+use Rattle.std.proofs.lemmas.Option.{slice_get_within}
 use Rattle.cls_base.specs.Limits.{max_arity}
 use Rattle.cls_base.proofs.Lists.{Contains-at, Contains-nil, Contains-place}
 use Rattle.cls_path.specs.Paths.{TypePath, atom, inside, unit, left, right, function, sealed, Paths, none, more, PathLe, atoms, inside_atom, units, left_unit, right_unit}
@@ -13,18 +13,23 @@ use Rattle.cls_library.specs.declared.ending.Ending.{Ending}
 use Rattle.cls_library.specs.declared.ending.Head.{Head}
 use Rattle.cls_library.specs.declared.ending.Head.TheVariants.{Covariant, Product, Sealed}
 use Rattle.cls_library.specs.declared.index.Entry.{Entry}
+use Rattle.cls_library.specs.declared.lead.Lead.{Lead}
 use Rattle.cls_library.specs.declared.place.Place.{Place}
 use Rattle.cls_library.specs.declared.sought.Sought.{Sought}
 use Rattle.cls_library.specs.Arrows.{MultiArrow, leading_arrows, arity_of, arrows_of, onto}
 use Rattle.cls_library.specs.Endings.{IsSought, ending_behind, ending_of, head_of, is_alone, is_bare}
 use Rattle.cls_library.specs.Families.{IsBefore, IsFamilyIn, IsNext, IsPlace}
 use Rattle.cls_library.specs.Index.{AreEntries, EndsIn, IsEntry, Spot, paths_in}
-use Rattle.cls_library.specs.Leads.{AreOnward, IsFirstFrom, Leads}
+use Rattle.cls_library.specs.Leads.{AreSoughtEntries, EndAlike, IsFirstFrom, IsLead, Leads}
 use Rattle.cls_library.specs.Libraries.{Component, Library, below_in, variances_in, no_component, arrows_at}
 use Rattle.cls_library.proofs.EndingLaws.{may-end, same-ending}
 use Rattle.cls_library.proofs.Lone.{one-leads}
-use Rattle.cls_library.proofs.Orders.{less-or-not, before_itself, not_later, earlier_before, drop-at}
+use Rattle.cls_library.proofs.Orders.{less-or-not, before_itself, not_later}
 use Rattle.cls_library.proofs.Places.{split-few}
+
+-- the entries that a lead keeps
+pub kept-entries : (l : Library) (lead : Lead) (entries : Bor (List Entry)) → lead.entries ≡ Some entries → IsLead l lead → AreSoughtEntries l lead.sought (Some entries)
+kept-entries l lead entries is h = subst (λ (o : Option (Bor (List Entry))). AreSoughtEntries l lead.sought o) is h.entries
 
 some-map : {A : Type 0} (o : Option A) (P Q : A → Type 0) → ((a : A) → P a → Q a) → IsSomeAnd o P → IsSomeAnd o Q
 some-map None P Q f h = h
@@ -141,7 +146,7 @@ module _ (l : Library) (q : TypePath) (s : Sought) (sought : IsSought l.taxonomy
   is-place : (t : Entry) → Contains entries t → IsPlace l t.place
   is-place t c = let r = (h.each t c).some in spot-place l (record { place = t.place; position = r.0 }) s.ending r.1
 
-  none-at : (p : Place) → ((t : Entry) → Contains entries t → t.place ≡ p → ⊥) → IsFamilyIn l.taxonomy (arrows_at l p.component p.count) q []
+  pub none-at : (p : Place) → ((t : Entry) → Contains entries t → t.place ≡ p → ⊥) → IsFamilyIn l.taxonomy (arrows_at l p.component p.count) q []
   none-at p n = record {
     ascends = λ k m. absurd (omega arith);
     exactly = λ i. ((λ c. absurd (Contains-nil i c)), (λ leads. absurd (let r = stands (record { place = p; position = i }) leads in n r.0 r.1 r.2)));
@@ -175,77 +180,29 @@ module _ (l : Library) (q : TypePath) (s : Sought) (sought : IsSought l.taxonomy
               before_itself t.place (subst (λ (x : Entry). IsBefore x.place t.place) one before))
         ]
 
-    pub onward : AreOnward l q from (drop i entries)
-    onward = record {
-      in_order = λ a b s t m e g. h.in_order (i + a) (i + b) s t (omega arith) (sym (drop-at entries i a) ∙ e) (sym (drop-at entries i b) ∙ g);
-      from = λ k t e before. first k t (sym (drop-at entries i k) ∙ e) before;
-      each = λ k t e. subst (λ (f : Ending). IsEntry (EndsIn l.components f) t) sought.ending (h.each t (Contains-at entries (i + k) t (sym (drop-at entries i k) ∙ e)));
-      ends = λ k leads. subst (λ (f : Ending). EndsIn l.components f (record { place = from; position = k })) sought.ending (ends-so (record { place = from; position = k }) leads);
-      whole = λ k leads. (let r = stands (record { place = from; position = k }) leads in (r.0, there r.0 r.2 (Contains-place entries r.0 r.1), r.2));
-    }
-      where
-        first : (k : ℕ) (t : Entry) → slice_get entries (i + k) ≡ Some t → IsBefore t.place from → ⊥
-        first zero t e before = f.from t (let z : i ≡ i + 0 = omega arith in ap (slice_get entries) z ∙ e) before
-        first (suc k) t e before =
-            let m = slice_get_within entries (i + suc k) t e in
-            let here : slice_get entries i ≡ Some (get_or entries i t) = slice_get-get_or entries i t (omega arith) in
-            f.from (get_or entries i t) here (earlier_before entries h.in_order from i (i + suc k) (get_or entries i t) t (omega arith) here e before)
+  pub entry-for : (t : Entry) → Contains entries t → IsEntry (EndsIn l.components (ending_of q)) t
+  entry-for t c = subst (λ (f : Ending). IsEntry (EndsIn l.components f) t) sought.ending (h.each t c)
 
-        there : (t : Entry) → t.place ≡ from → (k : ℕ) × (slice_get entries k ≡ Some t) → Contains (drop i entries) t
-        there t same (k, e) = elim (less-or-not k i) [
-          | inl m ↦ absurd (before_itself from (subst (λ (x : Place). IsBefore x from) same (f.before k t m e)))
-          | inr m ↦ (let z : i + (k - i) ≡ k = omega arith in Contains-at (drop i entries) (k - i) t (drop-at entries i (k - i) ∙ (ap (slice_get entries) z ∙ e)))
-        ]
+  pub ends-alike : (p : Place) → EndAlike l q p
+  ends-alike p = λ k leads. subst (λ (f : Ending). EndsIn l.components f (record { place = p; position = k })) sought.ending (ends-so (record { place = p; position = k }) leads)
 
-module _ (l : Library) (q : TypePath) (p : Place) where
+module _ (l : Library) (q : TypePath) (t : Entry) (entry : IsEntry (EndsIn l.components (ending_of q)) t) (ends : EndAlike l q t.place) where
   abbrev pub at : ℕ → Spot
-  at i = record { place = p; position = i }
+  at i = record { place = t.place; position = i }
 
-  -- no arrow leads
-  silent : ((i : ℕ) → Leads l q (at i) → ⊥) → IsFamilyIn l.taxonomy (arrows_at l p.component p.count) q []
-  silent n = record {
-    ascends = λ k m. absurd (omega arith);
-    exactly = λ i. ((λ c. absurd (Contains-nil i c)), (λ leads. absurd (n i leads)));
-  }
+  pub entry-place : IsPlace l t.place
+  entry-place = spot-place l (at entry.some.0) (ending_of q) entry.some.1
 
-  -- there is no entry
-  pub family-none : AreOnward l q p [] → IsFamilyIn l.taxonomy (arrows_at l p.component p.count) q []
-  family-none o = silent (λ i leads. let r = o.whole i leads in Contains-nil r.0 r.1)
+  -- the entry has one arrow of the place alone
+  module _ (position : ℕ) (one : t.only ≡ Some position) where
+    it-alone : (i : ℕ) → EndsIn l.components (ending_of q) (at i) → i ≡ position
+    it-alone i here = entry.only position i one here
 
-  module _ (entries : List Entry) (o : AreOnward l q p entries) (t : Entry) (first : slice_get entries 0 ≡ Some t) where
-    -- the first entry is of another place
-    pub family-elsewhere : (t.place ≡ p → ⊥) → IsFamilyIn l.taxonomy (arrows_at l p.component p.count) q []
-    family-elsewhere other = silent (λ i leads. let r = o.whole i leads in found r.0 r.2 (Contains-place entries r.0 r.1))
-      where
-        found : (u : Entry) → u.place ≡ p → (k : ℕ) × (slice_get entries k ≡ Some u) → ⊥
-        found u same (zero, e) = let both : Some t ≡ Some u = sym first ∙ e in let one : t ≡ u = cc in other (ap (λ (x : Entry). x.place) one ∙ same)
-        found u same (suc k, e) = o.from 0 t first (subst (λ (x : Place). IsBefore t.place x) same (o.in_order 0 (suc k) t u (omega arith) first e))
-
-    -- the first entry has one arrow of the place alone
-    module _ (here : t.place ≡ p) (position : ℕ) (one : t.only ≡ Some position) where
-      entry : IsEntry (EndsIn l.components (ending_of q)) t
-      entry = o.each 0 t first
-
-      it-alone : (i : ℕ) → EndsIn l.components (ending_of q) (at i) → i ≡ position
-      it-alone i ends = entry.only position i one (subst (λ (x : Place). EndsIn l.components (ending_of q) (record { place = x; position = i })) (sym here) ends)
-
-      pub ends-there : EndsIn l.components (ending_of q) (at position)
-      ends-there =
-          let r = entry.some in
-          let ends : EndsIn l.components (ending_of q) (at r.0) = subst (λ (x : Place). EndsIn l.components (ending_of q) (record { place = x; position = r.0 })) here r.1 in
-          subst (λ (i : ℕ). EndsIn l.components (ending_of q) (at i)) (it-alone r.0 ends) ends
-
-      pub family-one : Leads l q (at position) → IsFamilyIn l.taxonomy (arrows_at l p.component p.count) q (position ∷ [])
-      family-one leads = record {
-        ascends = λ k m. absurd (omega arith);
-        exactly = λ i. (
-          (λ c. elim (Contains-push_cases [] position i c) [
-            | inl n ↦ absurd (Contains-nil i n)
-            | inr e ↦ subst (λ (k : ℕ). Leads l q (at k)) e leads
-          ]),
-          (λ le. subst (λ (k : ℕ). Contains (position ∷ []) k) (sym (it-alone i (o.ends i le))) (Contains-push [] position)),
-        );
-      }
-
-      pub family-silent : (Leads l q (at position) → ⊥) → IsFamilyIn l.taxonomy (arrows_at l p.component p.count) q []
-      family-silent away = silent (λ i le. away (subst (λ (k : ℕ). Leads l q (at k)) (it-alone i (o.ends i le)) le))
+    pub family-silent : (Leads l q (at position) → ⊥) → IsFamilyIn l.taxonomy (arrows_at l t.place.component t.place.count) q []
+    family-silent away = record {
+      ascends = λ k m. absurd (omega arith);
+      exactly = λ i. (
+        (λ c. absurd (Contains-nil i c)),
+        (λ leads. absurd (away (subst (λ (k : ℕ). Leads l q (at k)) (it-alone i (ends i leads)) leads))),
+      );
+    }

@@ -1,6 +1,6 @@
 -- Places that are passed, component after component.
 use Rattle.std.proofs.Common.{◌≡◌, ℕ, ◌+◌, ◌<◌, ◌≤◌, inl, inr, List, [], ◌∷◌, length, map, get_or, Option, None, Some, refl, sym, subst, ap, ◌∙◌, arith}
-use Rattle.std.specs.Prelude.{slice_get}
+use Rattle.std.specs.Prelude.{All, slice_get}
 use Rattle.std.specs.Borrow.{Bor}
 use Rattle.std.proofs.lemmas.Option.{slice_get_within}
 use Rattle.cls_path.specs.Paths.{TypePath, Paths, more, listed}
@@ -11,7 +11,7 @@ use Rattle.cls_library.specs.declared.sought.Sought.{Sought}
 use Rattle.cls_library.specs.Arrows.{arity_of}
 use Rattle.cls_library.specs.Endings.{IsSought}
 use Rattle.cls_library.specs.Families.{IsBefore, IsNext, IsPlace}
-use Rattle.cls_library.specs.Leads.{AreLeads, AreNone, AreSoughtEntries, IsFirstFrom, IsIdle, IsLead, IsNextCount, IsNextFor, NoneLeads, path_of, place_at}
+use Rattle.cls_library.specs.Leads.{AreNone, AreSoughtEntries, IsFirstFrom, IsIdle, IsLead, IsNextCount, IsNextFor, NoneLeads, path_of, place_at}
 use Rattle.cls_library.specs.Libraries.{Library, paths_at}
 use Rattle.cls_library.proofs.Leading.{next-none}
 use Rattle.cls_library.proofs.Orders.{less-or-not, same_place}
@@ -60,11 +60,11 @@ module _ (l : Library) (s : Sought) (from : Place) where
     }
 
 -- the first path of a goal is that of its first lead
-pub first-next : (l : Library) (leads : List Lead) (hints : List ℕ) (lead : Lead) (from : Place) (next : Option Place) → AreLeads l leads hints → 0 < length leads → lead ≡ get_or leads 0 lead → IsNextFor l lead.sought from next → IsNext l (listed (map path_of leads)) from next
-first-next l [] hints lead from next h w e found = absurd (omega arith)
-first-next l (x ∷ leads) hints lead from next h w e found =
+pub first-next : (l : Library) (leads : List Lead) (lead : Lead) (from : Place) (next : Option Place) → All (IsLead l) leads → 0 < length leads → lead ≡ get_or leads 0 lead → IsNextFor l lead.sought from next → IsNext l (listed (map path_of leads)) from next
+first-next l [] lead from next h w e found = absurd (omega arith)
+first-next l (x ∷ leads) lead from next h w e found =
     let at : IsNextFor l x.sought from next = subst (λ (y : Lead). IsNextFor l y.sought from next) e found in
-    let is : IsLead l x = h.each 0 x (omega arith) in
+    let is : IsLead l x = h 0 x (omega arith) in
     at (path_of x) (listed (map path_of leads)) is.sought
 
 -- what no arrow may lead to has no next place

@@ -1,5 +1,5 @@
 -- internal: a goal whose rules are looked for, path by path
-use Rattle.std.specs.Prelude.{ℕ, ◌≡◌, ◌+◌, ◌<◌, ◌≤◌, List, [], ◌∷◌, ◌++◌, length, All, Contains, Option, None, Some, IsTrue, slice_get, IsSomeAnd}
+use Rattle.std.specs.Prelude.{ℕ, ◌≡◌, ◌+◌, ◌<◌, ◌≤◌, List, [], ◌∷◌, ◌++◌, length, map, take, drop, Contains, Option, None, Some, IsTrue, slice_get, IsSomeAnd}
 use Rattle.std.specs.Borrow.{Bor}
 use Rattle.cls_path.specs.Paths.{TypePath, Paths, more, PathLe}
 use Rattle.cls_library.specs.declared.lead.Lead.{Lead}
@@ -8,8 +8,8 @@ use Rattle.cls_library.specs.declared.place.Place.{Place}
 use Rattle.cls_library.specs.declared.sought.Sought.{Sought}
 use Rattle.cls_library.specs.Arrows.{arity_of}
 use Rattle.cls_library.specs.Endings.{IsSought, ending_of}
-use Rattle.cls_library.specs.Families.{IsBefore, IsFamilyIn, IsNext}
-use Rattle.cls_library.specs.Index.{AreEntries, AreInOrder, EndsIn, IsEntry, Spot}
+use Rattle.cls_library.specs.Families.{AreFamiliesAt, IsBefore, IsFamilyIn, IsNext, alone}
+use Rattle.cls_library.specs.Index.{AreEntries, EndsIn, Spot}
 use Rattle.cls_library.specs.Libraries.{Library, arrows_at, below_in, paths_at, variances_in}
 
 -- the entries that are kept, if any, are those of the ending that is sought, and its head is alone
@@ -34,11 +34,6 @@ IsIdle lead = AreNone lead.entries
 abbrev pub path_of : Lead → TypePath
 path_of lead = lead.path.now
 
--- what is sought for each path, with one number for each
-pub record AreLeads (l : Library) (leads : List Lead) (hints : List ℕ) : Type 0 where
-  pub each : All (IsLead l) leads
-  pub count : length hints ≡ length leads
-
 -- the entries before the number i are before the place
 abbrev pub AreBefore : List Entry → Place → ℕ → Type 0
 AreBefore entries p i = (k : ℕ) (t : Entry) → k < i → slice_get entries k ≡ Some t → IsBefore t.place p
@@ -49,18 +44,18 @@ pub record IsFirstFrom (entries : List Entry) (p : Place) (i : ℕ) : Type 0 whe
   pub before : AreBefore entries p i
   pub from : (t : Entry) → slice_get entries i ≡ Some t → IsBefore t.place p → ⊥
 
+-- the entry of the place, or None if there is no such one
+abbrev pub IsEntryAt : List Entry → Place → Option (Bor Entry) → Type 0
+IsEntryAt entries p None = (t : Entry) → Contains entries t → t.place ≡ p → ⊥
+IsEntryAt entries p (Some t) = Contains entries t.now × (t.now.place ≡ p)
+
 -- the arrow leads to the path
 abbrev pub Leads : Library → TypePath → Spot → Type 0
 Leads l q s = IsSomeAnd (slice_get (arrows_at l s.place.component s.place.count) s.position) (λ a. PathLe (below_in l.taxonomy) (variances_in l.taxonomy) a.target q)
 
--- entries of arrows whose targets have the path's ending, in order and none before the place, among which is one of the place if an
--- arrow of the place leads to the path
-pub record AreOnward (l : Library) (q : TypePath) (p : Place) (entries : List Entry) : Type 0 where
-  pub in_order : AreInOrder entries
-  pub from : (i : ℕ) (t : Entry) → slice_get entries i ≡ Some t → IsBefore t.place p → ⊥
-  pub each : (i : ℕ) (t : Entry) → slice_get entries i ≡ Some t → IsEntry (EndsIn l.components (ending_of q)) t
-  pub ends : (i : ℕ) → Leads l q (record { place = p; position = i }) → EndsIn l.components (ending_of q) (record { place = p; position = i })
-  pub whole : (i : ℕ) → Leads l q (record { place = p; position = i }) → (t : Entry) × Contains entries t × (t.place ≡ p)
+-- each arrow of the place that leads to the path has the same ending as the path
+abbrev pub EndAlike : Library → TypePath → Place → Type 0
+EndAlike l q p = (i : ℕ) → Leads l q (record { place = p; position = i }) → EndsIn l.components (ending_of q) (record { place = p; position = i })
 
 -- no arrow of the place leads to a path for which this is sought
 abbrev pub NoneLeads : Library → Sought → Place → Type 0
@@ -88,20 +83,7 @@ IsNextWithin l s from (Some p) = IsNextCount l s from p
 abbrev pub PutsFamily : Library → TypePath → Place → List ℕ → List ℕ → Type 0
 PutsFamily l q p old new = (family : List ℕ) × (new ≡ old ++ family) × IsFamilyIn l.taxonomy (arrows_at l p.component p.count) q family
 
--- one list after another
-abbrev pub joined : List (List ℕ) → List ℕ
-joined [] = []
-joined (f ∷ fs) = f ++ joined fs
-
--- where each list ends, if the first one begins at n
-abbrev pub ends_of : ℕ → List (List ℕ) → List ℕ
-ends_of n [] = []
-ends_of n (f ∷ fs) = (n + length f) ∷ ends_of (n + length f) fs
-
--- the positions are those of the families, one after another, and each family is up to its end
-pub record IsCut (families : List (List ℕ)) (positions ends : List ℕ) : Type 0 where
-  pub whole : positions ≡ joined families
-  pub parts : ends ≡ ends_of 0 families
-
-abbrev pub AreCut : List ℕ → List ℕ → Type 0
-AreCut positions ends = (families : List (List ℕ)) × IsCut families positions ends
+-- the families of the first paths: so many of one position each, and then one that has the other positions
+pub record AreBegun (l : Library) (goal : List TypePath) (p : Place) (count : ℕ) (positions : List ℕ) : Type 0 where
+  pub within : count ≤ length positions
+  pub families : AreFamiliesAt l (take (count + 1) goal) p (map alone (take count positions) ++ drop count positions ∷ [])

@@ -1,13 +1,13 @@
 //! A path of a goal, and the arrows that lead to it: its next place, and its family there. If arrows of one ending alone may lead to
 //! it, they are looked up in the index of the library and gone over from the place where the last search ended; else the flags of
 //! components say which places are passed over.
-ghost use Rattle.std.specs.Prelude.{◌≡◌, ◌↔◌, ◌<◌, ◌≤◌, IsTrue, OnOk, drop, length};
+ghost use Rattle.std.specs.Prelude.{◌≡◌, ◌↔◌, ◌<◌, ◌≤◌, IsTrue, OnOk, length};
 ghost use Rattle.cls_path.specs.Paths.{Suits};
 ghost use Rattle.cls_taxon.specs.Orders.{class_by};
 ghost use Rattle.cls_library.specs.Endings.{ending_of, is_alone};
 ghost use Rattle.cls_library.specs.Families.{IsPlace};
-ghost use Rattle.cls_library.specs.Index.{AreInOrder, EndsIn};
-ghost use Rattle.cls_library.specs.Leads.{AreBefore, AreSoughtEntries, AreOnward, IsFirstFrom, IsIdle, IsLead, IsNextFor, IsNextWithin, Leads, PutsFamily};
+ghost use Rattle.cls_library.specs.Index.{AreInOrder, EndsIn, IsEntry};
+ghost use Rattle.cls_library.specs.Leads.{AreBefore, AreSoughtEntries, EndAlike, IsEntryAt, IsFirstFrom, IsIdle, IsLead, IsNextFor, IsNextWithin, Leads, PutsFamily};
 ghost use Rattle.cls_library.specs.Libraries.{IsLibrary, variances_in};
 
 use crate::ending::is_bare;
@@ -17,11 +17,7 @@ use crate::place::Place;
 use crate::sought::Sought;
 use cls_base::OutOfMemory;
 use cls_path::Path;
-use smallvec::SmallVec;
 use std::alloc::Global;
-
-/// The positions of families of one position each.
-pub type Positions = SmallVec<u32, 8>;
 
 /// A path of a goal and what is sought for it. If arrows of one ending alone may lead to it, and the library has an index, these
 /// arrows.
@@ -30,6 +26,8 @@ pub(crate) struct Lead<'a> {
     pub path: &'a Path,
     pub sought: Sought,
     pub entries: Option<&'a [Entry]>,
+    /// The number of the entry at which the next search begins. It saves time, and no answer rests on it.
+    pub hint: usize,
 }
 
 impl<'a> Lead<'a> {
@@ -43,6 +41,7 @@ impl<'a> Lead<'a> {
             path,
             sought,
             entries: entries_of(lib, sought),
+            hint: 0,
         }
     }
 
@@ -57,14 +56,15 @@ impl<'a> Lead<'a> {
     }
 
     /// The first place from this one on where an arrow may lead to the path.
-    pub fn next(&self, lib: &Library, from: Place, hint: &mut usize) -> Option<Place>
-        requires { IsLead lib.now self.now }
-        ensures { IsNextFor lib.now self.now.sought from result }
+    pub fn next(&mut self, lib: &Library, from: Place) -> Option<Place>
+        requires { IsLead lib.now self.old }
+        ensures next { IsNextFor lib.now self.old.sought from result }
+        ensures same { self.new ≡ record self.old { hint = self.new.hint } }
     {
         match self.entries {
             Some(entries) => {
-                *hint = first_from(entries, *hint, from);
-                Some(entries.get(*hint)?.place)
+                self.hint = first_from(entries, self.hint, from);
+                Some(entries.get(self.hint)?.place)
             }
             None => next_by_flags(lib, self.sought, from),
         }
@@ -72,24 +72,25 @@ impl<'a> Lead<'a> {
 
     /// Puts the positions of the arrows at the place that lead to the path behind the others.
     pub fn put_family(
-        &self,
+        &mut self,
         alloc: Global,
         lib: &Library,
         place: Place,
-        hint: &mut usize,
-        positions: &mut Positions,
+        positions: &mut Vec<u32>,
     ) -> Result<(), OutOfMemory>
-        requires lead { IsLead lib.now self.now }
+        requires lead { IsLead lib.now self.old }
         requires place { IsPlace lib.now place }
-        requires suits { Suits (variances_in lib.now.taxonomy) self.now.path.now }
-        ensures { OnOk result (PutsFamily lib.now self.now.path.now place positions.old.items positions.new.items) }
+        requires suits { Suits (variances_in lib.now.taxonomy) self.old.path.now }
+        ensures family { OnOk result
+            (PutsFamily lib.now self.old.path.now place positions.old.items positions.new.items) }
+        ensures same { self.new ≡ record self.old { hint = self.new.hint } }
     {
-        match self.entries {
-            Some(entries) => {
-                let onward = entries_from(entries, hint, place);
-                put_first(alloc, lib, self.path, onward, place, positions)
-            }
-            None => put_whole(alloc, lib, self.path, place, positions),
+        let Some(entries) = self.entries else {
+            return put_whole(alloc, lib, self.path, place, positions);
+        };
+        match entry_at(entries, &mut self.hint, place) {
+            Some(entry) => put_entry(alloc, lib, self.path, entry, positions),
+            None => Ok(()),
         }
     }
 }
@@ -132,54 +133,52 @@ fn first_from(entries: &[Entry], hint: usize, place: Place) -> usize
     at
 }
 
-/// The entries that aren't before the place. The hint is then the number of the first one.
-fn entries_from<'a>(entries: &'a [Entry], hint: &mut usize, place: Place) -> &'a [Entry]
+/// The entry of the place, if there is one. The hint is then the number of the entry behind it.
+fn entry_at<'a>(entries: &'a [Entry], hint: &mut usize, place: Place) -> Option<&'a Entry>
     requires { AreInOrder entries.now }
-    ensures first { IsFirstFrom entries.now place hint.new }
-    ensures rest { result.now ≡ drop hint.new entries.now }
+    ensures { IsEntryAt entries.now place result }
 {
     *hint = first_from(entries, *hint, place);
-    &entries[*hint..]
+    let entry = entries.get(*hint)?;
+    if entry.place != place {
+        return None;
+    }
+    *hint += 1;
+    Some(entry)
 }
 
-/// Puts the positions of those arrows of the place that lead to the path behind the others. No entry is before the place.
-fn put_first(
+/// Puts the positions of those arrows at the entry's place that lead to the path behind the others.
+fn put_entry(
     alloc: Global,
     lib: &Library,
     path: &Path,
-    entries: &[Entry],
-    place: Place,
-    positions: &mut Positions,
+    entry: &Entry,
+    positions: &mut Vec<u32>,
 ) -> Result<(), OutOfMemory>
-    requires place { IsPlace lib.now place }
     requires suits { Suits (variances_in lib.now.taxonomy) path.now }
-    requires entries { AreOnward lib.now path.now place entries.now }
-    ensures { OnOk result (PutsFamily lib.now path.now place positions.old.items positions.new.items) }
+    requires entry { IsEntry (EndsIn lib.now.components (ending_of path.now)) entry.now }
+    requires ends { EndAlike lib.now path.now entry.now.place }
+    ensures { OnOk result
+        (PutsFamily lib.now path.now entry.now.place positions.old.items positions.new.items) }
 {
-    let Some(entry) = entries.first() else {
-        return Ok(());
-    };
-    if entry.place != place {
-        return Ok(());
-    }
     match entry.only {
         Some(position) => {
-            if leads(lib, path, place, position) {
+            if leads(lib, path, entry.place, position) {
                 positions.push(position)?;
             }
             Ok(())
         }
-        None => put_whole(alloc, lib, path, place, positions),
+        None => put_whole(alloc, lib, path, entry.place, positions),
     }
 }
 
-/// The same without entries.
+/// The same for a place, without an entry.
 fn put_whole(
     alloc: Global,
     lib: &Library,
     path: &Path,
     place: Place,
-    positions: &mut Positions,
+    positions: &mut Vec<u32>,
 ) -> Result<(), OutOfMemory>
     requires place { IsPlace lib.now place }
     requires suits { Suits (variances_in lib.now.taxonomy) path.now }
