@@ -1,5 +1,5 @@
 -- Rows that are filed one after the other.
-use Rattle.std.proofs.Common.{◌≡◌, ℕ, ◌<◌, ◌≤◌, Bool, true, List, [], ◌∷◌, ◌++◌, Option, None, Some, Result, Ok, Err, length, set, slice_get, refl, sym, ap, subst, ◌∙◌, ⊎_elim, arith, append_assoc, append-nil}
+use Rattle.std.proofs.Common.{◌≡◌, ℕ, ◌<◌, ◌≤◌, Bool, true, List, [], ◌∷◌, ◌++◌, Option, None, Some, Result, Ok, Err, length, set, slice_get, sym, ap, subst, ◌∙◌, ⊎_elim, arith, append_assoc}
 use Rattle.std.specs.Prelude.{IfOk, IfSome}
 use Rattle.std.proofs.lemmas.List.Elements.{Contains-append_cases}
 use Rattle.cls_base.proofs.Lists.{Contains-nil, Contains-cases}
@@ -8,7 +8,7 @@ use Rattle.cls_core.specs.Machine.{begun, claimed, filed, grown, numbered, Repla
 use Rattle.cls_core.specs.declared.state.RowState.{RowState}
 use Rattle.cls_core.specs.declared.state.RowState.TheVariants.{Free, Held, Filed}
 use Rattle.cls_core.specs.declared.entry.Entry.{Entry}
-use Rattle.cls_core.specs.declared.entry.Entry.TheVariants.{Claim, File}
+use Rattle.cls_core.specs.declared.entry.Entry.TheVariants.{Claim}
 use Rattle.cls_core.specs.declared.answer.Answer.{Answer}
 use Rattle.cls_core.proofs.Columns.{get-set-same, get-set-other, get-front, some-inside}
 use Rattle.cls_table.specs.Seen.{ProgressSeen, core_of}
@@ -27,10 +27,6 @@ free-filed : (ss : List RowState) (row : ℕ) (a : Answer ℕ) → slice_get ss 
     → slice_get ss row ≡ Some (Filed a) → ⊥
 free-filed ss row a e f = cc
 
-held-filed : (ss : List RowState) (row worker : ℕ) (a : Answer ℕ) → slice_get ss row ≡ Some (Held worker)
-    → slice_get ss row ≡ Some (Filed a) → ⊥
-held-filed ss row worker a e f = cc
-
 -- entries without claims, one claim, and entries behind others
 no-claims : ClaimsAreByCaller []
 no-claims worker row c = absurd (Contains-nil (Claim worker row) c)
@@ -40,20 +36,11 @@ one-claim by at is worker row c =
     ⊎_elim (λ e. (let same : worker ≡ by = cc in same ∙ is)) (λ h. absurd (Contains-nil (Claim worker row) h))
     (Contains-cases (Claim by at) [] (Claim worker row) c)
 
-one-file : (by at : ℕ) → ClaimsAreByCaller (File by at ∷ [])
-one-file by at worker row c =
-    ⊎_elim (λ e. cc) (λ h. absurd (Contains-nil (Claim worker row) h))
-    (Contains-cases (File by at) [] (Claim worker row) c)
-
 claims-append : (es fs : List Entry) → ClaimsAreByCaller es → ClaimsAreByCaller fs → ClaimsAreByCaller (es ++ fs)
 claims-append es fs h k worker row c =
     ⊎_elim (h worker row) (k worker row) (Contains-append_cases es fs (Claim worker row) c)
 
 module _ {B G : Type 0} where
-  pub continues-self : (p : ProgressSeen B G) → Continues p p
-  continues-self p =
-      record { same_tag = refl; more = ([], sym (append-nil p.history), no-claims); stays_filed = λ row f. f }
-
   pub continues-trans : (p q r : ProgressSeen B G) → Continues p q → Continues q r → Continues p r
   continues-trans p q r h k = record {
     same_tag = k.same_tag ∙ h.same_tag;
@@ -79,12 +66,6 @@ module _ {B G : Type 0} where
           ∙ f.1),
     );
   }
-
-  pub claim-held : (p q : ProgressSeen B G) (worker row : ℕ) → slice_get p.rows.states row ≡ Some Free
-      → q.rows ≡ claimed p.rows worker row → slice_get q.rows.states row ≡ Some (Held worker)
-  claim-held p q worker row free r =
-      ap (λ m. slice_get m.states row) r ∙ get-set-same p.rows.states row (Held worker)
-      (slice_get_within p.rows.states row Free free)
 
   module _ (eq : G → G → Bool) where
     pub file-filed : (p q : ProgressSeen B G) (worker row : ℕ) (a : Answer G)

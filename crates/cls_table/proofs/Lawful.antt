@@ -1,27 +1,30 @@
 -- What holds of the machine under a tag holds after each event.
-use Rattle.std.proofs.Common.{◌≡◌, ℕ, zero, suc, ◌+◌, ◌-◌, ◌<◌, ◌≤◌, ◌^◌, Bool, true, false, List, [], ◌∷◌, ◌++◌, Some, length, slice_get, refl, sym, subst, ◌∙◌, arith, inl, inr, length-set, set, ◌==◌, ◌≢◌}
-use Rattle.std.specs.Prelude.{replicate}
-use Rattle.std.specs.Prelude.{All}
+use Rattle.std.proofs.Common.{◌≡◌, ℕ, zero, suc, ◌+◌, ◌-◌, ◌<◌, ◌≤◌, Bool, true, false, List, [], ◌∷◌, ◌++◌, Some, length, slice_get, refl, sym, subst, ◌∙◌, arith, inl, inr, length-set, set, ◌==◌, ◌≢◌}
+use Rattle.std.specs.Prelude.{replicate, All, ◌↔◌, Result, Ok, Err, IfOk, IfErr}
+use Rattle.std.specs.Option.{ForSome}
 use Rattle.std.specs.List.{position_or_len}
 use Rattle.std.proofs.lemmas.Option.{slice_get_within, get_or_from_slice_get}
 use Rattle.std.specs.Prelude.{nat_lt}
 use Rattle.std.proofs.lemmas.Bool.Decides.{nat_tests}
-use Rattle.cls_core.specs.Rows.{Machine}
+use Rattle.cls_core.specs.Rows.{Machine, Recorded}
 use Rattle.cls_core.specs.Machine.{begun, claimed, filed, grown, numbered, Replays, rules_in}
-use Rattle.cls_core.specs.Arguments.{arguments_of, rule_count}
+use Rattle.cls_core.specs.Arguments.{arguments_of, rule_count, ArgumentsAreReady}
+use Rattle.cls_core.specs.Filings.{IfKept}
 use Rattle.cls_core.specs.Closure.{HasMoreGoals, HasMoreRules}
 use Rattle.cls_core.specs.declared.state.RowState.{RowState}
 use Rattle.cls_core.specs.declared.state.RowState.TheVariants.{Free, Held, Filed}
 use Rattle.cls_core.specs.declared.entry.Entry.{Entry}
 use Rattle.cls_core.specs.declared.entry.Entry.TheVariants.{Claim, File}
 use Rattle.cls_core.specs.declared.answer.Answer.{Answer}
+use Rattle.cls_core.specs.declared.filing.Filing.{Filing}
+use Rattle.cls_core.specs.declared.filing.Filing.TheVariants.{Kept, OverLimits}
 use Rattle.cls_core.proofs.Replaying.{replays-snoc}
 use Rattle.cls_base.proofs.Lists.{Contains-at, Contains-place}
 use Rattle.cls_core.proofs.Members.{all-only}
 use Rattle.cls_core.proofs.Closure.{replay-sound, shows-goals, shows-rules, mapped-count}
 use Rattle.cls_core.proofs.Columns.{filed-counts, claimed-counts, get-set-same, get-set-other, get-within, get-behind, some-inside}
 use Rattle.cls_table.specs.declared.tag.Tag.{Tag}
-use Rattle.cls_table.specs.Seen.{ProgressSeen, TableSeen}
+use Rattle.cls_table.specs.Seen.{ProgressSeen, TableSeen, core_of}
 use Rattle.cls_table.specs.Lawful.{claims_in, NamesUpTo, IsLawful, IsLawfulTable, IsLarge}
 use Rattle.cls_table.specs.Holdings.{HasRoom}
 
@@ -104,28 +107,6 @@ module _ {G : Type 0} (eq : G → G → Bool) (IsAnswer : G → Answer G → Typ
       (set-holders most r.states row (Filed (numbered eq (grown eq r.goals h.1.answer) h.1.answer)) k (λ w e. cc))))
 
 module _ {B G : Type 0} (eq : G → G → Bool) (IsAnswer : B → G → Answer G → Type 0) (ready : B → G → Type 0) where
-  pub lawful-begun : (tag : Tag B G) (rows : Machine G) (history : List Entry) → rows ≡ begun tag.start → history ≡ []
-      → 0 < tag.goals → tag.goals < 2 ^ 32 → tag.rules < 2 ^ 32 → ready tag.by tag.start
-      → IsLawful eq IsAnswer ready (seen tag rows history)
-  lawful-begun tag rows history r h some small small_rules is_ready =
-      subst (λ es. IsLawful eq IsAnswer ready (seen tag rows es)) (sym h)
-      (subst (λ m. IsLawful eq IsAnswer ready (seen tag m [])) (sym r) start)
-    where
-      start : IsLawful eq IsAnswer ready (seen tag (begun tag.start) [])
-      start = record {
-        legal = refl;
-        workers_named = tt;
-        goals_within = omega arith;
-        rules_within = omega arith;
-        goal_limit = small;
-        rule_limit = small_rules;
-        goals_ready = λ row g e. first row g e;
-      }
-        where
-          first : (row : ℕ) (g : G) → slice_get (tag.start ∷ []) row ≡ Some g → ready tag.by g
-          first zero g e = subst (ready tag.by) (let s : tag.start ≡ g = cc in s) is_ready
-          first (suc row) g e = cc
-
   pub lawful-claim : (p : ProgressSeen B G) (worker row : ℕ) (rows : Machine G) (history : List Entry)
       → IsLawful eq IsAnswer ready p → worker ≤ p.tag.workers → slice_get p.rows.states row ≡ Some Free
       → rows ≡ claimed p.rows worker row → history ≡ p.history ++ Claim worker row ∷ []
@@ -156,7 +137,7 @@ module _ {B G : Type 0} (eq : G → G → Bool) (IsAnswer : B → G → Answer G
 
   module _ (exact : (x y : G) → eq x y ≡ true → x ≡ y) (reflexive : (x : G) → eq x x ≡ true) where
     -- a filing for which there is no room shows that the closure is too large
-    pub beyond-large : (p : ProgressSeen B G) (worker row : ℕ) (g : G) (a : Answer G) → IsLawful eq IsAnswer ready p
+    beyond-large : (p : ProgressSeen B G) (worker row : ℕ) (g : G) (a : Answer G) → IsLawful eq IsAnswer ready p
         → slice_get p.rows.states row ≡ Some (Held worker) → slice_get p.rows.goals row ≡ Some g → IsAnswer p.tag.by g a
         → (HasRoom eq p.tag p.rows a → ⊥) → IsLarge IsAnswer p.tag
     beyond-large p worker row g a k held at is none =
@@ -182,7 +163,7 @@ module _ {B G : Type 0} (eq : G → G → Bool) (IsAnswer : B → G → Answer G
         more false e true f x y = inr (y (grind (arith, nat_tests)))
         more false e false f x y = absurd (none (grind (arith, nat_tests), grind (arith, nat_tests)))
 
-    pub lawful-file : (p : ProgressSeen B G) (worker row : ℕ) (g : G) (a : Answer G) (rows : Machine G)
+    lawful-file : (p : ProgressSeen B G) (worker row : ℕ) (g : G) (a : Answer G) (rows : Machine G)
         (history : List Entry) → IsLawful eq IsAnswer ready p → slice_get p.rows.states row ≡ Some (Held worker)
         → slice_get p.rows.goals row ≡ Some g → IsAnswer p.tag.by g a → HasRoom eq p.tag p.rows a
         → All (ready p.tag.by) (arguments_of a)
@@ -226,6 +207,42 @@ module _ {B G : Type 0} (eq : G → G → Bool) (IsAnswer : B → G → Answer G
         at [] i h = absurd (omega arith)
         at (g ∷ gs) zero h = (g, refl)
         at (g ∷ gs) (suc i) h = at gs i (omega arith)
+
+    module _ (p : ProgressSeen B G) (worker row : ℕ) (a : Answer G) (k : IsLawful eq IsAnswer ready p)
+        (held : slice_get p.rows.states row ≡ Some (Held worker))
+        (answer : ForSome (slice_get p.rows.goals row) (λ g. IsAnswer p.tag.by g a)) where
+      -- an answer for which there is no room shows that the closure is too large
+      pub large-answer : (HasRoom eq p.tag p.rows a → ⊥) → IsLarge IsAnswer p.tag
+      large-answer none =
+          let at = row-goal p row (Held worker) k held in
+          beyond-large p worker row at.0 a k held at.1 (answer at.0 at.1) none
+
+      -- so does one that would make more rows than the most
+      pub large-filing : (r : Result (Filing G) (Answer G)) (most : ℕ) → most ≡ p.tag.goals
+          → IfOk r (λ f. (f ≡ OverLimits) ↔ (most < length (grown eq p.rows.goals a)))
+          → IfOk r (λ f. f ≡ OverLimits → IsLarge IsAnswer p.tag)
+      large-filing (Ok f) most is room =
+          λ over. (let many = room.0 over in large-answer (λ h. omega (arith, h.0)))
+      large-filing (Err b) most is room = tt
+
+      -- the machine is lawful after the filing, whatever became of it
+      pub lawful-filing : (r : Result (Filing G) (Answer G)) (most : ℕ) (new : Recorded G) → most ≡ p.tag.goals
+          → ArgumentsAreReady (ready p.tag.by) (IsAnswer p.tag.by) → rules_in p.rows.states + rule_count a ≤ p.tag.rules
+          → IfOk r (λ f. (f ≡ OverLimits) ↔ (most < length (grown eq p.rows.goals a)))
+          → IfOk r (IfKept (λ _. new.rows ≡ filed eq p.rows row a))
+          → IfOk r (IfKept (λ _. new.history ≡ p.history ++ File worker row ∷ []))
+          → IfOk r (λ f. f ≡ OverLimits → new ≡ core_of p) → IfErr r (λ b. (b ≡ a) × (new ≡ core_of p))
+          → IsLawful eq IsAnswer ready (seen p.tag new.rows new.history)
+      lawful-filing (Ok (Kept goals)) most new is args few room rows history over err =
+          let at = row-goal p row (Held worker) k held in
+          let all = args at.0 a (k.goals_ready row at.0 at.1) (answer at.0 at.1) in
+          let fits : most < length (grown eq p.rows.goals a) → ⊥ = λ m. (let wrong = room.1 m in cc) in
+          lawful-file p worker row at.0 a new.rows new.history k held at.1 (answer at.0 at.1) (omega arith, few) all
+          rows history
+      lawful-filing (Ok OverLimits) most new is args few room rows history over err =
+          subst (λ (n : Recorded G). IsLawful eq IsAnswer ready (seen p.tag n.rows n.history)) (sym (over refl)) k
+      lawful-filing (Err b) most new is args few room rows history over err =
+          subst (λ (n : Recorded G). IsLawful eq IsAnswer ready (seen p.tag n.rows n.history)) (sym err.1) k
 
     -- what holds of a table, from what holds of the machine in it
     pub lawful-table : (t : TableSeen B G) → IsLawful eq IsAnswer ready (seen t.tag t.rows t.history)

@@ -1,6 +1,6 @@
+pub mod Batches
 pub mod Completing
 pub mod Counting
-pub mod Growing
 pub mod Lawful
 pub mod Seating
 pub mod Sent

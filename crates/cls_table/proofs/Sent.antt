@@ -17,8 +17,8 @@ use Rattle.cls_core.specs.declared.expand.Expand as expand
 use Rattle.cls_base.specs.declared.key.Key as key
 use Rattle.cls_core.proofs.Sent.{core_send}
 use Rattle.cls_turn.proofs.Sent.{seat_send, turn_sync}
-use Rattle.cls_table.specs.contracts.told.Told.{the_row as told_row}
-use Rattle.cls_table.specs.contracts.table.TableKnownToldTagGoal.TheImpl.{ghosts as table_known, no_dict}
+use Rattle.cls_table.specs.contracts.tag.Tag.{the_row as tag_row}
+use Rattle.cls_table.specs.contracts.table.TableKnownTagTagGoal.TheImpl.{ghosts as table_known, no_dict}
 use Rattle.cls_table.specs.contracts.seat.TableSeat.{the_row as seat_row}
 use Rattle.cls_table.specs.contracts.shared.SharedTable.{the_row as shared_row}
 use Rattle.cls_table.specs.contracts.table.Table.{the_row as table_row}
@@ -41,7 +41,7 @@ module _ (E L G T : RattleType) (x : expand.Ghosts E.Denot G.Denot T.Denot) (e :
   table_seat_inside : IsSend (Declared.row (inside_type E L G T x e h l))
   table_seat_inside =
       declared_send (inside_type E L G T x e h l) (
-        seat_send (table_row E L G T x e h l) (told_row T G) (table_send E L G T x e h l s),
+        seat_send (table_row E L G T x e h l) (tag_row T G) (table_send E L G T x e h l s),
         (share_send L l, (search sendable, tt)),
       )
 
@@ -51,5 +51,9 @@ module _ (E L G T : RattleType) (x : expand.Ghosts E.Denot G.Denot T.Denot) (e :
   pub shared_table_sync : (k : key.Ghosts G.Denot) (q : equivalence.Ghosts G.Denot)
       → IsSync (shared_row E L G T x k q e h l)
   shared_table_sync k q =
-      declared_sync (shared_type E L G T x k q e h l)
-      (turn_sync (table_row E L G T x e h l) (told_row T G) (table_known E L G T x no_dict k no_dict q no_dict e no_dict h no_dict l no_dict no_dict) (table_send E L G T x e h l s), tt)
+      declared_sync (shared_type E L G T x k q e h l) (
+        turn_sync (table_row E L G T x e h l) (tag_row T G)
+            (table_known E L G T x no_dict k no_dict q no_dict e no_dict h no_dict l no_dict no_dict)
+            (table_send E L G T x e h l s),
+        tt,
+      )

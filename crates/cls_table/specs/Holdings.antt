@@ -1,7 +1,7 @@
--- What one holding does to the table.
+-- What a claim, a filing and a stop do to the table.
 use Rattle.std.specs.Prelude.{◌≡◌, ℕ, ◌+◌, ◌≤◌, Bool, true, false, [], ◌∷◌, ◌++◌, Some, length, slice_get}
 use Rattle.cls_core.specs.Machine.{claimed, filed, grown, rules_in, NoneFree, SomeHeld}
-use Rattle.cls_core.specs.Arguments.{rule_count}
+use Rattle.cls_core.specs.Arguments.{arguments_of, rule_count}
 use Rattle.cls_core.specs.Rows.{Machine}
 use Rattle.cls_core.specs.declared.state.RowState.TheVariants.{Free, Held}
 use Rattle.cls_core.specs.declared.entry.Entry.TheVariants.{Claim, File}
@@ -65,12 +65,6 @@ module _ {B G : Type 0} where
   abbrev pub IsHeldClaim : Machine G → ClaimSeen B G → Type 0
   IsHeldClaim r c = (slice_get r.states c.row ≡ Some (Held c.worker)) × (slice_get r.goals c.row ≡ Some c.goal)
 
-  -- the goal is filed
-  abbrev pub IsKept : {E : Type 0} → FileAnswer E G B → Type 0
-  IsKept (Kept a) = Unit {0}
-  IsKept PastLimits = ⊥
-  IsKept (NotHeld f) = ⊥
-
   module _ (eq : G → G → Bool) where
     -- the table after a filing within the limits
     abbrev pub after_file : TableSeen B G → FiledSeen B G → TableSeen B G
@@ -81,8 +75,9 @@ module _ {B G : Type 0} where
 
     -- the filing gets this answer, and the table t becomes u
     abbrev pub FileOutcome : {E : Type 0} → TableSeen B G → FiledSeen B G → FileAnswer E G B → TableSeen B G → Type 0
-    FileOutcome t f (Kept a) u =
-        (a ≡ f.answer) × IsHeldClaim t.rows f.claim × HasRoom eq t.tag t.rows f.answer × (u ≡ after_file t f)
+    FileOutcome t f (Kept goals) u =
+        (goals ≡ arguments_of f.answer) × IsHeldClaim t.rows f.claim × HasRoom eq t.tag t.rows f.answer
+        × (u ≡ after_file t f)
     FileOutcome t f PastLimits u =
         IsHeldClaim t.rows f.claim × (HasRoom eq t.tag t.rows f.answer → ⊥) × (u ≡ large_table t)
     FileOutcome t f (NotHeld g) u = (g ≡ f) × (IsHeldClaim t.rows f.claim → ⊥) × (u ≡ t)

@@ -1,6 +1,6 @@
+pub mod Batches
 pub mod Completing
 pub mod Filings
-pub mod Growing
 pub mod Holdings
 pub mod Lawful
 pub mod Seating

@@ -49,12 +49,16 @@ pub record FiledSeen (B G : Type 0) : Type 0 where
   pub claim : ClaimSeen B G
   pub answer : Answer G
 
+pub record BatchSeen (B G : Type 0) : Type 0 where
+  -- what was claimed and not worked on
+  pub claims : List (ClaimSeen B G)
+  -- what was worked on and not filed
+  pub filings : List (FiledSeen B G)
+
 pub record SeatSeen (B G : Type 0) : Type 0 where
   -- which table the seat is of
   pub turn : TableId
   pub tag : Option (Tag B G)
-  -- the goals of rows that the seat knows: those of the first rows, in their order
-  pub goals : List G
   pub worker : ℕ
   -- the parts of the ledger that its share has, and the claims that the share counts
   pub parts : ℕ

@@ -1,6 +1,7 @@
 ghost use Rattle.std.specs.Prelude.{◌≡◌, IfOk, IfErr};
 
 use crate::origin::Origin;
+use cls_base::Goals;
 use cls_core::{Answer, Expand};
 use std::alloc::Global;
 use std::marker::Model;
@@ -63,8 +64,8 @@ pub enum ClaimAnswer<E: Expand> {
 
 /// What became of a filing.
 pub enum FileAnswer<E: Expand> {
-    /// The goal is filed. Its answer is handed back.
-    Kept(Answer<E::Goal>),
+    /// The goal is filed. The arguments of its answer are handed back.
+    Kept(Goals<E::Goal>),
     /// The closure is too large, which the table is marked with.
     TooLarge,
     /// The claim's row isn't held by its worker or has another goal. The filing is handed back.
@@ -131,18 +132,8 @@ impl<E: Expand> Filed<E> {
         let _ = &self.answer;
     }
 
-    /// The answer.
-    pub fn answer(&self) -> &Answer<E::Goal>
-        ensures { result.now ≡ self.now.answer }
-    {
-        &self.answer
-    }
-
-    /// The claim, without the answer.
-    pub fn claim(self) -> Claim<E>
-        ensures { result ≡ self.claim }
-    {
+    pub(crate) fn spend(self) {
         let Filed { claim, answer: _ } = self;
-        claim
+        claim.spend();
     }
 }

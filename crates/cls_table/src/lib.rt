@@ -1,18 +1,22 @@
 //! The table of goals that workers share.
 //!
-//! - [`SharedTable`] is the table under a spin lock, and [`TableSeat`] a worker's handle on it. Each of its calls takes
-//!   the lock, makes one call of [`Table`] and puts the table back.
+//! - [`SharedTable`] is the table under a spin lock, and [`TableSeat`] a worker's handle on it. What is done with the
+//!   table while one seat has the lock is a holding.
+//! - [`Batch`] is what a worker has at hand between two holdings: goals that it has claimed, and goals that it has
+//!   worked on and not filed. [`SharedTable::exchange`] files the latter and claims several more at one holding. [`Told`]
+//!   is what it tells the worker: whether there is work. [`Batch::expand`] works on what was claimed.
+//!   [`SharedTable::stop`] stops the table for want of memory, and spends what is at hand.
 //! - [`Table`] is the locked value: the rows, the history, the count of claims made, and two marks. [`Table::claim`],
 //!   [`Table::file`] and [`Table::stop`] are all that can happen to it, and say in full what it becomes.
 //!   [`Table::facts`] says what holds of it at any time.
 //! - [`Claim`] is a goal that a worker has, and [`Filed`] a claim with the goal's answer. Neither can be dropped.
-//! - [`Tag`] is what a table means: the meaning of the expander, the start goal, the limits, the greatest worker number.
-//! - [`Told`] is what a seat knows of its table: the tag, and goals that have rows. Rows are only ever added, so at each
-//!   later holding the goals of the rows begin with those that the seat knows.
+//! - [`Tag`] is what a table means: the meaning of the expander, the start goal, the limits, the greatest number of a
+//!   worker. A seat knows the tag of its table, which stays.
 //!
 //! The claims made are counted in a ledger. Its book lies in the table, and each seat has a share of it.
 #![tactic(auto)]
 
+mod batch;
 mod claim;
 mod fault;
 mod limits;
@@ -22,8 +26,8 @@ mod seat;
 mod shared;
 mod table;
 mod tag;
-mod told;
 
+pub use batch::{Batch, Told};
 pub use claim::{Claim, ClaimAnswer, FileAnswer, Filed};
 pub use fault::ExpandFault;
 pub use limits::Limits;
@@ -31,4 +35,3 @@ pub use seat::TableSeat;
 pub use shared::{SharedTable, Unfinished};
 pub use table::Table;
 pub use tag::Tag;
-pub use told::Told;

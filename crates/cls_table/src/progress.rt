@@ -1,12 +1,10 @@
 //! A machine with its history, under a tag: what a table has beside its count and its marks.
 ghost use Rattle.std.specs.Prelude.{◌≡◌, ◌<◌, ◌≤◌, ◌+◌, ◌^◌, [], ◌∷◌, ◌++◌, Some, true, false, ℕ, ◌≢◌, ◌↔◌, IsTrue};
-ghost use Rattle.std.specs.Prelude.{IfOk, IfErr, IfSome, IfNone, OnOk, OnErr, length, slice_get, map};
+ghost use Rattle.std.specs.Prelude.{IfOk, IfErr, IfSome, IfNone, OnOk, OnErr, length, slice_get};
 ghost use Rattle.std.specs.Option.{ForSome};
 ghost use Rattle.cls_core.specs.declared.state.RowState.TheVariants.{Free, Held};
 ghost use Rattle.cls_core.specs.declared.entry.Entry.TheVariants.{Claim as ClaimEntry, File};
 ghost use Rattle.cls_core.specs.Machine.{begun, claimed, AllFiled, NoneFree, SomeHeld};
-ghost use Rattle.cls_core.specs.Arguments.{arguments_of};
-ghost use Rattle.cls_core.specs.ArgumentRows.{AreRowsOf};
 ghost use Rattle.cls_table.specs.Tags.{tag_for};
 ghost use Rattle.cls_table.specs.Holdings.{IsHeldClaim, IsClaimOf};
 ghost use Rattle.cls_table.specs.Lawful.{IsLawful, IsLarge, claims_in};
@@ -19,7 +17,7 @@ use crate::fault::ExpandFault;
 use crate::limits::Limits;
 use crate::origin::Origin;
 use cls_base::{Key, OutOfMemory};
-use cls_core::{Answer, ArgumentRows, Core, Expand, Filing, Finished, RowState};
+use cls_core::{Answer, Core, Expand, Filing, Finished, RowState};
 use std::alloc::Global;
 use std::marker::Model;
 use std::snapshot::Snapshot;
@@ -151,34 +149,29 @@ impl<E: Expand> Progress<E> {
     }
 
     /// Files the row, which the worker holds, with the answer that the tag gives for its goal, if that stays within the
-    /// limits. The rows of arguments that are known aren't looked up. The only error is out of memory.
+    /// limits, and hands the answer's arguments back. The Err means out of memory, and hands the answer back.
     #[tactic(auto, using(crate::proofs::Counting::claims_in_file))]
     pub(crate) fn file(
         &mut self,
         alloc: Global,
         worker: u32,
         row: u32,
-        answer: &Answer<E::Goal>,
-        arguments: &mut ArgumentRows,
-    ) -> Result<Filing, OutOfMemory>
+        answer: Answer<E::Goal>,
+    ) -> Result<Filing<E::Goal>, Answer<E::Goal>>
         requires held { slice_get self.old.rows.states row ≡ Some (Held worker) }
-        requires answer { ForSome (slice_get self.old.rows.goals row) (λ g. E.answers self.old.tag.by g answer.now) }
-        requires known { AreRowsOf self.old.rows.goals (arguments_of answer.now) arguments.old.known.items }
-        ensures outcome { IfOk result (λ f. FilingOutcome E.Goal.eq worker row answer.now f self.old self.new) }
-        ensures found { IfOk result (λ f. f ≡ Filing.Kept
-            → AreRowsOf self.new.rows.goals (arguments_of answer.now) (map Some arguments.new.found.items)) }
-        ensures known { arguments.new.known ≡ arguments.old.known }
+        requires answer { ForSome (slice_get self.old.rows.goals row) (λ g. E.answers self.old.tag.by g answer) }
+        ensures outcome { IfOk result (λ f. FilingOutcome E.Goal.eq worker row answer f self.old self.new) }
         ensures large { IfOk result (λ f. f ≡ Filing.OverLimits → IsLarge E.answers self.old.tag) }
         ensures claims { OnOk result (claims_in self.new.history ≡ claims_in self.old.history) }
         ensures tag { self.new.tag ≡ self.old.tag }
-        ensures err { OnErr result (self.new ≡ self.old) }
+        ensures err { IfErr result (λ a. (a ≡ answer) × (self.new ≡ self.old)) }
     {
         let rules = u64::from(self.origin.rules()) - self.core.rules();
         if answer.rule_count() as u64 > rules {
             return Ok(Filing::OverLimits);
         }
         let most = self.origin.goals();
-        Ok(self.core.file(alloc, worker, row, answer, arguments, most)?)
+        self.core.file(alloc, worker, row, answer, most)
     }
 
     /// The rows and the history. The Err comes if and only if some row isn't filed.
@@ -213,10 +206,10 @@ impl<E: Expand> Progress<E> {
         ensures large { IfErr result (λ e. e ≡ ExpandFault.TooLarge → IsLarge E.answers self.old.tag) }
     {
         let answer = by.expand(alloc, self.core.goal(row))?;
-        let mut arguments = ArgumentRows::unknown(alloc);
-        match self.file(alloc, worker, row, &answer, &mut arguments)? {
-            Filing::Kept => Ok(()),
-            Filing::OverLimits => Err(ExpandFault::TooLarge),
+        match self.file(alloc, worker, row, answer) {
+            Ok(Filing::Kept(_)) => Ok(()),
+            Ok(Filing::OverLimits) => Err(ExpandFault::TooLarge),
+            Err(_) => Err(ExpandFault::OutOfMemory),
         }
     }
 

@@ -1,13 +1,13 @@
-ghost use Rattle.std.specs.Prelude.{◌≡◌, ◌<◌, ◌≤◌, ◌+◌, ◌-◌, Some, IfOk, IfErr, IfSome, OnErr, OnSome, map};
+ghost use Rattle.std.specs.Prelude.{◌≡◌, ◌<◌, ◌≤◌, ◌+◌, ◌-◌, [], Some, IfOk, IfErr, IfSome, length};
 ghost use Rattle.std.specs.Option.{ForSome};
 
-use crate::claim::{Claim, ClaimAnswer, FileAnswer, Filed};
+use crate::batch::{Batch, Told};
 use crate::limits::Limits;
 use crate::seat::TableSeat;
 use crate::table::Table;
-use crate::told::Told;
+use crate::tag::Tag;
 use cls_base::OutOfMemory;
-use cls_core::{Answer, ArgumentRows, Expand, Finished};
+use cls_core::{Expand, Finished};
 use cls_turn::Turn;
 use std::alloc::Global;
 use std::sync::Wait;
@@ -18,7 +18,7 @@ use std::sync::ledger::{Blank, Ledger, Share};
 /// Each call that takes a seat wants one of this table: the first, or one that was split from such a seat.
 #[derive(Drop)]
 pub struct SharedTable<E: Expand, L: Ledger> {
-    turn: Turn<Table<E, L>, Told<E::Tag, E::Goal>>,
+    turn: Turn<Table<E, L>, Tag<E::Tag, E::Goal>>,
 }
 
 /// A table that was closed while some row wasn't filed.
@@ -31,13 +31,9 @@ pub struct Unfinished<E: Expand, L: Ledger> {
 impl<E: Expand, L: Ledger> SharedTable<E, L> {
     ghost use Rattle.cls_turn.specs.Seats.{id_of};
     ghost use Rattle.cls_core.specs.Machine.{AllFiled};
-    ghost use Rattle.cls_core.specs.Adding.{GoesOn};
-    ghost use Rattle.cls_core.specs.Arguments.{arguments_of};
-    ghost use Rattle.cls_core.specs.ArgumentRows.{AreRowsOf};
     ghost use Rattle.cls_table.specs.Lawful.{IsLawfulTable, claims_in};
     ghost use Rattle.cls_table.specs.Tags.{tag_for};
-    ghost use Rattle.cls_table.specs.Holdings.{claims_made_by, IsKept};
-    ghost use Rattle.cls_table.specs.Seating.{IsClaimAnswer, HandsBack};
+    ghost use Rattle.cls_table.specs.Batches.{HasNothing, IsBatchFor};
     ghost use Rattle.cls_table.specs.Completing.{IsCompleteFor};
 
     /// A table with one free row, the goal, and the seat of the worker 0 with every part of the ledger. The only error
@@ -106,24 +102,22 @@ impl<E: Expand, L: Ledger> SharedTable<E, L> {
         seat.share.merge(share);
     }
 
-    /// Takes the turn, and asks for a goal: what `Table::claim` answers at that holding.
-    ///
-    /// It tells that the closure is too large only if it is. `OutOfMemory` comes at out of memory, and if the table is
-    /// stopped.
-    pub fn claim<R: Wait>(
+    /// Takes the turn once: files what the batch has worked on, and then claims at most so many goals for it, and fewer
+    /// where few rows are free. Where memory runs out for a filing, the table is stopped.
+    pub fn exchange<R: Wait>(
         &self,
         rt: &R,
         alloc: Global,
         seat: &mut TableSeat<E, L>,
-    ) -> Result<ClaimAnswer<E>, OutOfMemory>
+        batch: &mut Batch<E>,
+        most: u32,
+    ) -> Told
         requires seat_of_this { seat.old.turn ≡ id_of self.now.turn }
-        ensures answer { IfOk result (λ a. ForSome seat.old.tag (λ t. IsClaimAnswer E.answers t seat.old.worker a)) }
-        ensures seat { IfOk result (λ a. seat.new ≡ record seat.old {
-          goals = seat.new.goals;
-          amount = seat.old.amount + claims_made_by a;
-        }) }
-        ensures err { OnErr result (seat.new ≡ record seat.old { goals = seat.new.goals }) }
-        ensures goals { GoesOn seat.old.goals seat.new.goals }
+        requires batch { ForSome seat.old.tag (λ t. IsBatchFor t batch.old) }
+        requires no_claims { batch.old.claims ≡ [] }
+        ensures batch { ForSome seat.old.tag (λ t. IsBatchFor t batch.new) }
+        ensures seat { seat.new ≡ record seat.old { amount = seat.old.amount + length batch.new.claims } }
+        ensures most { length batch.new.claims ≤ most }
     {
         let TableSeat {
             seat,
@@ -131,98 +125,23 @@ impl<E: Expand, L: Ledger> SharedTable<E, L> {
             worker,
         } = seat;
         let mut table = self.turn.take(rt, seat);
-        let answer = table.claim(alloc, share, *worker);
+        batch.file(alloc, &mut table);
+        let told = batch.claim(alloc, &mut table, share, *worker, most);
         self.turn.put(seat, table);
-        answer
+        told
     }
 
-    // One holding of `file`.
-    fn file_once<R: Wait>(
-        &self,
-        rt: &R,
-        alloc: Global,
-        seat: &mut TableSeat<E, L>,
-        filed: Filed<E>,
-        arguments: &mut ArgumentRows,
-    ) -> Result<FileAnswer<E>, Filed<E>>
+    /// Takes the turn, and stops the table, which spends all that the batch has at hand.
+    pub fn stop<R: Wait>(&self, rt: &R, seat: &mut TableSeat<E, L>, batch: &mut Batch<E>)
         requires seat_of_this { seat.old.turn ≡ id_of self.now.turn }
-        requires tag { seat.old.tag ≡ Some filed.claim.tag }
-        requires known { AreRowsOf seat.old.goals (arguments_of filed.answer) arguments.old.known.items }
-        ensures seat { seat.new ≡ record seat.old { goals = seat.new.goals } }
-        ensures goals { GoesOn seat.old.goals seat.new.goals }
-        ensures known { arguments.new.known ≡ arguments.old.known }
-        ensures back { IfOk result (HandsBack filed) }
-        ensures found { IfOk result (λ r. IsKept r
-            → AreRowsOf seat.new.goals (arguments_of filed.answer) (map Some arguments.new.found.items)) }
-        ensures err { IfErr result (λ f. f ≡ filed) }
+        ensures seat { seat.new ≡ seat.old }
+        ensures nothing { HasNothing batch.new }
     {
         let TableSeat { seat, .. } = seat;
         let mut table = self.turn.take(rt, seat);
-        let answer = table.file(alloc, filed, arguments);
+        table.stop();
+        batch.spend();
         self.turn.put(seat, table);
-        answer
-    }
-
-    /// Waits for a holding at which the claim's row is held by its worker and has the claim's goal, and files there
-    /// what `Table::file` files. None says that the closure is too large, which the table is marked with. The Err means
-    /// out of memory alone, and hands the filing back.
-    ///
-    /// The answer is handed back, so that it is dropped outside of the turn. `arguments` has then found the rows of all
-    /// its arguments, of which those that it knew before weren't looked up.
-    pub fn file<R: Wait>(
-        &self,
-        rt: &R,
-        alloc: Global,
-        seat: &mut TableSeat<E, L>,
-        filed: Filed<E>,
-        arguments: &mut ArgumentRows,
-    ) -> Result<Option<Answer<E::Goal>>, Filed<E>>
-        requires seat_of_this { seat.old.turn ≡ id_of self.now.turn }
-        requires tag { seat.old.tag ≡ Some filed.claim.tag }
-        requires known { AreRowsOf seat.old.goals (arguments_of filed.answer) arguments.old.known.items }
-        ensures seat { seat.new ≡ record seat.old { goals = seat.new.goals } }
-        ensures goals { GoesOn seat.old.goals seat.new.goals }
-        ensures known { arguments.new.known ≡ arguments.old.known }
-        ensures answer { IfOk result (λ r. IfSome r (λ a. a ≡ filed.answer)) }
-        ensures found { IfOk result (λ r. OnSome r
-            (AreRowsOf seat.new.goals (arguments_of filed.answer) (map Some arguments.new.found.items))) }
-        ensures err { IfErr result (λ f. f ≡ filed) }
-    {
-        let mut filed = filed;
-        for _ in rt.forever() {
-            match self.file_once(rt, alloc, seat, filed, arguments)? {
-                FileAnswer::Kept(answer) => return Ok(Some(answer)),
-                FileAnswer::TooLarge => return Ok(None),
-                FileAnswer::NotHeld(back) => filed = back,
-            }
-        }
-        unreachable!()
-    }
-
-    /// Takes the turn, and stops the table, which spends the claim.
-    pub fn stop<R: Wait>(&self, rt: &R, seat: &mut TableSeat<E, L>, claim: Claim<E>)
-        requires seat_of_this { seat.old.turn ≡ id_of self.now.turn }
-        ensures seat { seat.new ≡ record seat.old { goals = seat.new.goals } }
-        ensures goals { GoesOn seat.old.goals seat.new.goals }
-    {
-        let TableSeat { seat, .. } = seat;
-        let mut table = self.turn.take(rt, seat);
-        table.stop(claim);
-        self.turn.put(seat, table);
-    }
-
-    /// Takes the turn, and asks how many rows nobody has claimed yet: what `Table::unclaimed` says at that holding.
-    /// Others may claim and file at once after it, so it's a hint on how to share the work, and nothing rests on it.
-    pub fn unclaimed<R: Wait>(&self, rt: &R, seat: &mut TableSeat<E, L>) -> u64
-        requires seat_of_this { seat.old.turn ≡ id_of self.now.turn }
-        ensures seat { seat.new ≡ record seat.old { goals = seat.new.goals } }
-        ensures goals { GoesOn seat.old.goals seat.new.goals }
-    {
-        let TableSeat { seat, .. } = seat;
-        let table = self.turn.take(rt, seat);
-        let count = table.unclaimed();
-        self.turn.put(seat, table);
-        count
     }
 
     // One holding of `read`.
@@ -233,8 +152,7 @@ impl<E: Expand, L: Ledger> SharedTable<E, L> {
         seat: &mut TableSeat<E, L>,
     ) -> Result<Option<Finished<E::Goal>>, OutOfMemory>
         requires seat_of_this { seat.old.turn ≡ id_of self.now.turn }
-        ensures seat { seat.new ≡ record seat.old { goals = seat.new.goals } }
-        ensures goals { GoesOn seat.old.goals seat.new.goals }
+        ensures seat { seat.new ≡ seat.old }
         ensures complete { IfOk result (λ r. IfSome r (IsCompleteFor E.Goal.eq E.answers seat.old)) }
     {
         let TableSeat { seat, .. } = seat;
@@ -254,8 +172,7 @@ impl<E: Expand, L: Ledger> SharedTable<E, L> {
         seat: &mut TableSeat<E, L>,
     ) -> Result<Finished<E::Goal>, OutOfMemory>
         requires seat_of_this { seat.old.turn ≡ id_of self.now.turn }
-        ensures seat { seat.new ≡ record seat.old { goals = seat.new.goals } }
-        ensures goals { GoesOn seat.old.goals seat.new.goals }
+        ensures seat { seat.new ≡ seat.old }
         ensures complete { IfOk result (IsCompleteFor E.Goal.eq E.answers seat.old) }
     {
         for _ in rt.forever() {

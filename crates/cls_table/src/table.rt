@@ -1,13 +1,13 @@
-ghost use Rattle.std.specs.Prelude.{◌≡◌, ◌<◌, ◌≤◌, ◌+◌, ◌-◌, [], true, false, Some, length, map};
+ghost use Rattle.std.specs.Prelude.{◌≡◌, ◌<◌, ◌≤◌, ◌+◌, ◌-◌, [], true, false, length};
 ghost use Rattle.std.specs.Prelude.{IfOk, IfErr, IfSome, IfNone, OnOk, OnErr, IsErr, IsErrOf};
 
 use crate::claim::{Claim, ClaimAnswer, FileAnswer, Filed};
 use crate::fault::ExpandFault;
 use crate::limits::Limits;
 use crate::progress::Progress;
-use crate::told::Told;
+use crate::tag::Tag;
 use cls_base::OutOfMemory;
-use cls_core::{ArgumentRows, Expand, Filing, Finished};
+use cls_core::{Expand, Filing, Finished};
 use cls_turn::Known;
 use std::alloc::Global;
 use std::marker::Model;
@@ -41,16 +41,16 @@ impl<E: Expand, L: Ledger> Model for Table<E, L> {
         × (t.large ≡ true → IsLarge E.answers t.progress.tag) };
 }
 
-impl<E: Expand, L: Ledger> Known<Told<E::Tag, E::Goal>> for Table<E, L> {
-    ghost use Rattle.cls_table.specs.Growing.{told_of, HasGrown, has_grown_reflexive, has_grown_transitive};
+impl<E: Expand, L: Ledger> Known<Tag<E::Tag, E::Goal>> for Table<E, L> {
+    ghost use Rattle.cls_table.specs.Tags.{tag_of, IsSameTag, same_tag_reflexive, same_tag_transitive};
 
-    ghost known = { told_of };
+    ghost known = { tag_of };
 
-    ghost goes_on = { HasGrown };
+    ghost goes_on = { IsSameTag };
 
-    ghost goes_on_reflexive = { has_grown_reflexive };
+    ghost goes_on_reflexive = { same_tag_reflexive };
 
-    ghost goes_on_transitive = { has_grown_transitive };
+    ghost goes_on_transitive = { same_tag_transitive };
 }
 
 impl<E: Expand, L: Ledger> Table<E, L> {
@@ -60,10 +60,7 @@ impl<E: Expand, L: Ledger> Table<E, L> {
     ghost use Rattle.cls_table.specs.Seen.{progress_of, core_of};
     ghost use Rattle.cls_core.specs.Finishing.{IsFinished};
     ghost use Rattle.cls_table.specs.Lawful.{IsLawfulTable, IsLarge, claims_in};
-    ghost use Rattle.cls_table.specs.Holdings.{ClaimOutcome, FileOutcome, IsKept, claims_made_by, stopped_table};
-    ghost use Rattle.cls_core.specs.Adding.{GoesOn};
-    ghost use Rattle.cls_core.specs.Arguments.{arguments_of};
-    ghost use Rattle.cls_core.specs.ArgumentRows.{AreRowsOf};
+    ghost use Rattle.cls_table.specs.Holdings.{ClaimOutcome, FileOutcome, claims_made_by, stopped_table};
 
     /// Does nothing, and says what holds of each table.
     pub fn facts(&self)
@@ -97,7 +94,7 @@ impl<E: Expand, L: Ledger> Table<E, L> {
         })
     }
 
-    /// Gives a goal to the worker, or says why it doesn't: the whole work of one holding of `SharedTable::claim`.
+    /// Gives a goal to the worker, or says why it doesn't.
     ///
     /// If the table is stopped the answer is `OutOfMemory`, which also comes at out of memory. Otherwise it is
     /// `TooLarge` if and only if the table is marked so, `Job` if some row is free, `Again` if and only if no row is
@@ -116,7 +113,6 @@ impl<E: Expand, L: Ledger> Table<E, L> {
         ensures outcome { IfOk result (λ a. ClaimOutcome self.old worker a self.new) }
         ensures large { self.old.large ≡ true → IsLarge E.answers self.old.tag }
         ensures tag { self.new.tag ≡ self.old.tag }
-        ensures goals { GoesOn self.old.rows.goals self.new.rows.goals }
         ensures amount { IfOk result (λ a. share.new.amount ≡ share.old.amount + claims_made_by a) }
         ensures parts { share.new.parts ≡ share.old.parts }
         ensures err { OnErr result ((self.new ≡ self.old) × (share.new.amount ≡ share.old.amount)) }
@@ -139,46 +135,32 @@ impl<E: Expand, L: Ledger> Table<E, L> {
         Ok(ClaimAnswer::Job(claim))
     }
 
-    /// Files a claim's goal: the whole work of one holding of `SharedTable::file`.
+    /// Files a claim's goal.
     ///
     /// It hands the filing back if and only if the claim's row isn't held by its worker or has another goal, and the
     /// table is then as before. Otherwise it files the row if that stays within the limits, and marks the table as too
-    /// large if it doesn't. What `arguments` knows of the rows of the answer's arguments isn't looked up, and once the
-    /// row is filed it has found them all. The Err means out of memory alone. It hands the filing back too, and the
-    /// table is as before.
-    pub fn file(
-        &mut self,
-        alloc: Global,
-        filed: Filed<E>,
-        arguments: &mut ArgumentRows,
-    ) -> Result<FileAnswer<E>, Filed<E>>
+    /// large if it doesn't. The Err means out of memory alone, and hands the filing back. The table is then as before.
+    pub fn file(&mut self, alloc: Global, filed: Filed<E>) -> Result<FileAnswer<E>, Filed<E>>
         requires tag { filed.claim.tag ≡ self.old.tag }
-        requires known { AreRowsOf self.old.rows.goals (arguments_of filed.answer) arguments.old.known.items }
         ensures outcome { IfOk result (λ r. FileOutcome E.Goal.eq self.old filed r self.new) }
-        ensures found { IfOk result (λ r. IsKept r
-            → AreRowsOf self.new.rows.goals (arguments_of filed.answer) (map Some arguments.new.found.items)) }
-        ensures known { arguments.new.known ≡ arguments.old.known }
         ensures err { IfErr result (λ f. (f ≡ filed) × (self.new ≡ self.old)) }
         ensures tag { self.new.tag ≡ self.old.tag }
-        ensures goals { GoesOn self.old.rows.goals self.new.rows.goals }
     {
         if !self.progress.has_held(&filed.claim) {
             return Ok(FileAnswer::NotHeld(filed));
         }
         let Filed { claim, answer } = filed;
-        let filing = self
-            .progress
-            .file(alloc, claim.worker, claim.row, &answer, arguments);
-        let Ok(filing) = filing else {
-            return Err(Filed { claim, answer });
-        };
-        claim.spend();
-        match filing {
-            Filing::Kept => Ok(FileAnswer::Kept(answer)),
-            Filing::OverLimits => {
+        match self.progress.file(alloc, claim.worker, claim.row, answer) {
+            Ok(Filing::Kept(goals)) => {
+                claim.spend();
+                Ok(FileAnswer::Kept(goals))
+            }
+            Ok(Filing::OverLimits) => {
+                claim.spend();
                 self.large = true;
                 Ok(FileAnswer::TooLarge)
             }
+            Err(answer) => Err(Filed { claim, answer }),
         }
     }
 
@@ -212,12 +194,11 @@ impl<E: Expand, L: Ledger> Table<E, L> {
         self.stopped
     }
 
-    /// Stops the table since there is no memory, and spends the claim. Rows and history stay.
-    pub fn stop(&mut self, claim: Claim<E>)
+    /// Stops the table since there is no memory. Rows and history stay.
+    pub fn stop(&mut self)
         ensures { self.new ≡ stopped_table self.old }
     {
         self.stopped = true;
-        claim.spend();
     }
 
     /// Copies the rows and the history if all rows are filed: the whole work of one holding of `SharedTable::read`.

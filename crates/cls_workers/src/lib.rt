@@ -3,10 +3,11 @@
 //! [`expand_all`] gives the rows and the history of a legal complete history. The caller works alone until there are
 //! enough free rows to share, and then beside the others, each in a thread of its own if one can be made. Whatever the
 //! schedule, the rows are the closure of the goal.
+//!
+//! A worker takes the lock of the table once for several goals. It files what it has done and claims what it does next,
+//! and then works on its claims while others have the lock.
 #![tactic(auto)]
 
-mod known_rows;
-mod memory;
 mod run;
 mod work;
 

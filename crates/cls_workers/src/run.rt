@@ -8,7 +8,7 @@ ghost use Rattle.cls_table.specs.Lawful.{IsLarge};
 ghost use Rattle.cls_table.specs.Completing.{IsComplete};
 ghost use Rattle.cls_workers.specs.Seats.{IsAfterWork, HasMeaning, HasPartsFor};
 
-use crate::work::{work, work_alone};
+use crate::work::work;
 use cls_base::Gate;
 use cls_core::{Expand, Finished};
 use cls_table::{ExpandFault, Limits, SharedTable, TableSeat};
@@ -18,8 +18,8 @@ use std::sync::Wait;
 use std::sync::ledger::{Blank, Ledger};
 use std::thread::{Threads, join};
 
-// The caller works as the worker 1, alone until there are enough free rows for `others` more, which it says. The seat is
-// given back with its share.
+// The caller works as the worker 1, alone until there are enough free rows for `others` more, which it says. The seat
+// is given back with its share.
 fn begin<E: Expand, L: Ledger, T: Gate, R: Wait>(
     rt: &R,
     alloc: Global,
@@ -37,7 +37,7 @@ fn begin<E: Expand, L: Ledger, T: Gate, R: Wait>(
 {
     let mut seat = seat;
     let mine = table.split(&mut seat, 1);
-    let (mine, more) = work_alone(rt, alloc, table, by, gate, mine, others);
+    let (mine, more) = work(rt, alloc, table, by, gate, mine, others);
     table.join(&mut seat, mine);
     (seat, more)
 }
@@ -65,7 +65,7 @@ where
     let mut seat = seat;
     if next > last {
         let mine = table.split(&mut seat, 1);
-        let mine = work(rt, alloc, table, by, gate, mine);
+        let (mine, _) = work(rt, alloc, table, by, gate, mine, 0);
         table.join(&mut seat, mine);
         return seat;
     }
@@ -76,7 +76,10 @@ where
             requires seat_of_table { theirs.turn ≡ id_of table.now.turn }
             requires meaning { HasMeaning theirs (E.tag by.now) }
             ensures { IsAfterWork theirs result }
-        { work(rt, alloc, table, by, gate, theirs) },
+        {
+            let (theirs, _) = work(rt, alloc, table, by, gate, theirs, 0);
+            theirs
+        },
         move || -> TableSeat<E, L>
             requires seat_of_table { seat.turn ≡ id_of table.now.turn }
             requires meaning { HasMeaning seat (E.tag by.now) }
@@ -91,8 +94,8 @@ where
     rest
 }
 
-// Has the closure worked out: by the caller alone, as the worker 1, while there are too few free rows to share them, and
-// by all workers together for a while whenever there are enough. The seat is given back with their shares.
+// Has the closure worked out: by the caller alone, as the worker 1, while there are too few free rows to share them,
+// and by all workers together for a while whenever there are enough. The seat is given back with their shares.
 fn share_out<E: Expand + Sync, L: Ledger + Send + Sync, T: Gate + Sync, R: Threads + Wait + Sync>(
     rt: &R,
     alloc: Global,
@@ -159,10 +162,11 @@ where
 /// The closure of the goal `start`, worked out by at least one worker and at most 64 (`max_workers`).
 ///
 /// The rows are those of a legal complete history from `start`, which names workers from 0 to their number, and each
-/// holds the answer of its goal. Each worker tells the gate of each claim that it makes. The caller works as the
-/// worker 1, and has the others work beside it where there are rows enough. Once all have ended the caller, now as the
-/// worker 0, takes the table out and files what is left. `TooLarge` comes if and only if the
-/// closure has more goals or more rules than the limits. The only other error is out of memory.
+/// holds the answer of its goal. Each worker claims and files several goals at one holding of the table's lock, and
+/// tells the gate of each claim before it works on it. The caller works as the worker 1, alone until there are free
+/// rows enough for the others to work beside it. Once all have ended the caller, now as the worker 0, takes the table
+/// out and files what is left. `TooLarge` comes if and only if the closure has more goals or more rules than the
+/// limits. The only other error is out of memory.
 pub fn expand_all<E: Expand + Sync, T: Gate + Sync, R: Threads + Wait + Sync>(
     rt: &R,
     alloc: Global,

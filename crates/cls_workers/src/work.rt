@@ -1,159 +1,141 @@
-ghost use Rattle.std.specs.Prelude.{◌≡◌, ◌<◌, IfSome};
+ghost use Rattle.std.specs.Prelude.{◌≡◌, []};
+ghost use Rattle.std.specs.Option.{ForSome};
 ghost use Rattle.cls_turn.specs.Seats.{id_of};
-ghost use Rattle.cls_workers.specs.Known.{AreKnownIn};
-ghost use Rattle.cls_workers.specs.Seats.{IsAfterWork, HasMeaning};
+ghost use Rattle.cls_table.specs.Batches.{IsBatchFor};
+ghost use Rattle.cls_workers.specs.Seats.{HasMeaning, IsAfterWork};
 
-use crate::memory::Memory;
 use cls_base::Gate;
 use cls_core::Expand;
-use cls_table::{ClaimAnswer, SharedTable, TableSeat};
+use cls_table::{Batch, SharedTable, TableSeat, Told};
 use std::alloc::Global;
 use std::sync::Wait;
 use std::sync::ledger::Ledger;
 use std::thread::yield_now;
 
-/// How often a worker beside others asks for a goal before it gives its seat back. It is as often as most closures have
-/// goals, since a worker that begins anew remembers no row.
-const MOST_ASKS: u32 = 100_000;
+/// How many goals a worker claims at one holding at most. With fewer the workers wait for the lock. With more one
+/// worker holds goals that others could do.
+const MOST_CLAIMS: u32 = 8;
 
-/// How often in a row a worker beside others finds no goal to claim before it gives its seat back. Once all have done so
-/// the caller goes on alone.
+/// How often in a row a worker finds no goal to claim before it gives its seat back. It asks again since others may be
+/// about to file rows that bring goals, and not for long since each asking takes the lock from those that have work.
+/// Once all have given their seats back the caller goes on alone.
 const MOST_WAITS: u32 = 30;
 
-/// So many free rows are enough to start one other worker. Several are started at this many times the sixth power of their
-/// number, since each costs a thread, and they wait for one another where a row is done quickly.
+/// So many free rows are enough to start one other worker: one for each of the two. Several are started at this many
+/// times the sixth power of their number, since each costs a thread, and they wait for one another where a row is done
+/// quickly.
 const ROWS_FOR_ONE: u64 = 2;
 
-/// So many free rows are enough to start any number of workers.
+/// So many free rows are enough to start any number of workers: 64 workers, the greatest number, then find 64 rows
+/// each.
 const ROWS_FOR_ANY: u64 = 4_096;
 
-/// Several workers are started where a row has so many arguments on average. One with fewer is done so quickly that they would
-/// wait for one another.
-const ARGUMENTS_FOR_SEVERAL: u64 = 8;
-
-/// What a worker's asking for a goal came to.
-#[derive(Clone, Copy)]
-enum StepOutcome {
-    /// It got a goal, and did it.
-    DidGoal,
-    /// No row was free, but others are at work, which may bring more.
-    NoGoal,
-    /// Nothing is left to do: all is filed, the closure is too large or memory ran out.
-    NothingLeft,
+/// Whether so many free rows are enough for the other workers to start, if there are any.
+fn are_worth(others: u32, free: u64) -> bool {
+    let others = u64::from(others);
+    others > 0
+        && (free >= ROWS_FOR_ANY || free >= others.saturating_pow(6).saturating_mul(ROWS_FOR_ONE))
 }
 
-/// Claims a goal, and expands and files it. The rows of arguments that the worker remembers aren't looked up at the
-/// table, and it remembers the others that were found there. A worker that runs out of memory stops the table. The seat
-/// is given back, and what the asking came to.
-#[tactic(auto, using(crate::proofs::Knowing::known_stays))]
-fn step<E: Expand, L: Ledger, T: Gate, R: Wait>(
+/// One holding of the table, and the work on the goals that were claimed at it. A worker that runs out of memory stops
+/// the table. The seat is given back, and what the worker was told.
+fn round<E: Expand, L: Ledger, T: Gate, R: Wait>(
     rt: &R,
     alloc: Global,
     table: &SharedTable<E, L>,
     by: &E,
     gate: &T,
     seat: TableSeat<E, L>,
-    memory: &mut Memory<E::Goal>,
-) -> (TableSeat<E, L>, StepOutcome)
+    batch: &mut Batch<E>,
+) -> (TableSeat<E, L>, Told)
     requires seat_of_table { seat.turn ≡ id_of table.now.turn }
     requires meaning { HasMeaning seat (E.tag by.now) }
-    requires known { IfSome memory.old.known (AreKnownIn seat.goals) }
+    requires batch { ForSome seat.tag (λ t. IsBatchFor t batch.old) }
+    requires no_claims { batch.old.claims ≡ [] }
     ensures after { IsAfterWork seat result.0 }
-    ensures known { IfSome memory.new.known (AreKnownIn result.0.goals) }
+    ensures batch { ForSome seat.tag (λ t. IsBatchFor t batch.new) }
+    ensures no_claims { batch.new.claims ≡ [] }
 {
     let mut seat = seat;
-    let Ok(answer) = table.claim(rt, alloc, &mut seat) else {
-        return (seat, StepOutcome::NothingLeft);
-    };
-    match answer {
-        ClaimAnswer::Job(claim) => {
-            gate.at_claim(claim.worker(), claim.number());
-            let filed = match claim.expand(alloc, by) {
-                Ok(filed) => filed,
-                Err(claim) => {
-                    table.stop(rt, &mut seat, claim);
-                    return (seat, StepOutcome::NothingLeft);
-                }
-            };
-            memory.look_up(filed.answer());
-            match table.file(rt, alloc, &mut seat, filed, &mut memory.arguments) {
-                Ok(Some(answer)) => {
-                    memory.learn(answer);
-                    (seat, StepOutcome::DidGoal)
-                }
-                Ok(None) => (seat, StepOutcome::NothingLeft),
-                Err(filed) => {
-                    table.stop(rt, &mut seat, filed.claim());
-                    (seat, StepOutcome::NothingLeft)
-                }
-            }
+    let told = table.exchange(rt, alloc, &mut seat, batch, MOST_CLAIMS);
+    match batch.expand(alloc, by, gate) {
+        Ok(()) => (seat, told),
+        Err(_) => {
+            table.stop(rt, &mut seat, batch);
+            (seat, Told::NothingLeft)
         }
-        ClaimAnswer::Again => {
-            yield_now();
-            (seat, StepOutcome::NoGoal)
-        }
-        ClaimAnswer::Finished => (seat, StepOutcome::NothingLeft),
-        ClaimAnswer::TooLarge => (seat, StepOutcome::NothingLeft),
     }
 }
 
-/// Works beside others: asks for a goal at most so often, and ends sooner if nothing is left to do or there was no goal
-/// too often in a row. The seat is given back, with the claims that the worker made.
-pub(crate) fn work<E: Expand, L: Ledger, T: Gate, R: Wait>(
+/// Rounds, until nothing is left to do, there was no goal too often in a row, or there are enough free rows for
+/// `others` more workers, which it says. The seat is given back.
+fn rounds<E: Expand, L: Ledger, T: Gate, R: Wait>(
     rt: &R,
     alloc: Global,
     table: &SharedTable<E, L>,
     by: &E,
     gate: &T,
     seat: TableSeat<E, L>,
-) -> TableSeat<E, L>
+    batch: &mut Batch<E>,
+    others: u32,
+) -> (TableSeat<E, L>, bool)
     requires seat_of_table { seat.turn ≡ id_of table.now.turn }
     requires meaning { HasMeaning seat (E.tag by.now) }
-    ensures { IsAfterWork seat result }
+    requires batch { ForSome seat.tag (λ t. IsBatchFor t batch.old) }
+    requires no_claims { batch.old.claims ≡ [] }
+    ensures after { IsAfterWork seat result.0 }
+    ensures batch { ForSome seat.tag (λ t. IsBatchFor t batch.new) }
+    ensures no_claims { batch.new.claims ≡ [] }
 {
     let mut seat = seat;
-    let mut memory = Memory::new(alloc);
     let mut waits = 0;
-    for _ in 0..MOST_ASKS {
-        let (back, outcome) = step(rt, alloc, table, by, gate, seat, &mut memory);
+    for _ in rt.forever() {
+        let (back, told) = round(rt, alloc, table, by, gate, seat, batch);
         seat = back;
-        match outcome {
-            StepOutcome::DidGoal => waits = 0,
-            StepOutcome::NoGoal => waits += 1,
-            StepOutcome::NothingLeft => return seat,
+        match told {
+            Told::Work { free } if are_worth(others, free) => return (seat, true),
+            Told::Work { .. } => waits = 0,
+            Told::Again => {
+                waits += 1;
+                yield_now();
+            }
+            Told::NothingLeft => return (seat, false),
         }
         if waits == MOST_WAITS {
-            return seat;
+            return (seat, false);
         }
     }
-    seat
+    unreachable!()
 }
 
-/// What a worker that works alone has done.
-#[derive(Drop)]
-struct Tally {
-    rows: u64,
-    arguments: u64,
-}
-
-impl Tally {
-    /// Counts a row whose answer has so many arguments.
-    fn count(&mut self, arguments: usize) {
-        self.rows = self.rows.saturating_add(1);
-        self.arguments = self.arguments.saturating_add(arguments as u64);
+/// Files what the worker has done, and ends its batch.
+fn hand_in<E: Expand, L: Ledger, R: Wait>(
+    rt: &R,
+    alloc: Global,
+    table: &SharedTable<E, L>,
+    seat: &mut TableSeat<E, L>,
+    batch: Batch<E>,
+)
+    requires seat_of_table { seat.old.turn ≡ id_of table.now.turn }
+    requires batch { ForSome seat.old.tag (λ t. IsBatchFor t batch) }
+    requires no_claims { batch.claims ≡ [] }
+    ensures { seat.new ≡ seat.old }
+{
+    let mut batch = batch;
+    for _ in rt.forever() {
+        if batch.is_empty() {
+            batch.end();
+            return;
+        }
+        table.exchange(rt, alloc, seat, &mut batch, 0);
     }
-
-    /// Whether so many free rows are enough for the other workers to start.
-    fn is_worth(&self, others: u64, free: u64) -> bool {
-        let are_heavy = self.arguments >= self.rows.saturating_mul(ARGUMENTS_FOR_SEVERAL);
-        (others == 1 || are_heavy)
-            && (free >= ROWS_FOR_ANY
-                || free >= others.saturating_pow(6).saturating_mul(ROWS_FOR_ONE))
-    }
+    unreachable!()
 }
 
-/// Works alone, until nothing is left to do or there are enough free rows for `others` more workers, which it says.
-pub(crate) fn work_alone<E: Expand, L: Ledger, T: Gate, R: Wait>(
+/// Works: claims goals, works on them and files them. It ends where nothing is left to do, where there was no goal too
+/// often in a row, or where there are enough free rows for `others` more workers, which it says. The seat is given
+/// back, with the claims that the worker made, and all that it has done is filed.
+pub(crate) fn work<E: Expand, L: Ledger, T: Gate, R: Wait>(
     rt: &R,
     alloc: Global,
     table: &SharedTable<E, L>,
@@ -166,22 +148,8 @@ pub(crate) fn work_alone<E: Expand, L: Ledger, T: Gate, R: Wait>(
     requires meaning { HasMeaning seat (E.tag by.now) }
     ensures { IsAfterWork seat result.0 }
 {
-    let mut seat = seat;
-    let mut memory = Memory::without_rows(alloc);
-    let mut tally = Tally {
-        rows: 0,
-        arguments: 0,
-    };
-    for _ in rt.forever() {
-        let (back, outcome) = step(rt, alloc, table, by, gate, seat, &mut memory);
-        if matches!(outcome, StepOutcome::NothingLeft) {
-            return (back, false);
-        }
-        seat = back;
-        tally.count(memory.arguments.found.len());
-        if others > 0 && tally.is_worth(u64::from(others), table.unclaimed(rt, &mut seat)) {
-            return (seat, true);
-        }
-    }
-    unreachable!()
+    let mut batch = Batch::new(alloc);
+    let (mut seat, more) = rounds(rt, alloc, table, by, gate, seat, &mut batch, others);
+    hand_in(rt, alloc, table, &mut seat, batch);
+    (seat, more)
 }

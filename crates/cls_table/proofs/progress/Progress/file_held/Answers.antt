@@ -15,7 +15,7 @@ goal-requires g c =
     c.self.invariant held in
     slice_get_within i.core.rows.goals c.args.row at.0 at.1
 
-pub returns-in-Kept-clause-filed : goal.returns-in-Kept-clause-filed
-returns-in-Kept-clause-filed g c =
-    let o = rw c.in-Kept.is at c.in_ok-file.ensures.outcome in
-    file-filed g.E.Goal.PartialEq.eq c.args.self.now c.file.new.self c.args.worker c.args.row _ c.requires.held o.1
+pub returns-in-Ok-Kept-clause-filed : goal.returns-in-Ok-Kept-clause-filed
+returns-in-Ok-Kept-clause-filed g c =
+    let o = rw c.in-Ok-Kept.field-0-is at c.in-Ok-Kept.ensures.outcome in
+    file-filed g.E.Goal.PartialEq.eq c.args.self.now c.file.new.self c.args.worker c.args.row _ c.requires.held o.2

@@ -1,7 +1,5 @@
-use Rattle.std.proofs.Common.{arith, ◌∙◌, sym, ap}
-use Rattle.cls_turn.specs.Seats.{known_in}
-use Rattle.cls_table.specs.Seating.{tag_in}
-use Rattle.cls_table.proofs.Seating.{is-seated}
+use Rattle.std.proofs.Common.{arith, ap}
+use Rattle.cls_table.proofs.Seating.{is-seated, tag-seen}
 use Rattle.cls_table.proofs.shared.SharedTable.split.Goals as goal
 
 pub invariant_of-seat : goal.invariant_of-seat
@@ -16,4 +14,4 @@ invariant_of-result g c =
     let s = c.seat.invariant in
     is-seated _ c.seat.inside.seat _ _ _ _ s c.split.ensures.new
     (omega (arith, c.split_off-share.ensures.parts))
-    (c.requires.worker s.told.tag (sym (ap (λ v. v.tag) c.seat.view_is) ∙ ap (λ v. tag_in (known_in v)) s.knows.0))
+    (c.requires.worker s.tag (tag-seen _ _ _ _ _ s c.seat.view_is))

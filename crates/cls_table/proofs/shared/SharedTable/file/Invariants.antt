@@ -1,9 +1,0 @@
-use Rattle.std.proofs.Common.{◌≡◌}
-use Rattle.cls_core.specs.Adding.{GoesOn}
-use Rattle.cls_table.proofs.shared.SharedTable.file.Given as goal
-
-abbrev pub invariant-loop : goal.invariant-loop
-invariant-loop g l =
-    (goal.iterator-loop g).can_next l.iterator' × (goal.iterator-loop g).is_finite l.iterator'
-    × (l.seat ≡ record l.initial.seat { goals = l.seat.goals }) × GoesOn l.initial.seat.goals l.seat.goals
-    × (l.filed ≡ l.initial.filed) × (l.arguments.known ≡ l.initial.arguments.known)

@@ -1,0 +1,219 @@
+//! What a worker has at hand between two holdings.
+ghost use Rattle.std.specs.Prelude.{◌≡◌, ◌↔◌, ◌<◌, ◌≤◌, ◌+◌, All, IfOk, IsTrue, OnErr, OnOk, [], length};
+ghost use Rattle.cls_table.specs.declared.tag.Tag.{Tag};
+ghost use Rattle.cls_table.specs.Batches.{HasNothing, IsBatchFor};
+
+use crate::claim::{Claim, ClaimAnswer, FileAnswer, Filed};
+use crate::table::Table;
+use cls_base::{Gate, Goals, OutOfMemory};
+use cls_core::Expand;
+use std::alloc::Global;
+use std::marker::Model;
+use std::sync::ledger::{Ledger, Share};
+
+/// So many rows have to be free for each goal that is claimed at one holding.
+const ROWS_FOR_ONE_CLAIM: u64 = 8;
+
+/// Goals that a worker has claimed and not worked on, and goals that it has worked on and not filed. It has to be
+/// ended.
+pub struct Batch<E: Expand> {
+    claims: Vec<Claim<E>>,
+    filings: Vec<Filed<E>>,
+    // The arguments of answers that were filed. They are dropped while nobody waits for the table.
+    spent: Vec<Goals<E::Goal>>,
+}
+
+impl<E: Expand> Model for Batch<E> {
+    ghost use Rattle.cls_table.specs.Seen.{BatchSeen};
+
+    ghost Value = { BatchSeen E.Tag E.Goal };
+
+    ghost view = { λ b. record { claims = b.claims.items; filings = b.filings.items } };
+}
+
+/// What a worker that asks for goals is told.
+#[derive(Drop, Clone, Copy, Debug, PartialEq, Eq)]
+pub enum Told {
+    /// There are goals to work on. So many rows nobody had claimed before. That is a hint on how to share the work, and
+    /// nothing rests on it: others may claim and file right after.
+    Work { free: u64 },
+    /// All goals are taken, but some aren't filed: ask again. It comes too where no goal may be claimed.
+    Again,
+    /// Nothing is left to do: all goals are filed, the closure is too large, or memory ran out.
+    NothingLeft,
+}
+
+impl<E: Expand> Batch<E> {
+    /// Nothing at hand. It takes no memory.
+    pub fn new(alloc: Global) -> Batch<E>
+        ensures { HasNothing result }
+    {
+        Batch {
+            claims: Vec::new(alloc),
+            filings: Vec::new(alloc),
+            spent: Vec::new(alloc),
+        }
+    }
+
+    /// Whether nothing is at hand.
+    pub fn is_empty(&self) -> bool
+        ensures { IsTrue result ↔ HasNothing self.now }
+    {
+        self.claims.is_empty() && self.filings.is_empty()
+    }
+
+    /// Ends it. Nothing is at hand.
+    pub fn end(self)
+        requires { HasNothing self }
+    {
+        let Batch {
+            claims,
+            filings,
+            spent: _,
+        } = self;
+        claims.destroy_empty();
+        filings.destroy_empty();
+    }
+
+    /// Works on the goals that were claimed, the last one first, by an expander that means what their tag says, and
+    /// tells the gate of each. The only error is out of memory. The goals that weren't worked on stay claimed then.
+    pub fn expand<T: Gate>(&mut self, alloc: Global, by: &E, gate: &T) -> Result<(), OutOfMemory>
+        requires { All (λ c. E.tag by.now ≡ c.tag.by) self.old.claims }
+        ensures all { OnOk result (self.new.claims ≡ []) }
+        ensures tag { (t : Tag E.Tag E.Goal) → IsBatchFor t self.old → IsBatchFor t self.new }
+    {
+        self.spent.clear();
+        self.filings.reserve(self.claims.len())?;
+        while let Some(claim) = self.claims.pop() {
+            gate.at_claim(claim.worker(), claim.number());
+            match claim.expand(alloc, by) {
+                Ok(filed) => self.filings.push_reserved(filed),
+                Err(claim) => {
+                    self.claims.push_reserved(claim);
+                    return Err(OutOfMemory);
+                }
+            }
+        }
+        Ok(())
+    }
+
+    // Files what was worked on. What isn't held stays at hand. A filing for which memory runs out is spent, and the
+    // table is stopped.
+    pub(crate) fn file<L: Ledger>(&mut self, alloc: Global, table: &mut Table<E, L>)
+        requires { IsBatchFor table.old.tag self.old }
+        ensures batch { IsBatchFor table.old.tag self.new }
+        ensures claims { self.new.claims ≡ self.old.claims }
+        ensures tag { table.new.tag ≡ table.old.tag }
+    {
+        let mut others = Vec::new(alloc);
+        while let Some(filed) = self.filings.pop() {
+            match table.file(alloc, filed) {
+                Ok(FileAnswer::Kept(goals)) => {
+                    // Where there is no memory to keep them, they are dropped here.
+                    let _ = self.spent.push(goals);
+                }
+                Ok(FileAnswer::TooLarge) => {}
+                Ok(FileAnswer::NotHeld(filed)) => {
+                    if let Err(full) = others.push(filed) {
+                        table.stop();
+                        full.value.spend();
+                    }
+                }
+                Err(filed) => {
+                    table.stop();
+                    filed.spend();
+                }
+            }
+        }
+        std::mem::replace(&mut self.filings, others).destroy_empty();
+    }
+
+    // Claims at most so many goals for the worker, and fewer where few rows are free, so that others find some, too.
+    pub(crate) fn claim<L: Ledger>(
+        &mut self,
+        alloc: Global,
+        table: &mut Table<E, L>,
+        share: &mut Share<L>,
+        worker: u32,
+        most: u32,
+    ) -> Told
+        requires worker { worker ≤ table.old.tag.workers }
+        requires part { 0 < share.old.parts }
+        requires batch { IsBatchFor table.old.tag self.old }
+        requires no_claims { self.old.claims ≡ [] }
+        ensures batch { IsBatchFor table.old.tag self.new }
+        ensures tag { table.new.tag ≡ table.old.tag }
+        ensures parts { share.new.parts ≡ share.old.parts }
+        ensures amount { share.new.amount ≡ share.old.amount + length self.new.claims }
+        ensures most { length self.new.claims ≤ most }
+    {
+        let free = table.unclaimed();
+        let count = u64::from(most).min((free / ROWS_FOR_ONE_CLAIM).max(1));
+        let Ok(()) = self.claims.reserve(count as usize) else {
+            return Told::NothingLeft;
+        };
+        let mut told = Told::Again;
+        for _ in 0..count {
+            match claim_one(alloc, table, share, worker) {
+                Ok(claim) => self.claims.push_reserved(claim),
+                Err(why) => {
+                    told = why;
+                    break;
+                }
+            }
+        }
+        if self.claims.is_empty() {
+            told
+        } else {
+            Told::Work { free }
+        }
+    }
+
+    // Spends all that is at hand.
+    pub(crate) fn spend(&mut self)
+        ensures { HasNothing self.new }
+    {
+        spend_claims(&mut self.claims);
+        spend_filings(&mut self.filings);
+    }
+}
+
+// Claims one goal for the worker. The Err says why there is none.
+fn claim_one<E: Expand, L: Ledger>(
+    alloc: Global,
+    table: &mut Table<E, L>,
+    share: &mut Share<L>,
+    worker: u32,
+) -> Result<Claim<E>, Told>
+    requires worker { worker ≤ table.old.tag.workers }
+    requires part { 0 < share.old.parts }
+    ensures claim { IfOk result (λ c. c.tag ≡ table.old.tag) }
+    ensures tag { table.new.tag ≡ table.old.tag }
+    ensures parts { share.new.parts ≡ share.old.parts }
+    ensures one { OnOk result (share.new.amount ≡ share.old.amount + 1) }
+    ensures none { OnErr result (share.new.amount ≡ share.old.amount) }
+{
+    match table.claim(alloc, share, worker) {
+        Ok(ClaimAnswer::Job(claim)) => Ok(claim),
+        Ok(ClaimAnswer::Again) => Err(Told::Again),
+        Ok(ClaimAnswer::Finished) => Err(Told::NothingLeft),
+        Ok(ClaimAnswer::TooLarge) => Err(Told::NothingLeft),
+        Err(_) => Err(Told::NothingLeft),
+    }
+}
+
+fn spend_claims<E: Expand>(claims: &mut Vec<Claim<E>>)
+    ensures { claims.new.items ≡ [] }
+{
+    while let Some(claim) = claims.pop() {
+        claim.spend();
+    }
+}
+
+fn spend_filings<E: Expand>(filings: &mut Vec<Filed<E>>)
+    ensures { filings.new.items ≡ [] }
+{
+    while let Some(filed) = filings.pop() {
+        filed.spend();
+    }
+}
