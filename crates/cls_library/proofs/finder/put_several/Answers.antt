@@ -15,8 +15,8 @@ loop-i-preserved c =
     let i = c.loop-i.i in
     let new = c.put_one.new.positions.items in
     let puts : IsSomeAnd (slice_get goal i) (λ q. PutsFamily l q p [] new) =
-    subst (λ (old : List ℕ). IsSomeAnd (slice_get goal i) (λ q. PutsFamily l q p old new)) c.clear-in-loop-i.ensures.items
-    (subst (λ (qs : List TypePath). IsSomeAnd (slice_get qs i) (λ q. PutsFamily l q p c.clear-in-loop-i.new.self.items new)) c.loop-i.invariant.paths c.in_ok-put_one.ensures.family) in
+    subst (λ (old : List ℕ). IsSomeAnd (slice_get goal i) (λ q. PutsFamily l q p old new)) c.clear.ensures.items
+    (subst (λ (qs : List TypePath). IsSomeAnd (slice_get qs i) (λ q. PutsFamily l q p c.clear.new.self.items new)) c.loop-i.invariant.paths c.in_ok-put_one.ensures.family) in
     let gain = gained l goal p i c.loop-i.families.items [] new c.loop-i.invariant.found puts in
     let made : c.new.result ≡ gain.family = c.new.ensures ∙ (c.in_ok-from_slice.ensures.items ∙ (c.deref-in-loop-i.ensures.value ∙ gain.put)) in
     record {
