@@ -1,4 +1,4 @@
-use Rattle.std.proofs.Common.{ℕ, ◌≡◌, length, get_or, take, subst, sym, ap, ◌∙◌, ◌∷◌, arith, List, [], Some}
+use Rattle.std.proofs.Common.{ℕ, ◌≡◌, length, get_or, take, subst, sym, ap, ◌∙◌, arith, List, [], Some}
 use Rattle.std.specs.Prelude.{slice_get}
 use Rattle.std.proofs.lemmas.List.{take_more, take_all}
 use Rattle.std.proofs.lemmas.Option.{get_or_from_slice_get}
