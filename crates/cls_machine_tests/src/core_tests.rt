@@ -1,7 +1,7 @@
 use crate::heap::Node;
 use crate::renumbering::{heap_code, renumbered};
 use cls_base::OutOfMemory;
-use cls_core::{Answer, ArgumentRows, Core, Filing, Goals, RowState, Rule, Rules};
+use cls_core::{Answer, Core, Filing, GoalRules, RowState};
 use std::alloc::Global;
 use std::test::Fail;
 
@@ -12,12 +12,9 @@ fn answer_in_heap(alloc: Global, id: u32) -> Result<Answer<Node>, OutOfMemory> {
         args.push(Node { id: 2 * id + 1 })?;
         args.push(Node { id: 2 * id + 2 })?;
     }
-    let mut rules = Vec::new(alloc);
-    rules.push(Rule::Head {
-        component: id,
-        args: Goals::new(args),
-    })?;
-    Ok(Answer::Rules(Rules::new(rules)))
+    let mut rules = GoalRules::new(alloc);
+    rules.push_head(id, &mut args)?;
+    Ok(Answer::Rules(rules))
 }
 
 // The worker 1 claims a row. An Err stands for a row that isn't free, too.
@@ -37,9 +34,8 @@ fn file(alloc: Global, core: &mut Core<Node>, row: u32) -> Result<(), OutOfMemor
     if core.count() > 100 || core.rules() > 100 || answer.rule_count() > 100 {
         return Err(OutOfMemory);
     }
-    let mut arguments = ArgumentRows::unknown(alloc);
-    match core.file(alloc, 1, row, &answer, &mut arguments, 100) {
-        Ok(Filing::Kept) => Ok(()),
+    match core.file(alloc, 1, row, answer, 100) {
+        Ok(Filing::Kept(_)) => Ok(()),
         _ => Err(OutOfMemory),
     }
 }

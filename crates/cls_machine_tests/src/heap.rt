@@ -3,7 +3,7 @@
 ghost use Rattle.std.specs.Prelude.{◌≡◌, ◌<◌, IfOk};
 
 use cls_base::{Key, OutOfMemory};
-use cls_core::{Answer, Expand, Goals, Rule, Rules};
+use cls_core::{Answer, Expand, GoalRules};
 use std::alloc::Global;
 use std::sync::atomic::AtomicU64;
 use std::sync::atomic::Ordering::SeqCst;
@@ -69,12 +69,9 @@ impl Expand for Heap {
                 id: 2 * goal.id + 2,
             })?;
         }
-        let mut rules = Vec::new(alloc);
-        rules.push(Rule::Head {
-            component: goal.id,
-            args: Goals::new(args),
-        })?;
-        Ok(Answer::Rules(Rules::new(rules)))
+        let mut rules = GoalRules::new(alloc);
+        rules.push_head(goal.id, &mut args)?;
+        Ok(Answer::Rules(rules))
     }
 
     ghost one_answer = { one_heap_answer };

@@ -3,9 +3,9 @@ ghost use Rattle.cls_turn.specs.Seats.{id_of};
 ghost use Rattle.cls_workers.specs.Seats.{IsAfterWork, HasMeaning};
 
 use crate::heap::{Heap, Node};
-use cls_base::OutOfMemory;
-use cls_core::{ArgumentRows, Finished};
-use cls_table::{ClaimAnswer, ExpandFault, Limits, SharedTable, TableSeat};
+use cls_base::{OpenGate, OutOfMemory};
+use cls_core::Finished;
+use cls_table::{Batch, ExpandFault, Limits, SharedTable, TableSeat};
 use std::alloc::Global;
 use std::marker::Brand;
 use std::sync::Wait;
@@ -51,7 +51,7 @@ fn a_table_without_claims_is_completed(rt: HostRuntime) -> Result<(), Fail> {
     Ok(())
 }
 
-// One claim, which is filed. At out of memory it stops the table. Nothing if no row is free.
+// One goal is claimed, and then filed at another holding. At out of memory the table is stopped.
 fn work_once<R: Wait, L: Ledger>(
     rt: &R,
     alloc: Global,
@@ -64,28 +64,16 @@ fn work_once<R: Wait, L: Ledger>(
     ensures { IsAfterWork seat result }
 {
     let mut seat = seat;
-    let Ok(answer) = table.claim(rt, alloc, &mut seat) else {
-        return seat;
-    };
-    match answer {
-        ClaimAnswer::Job(claim) => {
-            let filed = match claim.expand(alloc, heap) {
-                Ok(filed) => filed,
-                Err(claim) => {
-                    table.stop(rt, &mut seat, claim);
-                    return seat;
-                }
-            };
-            let mut arguments = ArgumentRows::unknown(alloc);
-            if let Err(filed) = table.file(rt, alloc, &mut seat, filed, &mut arguments) {
-                table.stop(rt, &mut seat, filed.claim());
-            }
-            seat
-        }
-        ClaimAnswer::Again => seat,
-        ClaimAnswer::Finished => seat,
-        ClaimAnswer::TooLarge => seat,
+    let mut batch = Batch::new(alloc);
+    table.exchange(rt, alloc, &mut seat, &mut batch, 1);
+    if batch.expand(alloc, heap, &OpenGate).is_ok() {
+        table.exchange(rt, alloc, &mut seat, &mut batch, 0);
     }
+    if !batch.is_empty() {
+        table.stop(rt, &mut seat, &mut batch);
+    }
+    batch.end();
+    seat
 }
 
 // The number of rows that are read of a shared table over a heap of 3, once each goal was claimed and filed.
