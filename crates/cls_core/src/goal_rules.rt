@@ -67,7 +67,8 @@ impl<G> GoalRules<G> {
     #[tactic(auto, using(crate::proofs::GoalColumns::fillings))]
     pub(crate) fn numbered(self, numbers: Vec<u32>) -> (NodeRules, Goals<G>)
         requires { length numbers.items ≡ length (arguments_in self) }
-        ensures rules { (f : G → ℕ) → numbers.items ≡ map f (arguments_in self) → result.0 ≡ map (map_rule f) self }
+        ensures rules { (f : G → ℕ) → numbers.items ≡ map f (arguments_in self)
+            → result.0 ≡ map (map_rule f) self }
         ensures goals { result.1 ≡ arguments_in self }
     {
         let GoalRules { heads, goals, ends } = self;

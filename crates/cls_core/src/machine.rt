@@ -65,7 +65,8 @@ fn add_free(states: &mut Vec<RowState>, count: usize)
 // The answer with these numbers in place of its arguments, one after another, and the arguments.
 fn number_answer<G>(alloc: Global, answer: Answer<G>, numbers: Vec<u32>) -> (NodeAnswer, Goals<G>)
     requires { length numbers.items ≡ length (arguments_of answer) }
-    ensures answer { (f : G → ℕ) → numbers.items ≡ map f (arguments_of answer) → result.0 ≡ map_answer f answer }
+    ensures answer { (f : G → ℕ) → numbers.items ≡ map f (arguments_of answer)
+        → result.0 ≡ map_answer f answer }
     ensures goals { result.1 ≡ arguments_of answer }
 {
     match answer {
@@ -216,7 +217,8 @@ impl<G: Key + Drop> Core<G> {
             (f ≡ Filing.OverLimits) ↔ (most < length (grown G.eq self.old.rows.goals answer))) }
         ensures goals { IfOk result (IfKept (λ goals. goals ≡ arguments_of answer)) }
         ensures rows { IfOk result (IfKept (λ _. self.new.rows ≡ filed G.eq self.old.rows row answer)) }
-        ensures history { IfOk result (IfKept (λ _. self.new.history ≡ self.old.history ++ File worker row ∷ [])) }
+        ensures history { IfOk result (IfKept (λ _.
+            self.new.history ≡ self.old.history ++ File worker row ∷ [])) }
         ensures over { IfOk result (λ f. f ≡ Filing.OverLimits → self.new ≡ self.old) }
         ensures err { IfErr result (λ a. (a ≡ answer) × (self.new ≡ self.old)) }
     {
