@@ -1,6 +1,6 @@
 ghost use Rattle.std.specs.Prelude.{◌≡◌, ◌<◌, None};
 
-use crate::examples::{Outside, WHOLE, outcome};
+use crate::outside::{Outside, SIX_TERMS, TWO_COMPONENTS, WHOLE, outcome};
 use cls_base::{Failed, MemorySource, Numbers, OpenGate, OutOfMemory, Sink};
 use cls_session::{Status, run};
 use std::alloc::Global;
@@ -12,6 +12,17 @@ use std::thread::Threads;
 /// Queries whose replies have one line and many, and a refusal of none.
 const QUERIES: &[u8] =
     b"comp x : A\nend\nlist omega max 2 take 10\nwrong\n# none\nlist omega max 1 take 1";
+
+/// Inputs, and what is written for each. Their pieces may end within a character, a line and its ending, and a certificate.
+const INPUTS: [(&[u8], &str); 4] = [
+    (TWO_COMPONENTS, SIX_TERMS),
+    (
+        b"# \xc3\xa9\ncomp x : A\nend\n\xff\nsub A <= A",
+        "error utf8\nyes\n",
+    ),
+    (b"comp x : A\r\nend\r\nsub A <= B\r\n", "no\n"),
+    (b"end\nverify A\nempty\nmember omega\nqed", "accepted\n"),
+];
 
 /// A repository of a component whose name has 40 bytes.
 const ONE_COMPONENT: &[u8] = b"comp abcdefghijklmnopqrstuvwxyz_abcdefghijklm : A\nend\n";
@@ -50,6 +61,23 @@ impl Sink for Pieces {
             }
         }
     }
+}
+
+#[test]
+fn output_is_the_same_whatever_the_pieces(rt: HostRuntime) -> Result<(), Fail> {
+    for (input, text) in INPUTS {
+        for chunk in [1, 2, 3, 7, WHOLE] {
+            let outside = Outside {
+                chunk,
+                failing_reads: &[],
+                failing_writes: &[],
+            };
+            let (status, written) = outcome(&rt, rt.alloc(), &[], input, &outside)?;
+            assert_eq!(rt; written.as_str(), text, "{chunk} bytes at once");
+            assert_eq!(rt; status, Status::Done, "{chunk} bytes at once");
+        }
+    }
+    Ok(())
 }
 
 /// The pieces that a run over this input offers to a sink that takes at most `chunk` bytes of each, if at most `read`

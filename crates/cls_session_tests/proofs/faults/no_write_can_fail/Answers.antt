@@ -1,7 +1,7 @@
 use Rattle.std.proofs.Common.{◌≡◌, ℕ, List, [], ap, ◌∙◌, subst, arith}
 use Rattle.cls_session.specs.Outputs.{MayStand}
-use Rattle.cls_rows.proofs.Lengths.{nothing-text}
-use Rattle.cls_rows.proofs.faults.no_write_can_fail.Goals as goal
+use Rattle.cls_session_tests.proofs.Lengths.{nothing-text}
+use Rattle.cls_session_tests.proofs.faults.no_write_can_fail.Goals as goal
 
 pub run-status-requires-clause-room : goal.run-status-requires-clause-room
 run-status-requires-clause-room g c κs = λ text stands.

@@ -1,7 +1,6 @@
 ghost use Rattle.std.specs.Prelude.{◌<◌};
 
-use crate::examples::{Outside, SIX_TERMS, TWO_COMPONENTS, USAGE, outcome};
-use crate::libraries::{SORTED_TEXTS, SORTING, WORKED_LIBRARY};
+use crate::outside::{Outside, SIX_TERMS, TWO_COMPONENTS, outcome};
 use cls_base::{MemorySink, Numbers, OpenGate, SureSink, SureSource};
 use cls_session::{Status, run};
 use std::alloc::Global;
@@ -9,6 +8,10 @@ use std::process::Abort;
 use std::sync::Wait;
 use std::test::Fail;
 use std::thread::Threads;
+
+/// What is written if the words ask for nothing.
+const USAGE: &str =
+    "usage: clsynth [--workers N] [--max-goals N] [--max-rules N] [--pool N] [generate N]\n";
 
 /// Words and inputs, the one reply to them, and the status.
 const REPLIES: [(&[&str], &[u8], &str, Status); 5] = [
@@ -61,49 +64,30 @@ fn no_write_can_fail(rt: HostRuntime) -> Result<(), Fail> {
 
 #[test]
 fn a_read_fails(rt: HostRuntime) -> Result<(), Fail> {
-    // At 7 bytes a read the eleventh takes the last bytes, and the twelfth finds the end.
-    for (chunk, place, output, expected) in [
-        (16, 2, "", Status::ReadFault),
-        (7, 1, "", Status::ReadFault),
-        (7, 2, "", Status::ReadFault),
-        (7, 3, "", Status::ReadFault),
-        (7, 4, "", Status::ReadFault),
-        (7, 5, "", Status::ReadFault),
-        (7, 6, "", Status::ReadFault),
-        (7, 7, "", Status::ReadFault),
-        (7, 8, "", Status::ReadFault),
-        (7, 9, SIX_TERMS, Status::ReadFault),
-        (7, 10, SIX_TERMS, Status::ReadFault),
-        (7, 11, SIX_TERMS, Status::ReadFault),
-        (7, 12, SEVEN_TERMS, Status::ReadFault),
-        (7, 13, SEVEN_TERMS, Status::Done),
+    // At 7 bytes a read the eighth takes the end of the first query, the eleventh takes the last bytes, and the twelfth
+    // finds the end.
+    for (chunk, first, last, output, expected) in [
+        (16, 2, 2, "", Status::ReadFault),
+        (7, 1, 8, "", Status::ReadFault),
+        (7, 9, 11, SIX_TERMS, Status::ReadFault),
+        (7, 12, 12, SEVEN_TERMS, Status::ReadFault),
+        (7, 13, 13, SEVEN_TERMS, Status::Done),
     ] {
-        let outside = Outside {
-            chunk,
-            failing_reads: &[place],
-            failing_writes: &[],
-        };
-        let (status, written) = outcome(&rt, rt.alloc(), &[], TWO_QUERIES, &outside)?;
-        assert_eq!(rt; status, expected, "read {place} of {chunk} bytes fails");
-        assert_eq!(rt;
-            written.as_str(),
-            output,
-            "read {place} of {chunk} bytes fails"
-        );
+        for place in first..=last {
+            let outside = Outside {
+                chunk,
+                failing_reads: &[place],
+                failing_writes: &[],
+            };
+            let (status, written) = outcome(&rt, rt.alloc(), &[], TWO_QUERIES, &outside)?;
+            assert_eq!(rt; status, expected, "read {place} of {chunk} bytes fails");
+            assert_eq!(rt;
+                written.as_str(),
+                output,
+                "read {place} of {chunk} bytes fails"
+            );
+        }
     }
-    Ok(())
-}
-
-#[test]
-fn the_second_write_fails(rt: HostRuntime) -> Result<(), Fail> {
-    let outside = Outside {
-        chunk: 5,
-        failing_reads: &[],
-        failing_writes: &[2],
-    };
-    let (status, written) = outcome(&rt, rt.alloc(), &[], TWO_COMPONENTS, &outside)?;
-    assert_eq!(rt; written.as_str(), "term ");
-    assert_eq!(rt; status, Status::WriteFault);
     Ok(())
 }
 
@@ -147,42 +131,6 @@ fn a_write_fails(rt: HostRuntime) -> Result<(), Fail> {
         for place in 1..=writes.saturating_add(1) {
             assert_write_fails(&rt, rt.alloc(), run, 3, place)?;
         }
-    }
-    Ok(())
-}
-
-#[test]
-fn a_read_of_the_worked_library_fails(rt: HostRuntime) -> Result<(), Fail> {
-    let alloc = rt.alloc();
-    let input = format!(in alloc; "{WORKED_LIBRARY}{SORTING}")?;
-    // At 64 bytes a read the 25th takes the last bytes, and the 26th finds the end.
-    for (first, last, output, expected) in [
-        (1, 25, "", Status::ReadFault),
-        (26, 26, SORTED_TEXTS, Status::ReadFault),
-        (27, 27, SORTED_TEXTS, Status::Done),
-    ] {
-        for place in first..=last {
-            let outside = Outside {
-                chunk: 64,
-                failing_reads: &[place],
-                failing_writes: &[],
-            };
-            let (status, written) = outcome(&rt, alloc, &[], input.as_bytes(), &outside)?;
-            assert_eq!(rt; written.as_str(), output, "read {place} fails");
-            assert_eq!(rt; status, expected, "read {place} fails");
-        }
-    }
-    Ok(())
-}
-
-#[test]
-fn a_write_of_the_worked_library_fails(rt: HostRuntime) -> Result<(), Fail> {
-    let alloc = rt.alloc();
-    let input = format!(in alloc; "{WORKED_LIBRARY}{SORTING}")?;
-    let run: (&[&str], &[u8], &str, Status) = (&[], input.as_bytes(), SORTED_TEXTS, Status::Done);
-    // Its 187 bytes are twelve writes of 16 bytes.
-    for place in 1..=13 {
-        assert_write_fails(&rt, alloc, run, 16, place)?;
     }
     Ok(())
 }
