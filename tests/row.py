@@ -10,6 +10,12 @@ from pathlib import Path
 STORED = Path(__file__).resolve().parent / "rows"
 NEEDED_PARTS = {".in", ".out", ".status"}
 OTHER_PARTS = {".words", ".audit"}
+
+# Statuses, beside 0.
+ASKED_FOR_NOTHING = 1
+REFUSED = 2
+TOO_LONG = 6
+
 STEP = re.compile(rb"^(claim|file) (\d+) ", re.MULTILINE)
 
 

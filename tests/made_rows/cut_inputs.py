@@ -4,9 +4,8 @@ from __future__ import annotations
 
 from collections.abc import Iterator
 
-from row import Row, stored
+from row import REFUSED, Row, stored
 
-REFUSED = 2
 FIRST_EXAMPLE = b"comp x : A\ncomp y : B\nend\nlist omega max 2 take 10\n"
 SIX_TERMS = "term x\nterm y\nterm x(x)\nterm x(y)\nterm y(x)\nterm y(y)\ndone\n"
 

@@ -18,7 +18,7 @@ import re
 from collections.abc import Iterator
 from dataclasses import dataclass
 
-from row import Row
+from row import REFUSED, Row
 
 DIRECTIVES = [
     (
@@ -101,7 +101,6 @@ QUERIES = [
 # Words that stand in place of a token. The last one is too long for a name.
 OTHER_WORDS = ["omega", "7", "=", "n" * 49]
 
-REFUSED = 2
 OF_ITS_FORM = "of its form"
 FAULT_OF_FORM = re.compile(r"(?:refused 1|error) ((?:syntax|reserved) \d+)\n")
 

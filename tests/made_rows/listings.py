@@ -4,9 +4,7 @@ from __future__ import annotations
 
 from collections.abc import Iterator
 
-from row import Row
-
-REFUSED = 2
+from row import REFUSED, Row
 
 
 def rows() -> Iterator[Row]:

@@ -5,12 +5,10 @@ from __future__ import annotations
 from collections.abc import Iterator
 from typing import NamedTuple
 
-from row import Row
+from row import REFUSED, TOO_LONG, Row
 
 MAX_INPUT_BYTES = 1_048_576
 MAX_LINE_BYTES = 65_536
-TOO_LONG = 6
-REFUSED = 2
 
 COMPARED = b"end\nsub A <= A\n"
 LISTED = b"comp x : A\nend\nlist omega max 1 take 1\n"

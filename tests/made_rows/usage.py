@@ -4,10 +4,9 @@ from __future__ import annotations
 
 from collections.abc import Iterator
 
-from row import Row
+from row import ASKED_FOR_NOTHING, Row
 
 USAGE = b"usage: clsynth [--workers N] [--max-goals N] [--max-rules N] [--pool N] [generate N]\n"
-ASKED_FOR_NOTHING = 1
 GIVEN = b"comp x : A\ncomp y : B\nend\nlist omega max 2 take 10\n"
 
 OUT_OF_RANGE = [
