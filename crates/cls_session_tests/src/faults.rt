@@ -1,5 +1,6 @@
 ghost use Rattle.std.specs.Prelude.{◌<◌};
 
+use crate::list_library::{DESCENDING_LISTS, SORTED_TEXTS};
 use crate::outside::{Outside, SIX_TERMS, TWO_COMPONENTS, outcome};
 use cls_base::{MemorySink, Numbers, OpenGate, SureSink, SureSource};
 use cls_session::{Status, run};
@@ -62,33 +63,61 @@ fn no_write_can_fail(rt: HostRuntime) -> Result<(), Fail> {
     Ok(())
 }
 
+/// Asserts what is written and the status if the read of this place fails.
+fn assert_read_fails<R: Abort + Threads + Wait + Sync>(
+    rt: &R,
+    alloc: Global,
+    input: &[u8],
+    chunk: usize,
+    place: u32,
+    (output, expected): (&str, Status),
+) -> Result<(), Fail>
+    requires { 0 < chunk }
+{
+    let outside = Outside {
+        chunk,
+        failing_reads: &[place],
+        failing_writes: &[],
+    };
+    let (status, written) = outcome(rt, alloc, &[], input, &outside)?;
+    assert_eq!(rt; status, expected, "read {place} of {chunk} bytes fails");
+    assert_eq!(rt;
+        written.as_str(),
+        output,
+        "read {place} of {chunk} bytes fails"
+    );
+    Ok(())
+}
+
 #[test]
 fn a_read_fails(rt: HostRuntime) -> Result<(), Fail> {
     // At 7 bytes a read the eighth takes the end of the first query, the eleventh takes the last bytes, and the twelfth
     // finds the end.
-    for (chunk, first, last, output, expected) in [
-        (16, 2, 2, "", Status::ReadFault),
-        (7, 1, 8, "", Status::ReadFault),
-        (7, 9, 11, SIX_TERMS, Status::ReadFault),
-        (7, 12, 12, SEVEN_TERMS, Status::ReadFault),
-        (7, 13, 13, SEVEN_TERMS, Status::Done),
+    for (chunk, first, last, outcome) in [
+        (16, 2, 2, ("", Status::ReadFault)),
+        (7, 1, 8, ("", Status::ReadFault)),
+        (7, 9, 11, (SIX_TERMS, Status::ReadFault)),
+        (7, 12, 12, (SEVEN_TERMS, Status::ReadFault)),
+        (7, 13, 13, (SEVEN_TERMS, Status::Done)),
     ] {
         for place in first..=last {
-            let outside = Outside {
-                chunk,
-                failing_reads: &[place],
-                failing_writes: &[],
-            };
-            let (status, written) = outcome(&rt, rt.alloc(), &[], TWO_QUERIES, &outside)?;
-            assert_eq!(rt; status, expected, "read {place} of {chunk} bytes fails");
-            assert_eq!(rt;
-                written.as_str(),
-                output,
-                "read {place} of {chunk} bytes fails"
-            );
+            assert_read_fails(&rt, rt.alloc(), TWO_QUERIES, chunk, place, outcome)?;
         }
     }
     Ok(())
+}
+
+#[test]
+fn a_read_of_the_list_library_fails(rt: HostRuntime) -> Result<(), Fail> {
+    let input = DESCENDING_LISTS.as_bytes();
+    // At 64 bytes a read the 25th takes the last bytes, and the 26th finds the end.
+    for place in 1..=25 {
+        assert_read_fails(&rt, rt.alloc(), input, 64, place, ("", Status::ReadFault))?;
+    }
+    let failed = (SORTED_TEXTS, Status::ReadFault);
+    assert_read_fails(&rt, rt.alloc(), input, 64, 26, failed)?;
+    let done = (SORTED_TEXTS, Status::Done);
+    assert_read_fails(&rt, rt.alloc(), input, 64, 27, done)
 }
 
 /// Asserts that all before the failed write is written, if it is of this place, and all if there is no such write.
@@ -127,10 +156,21 @@ fn assert_write_fails<R: Abort + Threads + Wait + Sync>(
 #[test]
 fn a_write_fails(rt: HostRuntime) -> Result<(), Fail> {
     for run in REPLIES {
-        let writes = run.2.len().div_ceil(3) as u32;
+        let writes = run.2.len().div_ceil(5) as u32;
         for place in 1..=writes.saturating_add(1) {
-            assert_write_fails(&rt, rt.alloc(), run, 3, place)?;
+            assert_write_fails(&rt, rt.alloc(), run, 5, place)?;
         }
+    }
+    Ok(())
+}
+
+#[test]
+fn a_write_of_sorted_texts_fails(rt: HostRuntime) -> Result<(), Fail> {
+    let input = DESCENDING_LISTS.as_bytes();
+    let run: (&[&str], &[u8], &str, Status) = (&[], input, SORTED_TEXTS, Status::Done);
+    // They are twelve writes of 16 bytes.
+    for place in 1..=13 {
+        assert_write_fails(&rt, rt.alloc(), run, 16, place)?;
     }
     Ok(())
 }

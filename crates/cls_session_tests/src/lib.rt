@@ -6,6 +6,8 @@
 #[cfg(test)]
 mod faults;
 #[cfg(test)]
+mod list_library;
+#[cfg(test)]
 mod outside;
 #[cfg(test)]
 mod pieces;
