@@ -70,10 +70,11 @@ fn assert_read_fails<R: Abort + Threads + Wait + Sync>(
     input: &[u8],
     chunk: usize,
     place: u32,
-    (output, expected): (&str, Status),
+    ending: (&str, Status),
 ) -> Result<(), Fail>
     requires { 0 < chunk }
 {
+    let (output, expected) = ending;
     let outside = Outside {
         chunk,
         failing_reads: &[place],
@@ -93,7 +94,7 @@ fn assert_read_fails<R: Abort + Threads + Wait + Sync>(
 fn a_read_fails(rt: HostRuntime) -> Result<(), Fail> {
     // At 7 bytes a read the eighth takes the end of the first query, the eleventh takes the last bytes, and the twelfth
     // finds the end.
-    for (chunk, first, last, outcome) in [
+    for (chunk, first, last, ending) in [
         (16, 2, 2, ("", Status::ReadFault)),
         (7, 1, 8, ("", Status::ReadFault)),
         (7, 9, 11, (SIX_TERMS, Status::ReadFault)),
@@ -101,7 +102,7 @@ fn a_read_fails(rt: HostRuntime) -> Result<(), Fail> {
         (7, 13, 13, (SEVEN_TERMS, Status::Done)),
     ] {
         for place in first..=last {
-            assert_read_fails(&rt, rt.alloc(), TWO_QUERIES, chunk, place, outcome)?;
+            assert_read_fails(&rt, rt.alloc(), TWO_QUERIES, chunk, place, ending)?;
         }
     }
     Ok(())

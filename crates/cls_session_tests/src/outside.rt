@@ -11,7 +11,7 @@ use std::thread::Threads;
 const SPARE: usize = 131_072;
 
 /// The bytes of a read or a write, if the source and the sink are to cut nothing short.
-pub const WHOLE: usize = 65_536;
+pub const WHOLE: usize = 4_194_304;
 
 pub const TWO_COMPONENTS: &[u8] = b"comp x : A\ncomp y : B\nend\nlist omega max 2 take 10\n";
 
