@@ -9,6 +9,7 @@ from row import REFUSED, TOO_LONG, Row
 
 MAX_INPUT_BYTES = 1_048_576
 MAX_LINE_BYTES = 65_536
+MAX_READ_BYTES = 4_096
 
 COMPARED = b"end\nsub A <= A\n"
 LISTED = b"comp x : A\nend\nlist omega max 1 take 1\n"
@@ -51,6 +52,7 @@ def rows() -> Iterator[Row]:
     yield padded(Padded("a_page", LISTED, b"", b"term x\ndone\n", TOO_LONG), 2 * MAX_INPUT_BYTES)
     yield from long_last_lines()
     yield from long_lines()
+    yield from across_two_reads()
 
 
 def padded(it: Padded, length: int) -> Row:
@@ -78,3 +80,10 @@ def long_lines() -> Iterator[Row]:
     yield Row("limits/longest_query", b"end\n" + b"inhabit A".ljust(MAX_LINE_BYTES) + b"\n", b"uninhabited\n")
     yield Row("limits/comment_too_long_before_end", b"comp x : A\n" + longest + b"#\nend\n", b"refused 2 long\n", REFUSED)
     yield Row("limits/last_comment_too_long", b"comp x : A\n" + longest + b"#", b"refused 2 long\n", REFUSED)
+
+
+def across_two_reads() -> Iterator[Row]:
+    """Two bytes that belong together, the first of which is the last one of a read."""
+    before = b"end\n".ljust(MAX_READ_BYTES - 1, b"#")
+    for name, together in (("character", "é".encode() + b"\n"), ("line_ending", b"\r\n")):
+        yield Row(f"lines/{name}_across_two_reads", before + together + COMPARED.removeprefix(b"end\n"), b"yes\n")
