@@ -7,7 +7,7 @@ use cls_rulebook::{RuleBook, RuleRef};
 use std::alloc::Global;
 
 /// The most terms of one node and size that are kept. A page is asked for with a smaller pool.
-pub(crate) const MOST: usize = 600;
+pub(crate) const MOST: usize = 100;
 
 /// The most numbers that the code of a term has: two for each of 64 occurrences.
 const LONGEST_CODE: usize = 128;
@@ -19,6 +19,28 @@ pub(crate) struct Generated {
 }
 
 impl Generated {
+    /// The terms up to the greatest size, or so many that a pool is passed.
+    pub(crate) fn of(
+        alloc: Global,
+        book: &HandBook,
+        costs: &[u32],
+        max: u32,
+    ) -> Result<Generated, OutOfMemory> {
+        let mut made = Generated {
+            sizes: Vec::new(alloc),
+        };
+        let mut held = 0u64;
+        for size in 0..=max {
+            if held > MOST as u64 {
+                return Ok(made);
+            }
+            let nodes = terms_of_size(alloc, book, costs, &made, size)?;
+            held = held.saturating_add(sum(nodes.as_slice()));
+            made.sizes.push(nodes)?;
+        }
+        Ok(made)
+    }
+
     /// The codes of the terms of this size that a node has.
     pub(crate) fn terms(&self, size: u32, node: u32) -> Option<&NumberLists> {
         match self.sizes.get(size as usize) {
@@ -73,28 +95,6 @@ pub(crate) fn size_of(costs: &[u32], code: &[u32]) -> u32 {
         }
     }
     size
-}
-
-/// The terms up to the greatest size, or so many that a pool is passed.
-pub(crate) fn generated(
-    alloc: Global,
-    book: &HandBook,
-    costs: &[u32],
-    max: u32,
-) -> Result<Generated, OutOfMemory> {
-    let mut made = Generated {
-        sizes: Vec::new(alloc),
-    };
-    let mut held = 0u64;
-    for size in 0..=max {
-        if held > MOST as u64 {
-            return Ok(made);
-        }
-        let nodes = terms_of_size(alloc, book, costs, &made, size)?;
-        held = held.saturating_add(sum(nodes.as_slice()));
-        made.sizes.push(nodes)?;
-    }
-    Ok(made)
 }
 
 /// The terms of one size of each node.

@@ -1,7 +1,7 @@
 ghost use Rattle.std.specs.Prelude.{◌<◌, ◌≤◌, ◌^◌, IfSome, option_copied};
 ghost use Rattle.cls_base.specs.Terms.{length_of};
 
-use crate::generated::{Generated, MOST, generated};
+use crate::generated::{Generated, MOST};
 use crate::hand_book::HandBook;
 use crate::listing::{listed, pool};
 use crate::query::{Codes, Query, alone, applied, codes_of, paged};
@@ -97,9 +97,9 @@ fn agree(alloc: Global, books: u32, most_cost: u32, most_size: u32) -> Result<bo
             costs: &costs,
             max: 1 + random.below(most_size),
             take: 1 + random.below(12),
-            pool: 1 + u64::from(random.below(500)),
+            pool: 1 + u64::from(random.below(80)),
         };
-        let made = generated(alloc, &book, &costs, query.max)?;
+        let made = Generated::of(alloc, &book, &costs, query.max)?;
         let asked = Asked {
             book: &book,
             made: &made,
@@ -115,13 +115,13 @@ fn agree(alloc: Global, books: u32, most_cost: u32, most_size: u32) -> Result<bo
 // Many of these books have codes with several derivations. Some pages have too many terms, and some as many as may count.
 #[test]
 fn pages_of_random_books_are_those_of_the_definition(rt: HostRuntime) -> Result<(), Fail> {
-    assert!(rt; agree(rt.alloc(), 300, 3, 9)?);
+    assert!(rt; agree(rt.alloc(), 200, 3, 9)?);
     Ok(())
 }
 
 // Sizes go far over 64, up to which terms are counted by arithmetic.
 #[test]
 fn so_they_are_where_components_cost_much(rt: HostRuntime) -> Result<(), Fail> {
-    assert!(rt; agree(rt.alloc(), 100, 255, 700)?);
+    assert!(rt; agree(rt.alloc(), 50, 100, 300)?);
     Ok(())
 }
