@@ -4,14 +4,10 @@
 //! worker until another makes a claim.
 #![tactic(auto)]
 
-#[cfg(test)]
-mod core_tests;
 mod heap;
 mod meeting;
 #[cfg(test)]
 mod memo_tests;
-#[cfg(test)]
-mod renumbering;
 #[cfg(test)]
 mod table_tests;
 #[cfg(test)]
