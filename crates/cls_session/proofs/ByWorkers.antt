@@ -1,5 +1,5 @@
 -- What is written for a line by one number of workers is written by another one, but for audits.
-use Rattle.std.proofs.Common.{ℕ, ◌≡◌, ◌⊎◌, inl, inr, refl, sym, ap, subst, List, []}
+use Rattle.std.proofs.Common.{ℕ, ◌≡◌, ◌⊎◌, inl, inr, refl, sym, ap, subst, List}
 use Rattle.cls_base.specs.Firsts.{Cause, First, IsSilent}
 use Rattle.cls_base.specs.Types.{ClosedType}
 use Rattle.cls_proof.specs.Certificates.{Certificate}

@@ -18,6 +18,7 @@ use Rattle.cls_session.specs.declared.status.Status.{Status}
 use Rattle.cls_session.specs.Alike.{with_workers, served_by, AreSameReplies, AreSameTexts}
 use Rattle.cls_session.specs.Alike as alike
 use Rattle.cls_session.specs.Laws.{AsksAudit, AsksNoAudit, HaveNoAudit, TranscriptsAreDetermined}
+use Rattle.cls_session.specs.Repositories.{AreTaken}
 use Rattle.cls_session.specs.Transcripts.{IsAnswered, Transcript, refusal, IsRefused, Ending}
 use Rattle.cls_session.specs.Transcripts as transcripts
 use Rattle.cls_session.proofs.SameLine.{one_unless_audit, goes_same, ends_same}

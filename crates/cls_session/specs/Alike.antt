@@ -33,7 +33,7 @@ pub data AreSame (s : Serving) (n : ℕ) (line text other : List ℕ) : Type 0 w
 abbrev pub AreSameReplies : Serving → ℕ → (lines : List (List ℕ)) → (text other : List ℕ) → Type 0
 AreSameReplies s n [] text other = (text ≡ []) × (other ≡ [])
 AreSameReplies s n (line ∷ lines) text other =
-    (first second rest rest' : List ℕ) (s' : Serving) × Goes s line first s' × AreSame s n line first second
+    (first second rest rest' : List ℕ) × (s' : Serving) × Goes s line first s' × AreSame s n line first second
     × AreSameReplies s' n lines rest rest' × (text ≡ first ++ rest) × (other ≡ second ++ rest')
 
 -- Two texts for the same lines, with these options and with n workers: they are one text, or both have the replies to the
