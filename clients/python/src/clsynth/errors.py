@@ -17,11 +17,12 @@ from typing import Any, ClassVar
 from clsynth.limits import MAX_INPUT_BYTES, MAX_POOL
 
 __all__ = [
-    "ERRORS", "AmbiguousType", "BadCertificate", "BadCost", "BadName", "BadTemplate", "ClosureTooLarge", "ClsynthError", "DuplicateName", "InputFull",
-    "KindTooLarge", "LimitExceeded", "LineTooLong", "MissingFunction", "NoQed", "NotUtf8", "NumberOutOfRange", "ParseFault", "PlacedError",
+    "ERRORS", "AmbiguousType", "BadCertificate", "BadCost", "BadName", "BadTemplate", "ClosureTooLarge", "ClsynthError", "DuplicateName", "EmptyKind",
+    "InputFull", "KindTooLarge", "LimitExceeded", "LineTooLong", "MissingFunction", "NoQed", "NotUtf8", "NumberOutOfRange", "ParseFault", "PlacedError",
     "ProcessFault", "ProgramNotFound", "QueryCancelled", "QueryError", "QueryStopped", "QueryTimeout", "RepositoryFault", "RepositoryLineTooLong",
     "RepositoryRefused", "RepositoryTooLong", "ReservedName", "SessionClosed", "Status", "SyntaxFault", "TooDeep", "TooManyComponents",
-    "TooManyNodes", "TooManyTerms", "TypeTooLarge", "TypeTooLong", "UnknownComponent", "UnknownInTerm", "VariableInQuery", "WideGoal",
+    "TooManyNodes", "TooManyTerms", "TypeTooLarge", "TypeTooLong", "UnknownComponent", "UnknownInTerm", "VariableInKind", "VariableInQuery",
+    "WideGoal",
 ]
 
 
@@ -70,6 +71,14 @@ class BadName(RepositoryFault):
 
 class DuplicateName(RepositoryFault):
     """A name that is declared twice."""
+
+
+class EmptyKind(RepositoryFault):
+    """A kind without types."""
+
+
+class VariableInKind(RepositoryFault):
+    """A type of a kind has a variable."""
 
 
 class BadCost(RepositoryFault):

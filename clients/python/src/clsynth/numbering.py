@@ -1,20 +1,57 @@
 """The numbers of constructors.
 
-The program numbers constructors in the order in which they first come, and orders types by these numbers. So the text of a grammar
-or a certificate may depend on which queries came before. A new program is told the names in their order, and so answers as the one
-before it would have.
+The program numbers constructors in the order in which they first come, and orders the parts of types by these numbers. So the text of
+a grammar or a certificate may depend on which queries came before. A new program is told the names in their order, and then answers as
+the one before it would have.
 """
 
 from __future__ import annotations
 
 import re
-from collections.abc import Collection, Iterable, Iterator
+from collections.abc import Iterable, Iterator
 from itertools import islice
 
-from clsynth.errors import BadCertificate, ClsynthError, NoQed, QueryError, TypeTooLarge, ClosureTooLarge, TooManyTerms, WideGoal
-from clsynth.limits import MAX_LINE_BYTES, MAX_NODES, MAX_PARENTHESES
+from clsynth.errors import BadCertificate, ClosureTooLarge, NoQed, QueryError, TooManyTerms, TypeTooLarge, WideGoal
+from clsynth.limits import MAX_NAME_BYTES
 from clsynth.queries import Query
-from clsynth.terms import Term
-from clsynth.types import Type
 
 __all__ = ["Numbering"]
+
+_NAME = re.compile(r"[A-Za-z_][A-Za-z0-9_]*", re.ASCII)
+_NAMES_OF_A_LINE = 100
+# The errors of a query that was read: its names have numbers.
+_LATE = (ClosureTooLarge, TooManyTerms, TypeTooLarge, WideGoal)
+_OF_A_CERTIFICATE = (BadCertificate, NoQed)
+
+
+class Numbering:
+    """The names that queries brought, in the order in which they first came."""
+
+    def __init__(self, names: Iterable[str] = ()) -> None:
+        self._names = dict.fromkeys(names)
+
+    def __iter__(self) -> Iterator[str]:
+        return iter(self._names)
+
+    def add(self, query: Query[object], error: QueryError | None = None) -> None:
+        """Adds what a query brought that was answered, or got this error."""
+        if error is None:
+            self._take(*query.types, *query.certificate_types)
+        elif isinstance(error, _LATE + _OF_A_CERTIFICATE):
+            self._take(*query.types)
+
+    def forget(self) -> None:
+        """Begins anew."""
+        self._names.clear()
+
+    def lines(self) -> Iterator[str]:
+        """Queries that bring the names in their order. Each is answered by one line."""
+        names = iter(self._names)
+        while some := list(islice(names, _NAMES_OF_A_LINE)):
+            yield f"sub {' * '.join(some)} <= omega"
+
+    def _take(self, *types: str) -> None:
+        for type in types:
+            for name in _NAME.findall(type):
+                if name != "omega" and len(name) <= MAX_NAME_BYTES:
+                    self._names.setdefault(name)

@@ -46,7 +46,9 @@ class Query(Generic[Answer]):
     read: Callable[[str, Reader], Answer]
     """Reads the reply to its end. It is given the first line, which is no error, and what the others are read from."""
     types: tuple[str, ...] = ()
-    """The types in it. If the query is read by the program, their constructors get numbers, by which types are ordered."""
+    """The types in its first line. Where the program reads the line, their constructors get numbers, by which it orders types."""
+    certificate_types: tuple[str, ...] = ()
+    """The same of the lines behind it."""
 
     def __post_init__(self) -> None:
         if any("\n" in line for line in self.lines):
@@ -105,7 +107,7 @@ def verify(goal: TypeLike, certificate: Certificate | str) -> Query[Verdict]:
         raise NoQed(query)
     if ends[0] != len(lines) - 1:
         raise ValueError("lines stand behind the end of the certificate")
-    return Query((query, *lines), _verdict, (str(goal),))
+    return Query((query, *lines), _verdict, (str(goal),), tuple(_type_of(line) for line in lines if line.strip()))
 
 
 def sizes(goal: TypeLike) -> Query[Sizes]:
@@ -124,6 +126,17 @@ def _listing(
     line = f"{word} {goal} max {max_size} take {take}" + ("" if after is None else f" after {after}")
     is_in_range = 1 <= max_size <= MAX_SIZE and 1 <= take <= MAX_TAKE
     return Query((line,), read, (str(goal),) if is_in_range else ())
+
+
+def _type_of(line: str) -> str:
+    """The type in a line of a certificate, which is empty if it has none."""
+    word, *rest = line.split(None, 1)
+    if word == "member":
+        return rest[0] if rest else ""
+    if word == "row" and rest:
+        words = rest[0].rpartition(":")[0].rsplit(None, 3)
+        return words[0] if words else ""
+    return ""
 
 
 def _up_to(last: str, first: str, reader: Reader) -> Iterator[str]:

@@ -16,15 +16,23 @@ import re
 from collections.abc import Iterator
 from dataclasses import dataclass
 from functools import reduce
+from itertools import accumulate
 from typing import Any, ClassVar
 
 from clsynth.errors import AmbiguousType, ParseFault, TypeTooLong
 from clsynth.limits import MAX_PARENTHESES
+from clsynth.names import check_name
 
 __all__ = [
     "Arrow", "Constructor", "Intersection", "Omega", "Product", "Type", "TypeLike", "Variable", "arrow", "as_type", "constructor", "intersection",
     "omega", "product", "var",
 ]
+
+
+def _name_of(type: Type) -> str:
+    """The name of a constructor or a variable, and otherwise an empty text."""
+    name: str = getattr(type, "name", "")
+    return name
 
 
 class Type:
@@ -38,12 +46,14 @@ class Type:
     """How much its sign binds: 0 an arrow, 1 an intersection, 2 a product, 3 what needs no parentheses."""
 
     def __post_init__(self) -> None:
+        name = _name_of(self)
         object.__setattr__(self, "_nodes", 1 + sum(part._nodes for part in self.parts))
-        object.__setattr__(self, "_hash", hash((self.form, _name_of(self), *[part._hash for part in self.parts])))
+        object.__setattr__(self, "_hash", hash((self.form, name, *[part._hash for part in self.parts])))
 
     @staticmethod
     def parse(text: str) -> Type:
-        """The type that the text says, as docs/LANGUAGE.md has them. Raises `ParseFault`, or `TypeTooLong` for over 64 parentheses."""
+        """The type that the text says, as docs/LANGUAGE.md has them. Raises `ParseFault`, `BadName` for a name of over 48 bytes, or
+        `TypeTooLong` for over 64 open parentheses."""
         return _Parser(text).whole()
 
     @property
@@ -157,6 +167,10 @@ class Constructor(Type):
     form: ClassVar[str] = "constructor"
     strength: ClassVar[int] = 3
 
+    def __post_init__(self) -> None:
+        check_name(self.name)
+        super().__post_init__()
+
     @property
     def parts(self) -> tuple[Type, ...]:
         return (self.argument,)
@@ -179,6 +193,10 @@ class Variable(Type):
 
     form: ClassVar[str] = "variable"
     strength: ClassVar[int] = 3
+
+    def __post_init__(self) -> None:
+        check_name(self.name)
+        super().__post_init__()
 
     def _layout(self) -> list[str | tuple[Type, int]]:
         return [f"${self.name}"]
@@ -280,12 +298,14 @@ def _is_of_arrows(type: Type) -> bool:
     return isinstance(type, Arrow)
 
 
-def _name_of(type: Type) -> str:
-    """The name of a constructor or a variable, and otherwise an empty text."""
-    return type.name if isinstance(type, Constructor | Variable) else ""
+def open_parentheses(text: str) -> int:
+    """How many parentheses are open at once in the text, at most."""
+    counts = accumulate((sign == "(") - (sign == ")") for sign in text if sign in "()")
+    return max(counts, default=0)
 
 
-_FORMS: dict[str, type[Type]] = {it.form: it for it in (Omega, Constructor, Variable, Arrow, Intersection, Product)}
+_CLASSES: tuple[type[Type], ...] = (Omega, Constructor, Variable, Arrow, Intersection, Product)
+_FORMS = {it.form: it for it in _CLASSES}
 
 
 def _spine(type: Type) -> Iterator[tuple[str, str]]:

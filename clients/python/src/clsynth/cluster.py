@@ -1,0 +1,117 @@
+"""Many queries on many processors or machines.
+
+    with ProcessPoolExecutor() as executor:
+        for answer in map_queries(executor, repository, [queries.inhabited(goal) for goal in goals]):
+            print(answer)
+
+Any executor of `concurrent.futures` does: threads, processes, or those of a cluster, as `distributed.Client(address).get_executor()`. Where
+it runs, this package and the program have to be there.
+"""
+
+from __future__ import annotations
+
+import os
+from collections.abc import Iterable, Iterator, Sequence
+from concurrent.futures import BrokenExecutor, Executor, Future
+from dataclasses import dataclass
+from typing import TypeVar
+
+from clsynth.errors import QueryError
+from clsynth.numbering import Numbering
+from clsynth.queries import Query
+from clsynth.repository import Repository
+from clsynth.session import Session
+
+__all__ = ["map_queries"]
+
+Answer = TypeVar("Answer")
+
+
+def map_queries(
+    executor: Executor, repository: Repository | str, queries: Iterable[Query[Answer]], *, batch: int = 16,
+    program: str | os.PathLike[str] | None = None, workers: int | None = None, max_goals: int | None = None, max_rules: int | None = None,
+    pool: int | None = None, timeout: float | None = None,
+) -> Iterator[Answer | QueryError]:
+    """The answers to the queries, in their order and each once. For a query with an error it is the error, as a value.
+
+    They are those that one session gives. A grammar or a certificate may have names that the repository hasn't: then the session is one
+    that was given the names of all queries in their order.
+
+    A worker answers `batch` queries at a time, by a program of its own, which it finds as `find_program` says there. What an executor lost
+    is done again by the executor, as those of a cluster do. Where the executor is broken, as a pool of processes is that lost one of
+    them, what is left is done here.
+
+    The other arguments are those of `Session`. What stops a session, as `RepositoryRefused` or `QueryTimeout`, is raised.
+    """
+    if batch < 1:
+        raise ValueError(f"a batch has at least one query, and not {batch}")
+    asked = list(queries)
+    names = Numbering()
+    for query in asked:
+        names.add(query)
+    setting = _Setting(str(repository), program, workers, max_goals, max_rules, pool, timeout, tuple(names))
+    batches = [tuple(asked[place : place + batch]) for place in range(0, len(asked), batch)]
+    return _in_order(setting, batches, [_submitted(executor, setting, some) for some in batches])
+
+
+@dataclass(frozen=True)
+class _Setting:
+    """What a session is made of, to be sent to a worker."""
+
+    repository: str
+    program: str | os.PathLike[str] | None
+    workers: int | None
+    max_goals: int | None
+    max_rules: int | None
+    pool: int | None
+    timeout: float | None
+    names: tuple[str, ...]
+
+    def session(self) -> Session:
+        return Session(
+            self.repository, program=self.program, workers=self.workers, max_goals=self.max_goals, max_rules=self.max_rules, pool=self.pool,
+            timeout=self.timeout, names=self.names,
+        )
+
+
+def _submitted(executor: Executor, setting: _Setting, batch: Sequence[Query[Answer]]) -> Future[list[Answer | QueryError]] | None:
+    try:
+        return executor.submit(_answers, setting, batch)
+    except BrokenExecutor:
+        return None
+
+
+def _in_order(
+    setting: _Setting, batches: Sequence[Sequence[Query[Answer]]], futures: Sequence[Future[list[Answer | QueryError]] | None],
+) -> Iterator[Answer | QueryError]:
+    try:
+        for batch, future in zip(batches, futures):
+            yield from _result(setting, batch, future)
+    finally:
+        for future in futures:
+            if future:
+                future.cancel()
+
+
+def _result(
+    setting: _Setting, batch: Sequence[Query[Answer]], future: Future[list[Answer | QueryError]] | None,
+) -> list[Answer | QueryError]:
+    try:
+        if future:
+            return future.result()
+    except BrokenExecutor:
+        pass
+    return _answers(setting, batch)
+
+
+def _answers(setting: _Setting, batch: Sequence[Query[Answer]]) -> list[Answer | QueryError]:
+    """What a worker does."""
+    with setting.session() as session:
+        return [_answer(session, query) for query in batch]
+
+
+def _answer(session: Session, query: Query[Answer]) -> Answer | QueryError:
+    try:
+        return session.ask(query)
+    except QueryError as error:
+        return error
