@@ -18,7 +18,8 @@ from clsynth.errors import ParseFault
 
 __all__ = ["Term", "TermLike", "as_term"]
 
-_TOKEN = re.compile(r"[ \t\r]*(?:([A-Za-z_][A-Za-z0-9_]*)|([(),])|(.))", re.ASCII | re.DOTALL)
+_BLANKS = " \t\r"
+_TOKEN = re.compile(rf"[{_BLANKS}]*(?:([A-Za-z_][A-Za-z0-9_]*)|([(),])|(.))", re.DOTALL)
 
 
 @dataclass(frozen=True, slots=True, eq=False, repr=False)
@@ -123,42 +124,33 @@ def as_term(term: TermLike) -> Term:
 
 
 def _parse(text: str) -> Term:
-    # Each open component has a list of the arguments that stand behind it so far.
-    open_components: list[tuple[str, list[Term]]] = []
-    place, end = 0, len(text.rstrip(" \t\r"))
-    while True:
-        place, name = _name(text, place)
-        token = _TOKEN.match(text, place)
-        sign = token[2] if token else None
-        if token and sign == "(":
-            open_components.append((name, []))
-            place = token.end()
-            continue
-        term = Term(name)
-        while open_components:
-            token = _TOKEN.match(text, place)
-            sign = token[2] if token else None
-            if not token or sign not in (",", ")"):
-                raise ParseFault(text, _start(text, place), "`,` or `)`")
-            place = token.end()
-            open_components[-1][1].append(term)
-            if sign == ",":
-                break
-            component, arguments = open_components.pop()
-            term = Term(component, tuple(arguments))
+    end = len(text.rstrip(_BLANKS))
+    # What stands around the innermost open component, and its arguments so far.
+    around: list[tuple[str, list[Term]]] = []
+    arguments: list[Term] = []
+    component, term = "", None
+    for token in _TOKEN.finditer(text, 0, end):
+        sign = token[2]
+        if token[1] and not component and term is None:
+            component = token[1]
+        elif sign == "(" and component:
+            around.append((component, arguments))
+            component, arguments = "", []
+        elif (sign == "," or sign == ")") and around and (component or term is not None):
+            arguments.append(Term(component) if term is None else term)
+            component, term = "", None
+            if sign == ")":
+                head, outer = around.pop()
+                term, arguments = Term(head, tuple(arguments)), outer
         else:
-            if place < end:
-                raise ParseFault(text, _start(text, place), "the end of the term")
-            return term
+            raise ParseFault(text, token.start(token.lastindex or 0), _wanted(component, term, around))
+    if around or not (component or term is not None):
+        raise ParseFault(text, end, _wanted(component, term, around))
+    return Term(component) if term is None else term
 
 
-def _name(text: str, place: int) -> tuple[int, str]:
-    token = _TOKEN.match(text, place)
-    if not token or not token[1]:
-        raise ParseFault(text, _start(text, place), "a component")
-    return token.end(), token[1]
-
-
-def _start(text: str, place: int) -> int:
-    """Where the next token begins."""
-    return len(text) - len(text[place:].lstrip(" \t\r"))
+def _wanted(component: str, term: Term | None, around: list[tuple[str, list[Term]]]) -> str:
+    """What may come next."""
+    if not component and term is None:
+        return "a component"
+    return ("`(`, " if component else "") + ("`,` or `)`" if around else "the end of the term")
