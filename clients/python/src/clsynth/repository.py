@@ -172,8 +172,7 @@ class Repository:
         name, *rest = directive.parts
         match directive.word:
             case "comp":
-                (type,) = directive.types()
-                self.component(name, type, cost=costs.get(name), text=texts.get(name))
+                self.component(name, directive.type(), cost=costs.get(name), text=texts.get(name))
             case "kind":
                 self.kind(name, directive.types())
             case "sub":
