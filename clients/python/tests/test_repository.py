@@ -66,7 +66,7 @@ class Declarations(unittest.TestCase):
         refused(clsynth.DuplicateName, lambda it: it.component("x", A))
         refused(clsynth.DuplicateName, lambda it: it.kind("a", [B]))
         refused(clsynth.DuplicateName, lambda it: it.variance("V", "contra"))
-        refused(clsynth.RepositoryFault, lambda it: it.variance("W", "co"))
+        refused(clsynth.RepositoryFault, lambda it: it.variance("W", "co"))  # type: ignore[arg-type]
         refused(clsynth.EmptyKind, lambda it: it.kind("b", []))
         refused(clsynth.EmptyKind, lambda it: it.component("y", []))
         refused(clsynth.VariableInKind, lambda it: it.kind("b", [var("a")]))
@@ -191,15 +191,14 @@ class Rules(unittest.TestCase):
         self.assertEqual(ranks, {str(At(cells[cell])): length + 1 for cell, length in distances(set(cells)).items()})
 
     def test_more_types_than_a_line_has_room_for(self) -> None:
-        for last in (4_500, 6_000):
-            chain = Repository()
-            types = numbers(0, last)
-            chain.component("zero", types[0])
-            chain.component("next", steps(types, lambda it: it + 1))
-            self.assertGreater(len(chain.kinds), 1)
-            with session(chain, max_goals=20_000) as asked:
-                goals = asked.grammar(types[last]).goals
-            self.assertEqual([goal.rank for goal in goals], list(range(last + 1, 0, -1)))
+        last = 5_000
+        chain, types = Repository(), numbers(0, last)
+        chain.component("zero", types[0])
+        chain.component("next", steps(types, lambda it: it + 1))
+        self.assertGreater(len(chain.kinds), 1)
+        with session(chain, max_goals=last + 1) as asked:
+            goals = asked.grammar(types[last]).goals
+        self.assertEqual([goal.rank for goal in goals], list(range(last + 1, 0, -1)))
         with self.assertRaises(clsynth.KindTooLarge):
             chain.component("again", steps(numbers(0, 50_000), lambda it: it + 1))
 

@@ -138,13 +138,13 @@ class Running(unittest.TestCase):
     def test_arguments_run_from_left_to_right_each_as_often_as_it_stands(self) -> None:
         ran: list[str] = []
 
-        def note(name: str, count: int) -> Callable[..., object]:
+        def noted(name: str) -> Callable[..., str]:
             def run(*given: object) -> str:
                 ran.append(name)
                 return name
-            return run if count else lambda it: run()
+            return run
 
-        evaluate("f(g(x), h(g(x)))", {"x": 0, "f": note("f", 2), "g": note("g", 1), "h": note("h", 1)})
+        self.assertEqual(evaluate("f(g(x), h(g(x)))", {"x": 0, **{name: noted(name) for name in "fgh"}}), "f")
         self.assertEqual(ran, ["g", "g", "h", "f"])
 
     def test_values_of_a_type(self) -> None:

@@ -5,6 +5,7 @@ from __future__ import annotations
 import copy
 import pickle
 import unittest
+from collections.abc import Callable
 
 from support import session
 
@@ -13,7 +14,7 @@ from clsynth import Arrow, Constructor, Intersection, Product, Type, Variable, a
 
 A, B, C = map(constructor, "ABC")
 List, Map = constructor("List"), constructor("Map")
-MANY = 5_000
+MANY = 2_000
 
 WRITTEN: dict[str, Type] = {
     "A -> B": A >> B,
@@ -55,7 +56,7 @@ class Building(unittest.TestCase):
 
     def test_the_program_writes_them_in_the_same_way(self) -> None:
         # Paths of a component are printed as they stand, if each is one path by itself.
-        texts = ["A -> B", "(A -> B) -> C", "A -> List(A -> B)", "A & B -> C", "(A -> B) & A -> List(List(C))"]
+        texts = ["A -> B", "(A -> B) -> C", "A -> List(A -> B)", "A & B -> C", "A & (A -> B) -> List(List(C))"]
         with session("".join(f"comp x{number} : {text}\n" for number, text in enumerate(texts))) as asked:
             for number, text in enumerate(texts):
                 self.assertEqual(asked.paths(f"x{number}"), [text])
@@ -80,7 +81,10 @@ class Building(unittest.TestCase):
                 self.assertEqual(Type.parse(text).nodes, nodes)
 
     def test_what_python_would_group_otherwise(self) -> None:
-        for build in (lambda: A >> B >> C, lambda: List >> List & A, lambda: A & (B >> C), lambda: "A -> B" & C, lambda: (A >> B) & (B >> C) & C):
+        builds: list[Callable[[], Type]] = [
+            lambda: A >> B >> C, lambda: List >> List & A, lambda: A & (B >> C), lambda: "A -> B" & C, lambda: (A >> B) & (B >> C) & C,
+        ]
+        for build in builds:
             with self.assertRaises(clsynth.AmbiguousType):
                 build()
 
@@ -90,9 +94,9 @@ class Building(unittest.TestCase):
 
     def test_names_are_tested(self) -> None:
         for name in ("List.map", "to-upper", "ä", "1st", "", "omega", "x" * 49, "a b", "a\n"):
-            for build in (constructor, var, clsynth.check_name):
+            for made in (constructor, var, clsynth.check_name):
                 with self.subTest(name), self.assertRaises(clsynth.BadName):
-                    build(name)
+                    made(name)
         self.assertEqual(clsynth.check_name("x" * 48), "x" * 48)
         with self.assertRaisesRegex(clsynth.BadName, "letter.*digits and `_`"):
             constructor("List.map")

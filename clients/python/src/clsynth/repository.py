@@ -14,7 +14,7 @@ from __future__ import annotations
 from collections.abc import Iterable, Mapping
 from dataclasses import dataclass, field
 from types import MappingProxyType
-from typing import Literal
+from typing import Any, Literal
 
 from clsynth.errors import (
     BadCost, DuplicateName, EmptyKind, KindTooLarge, RepositoryFault, RepositoryLineTooLong, RepositoryTooLong, TooManyComponents, TypeTooLong,
@@ -29,7 +29,7 @@ from clsynth.types import Type, TypeLike, Variable, as_type, intersection, open_
 
 __all__ = ["Component", "Repository", "Types", "VarianceWord"]
 
-Types = Iterable[TypeLike] | Mapping[object, TypeLike]
+Types = Iterable[TypeLike] | Mapping[Any, TypeLike]
 """Some types: in a list, or as the values of a dictionary."""
 
 VarianceWord = Literal["contra", "inv"]
