@@ -12,8 +12,9 @@ import tempfile
 import time
 from contextlib import ExitStack
 from pathlib import Path
+from typing import Any
 
-from distributed import Client
+import distributed
 from support import LISTS, session
 
 from clsynth import Query, map_queries, queries
@@ -21,6 +22,8 @@ from clsynth.replies import Page
 from clsynth.terms import Term
 
 HERE = "127.0.0.1"
+# It has no types in some versions.
+dask: Any = distributed
 ASKED: list[Query[Page[Term]]] = [queries.page("List(Int)", 1 + number % 50, after="rev(input)") for number in range(200)]
 
 
@@ -40,7 +43,7 @@ def main() -> None:
         words = ["distributed.cli.dask_worker", "--scheduler-file", file, "--host", HERE, "--nthreads", "1", "--no-nanny", "--no-dashboard"]
         workers = [started(stack, *words, "--local-directory", str(Path(folder, name))) for name in ("one", "two")]
         wait_for(Path(file))
-        client = stack.enter_context(Client(scheduler_file=file))
+        client = stack.enter_context(dask.Client(scheduler_file=file))
         client.wait_for_workers(2, timeout=60)
         found = map_queries(client.get_executor(), LISTS, ASKED, batch=2)
         answers = [next(found) for _ in range(10)]

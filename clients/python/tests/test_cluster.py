@@ -15,7 +15,7 @@ from collections.abc import Iterator
 from concurrent.futures import Executor, Future, ProcessPoolExecutor, ThreadPoolExecutor
 from contextlib import contextmanager
 from pathlib import Path
-from typing import Any
+from typing import Any, NoReturn
 
 from support import CHAIN, LISTS, PROGRAM, SOURCES, fake, session, terms
 
@@ -155,20 +155,18 @@ def python_with_distributed() -> str | None:
 
 class Dask(unittest.TestCase):
     def test_a_cluster_that_loses_a_worker(self) -> None:
-        python = python_with_distributed()
-        if not python:
-            self.missing()
+        python = python_with_distributed() or self.missing()
         environment = {**os.environ, "PYTHONPATH": os.pathsep.join([str(SOURCES), str(Path(__file__).parent)]), "CLSYNTH": PROGRAM}
-        ran = subprocess.run([python, Path(__file__).with_name("dask_cluster.py")], env=environment, capture_output=True, text=True, timeout=300)
+        ran = subprocess.run([python, str(Path(__file__).with_name("dask_cluster.py"))], env=environment, capture_output=True, text=True, timeout=300)
         self.assertEqual(ran.returncode, 0, ran.stderr)
         self.assertEqual(ran.stdout.splitlines()[-1], "200 answers, and one worker of 2 was lost")
 
-    def missing(self) -> None:
+    def missing(self) -> NoReturn:
         said = "NOT TESTED: a cluster of dask. `distributed` isn't there: apt-get install python3-distributed"
         if os.environ.get("CI", "").lower() == "true":
             self.fail(said)
         print(f"\n{said}", file=sys.stderr)
-        self.skipTest(said)
+        raise unittest.SkipTest(said)
 
 
 if __name__ == "__main__":

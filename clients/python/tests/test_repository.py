@@ -5,6 +5,7 @@ from __future__ import annotations
 import unittest
 from collections import deque
 from collections.abc import Callable
+from functools import reduce
 from pathlib import Path
 
 from support import CHAIN, session, terms
@@ -41,13 +42,14 @@ class Declarations(unittest.TestCase):
     def test_what_was_declared_can_be_read(self) -> None:
         made = Repository()
         self.assertEqual(made.kind("a", {1: A, 2: B}), var("a"))
+        self.assertEqual(made.kind("b", "A | B -> C"), var("b"))
         declared = made.component("f", A >> B, cost=2, text="{1}", call=abs)
         made.component("g", "A")
         made.below(A, "B")
         made.variance("C", "inv")
         self.assertEqual(declared, clsynth.Component("f", A >> B, 2, "{1}"))
         self.assertEqual(dict(made.components), {"f": declared, "g": clsynth.Component("g", A)})
-        self.assertEqual(dict(made.kinds), {"a": (A, B)})
+        self.assertEqual(dict(made.kinds), {"a": (A, B), "b": (A, B >> C)})
         self.assertEqual((made.pairs_below, dict(made.variances)), ((("A", "B"),), {"C": "inv"}))
         self.assertEqual((made.costs, made.functions), ({"f": 2, "g": 1}, {"f": abs}))
 
@@ -76,6 +78,7 @@ class Declarations(unittest.TestCase):
         refused(clsynth.ParseFault, lambda it: it.component("y", "A ->"))
         refused(clsynth.KindTooLarge, lambda it: it.kind("b", numbers(0, 4096)))
         refused(clsynth.TypeTooLong, lambda it: it.component("y", intersection(*["A"] * 342)))
+        refused(clsynth.TypeTooDeep, lambda it: it.component("y", reduce(lambda made, _: List(made), range(65), A)))
         refused(clsynth.RepositoryLineTooLong, lambda it: it.component("y", A, text="x" * 65_536))
         for text in ("{0}", "{17}", "{x}", "{", "}", "a\\b", "function() { return 1; }", "x\r"):
             refused(clsynth.BadTemplate, lambda it: it.component("y", A, text=text))

@@ -6,6 +6,7 @@ import copy
 import pickle
 import unittest
 from collections.abc import Callable
+from typing import Any
 
 from support import session
 
@@ -88,6 +89,13 @@ class Building(unittest.TestCase):
             with self.assertRaises(clsynth.AmbiguousType):
                 build()
 
+    def test_what_is_no_type(self) -> None:
+        something: Any = 5
+        builds: list[Callable[[], Type]] = [lambda: A >> something, lambda: List(something), lambda: something & A]
+        for build in builds:
+            with self.assertRaises(TypeError):
+                build()
+
     def test_a_constructor_takes_one_argument(self) -> None:
         with self.assertRaises(TypeError):
             List(A)(B)
@@ -113,7 +121,7 @@ class Building(unittest.TestCase):
 
     def test_parentheses(self) -> None:
         self.assertEqual(Type.parse("(" * 64 + "A" + ")" * 64), A)
-        with self.assertRaises(clsynth.TypeTooLong):
+        with self.assertRaises(clsynth.TypeTooDeep):
             Type.parse("(" * 65 + "A" + ")" * 65)
 
     def test_large_types(self) -> None:
