@@ -9,6 +9,7 @@ import shutil
 import signal
 import subprocess
 import sys
+import tempfile
 import threading
 import unittest
 from collections.abc import Iterator
@@ -82,6 +83,16 @@ class Executors(unittest.TestCase):
             with self.assertRaises(Exception):
                 executor.submit(os._exit, 1).result()
             self.assertEqual(answers_of(executor, ASKED), one_session(ASKED))
+
+    def test_a_program_that_is_killed_once(self) -> None:
+        with tempfile.TemporaryDirectory() as folder, ThreadPoolExecutor(1) as executor:
+            killed = Path(folder, "killed")
+            once = fake(self, f"[ -e {killed} ] || {{ : >{killed}; kill -9 $$; }}\nexec {PROGRAM} \"$@\"\n")
+            always = fake(self, "kill -9 $$")
+            found = map_queries(executor, LISTS, [queries.inhabited("Desc")], program=once)
+            self.assertEqual((list(found), killed.exists()), ([True], True))
+            with self.assertRaises(clsynth.ProcessFault):
+                list(map_queries(executor, LISTS, [queries.inhabited("Desc")], program=always))
 
     def test_what_stops_a_session_is_raised(self) -> None:
         with ThreadPoolExecutor(2) as executor:

@@ -80,6 +80,8 @@ class Restarts(unittest.TestCase):
             self.assertEqual(chain.grammar("Early & Late").goals[0].type, "Early & Late")
         with session(CHAIN, names=["Late"]) as chain:
             self.assertEqual(chain.grammar("Early & Late").goals[0].type, "Late & Early")
+        with self.assertRaises(clsynth.BadName):
+            session(CHAIN, names=["Late <= omega"])
 
     def test_names_of_queries_with_errors(self) -> None:
         # A query that isn't read brings no name, and so does a bad certificate. One that is too large brings its names.

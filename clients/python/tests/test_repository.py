@@ -193,6 +193,15 @@ class Rules(unittest.TestCase):
         # The least height of a term for a cell is one more than the length of the shortest way.
         self.assertEqual(ranks, {str(At(cells[cell])): length + 1 for cell, length in distances(set(cells)).items()})
 
+    def test_more_types_than_a_kind_has_choices(self) -> None:
+        texts = {f"a{one} -> b{two}" for one in range(10, 80) for two in range(10, 70)}
+        made = Repository()
+        made.component("f", texts)
+        ((name, choices),) = made.kinds.items()
+        self.assertEqual((name, len(choices)), ("f", 4_200 // 2))
+        with session(made) as asked:
+            self.assertEqual(set(asked.paths("f")), texts)
+
     def test_more_types_than_a_line_has_room_for(self) -> None:
         last = 5_000
         chain, types = Repository(), numbers(0, last)

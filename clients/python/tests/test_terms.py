@@ -51,7 +51,7 @@ class Values(unittest.TestCase):
         self.assertEqual(found, terms("f(g(x), g(x, y))", "g(x)", "x", "g(x, y)", "x", "y"))
 
     def test_faults_have_their_place(self) -> None:
-        for text, place in {"": 0, " ": 0, "f(": 2, "f()": 2, "f(x": 3, "f(x y)": 4, "f(x))": 4, "f x": 2, "f(x,)": 4, ",": 0, "f(1)": 2, "f(x)(y)": 4}.items():
+        for text, place in {"": 0, " ": 1, "f( ": 3, "f()": 2, "f(x": 3, "f(x y)": 4, "f(x))": 4, "f x": 2, "f(x,)": 4, ",": 0, "f(1)": 2, "f(x)(y)": 4}.items():
             with self.subTest(text), self.assertRaises(clsynth.ParseFault) as fault:
                 Term.parse(text)
             self.assertEqual(fault.exception.place, place)

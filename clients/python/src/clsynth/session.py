@@ -26,6 +26,7 @@ from clsynth.errors import RepositoryTooLong, SessionClosed
 from clsynth.evaluation import Functions
 from clsynth.grammars import Grammar
 from clsynth.limits import MAX_INPUT_BYTES, MAX_SIZE
+from clsynth.names import check_name
 from clsynth.numbering import Numbering
 from clsynth.program import Options, Program, find_program
 from clsynth.queries import Query
@@ -45,7 +46,7 @@ class Session:
     """A running program that has read a repository.
 
     The program is found as `find_program` says. The line `end` may be left out of the repository. `workers`, `max_goals`, `max_rules` and
-    `pool` are options of the program. `timeout` bounds each query, in seconds. `names` are constructors that count as if they had come
+    `pool` are options of the program. `timeout` bounds each query, in seconds, with the start of a new program if there is one. `names` are constructors that count as if they had come
     before the first query, in this order: where a grammar or a certificate has names that the repository hasn't, its text depends on
     which came first.
 
@@ -64,7 +65,7 @@ class Session:
         self._words = [find_program(program), *Options(workers, max_goals, max_rules, pool).words()]
         self._functions = repository.functions if isinstance(repository, Repository) else {}
         self._repository = _with_end(str(repository))
-        self._numbering = Numbering(names)
+        self._numbering = Numbering(map(check_name, names))
         self._timeout = timeout
         self._turn = threading.Lock()
         self._attempt: _Attempt | None = None
