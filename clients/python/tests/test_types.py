@@ -128,7 +128,9 @@ class Building(unittest.TestCase):
 
     def test_nodes(self) -> None:
         # omega and variables have one node, a bare name two, c(T) one more than T, the others one more than both parts.
-        for text, nodes in {"omega": 1, "$a": 1, "A": 2, "List(A)": 3, "A -> B": 5, "A & B & C": 8, "List($a) -> List($a) & A": 2 + 1 + 2 + 1 + 2}.items():
+        for text, nodes in {
+            "omega": 1, "$a": 1, "A": 2, "List(A)": 3, "A -> B": 5, "A & B & C": 8, "List($a) -> List($a) & A": 2 + 1 + 2 + 1 + 2,
+        }.items():
             with self.subTest(text):
                 self.assertEqual(Type.parse(text).nodes, nodes)
 
@@ -164,7 +166,8 @@ class Building(unittest.TestCase):
 
     def test_faults_have_their_place(self) -> None:
         for text, place in {
-            "": 0, "A ->": 4, "A B": 2, "(A": 2, "A)": 1, "A & & B": 4, "$": 1, "$1": 1, "List()": 5, "omega(A)": 5, "A -> B,": 6, "A - B": 2, "A | B": 2,
+            "": 0, "A ->": 4, "A B": 2, "(A": 2, "A)": 1, "A & & B": 4, "$": 1, "$1": 1, "List()": 5, "omega(A)": 5, "A -> B,": 6,
+            "A - B": 2, "A | B": 2,
         }.items():
             with self.subTest(text), self.assertRaises(clsynth.ParseFault) as fault:
                 Type.parse(text)
