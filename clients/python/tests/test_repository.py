@@ -126,7 +126,7 @@ class Reading(unittest.TestCase):
                 text = path.read_text()
                 made = Repository.parse(text)
                 self.assertEqual(str(Repository.parse(str(made))), str(made))
-                goals = {str(part) for it in made.components.values() for part in it.type.subtypes() if not any(part.variables())}
+                goals = {str(part) for it in made.components.values() for part in it.type.all_parts() if not any(part.variables())}
                 with session(text) as told, session(made) as built:
                     for goal in sorted(goals):
                         self.assertEqual(told.grammar(goal), built.grammar(goal))
