@@ -3,6 +3,7 @@
 from __future__ import annotations
 
 import os
+import signal
 import sys
 import tempfile
 import unittest
@@ -27,10 +28,6 @@ text sort = sorted({1})
 text rev = {1}\\n  .reversed()
 """
 CHAIN = "comp x : A\ncomp f : A -> A\n"
-# Each of 800 components meets the goal in 1,024 ways. The program goes through them for some seconds.
-SLOW = "".join(f"comp w{number} : {' & '.join(f'({side}{path} -> C{path})' for path in range(10) for side in 'AB')}\n" for number in range(800))
-SLOW_GOAL = " & ".join(f"C{path}" for path in range(10))
-SLOW_RULES = 1_000_000
 
 
 def session(repository: str | clsynth.Repository, **options: Any) -> clsynth.Session:
@@ -39,6 +36,13 @@ def session(repository: str | clsynth.Repository, **options: Any) -> clsynth.Ses
 
 def terms(*texts: str) -> list[clsynth.Term]:
     return [clsynth.Term.parse(text) for text in texts]
+
+
+def freeze(asked: clsynth.Session | clsynth.AsyncSession) -> None:
+    """Has the program of a session stand still, as if a query took for ever. It can be killed all the same."""
+    session = asked._session if isinstance(asked, clsynth.AsyncSession) else asked
+    assert session and session._program
+    os.kill(session._program._process.pid, signal.SIGSTOP)
 
 
 def not_tested(test: unittest.TestCase, what: str) -> NoReturn:

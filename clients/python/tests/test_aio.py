@@ -3,10 +3,9 @@
 from __future__ import annotations
 
 import asyncio
-import time
 import unittest
 
-from support import CHAIN, LISTS, PROGRAM, SLOW, SLOW_GOAL, SLOW_RULES, fake, session, terms
+from support import CHAIN, LISTS, PROGRAM, fake, freeze, session, terms
 
 import clsynth
 from clsynth import AsyncSession, Repository
@@ -45,8 +44,9 @@ class Answers(unittest.IsolatedAsyncioTestCase):
         self.assertEqual([len(page.entries) for page in found], list(range(1, 30)))
 
     async def test_sessions_go_side_by_side(self) -> None:
-        async with AsyncSession(SLOW, program=PROGRAM, max_rules=SLOW_RULES) as slow, AsyncSession(CHAIN, program=PROGRAM) as chain:
-            waiting = asyncio.create_task(slow.inhabited(SLOW_GOAL))
+        async with AsyncSession(CHAIN, program=PROGRAM) as frozen, AsyncSession(CHAIN, program=PROGRAM) as chain:
+            freeze(frozen)
+            waiting = asyncio.create_task(frozen.inhabited("A"))
             self.assertEqual((await chain.page("A", 2)).entries, terms("x", "f(x)"))
             self.assertFalse(waiting.done())
             waiting.cancel()
@@ -67,39 +67,48 @@ class Answers(unittest.IsolatedAsyncioTestCase):
 
 class Stops(unittest.IsolatedAsyncioTestCase):
     async def test_a_task_that_is_cancelled_stops_its_query(self) -> None:
-        async with AsyncSession(SLOW, program=PROGRAM, max_rules=SLOW_RULES) as slow:
-            for pause in (0, 0.2):
-                waiting = asyncio.create_task(slow.inhabited(SLOW_GOAL))
+        async with AsyncSession(CHAIN, program=PROGRAM) as chain:
+            for pause in (0, 0.01, 0.2):
+                freeze(chain)
+                waiting = asyncio.create_task(chain.inhabited("A"))
                 await asyncio.sleep(pause)
-                began = time.monotonic()
                 waiting.cancel()
                 with self.assertRaises(asyncio.CancelledError):
                     await waiting
-                self.assertLess(time.monotonic() - began, 3)
-                self.assertFalse(await slow.inhabited("C1"), "the session goes on")
+                self.assertTrue(await chain.inhabited("A"), "the session goes on")
+
+    async def test_a_task_that_is_cancelled_before_it_begins(self) -> None:
+        async with AsyncSession(CHAIN, program=PROGRAM) as chain:
+            waiting = asyncio.create_task(chain.inhabited("A"))
+            waiting.cancel()
+            with self.assertRaises(asyncio.CancelledError):
+                await waiting
+            self.assertTrue(await chain.inhabited("A"))
 
     async def test_only_the_task_that_is_cancelled_is_stopped(self) -> None:
-        async with AsyncSession(SLOW, program=PROGRAM, max_rules=SLOW_RULES) as slow:
-            first = asyncio.create_task(slow.inhabited(SLOW_GOAL))
-            second = asyncio.create_task(slow.inhabited("C2"))
-            third = asyncio.create_task(slow.inhabited("C3"))
+        async with AsyncSession(CHAIN, program=PROGRAM) as chain:
+            freeze(chain)
+            first, second, third = (asyncio.create_task(chain.inhabited(goal)) for goal in ("A", "B", "A"))
             await asyncio.sleep(0.1)
             second.cancel()
             await asyncio.sleep(0.1)
             self.assertFalse(first.done())
             first.cancel()
-            self.assertFalse(await third)
+            self.assertTrue(await third)
             for task in (first, second):
                 with self.assertRaises(asyncio.CancelledError):
                     await task
 
     async def test_time_bounds(self) -> None:
-        async with AsyncSession(SLOW, program=PROGRAM, max_rules=SLOW_RULES) as slow:
+        async with AsyncSession(CHAIN, program=PROGRAM) as chain:
+            freeze(chain)
             with self.assertRaises(clsynth.QueryTimeout):
-                await slow.inhabited(SLOW_GOAL, timeout=0.2)
+                await chain.inhabited("A", timeout=0.2)
+            self.assertTrue(await chain.inhabited("A"))
+            freeze(chain)
             with self.assertRaises(TimeoutError):
-                await asyncio.wait_for(slow.inhabited(SLOW_GOAL), 0.2)
-            self.assertFalse(await slow.inhabited("C1"))
+                await asyncio.wait_for(chain.inhabited("A"), 0.2)
+            self.assertTrue(await chain.inhabited("A"))
 
     async def test_a_start_that_is_cancelled(self) -> None:
         async def start() -> None:

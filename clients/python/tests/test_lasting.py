@@ -12,8 +12,9 @@ import unittest
 import unittest.mock
 from collections.abc import Iterator
 from pathlib import Path
+from random import Random
 
-from support import CHAIN, LISTS, PROGRAM, SLOW, SLOW_GOAL, SLOW_RULES, fake, session
+from support import CHAIN, LISTS, PROGRAM, fake, freeze, session
 
 import clsynth
 from clsynth import Session
@@ -133,21 +134,21 @@ class Restarts(unittest.TestCase):
 
 class Stops(unittest.TestCase):
     def test_a_query_has_a_time_bound(self) -> None:
-        with session(SLOW, max_rules=SLOW_RULES) as slow:
-            began = time.monotonic()
+        with session(CHAIN) as chain:
+            freeze(chain)
             with self.assertRaises(clsynth.QueryTimeout) as late:
-                slow.inhabited(SLOW_GOAL, timeout=0.2)
-            self.assertLess(time.monotonic() - began, 3)
-            self.assertEqual(late.exception.query, f"inhabit {SLOW_GOAL}")
+                chain.inhabited("A", timeout=0.2)
+            self.assertEqual(late.exception.query, "inhabit A")
             self.assertIsInstance(late.exception, TimeoutError)
-            self.assertFalse(slow.inhabited("C1", timeout=60), "the session goes on")
+            self.assertTrue(chain.inhabited("A"), "the session goes on")
 
     def test_a_session_has_a_time_bound_for_all_queries(self) -> None:
-        with session(SLOW, max_rules=SLOW_RULES, timeout=0.5) as slow:
+        with session(CHAIN, timeout=3) as chain:
+            freeze(chain)
             with self.assertRaises(clsynth.QueryTimeout):
-                list(slow.terms(SLOW_GOAL))
-            self.assertFalse(slow.inhabited("C1"))
-            self.assertFalse(slow.inhabited("C1", timeout=math.inf))
+                list(chain.terms("A"))
+            self.assertTrue(chain.inhabited("A"))
+            self.assertTrue(chain.inhabited("A", timeout=math.inf))
 
     def test_a_repository_is_bounded_too(self) -> None:
         with self.assertRaises(clsynth.QueryTimeout):
@@ -156,20 +157,48 @@ class Stops(unittest.TestCase):
     def test_a_bound_that_is_not_reached_stops_nothing(self) -> None:
         with counted_programs() as started, session(CHAIN) as chain:
             for _ in range(20):
-                self.assertTrue(chain.inhabited("A", timeout=0.5))
-            time.sleep(0.6)
-            self.assertTrue(chain.inhabited("A"))
+                self.assertTrue(chain.inhabited("A", timeout=60))
+            for timer in threading.enumerate():
+                if isinstance(timer, threading.Timer):
+                    timer.join(30)
+                    self.assertFalse(timer.is_alive())
         self.assertEqual(len(started), 1)
 
+    def test_bounds_that_are_nearly_reached(self) -> None:
+        # Whether a query is stopped is left to chance. It is answered rightly or not at all, and the session goes on.
+        random = Random(1)
+        with session(CHAIN) as chain:
+            for _ in range(60):
+                with contextlib.suppress(clsynth.QueryTimeout):
+                    self.assertEqual(len(chain.page("A", 64, timeout=random.random() / 200).entries), 64)
+            self.assertEqual(len(chain.page("A", 64).entries), 64)
+
     def test_another_thread_cancels(self) -> None:
-        with session(SLOW, max_rules=SLOW_RULES) as slow:
-            threading.Timer(0.2, slow.cancel).start()
-            began = time.monotonic()
+        with session(CHAIN) as chain:
+            freeze(chain)
+            threading.Timer(0.2, chain.cancel).start()
             with self.assertRaises(clsynth.QueryCancelled):
-                slow.certify(SLOW_GOAL)
-            self.assertLess(time.monotonic() - began, 3)
-            slow.cancel()
-            self.assertFalse(slow.inhabited("C1"), "nothing was under way when it was cancelled again")
+                chain.certify("A")
+            chain.cancel()
+            self.assertTrue(chain.inhabited("A"), "nothing was under way when it was cancelled again")
+
+    def test_an_error_of_the_caller_stops_what_another_thread_asks(self) -> None:
+        found: list[type[BaseException]] = []
+
+        def ask(chain: Session) -> None:
+            try:
+                chain.inhabited("A")
+            except clsynth.ClsynthError as error:
+                found.append(type(error))
+
+        with self.assertRaises(KeyError), session(CHAIN) as chain:
+            freeze(chain)
+            asking = threading.Thread(target=ask, args=(chain,))
+            asking.start()
+            time.sleep(0.2)
+            raise KeyError
+        asking.join(30)
+        self.assertEqual(found, [clsynth.QueryCancelled])
 
     def test_threads_share_a_session(self) -> None:
         with session(CHAIN) as chain:
