@@ -1,21 +1,23 @@
-"""Starts a scheduler and two workers of dask on this machine, asks them 200 queries, and kills one of the workers meanwhile.
+"""Starts a scheduler and two workers of dask on this machine, asks them 200 queries, and kills one of the workers in the middle.
 
 It is a program of its own, since dask may be there for another Python than the one that runs the tests.
 """
 
 from __future__ import annotations
 
+import os
 import signal
 import subprocess
 import sys
 import tempfile
 import time
+from collections.abc import Callable
 from contextlib import ExitStack
 from pathlib import Path
 from typing import Any
 
 import distributed
-from support import LISTS, session
+from support import LISTS, PROGRAM, session
 
 from clsynth import Query, map_queries, queries
 from clsynth.replies import Page
@@ -25,43 +27,70 @@ HERE = "127.0.0.1"
 # It has no types in some versions.
 dask: Any = distributed
 ASKED: list[Query[Page[Term]]] = [queries.page("List(Int)", 1 + number % 50, after="rev(input)") for number in range(200)]
-
-
-def started(stack: ExitStack, *words: str) -> subprocess.Popen[bytes]:
-    """A process that is ended with the stack."""
-    process = subprocess.Popen([sys.executable, "-m", *words], stdout=subprocess.DEVNULL, stderr=subprocess.DEVNULL)
-    stack.callback(process.wait)
-    stack.callback(process.kill)
-    return process
+EARLY = 10
 
 
 def main() -> None:
     with ExitStack() as stack:
-        folder = stack.enter_context(tempfile.TemporaryDirectory())
-        file = str(Path(folder, "scheduler.json"))
-        started(stack, "distributed.cli.dask_scheduler", "--host", HERE, "--port", "0", "--no-dashboard", "--scheduler-file", file)
-        words = ["distributed.cli.dask_worker", "--scheduler-file", file, "--host", HERE, "--nthreads", "1", "--no-nanny", "--no-dashboard"]
-        workers = [started(stack, *words, "--local-directory", str(Path(folder, name))) for name in ("one", "two")]
-        wait_for(Path(file))
-        client = stack.enter_context(dask.Client(scheduler_file=file))
-        client.wait_for_workers(2, timeout=60)
-        found = map_queries(client.get_executor(), LISTS, ASKED, batch=2)
-        answers = [next(found) for _ in range(10)]
-        assert all(client.has_what().values()), "both have answered something"
-        workers[0].send_signal(signal.SIGKILL)
-        answers += found
-        lost = 2 - len(client.scheduler_info()["workers"])
+        folder = Path(stack.enter_context(tempfile.TemporaryDirectory()))
+        client = started_cluster(stack, folder)
+        found = map_queries(client.get_executor(), LISTS, ASKED, batch=2, program=gated_program(folder))
+        # A tenth of the batches is answered or under way, and no other one can end before the gate is open.
+        wait_until(lambda: len(list(folder.glob("run_*"))) == EARLY)
+        os.kill(min(client.run(os.getpid).values()), signal.SIGKILL)
+        wait_until(lambda: client.run_on_scheduler(count_workers) == 1)
+        (folder / "gate").touch()
+        answers = list(found)
     with session(LISTS) as lists:
         assert answers == [lists.ask(query) for query in ASKED]
-    print(f"{len(answers)} answers, and {'one worker' if lost == 1 else 'no worker'} of 2 was lost")
+    print(f"{len(answers)} answers, and one worker of 2 was lost")
 
 
-def wait_for(file: Path) -> None:
-    for _ in range(600):
-        if file.exists() and file.stat().st_size:
+def started_cluster(stack: ExitStack, folder: Path) -> Any:
+    """A client of a cluster that ends with the stack."""
+    file = str(folder / "scheduler.json")
+    words = ["--scheduler-file", file, "--host", HERE, "--no-dashboard"]
+    started(stack, "distributed.cli.dask_scheduler", "--port", "0", *words)
+    for name in ("one", "two"):
+        started(stack, "distributed.cli.dask_worker", "--nthreads", "1", "--no-nanny", "--local-directory", str(folder / name), *words)
+    wait_until(lambda: os.path.exists(file) and os.path.getsize(file) > 0)
+    client = stack.enter_context(dask.Client(scheduler_file=file))
+    client.wait_for_workers(2, timeout=60)
+    return client
+
+
+def started(stack: ExitStack, *words: str) -> None:
+    process = subprocess.Popen([sys.executable, "-m", *words], stdout=subprocess.DEVNULL, stderr=subprocess.DEVNULL)
+    stack.callback(process.wait)
+    stack.callback(process.kill)
+
+
+def gated_program(folder: Path) -> str:
+    """The program, which answers at once for so many runs. Others wait for the file `gate`."""
+    script = folder / "program"
+    script.write_text(
+        "#!/bin/sh\n"
+        f"for run in {' '.join(map(str, range(EARLY)))}; do\n"
+        f"    mkdir {folder}/run_$run 2>/dev/null && exec {PROGRAM} \"$@\"\n"
+        "done\n"
+        f"while [ ! -e {folder}/gate ]; do sleep 0.05; done\n"
+        f"exec {PROGRAM} \"$@\"\n"
+    )
+    script.chmod(0o755)
+    return str(script)
+
+
+def count_workers(dask_scheduler: Any) -> int:
+    """Is run by the scheduler, which has itself given under this name."""
+    return len(dask_scheduler.workers)
+
+
+def wait_until(holds: Callable[[], object]) -> None:
+    for _ in range(1_200):
+        if holds():
             return
         time.sleep(0.1)
-    raise TimeoutError(f"{file} doesn't come")
+    raise TimeoutError("two minutes passed")
 
 
 if __name__ == "__main__":
