@@ -10,14 +10,12 @@ import signal
 import subprocess
 import sys
 import tempfile
-import time
-from collections.abc import Callable
 from contextlib import ExitStack
 from pathlib import Path
 from typing import Any
 
 import distributed
-from support import LISTS, PROGRAM, session
+from support import LISTS, gated_program, session, wait_until
 
 from clsynth import Query, map_queries, queries
 from clsynth.replies import Page
@@ -34,7 +32,7 @@ def main() -> None:
     with ExitStack() as stack:
         folder = Path(stack.enter_context(tempfile.TemporaryDirectory()))
         client = started_cluster(stack, folder)
-        found = map_queries(client.get_executor(), LISTS, ASKED, batch=2, program=gated_program(folder))
+        found = map_queries(client.get_executor(), LISTS, ASKED, batch=2, program=gated_program(folder, EARLY))
         # A tenth of the batches is answered or under way, and no other one can end before the gate is open.
         wait_until(lambda: len(list(folder.glob("run_*"))) == EARLY)
         os.kill(min(client.run(os.getpid).values()), signal.SIGKILL)
@@ -65,32 +63,9 @@ def started(stack: ExitStack, *words: str) -> None:
     stack.callback(process.kill)
 
 
-def gated_program(folder: Path) -> str:
-    """The program, which answers at once for so many runs. Others wait for the file `gate`."""
-    script = folder / "program"
-    script.write_text(
-        "#!/bin/sh\n"
-        f"for run in {' '.join(map(str, range(EARLY)))}; do\n"
-        f"    mkdir {folder}/run_$run 2>/dev/null && exec {PROGRAM} \"$@\"\n"
-        "done\n"
-        f"while [ ! -e {folder}/gate ]; do sleep 0.05; done\n"
-        f"exec {PROGRAM} \"$@\"\n"
-    )
-    script.chmod(0o755)
-    return str(script)
-
-
 def count_workers(dask_scheduler: Any) -> int:
     """Is run by the scheduler, which has itself given under this name."""
     return len(dask_scheduler.workers)
-
-
-def wait_until(holds: Callable[[], object]) -> None:
-    for _ in range(1_200):
-        if holds():
-            return
-        time.sleep(0.1)
-    raise TimeoutError("two minutes passed")
 
 
 if __name__ == "__main__":

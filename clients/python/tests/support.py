@@ -6,7 +6,9 @@ import os
 import signal
 import sys
 import tempfile
+import time
 import unittest
+from collections.abc import Callable
 from pathlib import Path
 from typing import Any, NoReturn
 
@@ -36,6 +38,29 @@ def session(repository: str | clsynth.Repository, **options: Any) -> clsynth.Ses
 
 def terms(*texts: str) -> list[clsynth.Term]:
     return [clsynth.Term.parse(text) for text in texts]
+
+
+def gated_program(folder: Path, early: int) -> str:
+    """The program, which answers at once for so many runs, each of which makes a folder `run_..`. Others wait for the file `gate`."""
+    script = folder / "program"
+    script.write_text(
+        "#!/bin/sh\n"
+        f"for run in {' '.join(map(str, range(early)))}; do\n"
+        f"    mkdir {folder}/run_$run 2>/dev/null && exec {PROGRAM} \"$@\"\n"
+        "done\n"
+        f"while [ ! -e {folder}/gate ]; do sleep 0.05; done\n"
+        f"exec {PROGRAM} \"$@\"\n"
+    )
+    script.chmod(0o755)
+    return str(script)
+
+
+def wait_until(holds: Callable[[], object]) -> None:
+    for _ in range(1_200):
+        if holds():
+            return
+        time.sleep(0.1)
+    raise TimeoutError("two minutes passed")
 
 
 def freeze(asked: clsynth.Session | clsynth.AsyncSession) -> None:

@@ -18,7 +18,7 @@ from contextlib import contextmanager
 from pathlib import Path
 from typing import Any
 
-from support import CHAIN, LISTS, PROGRAM, SOURCES, fake, not_tested, session, terms
+from support import CHAIN, LISTS, PROGRAM, SOURCES, fake, gated_program, not_tested, session, terms, wait_until
 
 import clsynth
 from clsynth import Query, SessionPool, map_queries, queries
@@ -81,12 +81,13 @@ class Executors(unittest.TestCase):
 
     def test_a_pool_that_lost_a_process(self) -> None:
         asked = [queries.page("Desc", count) for count in range(1, 60)]
-        with ProcessPoolExecutor(2) as executor:
-            found = map_queries(executor, LISTS, asked, program=PROGRAM, batch=5)
-            answers = [next(found)]
+        with tempfile.TemporaryDirectory() as name, ProcessPoolExecutor(2) as executor:
+            folder = Path(name)
+            found = map_queries(executor, LISTS, asked, program=gated_program(folder, 3), batch=5)
+            wait_until(lambda: len(list(folder.glob("run_*"))) == 3)
             os.kill(next(iter(executor._processes)), signal.SIGKILL)
-            answers += found
-        self.assertEqual(answers, one_session(asked))
+            (folder / "gate").touch()
+            self.assertEqual(list(found), one_session(asked))
 
     def test_a_pool_that_is_broken_already(self) -> None:
         with ProcessPoolExecutor(1) as executor:
