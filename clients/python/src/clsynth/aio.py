@@ -171,10 +171,13 @@ class AsyncSession:
         async with self._turn:
             future = asyncio.get_running_loop().run_in_executor(self._thread, work)
             try:
-                return await asyncio.shield(future)
+                await asyncio.wait((future,))
             except asyncio.CancelledError:
                 while not future.done():
                     if self._session:
                         self._session.cancel()
                     await asyncio.wait((future,), timeout=_PAUSE)
+                # What came of it is looked at, or asyncio would report an error that nobody saw.
+                future.exception()
                 raise
+            return future.result()

@@ -21,7 +21,7 @@ __all__ = [
     "InputFull", "KindTooLarge", "LimitExceeded", "LineTooLong", "MissingFunction", "NoQed", "NotUtf8", "NumberOutOfRange", "ParseFault", "PlacedError",
     "ProcessFault", "ProgramNotFound", "QueryCancelled", "QueryError", "QueryStopped", "QueryTimeout", "RepositoryFault", "RepositoryLineTooLong",
     "RepositoryRefused", "RepositoryTooLong", "ReservedName", "SessionClosed", "Status", "SyntaxFault", "TooDeep", "TooManyComponents",
-    "TooManyNodes", "TooManyTerms", "TypeTooLarge", "TypeTooLong", "UnknownComponent", "UnknownInTerm", "VariableInKind", "VariableInQuery",
+    "TooManyNodes", "TooManyTerms", "TypeTooDeep", "TypeTooLarge", "TypeTooLong", "UnknownComponent", "UnknownInTerm", "VariableInKind", "VariableInQuery",
     "WideGoal",
 ]
 
@@ -120,8 +120,13 @@ class RepositoryLineTooLong(LimitExceeded):
 
 
 class TypeTooLong(LimitExceeded):
-    """A type has more than 1,024 nodes, or more than 64 parentheses that are open at once."""
-    unit = "nodes or open parentheses"
+    """A type has more than 1,024 nodes."""
+    unit = "nodes"
+
+
+class TypeTooDeep(LimitExceeded):
+    """A type has more than 64 parentheses that are open at once."""
+    unit = "parentheses that are open at once"
 
 
 class KindTooLarge(LimitExceeded):

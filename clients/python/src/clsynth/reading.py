@@ -36,14 +36,15 @@ class Directive:
     line: str
     number: int
 
+    def type(self) -> Type:
+        """The type that the last part is."""
+        return self._type(self.parts[-1], self.places[-1])
+
     def types(self) -> list[Type]:
         """The types in the last part, between single bars."""
         types, place = [], self.places[-1]
         for text in self.parts[-1].split("|"):
-            try:
-                types.append(Type.parse(text))
-            except ParseFault as fault:
-                raise ParseFault(self.line, place + fault.place, fault.wanted, self.number) from None
+            types.append(self._type(text, place))
             place += len(text) + 1
         return types
 
@@ -55,6 +56,12 @@ class Directive:
         except RepositoryFault as fault:
             fault.add_note(f"line {self.number}: {self.line[:200]}")
             raise
+
+    def _type(self, text: str, place: int) -> Type:
+        try:
+            return Type.parse(text)
+        except ParseFault as fault:
+            raise ParseFault(self.line, place + fault.place, fault.wanted, self.number) from None
 
 
 def read_directives(text: str) -> Iterator[Directive]:

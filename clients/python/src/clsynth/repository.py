@@ -14,11 +14,11 @@ from __future__ import annotations
 from collections.abc import Iterable, Mapping
 from dataclasses import dataclass, field
 from types import MappingProxyType
-from typing import Literal
+from typing import Any, Literal
 
 from clsynth.errors import (
-    BadCost, DuplicateName, EmptyKind, KindTooLarge, RepositoryFault, RepositoryLineTooLong, RepositoryTooLong, TooManyComponents, TypeTooLong,
-    VariableInKind,
+    BadCost, DuplicateName, EmptyKind, KindTooLarge, RepositoryFault, RepositoryLineTooLong, RepositoryTooLong, TooManyComponents, TypeTooDeep,
+    TypeTooLong, VariableInKind,
 )
 from clsynth.families import choices_of_kinds
 from clsynth.limits import MAX_CHOICES, MAX_COMPONENTS, MAX_COST, MAX_INPUT_BYTES, MAX_LINE_BYTES, MAX_NODES, MAX_PARENTHESES
@@ -29,7 +29,7 @@ from clsynth.types import Type, TypeLike, Variable, as_type, intersection, open_
 
 __all__ = ["Component", "Repository", "Types", "VarianceWord"]
 
-Types = Iterable[TypeLike] | Mapping[object, TypeLike]
+Types = Iterable[TypeLike] | Mapping[Any, TypeLike]
 """Some types: in a list, or as the values of a dictionary."""
 
 VarianceWord = Literal["contra", "inv"]
@@ -99,8 +99,8 @@ class Repository:
         self._components[name] = Component(name, declared, 1 if cost is None else cost, template, call)
         return self._components[name]
 
-    def kind(self, name: str, types: Types) -> Variable:
-        """Declares the types that a variable stands for. The result is the variable."""
+    def kind(self, name: str, types: Types | str) -> Variable:
+        """Declares the types that a variable stands for, or reads them from a text as `Int | Str`. The result is the variable."""
         check_name(name)
         if name in self._kinds:
             raise DuplicateName(f"the variable {name!r} has a kind already")
@@ -172,8 +172,7 @@ class Repository:
         name, *rest = directive.parts
         match directive.word:
             case "comp":
-                (type,) = directive.types()
-                self.component(name, type, cost=costs.get(name), text=texts.get(name))
+                self.component(name, directive.type(), cost=costs.get(name), text=texts.get(name))
             case "kind":
                 self.kind(name, directive.types())
             case "sub":
@@ -210,7 +209,9 @@ class Repository:
         return kinds
 
 
-def _listed(types: Types) -> list[Type]:
+def _listed(types: Types | str) -> list[Type]:
+    if isinstance(types, str):
+        types = types.split("|")
     return [as_type(type) for type in (types.values() if isinstance(types, Mapping) else types)]
 
 
@@ -223,7 +224,7 @@ def _checked(type: Type, what: str) -> Type:
         raise TypeTooLong(f"a type of {what}", type.nodes, MAX_NODES)
     count = open_parentheses(str(type))
     if count > MAX_PARENTHESES:
-        raise TypeTooLong(f"a type of {what}", count, MAX_PARENTHESES)
+        raise TypeTooDeep(f"a type of {what}", count, MAX_PARENTHESES)
     return type
 
 

@@ -120,7 +120,11 @@ TermLike = Term | str
 
 def as_term(term: TermLike) -> Term:
     """The term, which is read if it is a text."""
-    return Term.parse(term) if isinstance(term, str) else term
+    if isinstance(term, str):
+        return Term.parse(term)
+    if not isinstance(term, Term):
+        raise TypeError(f"{term!r} is no term")
+    return term
 
 
 def _parse(text: str) -> Term:

@@ -19,7 +19,7 @@ from functools import reduce
 from itertools import accumulate
 from typing import Any, ClassVar
 
-from clsynth.errors import AmbiguousType, ParseFault, TypeTooLong
+from clsynth.errors import AmbiguousType, ParseFault, TypeTooDeep
 from clsynth.limits import MAX_PARENTHESES
 from clsynth.names import check_name
 
@@ -53,7 +53,7 @@ class Type:
     @staticmethod
     def parse(text: str) -> Type:
         """The type that the text says, as docs/LANGUAGE.md has them. Raises `ParseFault`, `BadName` for a name of over 48 bytes, or
-        `TypeTooLong` for over 64 open parentheses."""
+        `TypeTooDeep` for over 64 open parentheses."""
         return _Parser(text).whole()
 
     @property
@@ -262,7 +262,11 @@ TypeLike = Type | str
 
 def as_type(type: TypeLike) -> Type:
     """The type, which is read if it is a text."""
-    return Type.parse(type) if isinstance(type, str) else type
+    if isinstance(type, str):
+        return Type.parse(type)
+    if not isinstance(type, Type):
+        raise TypeError(f"{type!r} is no type")
+    return type
 
 
 def constructor(name: str) -> Constructor:
@@ -375,7 +379,7 @@ class _Parser:
         """A type behind an open parenthesis."""
         self._open += 1
         if self._open > MAX_PARENTHESES:
-            raise TypeTooLong("the type", self._open, MAX_PARENTHESES)
+            raise TypeTooDeep("the type", self._open, MAX_PARENTHESES)
         type = self._arrows()
         if not self._takes(")"):
             raise self._fault("`)` or a sign between types")
