@@ -142,7 +142,7 @@ class OtherPartsOfAPage(InBrowser):
         self.show("comp x : A\n", "A")
         self.page.click("#tab-terms")
         self.assertEqual(self.page.texts("#terms td"), ["1", "1", "x"])
-        self.assertIn("the one term of at most 64 components", self.page.text("#terms > p"))
+        self.assertIn("the one term of at most 64 components and of a size up to 1,024.", self.page.text("#terms > p"))
 
     def test_nothing_that_is_shown_is_read_as_html(self) -> None:
         self.show(f"comp x : A\ntext x = {SCRIPT}\n", "A", is_dark=True)

@@ -72,8 +72,9 @@ class Graphs(unittest.TestCase):
 class Inputs(unittest.TestCase):
     def test_where_there_is_no_grammar_the_error_is_said(self) -> None:
         cases = {
-            "error too-large\n": "error too-large", "refused 1 syntax 10\n": "refused 1 syntax 10", "yes\nerror syntax 9\nerror size\n": "error syntax 9",
-            "": "standard input has no grammar", "yes\n": "standard input has no grammar", "grammar 1 1\ngoal 0 rank 1 A\n": "the grammar has no end",
+            "error too-large\n": "error too-large", "refused 1 syntax 10\n": "refused 1 syntax 10",
+            "yes\nerror syntax 9\nerror size\n": "error syntax 9", "": "standard input has no grammar", "yes\n": "standard input has no grammar",
+            "grammar 1 1\ngoal 0 rank 1 A\n": "the grammar has no end",
         }
         for given, wanted in cases.items():
             self.assertEqual(run(given), (1, "", f"grammar-dot: {wanted}\n"))

@@ -30,14 +30,16 @@ class Tables(unittest.TestCase):
         shown = page_html(Page([TermText(Term("x"), '<b>"&'), TermText(Term("y"), None)], False))
         self.assertEqual(
             shown,
-            table(["", "Term", "Text"], row("1", "<code>x</code>", "<pre>&lt;b&gt;&quot;&amp;</pre>"), row("2", "<code>y</code>", "a text of over 65,536 bytes"))
-            + "<p>No further term of at most 64 components follows.</p>",
+            table(
+                ["", "Term", "Text"], row("1", "<code>x</code>", "<pre>&lt;b&gt;&quot;&amp;</pre>"),
+                row("2", "<code>y</code>", "a text of over 65,536 bytes"),
+            ) + "<p>The listing ends here.</p>",
         )
 
     def test_long_tables_say_what_they_leave_out(self) -> None:
         shown = page_html(Page([Term("x")] * (MOST_ROWS + 1_234), False))
         self.assertEqual(shown.count("<tr>"), MOST_ROWS + 1)
-        self.assertIn("<p>1,234 rows more aren't shown. No further", shown)
+        self.assertIn("<p>1,234 rows more aren't shown. The listing ends here.</p>", shown)
 
     def test_a_grammar(self) -> None:
         grammar = Grammar((Goal("A -> B", 2, (Rule("f", (1, 0)), Rule(None, (1, 1)))), Goal("C", None, ())))
@@ -51,7 +53,8 @@ class Tables(unittest.TestCase):
         wanted = table(["Row", "Type", "Component", "Arguments", "Arrows"], row("1", "<code>A</code>", "<code>f</code>", "1", "0 2"))
         self.assertEqual(certificate_html(inhabited), wanted + "<p>Some term has the type.</p>")
         empty = Empty((Member("B", ()),))
-        self.assertEqual(certificate_html(empty), table(["Member", "Type", "Blocks"], row("1", "<code>B</code>", "")) + "<p>No term has the type.</p>")
+        wanted = table(["Member", "Type", "Blocks"], row("1", "<code>B</code>", ""))
+        self.assertEqual(certificate_html(empty), wanted + "<p>No term has the type.</p>")
 
     def test_values_of_a_session_show_themselves(self) -> None:
         with session(CHAIN) as chain:

@@ -20,7 +20,7 @@ def page_html(page: Page[Any]) -> str:
     """The terms of a page, with their texts if it has some."""
     has_texts = any(isinstance(entry, TermText) for entry in page.entries)
     rows = ((str(number), *_entry_cells(entry)) for number, entry in enumerate(page.entries[:MOST_ROWS], 1))
-    note = "Further terms follow." if page.more else "No further term of at most 64 components follows."
+    note = "Further terms follow." if page.more else "The listing ends here."
     return _table(("", "Term", "Text") if has_texts else ("", "Term"), rows, len(page.entries), note)
 
 
