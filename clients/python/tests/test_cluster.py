@@ -9,15 +9,16 @@ import shutil
 import signal
 import subprocess
 import sys
+import tempfile
 import threading
 import unittest
 from collections.abc import Iterator
 from concurrent.futures import Executor, Future, ProcessPoolExecutor, ThreadPoolExecutor
 from contextlib import contextmanager
 from pathlib import Path
-from typing import Any, NoReturn
+from typing import Any
 
-from support import CHAIN, LISTS, PROGRAM, SOURCES, fake, session, terms
+from support import CHAIN, LISTS, PROGRAM, SOURCES, fake, not_tested, session, terms
 
 import clsynth
 from clsynth import Query, SessionPool, map_queries, queries
@@ -53,8 +54,9 @@ class Queries(unittest.TestCase):
         for query in ASKED:
             self.assertEqual(pickle.loads(pickle.dumps(query)), query)
         self.assertEqual(len(set(ASKED)), len(ASKED))
-        with self.assertRaises(ValueError):
-            queries.inhabited("A\ninhabit B")
+        for lines in ((), ("inhabit A\ninhabit B",), ("",), (" # inhabit A",)):
+            with self.assertRaises(ValueError):
+                Query(lines, print)
 
 
 class Executors(unittest.TestCase):
@@ -82,6 +84,16 @@ class Executors(unittest.TestCase):
             with self.assertRaises(Exception):
                 executor.submit(os._exit, 1).result()
             self.assertEqual(answers_of(executor, ASKED), one_session(ASKED))
+
+    def test_a_program_that_is_killed_once(self) -> None:
+        with tempfile.TemporaryDirectory() as folder, ThreadPoolExecutor(1) as executor:
+            killed = Path(folder, "killed")
+            once = fake(self, f"[ -e {killed} ] || {{ : >{killed}; kill -9 $$; }}\nexec {PROGRAM} \"$@\"\n")
+            always = fake(self, "kill -9 $$")
+            found = map_queries(executor, LISTS, [queries.inhabited("Desc")], program=once)
+            self.assertEqual((list(found), killed.exists()), ([True], True))
+            with self.assertRaises(clsynth.ProcessFault):
+                list(map_queries(executor, LISTS, [queries.inhabited("Desc")], program=always))
 
     def test_what_stops_a_session_is_raised(self) -> None:
         with ThreadPoolExecutor(2) as executor:
@@ -155,18 +167,11 @@ def python_with_distributed() -> str | None:
 
 class Dask(unittest.TestCase):
     def test_a_cluster_that_loses_a_worker(self) -> None:
-        python = python_with_distributed() or self.missing()
+        python = python_with_distributed() or not_tested(self, "a cluster of dask: distributed isn't there (python3-distributed)")
         environment = {**os.environ, "PYTHONPATH": os.pathsep.join([str(SOURCES), str(Path(__file__).parent)]), "CLSYNTH": PROGRAM}
         ran = subprocess.run([python, str(Path(__file__).with_name("dask_cluster.py"))], env=environment, capture_output=True, text=True, timeout=300)
         self.assertEqual(ran.returncode, 0, ran.stderr)
         self.assertEqual(ran.stdout.splitlines()[-1], "200 answers, and one worker of 2 was lost")
-
-    def missing(self) -> NoReturn:
-        said = "NOT TESTED: a cluster of dask. `distributed` isn't there: apt-get install python3-distributed"
-        if os.environ.get("CI", "").lower() == "true":
-            self.fail(said)
-        print(f"\n{said}", file=sys.stderr)
-        raise unittest.SkipTest(said)
 
 
 if __name__ == "__main__":

@@ -80,6 +80,8 @@ class Restarts(unittest.TestCase):
             self.assertEqual(chain.grammar("Early & Late").goals[0].type, "Early & Late")
         with session(CHAIN, names=["Late"]) as chain:
             self.assertEqual(chain.grammar("Early & Late").goals[0].type, "Late & Early")
+        with self.assertRaises(clsynth.BadName):
+            session(CHAIN, names=["Late <= omega"])
 
     def test_names_of_queries_with_errors(self) -> None:
         # A query that isn't read brings no name, and so does a bad certificate. One that is too large brings its names.
@@ -108,10 +110,13 @@ class Restarts(unittest.TestCase):
         self.assertEqual(long.exception.limit, 1_048_576)
 
     def test_many_names_are_forgotten_where_they_take_the_room(self) -> None:
-        with session(CHAIN + "# a comment\n" * 80_000) as narrow:
-            for number in range(6):
+        # There is room for 88,000 bytes. A query has 12,606 or 12,906 of them, most of which are names. So a program that is told no
+        # names takes 7, 6 and 6 queries.
+        with counted_programs() as started, session(CHAIN + "# a comment\n" * 80_000) as narrow:
+            for number in range(20):
                 self.assertFalse(narrow.inhabited(" & ".join(f"N{number}_{place:036}" for place in range(300))))
             self.assertTrue(narrow.inhabited(wide_query("A", 60_000)))
+        self.assertEqual(len(started), 4)
 
     def test_after_a_fault_a_new_program_answers(self) -> None:
         with session(CHAIN) as chain:

@@ -126,20 +126,22 @@ class Reading(unittest.TestCase):
                 text = path.read_text()
                 made = Repository.parse(text)
                 self.assertEqual(str(Repository.parse(str(made))), str(made))
-                goals = {str(part) for it in made.components.values() for part in it.type.subtypes() if not any(part.variables())}
+                goals = {str(part) for it in made.components.values() for part in it.type.all_parts() if not any(part.variables())}
                 with session(text) as told, session(made) as built:
                     for goal in sorted(goals):
                         self.assertEqual(told.grammar(goal), built.grammar(goal))
                         self.assertEqual(told.text_page(goal, 5), built.text_page(goal, 5))
 
     def test_lines_in_any_shape(self) -> None:
-        made = Repository.parse("# c\r\n\r\n  comp  x:A\r\n\ttext x =\ty\ntext x = {{z\ncost x 007\ncost x 8\nkind a=A|B->C\nsub A B\n end \n# behind\n")
+        made = Repository.parse(
+            "# c\r\n\r\n  comp  x:A\r\n\ttext x =\ty\ntext x = {{z\ncost x 007\ncost x 8\nkind a=A|B->C\nsub A B\n end \n# behind\n"
+        )
         self.assertEqual(made.to_lines(), ["comp x : A", "text x = {{z", "cost x 8", "kind a = A | B -> C", "sub A B", "end"])
 
     def test_faults_have_their_line(self) -> None:
         for text, line, place in [
-            ("comp x : A\ncomp f : A ->\n", 2, 13), ("kind a = A | ) | B\n", 1, 13), ("hello x\n", 1, 0), ("\n\ncost x\n", 3, 5), ("end\ncomp x : A\n", 2, 0),
-            ("comp x : A | B\n", 1, 11),
+            ("comp x : A\ncomp f : A ->\n", 2, 13), ("kind a = A | ) | B\n", 1, 13), ("hello x\n", 1, 0), ("\n\ncost x\n", 3, 5),
+            ("end\ncomp x : A\n", 2, 0), ("comp x : A | B\n", 1, 11),
         ]:
             with self.subTest(text), self.assertRaises(clsynth.ParseFault) as fault:
                 Repository.parse(text)
@@ -192,6 +194,15 @@ class Rules(unittest.TestCase):
         self.assertEqual(len(ranks), len(cells))
         # The least height of a term for a cell is one more than the length of the shortest way.
         self.assertEqual(ranks, {str(At(cells[cell])): length + 1 for cell, length in distances(set(cells)).items()})
+
+    def test_more_types_than_a_kind_has_choices(self) -> None:
+        texts = {f"a{one} -> b{two}" for one in range(10, 80) for two in range(10, 70)}
+        made = Repository()
+        made.component("f", sorted(texts))
+        ((name, choices),) = made.kinds.items()
+        self.assertEqual((name, len(choices)), ("f", 4_200 // 2))
+        with session(made) as asked:
+            self.assertEqual(set(asked.paths("f")), texts)
 
     def test_more_types_than_a_line_has_room_for(self) -> None:
         last = 5_000

@@ -51,7 +51,9 @@ class Values(unittest.TestCase):
         self.assertEqual(found, terms("f(g(x), g(x, y))", "g(x)", "x", "g(x, y)", "x", "y"))
 
     def test_faults_have_their_place(self) -> None:
-        for text, place in {"": 0, " ": 0, "f(": 2, "f()": 2, "f(x": 3, "f(x y)": 4, "f(x))": 4, "f x": 2, "f(x,)": 4, ",": 0, "f(1)": 2, "f(x)(y)": 4}.items():
+        for text, place in {
+            "": 0, " ": 1, "f( ": 3, "f()": 2, "f(x": 3, "f(x y)": 4, "f(x))": 4, "f x": 2, "f(x,)": 4, ",": 0, "f(1)": 2, "f(x)(y)": 4,
+        }.items():
             with self.subTest(text), self.assertRaises(clsynth.ParseFault) as fault:
                 Term.parse(text)
             self.assertEqual(fault.exception.place, place)
@@ -113,7 +115,8 @@ class Running(unittest.TestCase):
         for term, value in {
             "two(a, b)": ("two", 1, 2), "one_by_one(a, b)": ("one by one", 1, 2), "two_then_one(a, b, c)": ("two then one", 1, 2, 3),
             "default(a)": ("default", 1, 0), "default(a, b)": ("default", 1, 2), "any(a, b, c)": ("any", 1, 2, 3), "most(a, c, b)": 3,
-            "call(two(a), b)": ("two", 1, 2), "call(two_then_one(a, b), c)": ("two then one", 1, 2, 3), "call(one_by_one(a), c)": ("one by one", 1, 3),
+            "call(two(a), b)": ("two", 1, 2), "call(two_then_one(a, b), c)": ("two then one", 1, 2, 3),
+            "call(one_by_one(a), c)": ("one by one", 1, 3),
         }.items():
             with self.subTest(term):
                 self.assertEqual(evaluate(term, functions), value)

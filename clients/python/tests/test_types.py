@@ -6,6 +6,7 @@ import copy
 import pickle
 import unittest
 from collections.abc import Callable
+from random import Random
 from typing import Any
 
 from support import session
@@ -43,6 +44,30 @@ WRITTEN: dict[str, Type] = {
 }
 
 
+TOKENS = ["A", "B", "List", "(", ")", "->", "&", "*", "omega", " ", ",", "1", "|", "<=", "x1", "-", ">"]
+
+
+def some_type(random: Random, depth: int) -> Type:
+    form = random.randrange(6 if depth else 2)
+    if form == 0:
+        return omega
+    if form == 1:
+        return constructor(random.choice("ABC"))
+    if form == 2:
+        return List(some_type(random, depth - 1))
+    return (Arrow, Intersection, Product)[form - 3](some_type(random, depth - 1), some_type(random, depth - 1))
+
+
+def in_full(type: Type) -> str:
+    """The type with parentheses around each part."""
+    if isinstance(type, Constructor):
+        return f"{type.name}({in_full(type.argument)})"
+    if type == omega:
+        return "omega"
+    left, right = map(in_full, type.parts)
+    return f"({left}) {({Arrow: '->', Intersection: '&', Product: '*'}[type.__class__])} ({right})"
+
+
 class Building(unittest.TestCase):
     def test_texts(self) -> None:
         for text, type in WRITTEN.items():
@@ -63,6 +88,32 @@ class Building(unittest.TestCase):
                 self.assertEqual(asked.paths(f"x{number}"), [text])
                 self.assertEqual(str(Type.parse(text)), text)
 
+    def test_the_program_reads_them_as_they_are_meant(self) -> None:
+        random = Random(1)
+        with session("comp x : A\n") as asked:
+            for _ in range(200):
+                type = some_type(random, 4)
+                for text in (str(type), in_full(type)):
+                    self.assertEqual(Type.parse(text), type)
+                self.assertTrue(asked.is_subtype(type, in_full(type)) and asked.is_subtype(in_full(type), type), str(type))
+
+    def test_faults_stand_where_the_program_finds_them(self) -> None:
+        random = Random(2)
+        with session("comp x : A\n") as asked:
+            for _ in range(300):
+                text = "".join(random.choice(TOKENS) + random.choice(["", " "]) for _ in range(random.randrange(8)))
+                place: int | None = None
+                try:
+                    Type.parse(text)
+                except clsynth.ParseFault as fault:
+                    place = fault.place
+                with self.subTest(text):
+                    try:
+                        asked.inhabited(text)
+                        self.assertIsNone(place)
+                    except clsynth.SyntaxFault as fault:
+                        self.assertEqual(place, fault.byte - len("inhabit "))
+
     def test_parts(self) -> None:
         match A >> (B & C * A):
             case Arrow(Constructor("A"), Intersection(Constructor("B"), Product(left, right))):
@@ -77,7 +128,9 @@ class Building(unittest.TestCase):
 
     def test_nodes(self) -> None:
         # omega and variables have one node, a bare name two, c(T) one more than T, the others one more than both parts.
-        for text, nodes in {"omega": 1, "$a": 1, "A": 2, "List(A)": 3, "A -> B": 5, "A & B & C": 8, "List($a) -> List($a) & A": 2 + 1 + 2 + 1 + 2}.items():
+        for text, nodes in {
+            "omega": 1, "$a": 1, "A": 2, "List(A)": 3, "A -> B": 5, "A & B & C": 8, "List($a) -> List($a) & A": 2 + 1 + 2 + 1 + 2,
+        }.items():
             with self.subTest(text):
                 self.assertEqual(Type.parse(text).nodes, nodes)
 
@@ -91,7 +144,7 @@ class Building(unittest.TestCase):
 
     def test_what_is_no_type(self) -> None:
         something: Any = 5
-        builds: list[Callable[[], Type]] = [lambda: A >> something, lambda: List(something), lambda: something & A]
+        builds: list[Callable[[], object]] = [lambda: A >> something, lambda: List(something), lambda: something & A]
         for build in builds:
             with self.assertRaises(TypeError):
                 build()
@@ -113,7 +166,8 @@ class Building(unittest.TestCase):
 
     def test_faults_have_their_place(self) -> None:
         for text, place in {
-            "": 0, "A ->": 4, "A B": 2, "(A": 2, "A)": 1, "A & & B": 4, "$": 1, "$1": 1, "List()": 5, "omega(A)": 5, "A -> B,": 6, "A - B": 2, "A | B": 2,
+            "": 0, "A ->": 4, "A B": 2, "(A": 2, "A)": 1, "A & & B": 4, "$": 1, "$1": 1, "List()": 5, "omega(A)": 5, "A -> B,": 6,
+            "A - B": 2, "A | B": 2,
         }.items():
             with self.subTest(text), self.assertRaises(clsynth.ParseFault) as fault:
                 Type.parse(text)

@@ -16,7 +16,7 @@ from concurrent.futures import BrokenExecutor, Executor, Future
 from dataclasses import dataclass
 from typing import TypeVar
 
-from clsynth.errors import QueryError
+from clsynth.errors import ProcessFault, QueryError
 from clsynth.numbering import Numbering
 from clsynth.queries import Query
 from clsynth.repository import Repository
@@ -37,9 +37,9 @@ def map_queries(
     They are those that one session gives. A grammar or a certificate may have names that the repository hasn't: then the session is one
     that was given the names of all queries in their order.
 
-    A worker answers `batch` queries at a time, by a program of its own, which it finds as `find_program` says there. What an executor lost
-    is done again by the executor, as those of a cluster do. Where the executor is broken, as a pool of processes is that lost one of
-    them, what is left is done here.
+    A worker answers `batch` queries at a time, by a program of its own, which it finds as `find_program` says there. The work of a worker
+    that is lost is done again: a cluster does so by itself; where the executor is broken, as a pool of processes that lost one of them,
+    what is left is done here; and where only the program was killed, the worker starts it once more.
 
     The other arguments are those of `Session`. What stops a session, as `RepositoryRefused` or `QueryTimeout`, is raised.
     """
@@ -105,7 +105,16 @@ def _result(
 
 
 def _answers(setting: _Setting, batch: Sequence[Query[Answer]]) -> list[Answer | QueryError]:
-    """What a worker does."""
+    """What a worker does. If its program is killed from outside, as where memory runs out, it does so once more."""
+    try:
+        return _answers_of_one_session(setting, batch)
+    except ProcessFault as fault:
+        if fault.code >= 0:
+            raise
+    return _answers_of_one_session(setting, batch)
+
+
+def _answers_of_one_session(setting: _Setting, batch: Sequence[Query[Answer]]) -> list[Answer | QueryError]:
     with setting.session() as session:
         return [_answer(session, query) for query in batch]
 

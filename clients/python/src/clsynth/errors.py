@@ -17,12 +17,12 @@ from typing import Any, ClassVar
 from clsynth.limits import MAX_INPUT_BYTES, MAX_POOL
 
 __all__ = [
-    "ERRORS", "AmbiguousType", "BadCertificate", "BadCost", "BadName", "BadTemplate", "ClosureTooLarge", "ClsynthError", "DuplicateName", "EmptyKind",
-    "InputFull", "KindTooLarge", "LimitExceeded", "LineTooLong", "MissingFunction", "NoQed", "NotUtf8", "NumberOutOfRange", "ParseFault", "PlacedError",
-    "ProcessFault", "ProgramNotFound", "QueryCancelled", "QueryError", "QueryStopped", "QueryTimeout", "RepositoryFault", "RepositoryLineTooLong",
-    "RepositoryRefused", "RepositoryTooLong", "ReservedName", "SessionClosed", "Status", "SyntaxFault", "TooDeep", "TooManyComponents",
-    "TooManyNodes", "TooManyTerms", "TypeTooDeep", "TypeTooLarge", "TypeTooLong", "UnknownComponent", "UnknownInTerm", "VariableInKind", "VariableInQuery",
-    "WideGoal",
+    "ERRORS", "AmbiguousType", "BadCertificate", "BadCost", "BadName", "BadTemplate", "ClosureTooLarge", "ClsynthError", "DuplicateName",
+    "EmptyKind", "InputFull", "KindTooLarge", "LimitExceeded", "LineTooLong", "MissingFunction", "NoQed", "NotUtf8", "NumberOutOfRange",
+    "ParseFault", "PlacedError", "ProcessFault", "ProgramNotFound", "QueryCancelled", "QueryError", "QueryStopped", "QueryTimeout",
+    "RepositoryFault", "RepositoryLineTooLong", "RepositoryRefused", "RepositoryTooLong", "ReservedName", "SessionClosed", "Status",
+    "SyntaxFault", "TooDeep", "TooManyComponents", "TooManyNodes", "TooManyTerms", "TypeTooDeep", "TypeTooLarge", "TypeTooLong",
+    "UnknownComponent", "UnknownInTerm", "VariableInKind", "VariableInQuery", "WideGoal",
 ]
 
 

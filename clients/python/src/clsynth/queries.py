@@ -53,6 +53,8 @@ class Query(Generic[Answer]):
     def __post_init__(self) -> None:
         if any("\n" in line for line in self.lines):
             raise ValueError("a line feed stands in a line of a query")
+        if not self.lines or not self.lines[0].strip(" \t\r") or self.lines[0].lstrip(" \t\r").startswith("#"):
+            raise ValueError("a line that is skipped gets no reply")
 
 
 def is_subtype(lower: TypeLike, upper: TypeLike) -> Query[bool]:

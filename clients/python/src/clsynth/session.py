@@ -26,6 +26,7 @@ from clsynth.errors import RepositoryTooLong, SessionClosed
 from clsynth.evaluation import Functions
 from clsynth.grammars import Grammar
 from clsynth.limits import MAX_INPUT_BYTES, MAX_SIZE
+from clsynth.names import check_name
 from clsynth.numbering import Numbering
 from clsynth.program import Options, Program, find_program
 from clsynth.queries import Query
@@ -45,13 +46,15 @@ class Session:
     """A running program that has read a repository.
 
     The program is found as `find_program` says. The line `end` may be left out of the repository. `workers`, `max_goals`, `max_rules` and
-    `pool` are options of the program. `timeout` bounds each query, in seconds. `names` are constructors that count as if they had come
-    before the first query, in this order: where a grammar or a certificate has names that the repository hasn't, its text depends on
-    which came first.
+    `pool` are options of the program. `timeout` bounds each query, in seconds, with the start of a new program if there is one.
 
     A program takes 1,048,576 bytes of input. Where a query has no room any more, a new program is started, which reads the repository
     again and answers as the old one would have. One is also started for the query after one that was stopped by its time bound, by
     `cancel` or by an exception, and after the program ended by itself. A `Repository` is read once: what is declared later isn't in it.
+
+    Where a grammar or a certificate has constructors that the repository hasn't, its text depends on which of them came first. `names`
+    count as if they had come before the first query, in this order. A new program is told the names that came before, until they take
+    more than half of the room.
 
     Threads may share a session: their queries are answered one after another.
     """
@@ -64,7 +67,7 @@ class Session:
         self._words = [find_program(program), *Options(workers, max_goals, max_rules, pool).words()]
         self._functions = repository.functions if isinstance(repository, Repository) else {}
         self._repository = _with_end(str(repository))
-        self._numbering = Numbering(names)
+        self._numbering = Numbering(map(check_name, names))
         self._timeout = timeout
         self._turn = threading.Lock()
         self._attempt: _Attempt | None = None
@@ -106,7 +109,7 @@ class Session:
 
     def ask(self, query: Query[Answer], *, timeout: float | None = None) -> Answer:
         """The answer to a query of the module `queries`. It is bounded by so many seconds, or else by those of the session."""
-        piece = "".join(f"{line}\n" for line in query.lines).encode()
+        piece = _bytes(*query.lines)
         with self._under_way(query.lines[0], timeout) as attempt:
             program = self._program_for(len(piece), attempt)
             program.send(piece)
@@ -222,46 +225,45 @@ class Session:
     def _program_for(self, size: int, attempt: _Attempt) -> Program:
         """A program with room for so many bytes."""
         if self._program and size > self._program.bytes_left:
-            self._check_room(size)
+            self._make_room(size)
             self._abandon()
         if self._program:
             attempt.begin(self._program)
         else:
-            self._check_room(size)
+            self._make_room(size)
             self._program = Program(self._words)
             attempt.begin(self._program)
             self._greet(self._program)
         return self._program
 
+    def _make_room(self, size: int) -> None:
+        """Has a new program take so many bytes, if any can. Names that take the room, or more than half of it, are forgotten."""
+        room = MAX_INPUT_BYTES - len(_bytes(*self._repository, _GREETING))
+        if room < 0:
+            raise RepositoryTooLong("the repository", MAX_INPUT_BYTES - room, MAX_INPUT_BYTES)
+        if size > room:
+            raise InputFull(size, room)
+        if self._room() < max(size, room // 2):
+            self._numbering.forget()
+
+    def _room(self) -> int:
+        """How many bytes of queries a new program takes."""
+        return MAX_INPUT_BYTES - len(self._opening())
+
+    def _opening(self) -> bytes:
+        """What a new program is sent first."""
+        return _bytes(*self._repository, *self._numbering.lines(), _GREETING)
+
     def _greet(self, program: Program) -> None:
         """Has a new program read the repository and the names that it should know."""
-        names = list(self._numbering.lines())
         program.send(self._opening())
-        for _ in (*names, _GREETING):
+        for _ in (*self._numbering.lines(), _GREETING):
             first = program.line()
             if first.startswith("refused "):
                 _, line, fault = first.split(" ", 2)
                 raise RepositoryRefused(int(line), fault)
             if first != "yes":
                 raise program.fault()
-
-    def _opening(self) -> bytes:
-        return "".join(f"{line}\n" for line in (*self._repository, *self._numbering.lines(), _GREETING)).encode()
-
-    def _room(self) -> int:
-        """How many bytes of queries a new program takes."""
-        return MAX_INPUT_BYTES - len(self._opening())
-
-    def _check_room(self, size: int) -> None:
-        """Names that leave too little room are forgotten."""
-        room = self._room()
-        if size > room:
-            self._numbering.forget()
-            room = self._room()
-        if room < 0:
-            raise RepositoryTooLong("the repository", MAX_INPUT_BYTES - room, MAX_INPUT_BYTES)
-        if size > room:
-            raise InputFull(size, room)
 
     def _error(self, query: Query[object], line: str) -> QueryError:
         """The error that the line says."""
@@ -314,6 +316,10 @@ def _timer(seconds: float | None, stop: Callable[[], None]) -> threading.Timer |
     timer.daemon = True
     timer.start()
     return timer
+
+
+def _bytes(*lines: str) -> bytes:
+    return "".join(f"{line}\n" for line in lines).encode()
 
 
 def _with_end(repository: str) -> list[str]:

@@ -128,12 +128,11 @@ def as_term(term: TermLike) -> Term:
 
 
 def _parse(text: str) -> Term:
-    end = len(text.rstrip(_BLANKS))
     # What stands around the innermost open component, and its arguments so far.
     around: list[tuple[str, list[Term]]] = []
     arguments: list[Term] = []
     component, term = "", None
-    for token in _TOKEN.finditer(text, 0, end):
+    for token in _TOKEN.finditer(text.rstrip(_BLANKS)):
         sign = token[2]
         if token[1] and not component and term is None:
             component = token[1]
@@ -149,7 +148,7 @@ def _parse(text: str) -> Term:
         else:
             raise ParseFault(text, token.start(token.lastindex or 0), _wanted(component, term, around))
     if around or not (component or term is not None):
-        raise ParseFault(text, end, _wanted(component, term, around))
+        raise ParseFault(text, len(text), _wanted(component, term, around))
     return Term(component) if term is None else term
 
 

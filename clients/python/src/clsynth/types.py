@@ -66,7 +66,7 @@ class Type:
         """Its nodes, as the language counts them: a bare name has two."""
         return self._nodes
 
-    def subtypes(self) -> Iterator[Type]:
+    def all_parts(self) -> Iterator[Type]:
         """The type itself, its parts, theirs and so on, in the order of the text, each as often as it occurs."""
         waiting: list[Type] = [self]
         while waiting:
@@ -76,11 +76,11 @@ class Type:
 
     def constructors(self) -> Iterator[str]:
         """The names of its constructors from left to right, each as often as it occurs."""
-        return (part.name for part in self.subtypes() if isinstance(part, Constructor))
+        return (part.name for part in self.all_parts() if isinstance(part, Constructor))
 
     def variables(self) -> Iterator[str]:
         """The names of its variables from left to right, each as often as it occurs."""
-        return (part.name for part in self.subtypes() if isinstance(part, Variable))
+        return (part.name for part in self.all_parts() if isinstance(part, Variable))
 
     def __rshift__(self, target: TypeLike) -> Arrow:
         if isinstance(self, Arrow):
@@ -314,7 +314,7 @@ _FORMS = {it.form: it for it in _CLASSES}
 
 def _spine(type: Type) -> Iterator[tuple[str, str]]:
     """The forms and names in the order of the text. They alone say which type it is."""
-    return ((part.form, _name_of(part)) for part in type.subtypes())
+    return ((part.form, _name_of(part)) for part in type.all_parts())
 
 
 def _of_spine(spine: list[tuple[str, str]]) -> Type:
