@@ -33,13 +33,16 @@ class _Arrows:
     def __init__(self, session: Session) -> None:
         self._session = session
         self._paths: dict[str, list[Type]] = {}
+        self._arrows: dict[tuple[str, int], list[Type]] = {}
         self._used: dict[str, Json] = {}
 
     def of(self, component: str, count: int) -> list[Type]:
         """Those of the component that take so many arguments, in their order."""
         if component not in self._paths:
             self._paths[component] = [Type.parse(path) for path in self._session.paths(component)]
-        return [path for path in self._paths[component] if _leads(path, count)]
+        if (component, count) not in self._arrows:
+            self._arrows[component, count] = [path for path in self._paths[component] if _leads(path, count)]
+        return self._arrows[component, count]
 
     def sources(self, component: str, count: int, positions: tuple[int, ...], argument: int) -> Type:
         """The intersection of what these arrows take as an argument."""
