@@ -178,8 +178,9 @@ class OtherPartsOfAPage(InBrowser):
         # B comes of what nothing makes, or of an A, which comes of a B.
         self.assertEqual(goals["0 B"], "Each of its rules takes a term of a goal that has none: 1: Imt (no term) 2: A (no term)")
         self.assertEqual(goals["1 Imt"], "Nothing makes Imt.")
+        # What nothing makes comes first, since it is why the others have no term.
         self.page.click(".missing .chip")
-        self.assertEqual(self.page.text("#details h2"), "Goal 0")
+        self.assertEqual(self.page.text("#details h2"), "Goal 1")
 
     def test_tabs_turn_by_keys(self) -> None:
         self.show("comp x : A\n", "A")
