@@ -34,7 +34,7 @@ def main(arguments: list[str]) -> int:
             sys.stdout.write(page)
         else:
             Path(words.output).write_text(page, encoding="utf-8")
-    except (ClsynthError, OSError, UnicodeDecodeError) as fault:
+    except (ClsynthError, OSError, UnicodeError) as fault:
         print(f"cls view: {fault}", file=sys.stderr)
         return 1
     return 0
