@@ -23,9 +23,12 @@ from support import CHAIN, LISTS, PROGRAM, SOURCES, fake, not_tested, session, t
 import clsynth
 from clsynth import Query, SessionPool, map_queries, queries
 
-# The names Late and Early aren't in the repository, so the order in which they come decides how types are written.
+# Late, Early and others aren't in the repository, so the order in which they come decides how types are written. Queries with errors before
+# they are read don't count.
 ASKED: list[Query[Any]] = [
-    queries.inhabited("Late"), queries.grammar("Early & Late"), queries.certify("Early & Late & List(Str)"), queries.inhabited("Desc &"),
+    queries.has_type("nothing(x)", "Third"), queries.page("Third", 0), queries.inhabited("Third & $a"), queries.inhabited("Third" + " &" * 3),
+    queries.page("Third", 1, after="f(nothing)"), queries.inhabited("(" * 65 + "Third" + ")" * 65), queries.inhabited(" & ".join(["Third"] * 400)),
+    queries.inhabited("Third" + " " * 70_000), queries.paths("Third"), queries.inhabited("Late"), queries.grammar("Third & Early & Late"), queries.grammar("Early & Late"), queries.certify("Early & Late & List(Str)"), queries.inhabited("Desc &"),
     queries.page("Desc", 7), queries.text_page("List(Int) & Desc", 3), queries.paths("sort"), queries.paths("nothing"),
     queries.has_type("rev(sort(input))", "Desc"), queries.is_subtype("A & B", "B"), queries.sizes("Asc"), queries.grammar("Early & Late & Later"),
     queries.verify("Early", "empty\nmember Early\nqed"), queries.verify("Late", "empty\nqed"),
@@ -60,6 +63,11 @@ class Queries(unittest.TestCase):
 
 
 class Executors(unittest.TestCase):
+    def test_names_of_queries_with_errors(self) -> None:
+        with ThreadPoolExecutor(3) as executor:
+            found = answers_of(executor, ASKED, batch=1)
+        self.assertEqual(found[10].goals[0].type, "Late & Third & Early")
+
     def test_threads(self) -> None:
         with ThreadPoolExecutor(3) as executor:
             for batch in (1, 3, 100):

@@ -85,16 +85,22 @@ class Restarts(unittest.TestCase):
 
     def test_names_of_queries_with_errors(self) -> None:
         # A query that isn't read brings no name, and so does a bad certificate. One that is too large brings its names.
+        large = "A & B & C"
+        for _ in range(8):
+            large = f"({large}) -> A & B & C"
         with session("variance Sink contra\ncomp p : D -> Sink\n", max_goals=1) as sinks:
             with self.assertRaises(clsynth.UnknownInTerm):
                 sinks.has_type("g", "Never")
             with self.assertRaises(clsynth.BadCertificate):
                 sinks.verify("Fourth", "empty\nmember Never\nhello\nqed")
             sinks.verify("First", "empty\nmember Second\nqed")
+            with self.assertRaises(clsynth.TypeTooLarge):
+                sinks.verify(large, "empty\nmember Zeroth\nqed")
             with self.assertRaises(clsynth.ClosureTooLarge):
                 sinks.inhabited("Sink(Third)")
             for _ in range(2):
-                self.assertEqual(sinks.grammar("Never & Third & Second & First & Fourth").goals[0].type, "Fourth & First & Second & Third & Never")
+                goal = sinks.grammar("Never & Third & Zeroth & Second & First & Fourth").goals[0].type
+                self.assertEqual(goal, "Fourth & First & Second & Zeroth & Third & Never")
                 for _ in range(18):
                     sinks.inhabited(wide_query("A", 60_000))
 

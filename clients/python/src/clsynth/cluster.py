@@ -11,13 +11,13 @@ it runs, this package and the program have to be there.
 from __future__ import annotations
 
 import os
-from collections.abc import Iterable, Iterator, Sequence
+from collections.abc import Collection, Iterable, Iterator, Sequence
 from concurrent.futures import BrokenExecutor, Executor, Future
 from dataclasses import dataclass
 from typing import TypeVar
 
-from clsynth.errors import ProcessFault, QueryError
-from clsynth.numbering import Numbering
+from clsynth.errors import ParseFault, ProcessFault, QueryError, RepositoryFault
+from clsynth.numbering import Numbering, is_read
 from clsynth.queries import Query
 from clsynth.repository import Repository
 from clsynth.session import Session
@@ -34,8 +34,8 @@ def map_queries(
 ) -> Iterator[Answer | QueryError]:
     """The answers to the queries, in their order and each once. For a query with an error it is the error, as a value.
 
-    They are those that one session gives. A grammar or a certificate may have names that the repository hasn't: then the session is one
-    that was given the names of all queries in their order.
+    They are those that one session gives which is asked the queries in their order. Where types are written with names that the repository
+    hasn't, their order may differ only if a query had a bad certificate with such names.
 
     A worker answers `batch` queries at a time, by a program of its own, which it finds as `find_program` says there. The work of a worker
     that is lost is done again: a cluster does so by itself; where the executor is broken, as a pool of processes that lost one of them,
@@ -47,11 +47,21 @@ def map_queries(
         raise ValueError(f"a batch has at least one query, and not {batch}")
     asked = list(queries)
     names = Numbering()
+    components = _components(repository)
     for query in asked:
-        names.add(query)
+        if is_read(query, components):
+            names.add(query)
     setting = _Setting(str(repository), program, workers, max_goals, max_rules, pool, timeout, tuple(names))
     batches = [tuple(asked[place : place + batch]) for place in range(0, len(asked), batch)]
     return _in_order(setting, batches, [_submitted(executor, setting, some) for some in batches])
+
+
+def _components(repository: Repository | str) -> Collection[str]:
+    """The names of the components. Of a text that the program refuses they are of no use."""
+    try:
+        return (Repository.parse(repository) if isinstance(repository, str) else repository).components
+    except (ParseFault, RepositoryFault):
+        return ()
 
 
 @dataclass(frozen=True)

@@ -49,6 +49,8 @@ class Query(Generic[Answer]):
     """The types in its first line. Where the program reads the line, their constructors get numbers, by which it orders types."""
     certificate_types: tuple[str, ...] = ()
     """The same of the lines behind it."""
+    terms: tuple[str, ...] = ()
+    """The terms in its first line."""
 
     def __post_init__(self) -> None:
         if any("\n" in line for line in self.lines):
@@ -69,7 +71,7 @@ def paths(component: str) -> Query[list[str]]:
 
 def has_type(term: TermLike, goal: TypeLike) -> Query[bool]:
     """Whether the term has the type."""
-    return Query((f"typed {term} : {goal}",), _is_yes, (str(goal),))
+    return Query((f"typed {term} : {goal}",), _is_yes, (str(goal),), terms=(str(term),))
 
 
 def inhabited(goal: TypeLike) -> Query[bool]:
@@ -127,7 +129,7 @@ def _listing(
 ) -> Query[Answer]:
     line = f"{word} {goal} max {max_size} take {take}" + ("" if after is None else f" after {after}")
     is_in_range = 1 <= max_size <= MAX_SIZE and 1 <= take <= MAX_TAKE
-    return Query((line,), read, (str(goal),) if is_in_range else ())
+    return Query((line,), read, (str(goal),) if is_in_range else (), terms=() if after is None else (str(after),))
 
 
 def _type_of(line: str) -> str:
