@@ -46,6 +46,10 @@ class Inhabited:
         rows = [_words(f"row {row.type} by {row.component} {row.argument_count} :", row.positions) for row in self.rows]
         return ["inhabited", *rows, "qed"]
 
+    def _repr_html_(self) -> str:
+        from clsynth.html import certificate_html
+        return certificate_html(self)
+
 
 @dataclass(frozen=True)
 class Empty:
@@ -56,6 +60,10 @@ class Empty:
     def lines(self) -> list[str]:
         """As the program reads it, with `qed` as the last line."""
         return ["empty", *(line for member in self.members for line in _member_lines(member)), "qed"]
+
+    def _repr_html_(self) -> str:
+        from clsynth.html import certificate_html
+        return certificate_html(self)
 
 
 Certificate = Inhabited | Empty

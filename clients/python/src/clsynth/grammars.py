@@ -31,6 +31,10 @@ class Grammar:
 
     goals: tuple[Goal, ...]
 
+    def _repr_html_(self) -> str:
+        from clsynth.html import grammar_html
+        return grammar_html(self)
+
 
 def parse_grammar(lines: Iterable[str]) -> Grammar:
     """The grammar that the lines of a reply say."""

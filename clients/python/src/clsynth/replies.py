@@ -25,6 +25,10 @@ class Page(NamedTuple, Generic[Entry]):
     entries: list[Entry]
     more: bool
 
+    def _repr_html_(self) -> str:
+        from clsynth.html import page_html
+        return page_html(self)
+
 
 class Verdict(NamedTuple):
     """What is found of a certificate. If it is refused, a row or member fails the test that `reason` names."""
