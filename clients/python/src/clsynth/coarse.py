@@ -7,15 +7,19 @@ A type is the intersection of its paths. `omega` has none, and neither has an ar
 from __future__ import annotations
 
 import re
+from functools import lru_cache
+from string import ascii_letters
 from typing import NamedTuple
 
-__all__ = ["PRODUCT", "Path", "TypeReader", "Unreadable", "words_of"]
+from clsynth.limits import MAX_NAME_BYTES, MAX_PARENTHESES
+
+__all__ = ["PRODUCT", "Path", "Paths", "TypeReader", "Unreadable", "words_of"]
 
 PRODUCT = "*"
 """The head of a product."""
 
 _WORD = re.compile(r"[A-Za-z_][A-Za-z0-9_]*|[0-9]+|->|<=|[^ \t\r]", re.ASCII)
-_NAME = re.compile(r"[A-Za-z_][A-Za-z0-9_]{0,47}", re.ASCII)
+_STARTS = frozenset(ascii_letters + "_")
 
 
 class Path(NamedTuple):
@@ -32,7 +36,7 @@ Paths = tuple[Path, ...]
 
 
 class Unreadable(Exception):
-    """A line that fits no form."""
+    """A line that fits no form, or has too many parentheses open at once."""
 
 
 def words_of(line: str) -> list[str]:
@@ -45,15 +49,22 @@ class TypeReader:
 
     def __init__(self, words: list[str], next: int) -> None:
         self._words = words
+        self._open = 0
         self.next = next
 
     def name(self) -> str:
         """A name that may be declared."""
         word = self._words[self.next]
-        if not _NAME.fullmatch(word) or word == "omega":
+        if word[:1] not in _STARTS or len(word) > MAX_NAME_BYTES or word == "omega":
             raise Unreadable
         self.next += 1
         return word
+
+    def number(self) -> None:
+        """Passes a number."""
+        if not self._words[self.next].isdigit():
+            raise Unreadable
+        self.next += 1
 
     def takes(self, word: str) -> bool:
         """Whether this token comes next. If so, it is passed."""
@@ -96,20 +107,30 @@ class TypeReader:
     def _atom(self) -> Paths:
         word = self._words[self.next]
         if word == "(":
-            self.next += 1
-            made = self.type()
-            self.wants(")")
-            return made
+            return self._closed()
         if word == "omega":
             self.next += 1
             return ()
         if word == "$":
             self.next += 1
-            return (Path((), f"${self.name()}", ()),)
+            return _bare(f"${self.name()}")
         name = self.name()
-        if self._words[self.next] != "(":
-            return (Path((), name, ()),)
+        argument = self._closed() if self._words[self.next] == "(" else ()
+        return (Path((), name, (argument,)),) if argument else _bare(name)
+
+    def _closed(self) -> Paths:
+        """A type in parentheses, the first of which comes next."""
         self.next += 1
-        argument = self.type()
+        self._open += 1
+        if self._open > MAX_PARENTHESES:
+            raise Unreadable
+        made = self.type()
         self.wants(")")
-        return (Path((), name, (argument,) if argument else ()),)
+        self._open -= 1
+        return made
+
+
+@lru_cache(maxsize=100_000)
+def _bare(head: str) -> Paths:
+    """The type that has only this head."""
+    return (Path((), head, ()),)

@@ -19,7 +19,7 @@ from clsynth.remedies import Case
 from clsynth.tokens import first_word, text_of
 from clsynth.transcripts import Asked, Exchange, Fault, Input, exchanges
 
-__all__ = ["diagnose", "explain", "explain_error"]
+__all__ = ["diagnose", "diagnose_line", "explain", "explain_error"]
 
 _UNKNOWN = Explanation("docs/LANGUAGE.md of the program says what this is", "")
 
@@ -50,6 +50,13 @@ def diagnose(given: Input, exchange: Exchange) -> Diagnostic | None:
         return None
     number, fault = exchange.refusal
     return _of_repository(given, number, fault) if exchange.asked is None else _of_certificate(exchange.asked, number, fault)
+
+
+def diagnose_line(given: Input, number: int, fault: Fault) -> Diagnostic:
+    """The fault of a line with this number."""
+    if number <= len(given.repository):
+        return _of_repository(given, number, fault)
+    return _of_query(given, Asked(number, (given.lines[number - 1],)), fault)
 
 
 def _of_repository(given: Input, number: int, fault: Fault) -> Diagnostic:

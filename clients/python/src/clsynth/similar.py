@@ -9,6 +9,7 @@ from difflib import get_close_matches
 __all__ = ["SlipIndex", "closest"]
 
 _DIGITS = re.compile(r"[0-9]+")
+_LETTERS = re.compile(r"[^0-9]+")
 _CLOSE = 0.7
 """How much of two words has to be the same, by the measure of difflib."""
 
@@ -21,37 +22,37 @@ def closest(word: str, words: Collection[str]) -> str | None:
 
 
 class SlipIndex:
-    """Finds the names at one slip from another: a character more, a character less, another one, or two that changed places.
+    """Finds the names at one slip from another: a letter more, a letter less, another one, or two that changed places.
 
-    Names that differ in digits alone, such as `A1` and `A2`, are no slips of one another. So are names of one or two characters.
+    The digits of both are the same: `A1` and `A2` are no slips of one another. Names of one or two letters have no slips.
     """
 
     SHORTEST = 3
 
     def __init__(self, names: Iterable[str]) -> None:
-        self._by_rest: dict[str, list[str]] = {}
+        self._by_rest: dict[tuple[str, str], list[str]] = {}
         for name in names:
-            if len(name) >= self.SHORTEST:
-                for rest in _rests(name):
-                    self._by_rest.setdefault(rest, []).append(name)
+            for key in self._keys(name):
+                self._by_rest.setdefault(key, []).append(name)
 
     def near(self, name: str) -> list[str]:
         """The names at one slip from this one."""
-        if len(name) < self.SHORTEST:
-            return []
-        found = (other for rest in _rests(name) for other in self._by_rest.get(rest, ()))
-        return [other for other in dict.fromkeys(found) if _is_slip(name, other)]
+        found = dict.fromkeys(other for key in self._keys(name) for other in self._by_rest.get(key, ()))
+        return [other for other in found if _is_slip(name, other)]
 
-
-def _rests(name: str) -> Iterator[str]:
-    """The name, and what is left of it without one character. Two names at one slip share one of these."""
-    yield name
-    for place in range(len(name)):
-        yield name[:place] + name[place + 1 :]
+    def _keys(self, name: str) -> Iterator[tuple[str, str]]:
+        """The letters, and what is left of them without one, with the digits. Two names at one slip share one of these."""
+        letters = _DIGITS.sub("", name)
+        if len(letters) < self.SHORTEST:
+            return
+        digits = "" if letters == name else _LETTERS.sub("", name)
+        yield letters, digits
+        for place in range(len(letters)):
+            yield letters[:place] + letters[place + 1 :], digits
 
 
 def _is_slip(one: str, two: str) -> bool:
-    if one == two or _DIGITS.sub("", one) == _DIGITS.sub("", two):
+    if one == two:
         return False
     start = next((place for place, (a, b) in enumerate(zip(one, two)) if a != b), min(len(one), len(two)))
     left, right = one[start:], two[start:]
