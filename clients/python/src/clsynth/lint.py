@@ -160,7 +160,7 @@ class _Lint:
 
     def _first_line(self, name: str) -> int:
         roles = self._roles
-        places = [roles.made.get(name), roles.mentioned.get(name), *roles.wanted.get(name, ())[:1]]
+        places = [roles.made.get(name), roles.mentioned.get(name), *roles.wanted.get(name, [])[:1]]
         return min(place.line for place in places if place)
 
     @cached_property

@@ -110,7 +110,7 @@ def _of_token(case: Case, found: Misfit) -> str:
         if len(text) > MAX_NAME_BYTES:
             return f"A name has at most {MAX_NAME_BYTES} bytes, and this one has {len(text)}."
         return "A name has letters of ASCII, digits and `_`, and begins with no digit."
-    return _OF_SIGNS.get((case.forms == REPOSITORY, text)) or _OF_SIGNS.get((None, text), "")
+    return _OF_SIGNS.get((case.forms == REPOSITORY, text), _OF_SIGNS.get((None, text), ""))
 
 
 _OF_SIGNS: dict[tuple[bool | None, str], str] = {

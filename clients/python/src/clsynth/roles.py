@@ -70,8 +70,11 @@ class Roles:
             taken = _Role.WANTED if role is _Role.COMPONENT else _Role.MENTIONED
             inside = _Role.MADE if role is _Role.COMPONENT else role
             for sources, head, arguments in paths:
-                waiting += [(source, taken) for source in sources]
-                waiting += [(argument, _Role.MENTIONED if head in self._contra else inside) for argument in arguments]
+                if sources:
+                    waiting += [(source, taken) for source in sources]
+                if arguments:
+                    part = _Role.MENTIONED if head in self._contra else inside
+                    waiting += [(argument, part) for argument in arguments]
                 if head[0] == "$":
                     self._by_variable.setdefault((head[1:], role), []).append(by)
                 elif head != PRODUCT:
