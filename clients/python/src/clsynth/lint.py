@@ -28,10 +28,10 @@ from clsynth.repository import Repository
 from clsynth.roles import Roles
 from clsynth.similar import SlipIndex
 from clsynth.survey import Survey, TypedLine
-from clsynth.tokens import text_of
+from clsynth.tokens import BLANKS, text_of
 from clsynth.transcripts import Input
 
-__all__ = ["RepositoryWarning", "lint", "lint_input", "warn_of"]
+__all__ = ["RepositoryWarning", "input_of", "lint", "lint_input", "warn_of"]
 
 _MOST_NAMES = 50_000
 """With more names no similar ones are looked for."""
@@ -52,7 +52,17 @@ class RepositoryWarning(UserWarning):
 def lint(repository: Repository | str, queries: Iterable[str | Query[Any]] = ()) -> list[Diagnostic]:
     """Errors, warnings and hints about the lines of a repository and of queries, by line. Lines are counted from 1. Those of the queries
     follow behind the line `end`, which may be left out."""
-    return lint_input(Input("\n".join(_lines(repository, queries)).encode(errors="surrogateescape")))
+    return lint_input(input_of(repository, queries))
+
+
+def input_of(repository: Repository | str, queries: Iterable[str | Query[Any]] = ()) -> Input:
+    """The lines of a repository, the line `end` if it isn't there, and those of queries behind it."""
+    lines = str(repository).rstrip("\n").split("\n")
+    if not any(line.strip(BLANKS) == "end" for line in lines):
+        lines.append("end")
+    for query in queries:
+        lines += query.split("\n") if isinstance(query, str) else query.lines
+    return Input("\n".join(lines).encode(errors="surrogateescape"))
 
 
 def lint_input(given: Input) -> list[Diagnostic]:
@@ -68,7 +78,7 @@ def warn_of(repository: str, stacklevel: int) -> None:
 
 @lru_cache(maxsize=4)
 def _warnings(repository: str) -> tuple[str, ...]:
-    found = _sorted(_Lint(Input("\n".join(_lines(repository, ())).encode(errors="surrogateescape"))).warnings())
+    found = _sorted(_Lint(input_of(repository)).warnings())
     texts = [it.shown("repository") for it in found[:_MOST_WARNINGS]]
     others = len(found) - len(texts)
     return (*texts, *([f"{others:,} further warnings: `lint` and the command clsynth-check have all"] if others else ()))
@@ -77,14 +87,6 @@ def _warnings(repository: str) -> tuple[str, ...]:
 def _sorted(found: Iterable[Diagnostic]) -> list[Diagnostic]:
     return sorted(found, key=lambda it: (it.line, it.place or 0))
 
-
-def _lines(repository: Repository | str, queries: Iterable[str | Query[Any]]) -> Iterator[str]:
-    lines = str(repository).rstrip("\n").split("\n")
-    yield from lines
-    if not any(line.strip(" \t\r") == "end" for line in lines):
-        yield "end"
-    for query in queries:
-        yield from query.split("\n") if isinstance(query, str) else query.lines
 
 
 class _Lint:

@@ -40,7 +40,7 @@ class Roles:
         for role, lines in ((_Role.COMPONENT, survey.components), (_Role.WANTED, survey.goals), (_Role.MENTIONED, survey.compared)):
             for line in lines:
                 self._walk(line, line.type, role)
-        for (variable, role), users in self._by_variable.items():
+        for (variable, role), users in list(self._by_variable.items()):
             for line in survey.kinds.get(variable, ()):
                 self._walk(line, line.type, role, users)
         self.variables = {variable for variable, _ in self._by_variable}
