@@ -10,7 +10,7 @@ __all__ = ["SlipIndex", "closest"]
 
 _DIGITS = re.compile(r"[0-9]+")
 _LETTERS = re.compile(r"[^0-9]+")
-_CLOSE = 0.7
+_CLOSE = 0.6
 """How much of two words has to be the same, by the measure of difflib."""
 
 

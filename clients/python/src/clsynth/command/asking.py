@@ -5,7 +5,7 @@ from __future__ import annotations
 from argparse import Namespace
 
 from clsynth.command.options import options_of
-from clsynth.command.sources import repository_of
+from clsynth.command.sources import repository_in
 from clsynth.missing import missing
 from clsynth.session import Session
 from clsynth.why import why
@@ -23,14 +23,14 @@ def session_of(given: Namespace, repository: str) -> Session:
 
 def show_why(given: Namespace) -> int:
     """Prints whether the term has the type, and why."""
-    with session_of(given, repository_of(given.repository)) as session:
+    with session_of(given, repository_in(given)) as session:
         print(why(session, given.term, given.type).shown())
     return 0
 
 
 def show_missing(given: Namespace) -> int:
     """Prints what is missing for the type."""
-    repository = repository_of(given.repository)
+    repository = repository_in(given)
     with session_of(given, repository) as session:
         print(missing(session, repository, given.type).shown())
     return 0

@@ -8,7 +8,7 @@ from collections.abc import Iterator
 
 from clsynth.command.asking import session_of
 from clsynth.command.progress import Progress
-from clsynth.command.sources import repository_of
+from clsynth.command.sources import repository_in
 from clsynth.session import Session
 
 __all__ = ["list_terms"]
@@ -20,7 +20,7 @@ _PAGE = 500
 def list_terms(given: Namespace) -> int:
     """Prints the terms, or their texts, each on a line of its own."""
     progress = Progress(given.count)
-    with session_of(given, repository_of(given.repository)) as session:
+    with session_of(given, repository_in(given)) as session:
         for page in _pages(session, given):
             progress.clear()
             sys.stdout.write("".join(f"{line}\n" for line in page))

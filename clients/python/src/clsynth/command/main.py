@@ -14,7 +14,7 @@ from clsynth.command.check import check
 from clsynth.command.listing import list_terms
 from clsynth.command.options import Parser, add_program_options, number, size
 from clsynth.command.run import explain, run
-from clsynth.command.sources import repository_of
+from clsynth.command.sources import repository_in
 from clsynth.command.statuses import FOUND, INTERRUPTED, READ_FAULT, REFUSED, USAGE, WRITE_FAULT
 from clsynth.errors import ClsynthError, ProcessFault, ProgramNotFound, QueryError, RepositoryRefused
 from clsynth.explain import explain_error
@@ -148,7 +148,7 @@ def _guarded(command: Callable[[], int], given: Namespace) -> int:
         return _said(f"{error.filename}: {error.strerror}", READ_FAULT)
     except (RepositoryRefused, QueryError) as error:
         is_refused = isinstance(error, RepositoryRefused)
-        print(explain_error(error, repository_of(given.repository), given.repository if is_refused else "query"), file=sys.stderr)
+        print(explain_error(error, repository_in(given), given.repository if is_refused else "query"), file=sys.stderr)
         return REFUSED if is_refused else FOUND
     except (ClsynthError, ValueError) as error:
         return _said(str(error), error.code if isinstance(error, ProcessFault) and error.code > 0 else FOUND)

@@ -3,6 +3,7 @@
 from __future__ import annotations
 
 import sys
+from argparse import Namespace
 from collections.abc import Iterable
 from pathlib import Path
 
@@ -10,7 +11,7 @@ from clsynth.forms import QUERIES, REPOSITORY, first_words
 from clsynth.tokens import first_word, is_alone, is_skipped, lines_of, text_of
 from clsynth.transcripts import Input
 
-__all__ = ["Sources", "repository_of"]
+__all__ = ["Sources", "repository_in"]
 
 _STANDARD_INPUT = "-"
 _QUERY_WORDS = frozenset(first_words(QUERIES)) - frozenset(first_words(REPOSITORY))
@@ -45,9 +46,11 @@ class Sources:
         return self._places[line - 1] if line else (self._places[0][0], 0)
 
 
-def repository_of(name: str) -> str:
-    """The repository of a file. Queries behind it are left out."""
-    return "".join(f"{text_of(line)}\n" for line in Sources([name]).input.repository)
+def repository_in(given: Namespace) -> str:
+    """The repository of the file that is given, which is read once. Queries behind it are left out."""
+    if "lines" not in given:
+        given.lines = Sources([given.repository]).input.repository
+    return "".join(f"{text_of(line)}\n" for line in given.lines)
 
 
 def _read(name: str) -> bytes:
