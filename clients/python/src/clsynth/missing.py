@@ -12,7 +12,7 @@ from __future__ import annotations
 
 from dataclasses import dataclass
 
-from clsynth.certificates import Inhabited, Member
+from clsynth.grammars import Goal, Grammar
 from clsynth.lint import input_of
 from clsynth.repository import Repository
 from clsynth.roles import Roles
@@ -24,7 +24,7 @@ from clsynth.types import TypeLike
 
 __all__ = ["Lack", "Missing", "missing"]
 
-_MOST_MEMBERS = 20
+_MOST_GOALS = 20
 """So many types are shown that no term has."""
 
 
@@ -47,8 +47,8 @@ class Missing:
     is_inhabited: bool
     """Whether some term has the type. Then nothing is missing."""
     lacks: tuple[Lack, ...] = ()
-    members: tuple[Member, ...] = ()
-    """The types of which none has a term, as the certificate has them."""
+    goals: tuple[Goal, ...] = ()
+    """The goals without terms on the way to it: each rule of one has another one among its arguments."""
 
     def shown(self) -> str:
         """The same in words."""
@@ -59,30 +59,41 @@ class Missing:
             lines.append(f"{lack.constructor} is wanted, and no component makes it")
             lines += [f"    {line}" for line in lack.wanted_by]
             lines += [f"    Did you mean {' or '.join(lack.similar)}?"] if lack.similar else []
-        return "\n".join(lines if self.lacks else [*lines, *self._member_lines()])
+        return "\n".join(lines if self.lacks else [*lines, *self._goal_lines()])
 
-    def _member_lines(self) -> list[str]:
-        lines = ["Each constructor is made. A component that leads to one of these types lacks a part of it, or takes another one of them:"]
-        for member in self.members[:_MOST_MEMBERS]:
-            components = list(dict.fromkeys(block.component for block in member.blocks))
-            lines.append(f"    {member.type}, by {', '.join(components)}" if components else f"    {member.type}, to which no component leads")
-        others = len(self.members) - _MOST_MEMBERS
+    def _goal_lines(self) -> list[str]:
+        lines = ["Each constructor is made. But what leads to one of these types takes another one of them:"]
+        for goal in self.goals[:_MOST_GOALS]:
+            components = dict.fromkeys(rule.component or "any term" for rule in goal.rules)
+            lines.append(f"    {goal.type}, by {', '.join(components)}" if components else f"    {goal.type}, to which nothing leads")
+        others = len(self.goals) - _MOST_GOALS
         return [*lines, *([f"    {others} more"] if others > 0 else [])]
 
 
 def missing(session: Session, repository: Repository | str, goal: TypeLike) -> Missing:
-    """What is missing for the type. The repository is that of the session. Raises the errors of `Session.certify`."""
-    certificate = session.certify(goal)
-    if isinstance(certificate, Inhabited):
+    """What is missing for the type. The repository is that of the session. Raises the errors of `Session.grammar`."""
+    grammar = session.grammar(goal)
+    if grammar.goals[0].rank is not None:
         return Missing(str(goal), True)
-    survey = Survey(input_of(repository, [f"inhabit {member.type}" for member in certificate.members]))
-    roles = Roles(survey)
+    goals = _empty_goals(grammar)
+    roles = Roles(survey := Survey(input_of(repository, [f"inhabit {it.type}" for it in goals])))
     slips = SlipIndex(sorted(roles.had))
     lacks = tuple(
         Lack(name, _users(survey, roles.wanted[name]), tuple(slips.near(name)))
         for name in roles.lacking() if any(by.word == "inhabit" for by in roles.wanted[name])
     )
-    return Missing(str(goal), False, lacks, certificate.members)
+    return Missing(str(goal), False, lacks, goals)
+
+
+def _empty_goals(grammar: Grammar) -> tuple[Goal, ...]:
+    """The goals without terms to which rules lead from the first goal by such goals alone."""
+    numbers, known = [0], {0}
+    for number in numbers:
+        for argument in (argument for rule in grammar.goals[number].rules for argument in rule.arguments):
+            if argument not in known and grammar.goals[argument].rank is None:
+                known.add(argument)
+                numbers.append(argument)
+    return tuple(grammar.goals[number] for number in numbers)
 
 
 def _users(survey: Survey, wanted_by: list[TypedLine]) -> tuple[str, ...]:
