@@ -3,9 +3,10 @@
 from __future__ import annotations
 
 import re
-from pathlib import Path
 
-TOP = Path(__file__).resolve().parents[3]
+from support import SOURCES
+
+TOP = SOURCES.parents[2]
 LANGUAGE = (TOP / "docs/LANGUAGE.md").read_text()
 
 

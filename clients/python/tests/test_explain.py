@@ -70,14 +70,24 @@ t.cls:4:12: error: syntax: from here on the line fits no form
 class Remedies(unittest.TestCase):
     def test_refusals(self) -> None:
         cases = {
-            "\ufeffcomp x : A\nend\n": "byte order mark", "COMP x : A\nend\n": "Did you mean `comp`?", "comp x : A\nlist A max 3 take 1\n": "Put the line `end` before the first query.",
-            "comp x : A\ntext x = f() { return 1; }\nend\n": "written `{{` or `}}`", "comp x : A\ncost x 256\nend\n": "from 1 to 255", "comp x : A\n": "Put the line `end`",
-            "comp x : A\ncomp x : B\nend\n": "Line 1 says it first.", "text y = z\ncomp y : A\nend\n": "declared later, in line 2",
-            "sub A B\nsub C A\nsub B C\nend\n": "Line 3 says that `B` is below `C`.", "sub A B\nvariance A inv\nend\n": "`A` is invariant, and `B` is covariant.",
-            "kind abc = A\ncomp x : $abd\nend\n": "Did you mean `abc`?", "comp x : Map(A, B)\nend\n": "Two are a product: `Map(A * B)`.",
-            "comp to-upper : A\nend\n": "A name has letters of ASCII, digits and `_`", "comp x : A # no\nend\n": "A comment has a line to itself.",
-            "sub A <= B\nend\n": "Before `end` it is `sub A B`.", f"comp x : {'A' * 49}\nend\n": "at most 48 bytes, and this one has 49",
-            "comp x : A | B\nend\n": "`kind` line alone", "comp x : $b\nend\n": "`kind b = A | B`",
+            "\ufeffcomp x : A\nend\n": "byte order mark",
+            "COMP x : A\nend\n": "Did you mean `comp`?",
+            "comp x : A\nlist A max 3 take 1\n": "Put the line `end` before the first query.",
+            "comp x : A\ntext x = f() { return 1; }\nend\n": "written `{{` or `}}`",
+            "comp x : A\ncost x 256\nend\n": "from 1 to 255",
+            "comp x : A\n": "Put the line `end`",
+            "comp x : A\ncomp x : B\nend\n": "Line 1 says it first.",
+            "text y = z\ncomp y : A\nend\n": "declared later, in line 2",
+            "sub A B\nsub C A\nsub B C\nend\n": "Line 3 says that `B` is below `C`.",
+            "sub A B\nvariance A inv\nend\n": "`A` is invariant, and `B` is covariant.",
+            "kind abc = A\ncomp x : $abd\nend\n": "Did you mean `abc`?",
+            "comp x : Map(A, B)\nend\n": "Two are a product: `Map(A * B)`.",
+            "comp to-upper : A\nend\n": "A name has letters of ASCII, digits and `_`",
+            "comp x : A # no\nend\n": "A comment has a line to itself.",
+            "sub A <= B\nend\n": "Before `end` it is `sub A B`.",
+            f"comp x : {'A' * 49}\nend\n": "at most 48 bytes, and this one has 49",
+            "comp x : A | B\nend\n": "`kind` line alone",
+            "comp x : $b\nend\n": "`kind b = A | B`",
         }
         for text, wanted in cases.items():
             with self.subTest(text):
@@ -85,9 +95,14 @@ class Remedies(unittest.TestCase):
 
     def test_errors(self) -> None:
         cases = {
-            "inhabitt A": "Did you mean `inhabit`?", "comp y : B": "Put it before the line `end`.", "list A take 3 max 5": "`list TYPE max N take K [after TERM]`",
-            "list A max 5 take 0": "`take` takes 1 to 10,000", "inhabit $a": "Write the type that is meant.", "verify A\nempty": "Put the line `qed`",
-            "verify A\nempty\ninhabit A\nqed": "`inhabit` begins a query. Put the line `qed` before it", "verify A\nempty\nmember A\nqed": "Add the member or the set",
+            "inhabitt A": "Did you mean `inhabit`?",
+            "comp y : B": "Put it before the line `end`.",
+            "list A take 3 max 5": "`list TYPE max N take K [after TERM]`",
+            "list A max 5 take 0": "`take` takes 1 to 10,000",
+            "inhabit $a": "Write the type that is meant.",
+            "verify A\nempty": "Put the line `qed`",
+            "verify A\nempty\ninhabit A\nqed": "`inhabit` begins a query. Put the line `qed` before it",
+            "verify A\nempty\nmember A\nqed": "Add the member or the set",
             "verify A\nempty\nmembr A\nqed": "Did you mean `member`?",
         }
         for query, wanted in cases.items():

@@ -60,8 +60,12 @@ class Misfits(unittest.TestCase):
 
     def test_what_is_wanted(self) -> None:
         cases = {
-            "list A take 3 max 5": ("`(`", "`->`", "`&`", "`*`", "`max`"), "inhabit A &": ("a type",), "list A max 3 take 1 before": ("`after`", "the end of the line"),
-            "typed f(x A) : A": ("`(`", "`)`", "`,`"), "list A max x": ("a number",), "inhabit $": ("a name of a variable",),
+            "list A take 3 max 5": ("`(`", "`->`", "`&`", "`*`", "`max`"),
+            "inhabit A &": ("a type",),
+            "list A max 3 take 1 before": ("`after`", "the end of the line"),
+            "typed f(x A) : A": ("`(`", "`)`", "`,`"),
+            "list A max x": ("a number",),
+            "inhabit $": ("a name of a variable",),
         }
         for line, wanted in cases.items():
             with self.subTest(line):

@@ -114,8 +114,8 @@ def random_repository(chance: random.Random) -> str:
             return f"{chance.choice('AG')}({type(depth - 1)})"
         sign = {3: "->", 4: "&", 5: "->"}[form]
         return f"({type(depth - 1)} {sign} {type(depth - 1)})"
-    lines = ["kind a = A | B", "sub C D", "sub D E", "variance G contra", *(f"comp x{number} : {type(chance.randrange(1, 4))}" for number in range(6)), "comp y : $a -> $a"]
-    return "\n".join(lines) + "\n"
+    lines = ["kind a = A | B", "sub C D", "sub D E", "variance G contra", "comp y : $a -> $a"]
+    return "\n".join([*lines, *(f"comp x{number} : {type(chance.randrange(1, 4))}" for number in range(6))]) + "\n"
 
 
 class Unused(unittest.TestCase):
@@ -170,9 +170,9 @@ class Errors(unittest.TestCase):
 
     def test_anything_is_read(self) -> None:
         chance = random.Random(5)
-        pieces = ["comp ", "kind ", "sub ", "text ", "cost ", "end", "a", "B", ":", "=", "|", "(", ")", "->", "&", "*", "$", " ", "\n", "\n", "list ", " max 3", "omega", "é"]
+        pieces = "comp kind sub text cost end a B : = | ( ) -> & * $ list max 3 omega é \n \n".split(" ")
         for _ in range(400):
-            lint("".join(chance.choice(pieces) for _ in range(40)))
+            lint(" ".join(chance.choice(pieces) for _ in range(40)))
 
 
 class Examples(unittest.TestCase):

@@ -7,7 +7,7 @@ import unittest
 
 from support import PROGRAM
 
-from clsynth.transcripts import Exchange, Input, exchanges
+from clsynth.transcripts import Exchange, Fault, Input, exchanges
 
 REPOSITORY = "comp x : A\ncomp f : A -> A\ntext f = done\\n{1}\\nterm x\nend\n"
 
@@ -46,7 +46,7 @@ class Replies(unittest.TestCase):
         text = b"comp x : A\ncomp x : B\nend\ninhabit A\n"
         (refused,) = exchanges(text, b"refused 2 duplicate-component x\n")
         self.assertIsNone(refused.asked)
-        self.assertEqual(refused.refusal and (refused.refusal[0], refused.refusal[1].word, refused.refusal[1].detail), (2, "duplicate-component", "x"))
+        self.assertEqual(refused.refusal, (2, Fault("duplicate-component", "x")))
 
     def test_an_output_that_ends_early(self) -> None:
         text = (REPOSITORY + "inhabit A\nlist A max 3 take 3\n").encode()
