@@ -33,7 +33,7 @@ CHAIN = "comp x : A\ncomp f : A -> A\n"
 
 
 def session(repository: str | clsynth.Repository, **options: Any) -> clsynth.Session:
-    return clsynth.Session(repository, program=PROGRAM, **options)
+    return clsynth.Session(repository, program=PROGRAM, **{"lint": False, **options})
 
 
 def terms(*texts: str) -> list[clsynth.Term]:

@@ -56,7 +56,8 @@ class Words(Command):
 
     def test_words_of_no_form(self) -> None:
         cases: tuple[tuple[str, ...], ...] = (
-            (), ("walk",), ("run",), ("run", "--pool", "0", FIRST), ("run", "--workers", "65", FIRST), ("list", FIRST), ("list", FIRST, "A", "-n", "x"),
+            (), ("walk",), ("run",), ("run", "--pool", "0", FIRST), ("run", "--workers", "65", FIRST), ("list", FIRST),
+            ("list", FIRST, "A", "-n", "x"),
         )
         for words in cases:
             with self.subTest(words):
@@ -241,6 +242,11 @@ class Ask(Command):
         os.close(ours)
         self.assertIn("500 of 600", told)
         self.assertTrue(told.endswith("\r\x1b[K"))
+
+    def test_long_texts(self) -> None:
+        given = self.file("t.cls", f"{CHAIN}text x = {'y' * 40_000}\ntext f = {{1}}{{1}}\n")
+        ran = self.cls("list", given, "A", "--max", "2", "--text")
+        self.assertEqual((ran.returncode, ran.stdout, ran.stderr), (0, "y" * 40_000 + "\n", "cls: the text of f(x) has more than 65,536 bytes\n"))
 
     def test_why_and_missing(self) -> None:
         self.assertEqual(self.cls("why", FIRST, "rev(input)", "Desc").stdout.splitlines()[:2], ["no", "rev(input) lacks Desc. It has List(Int)."])

@@ -196,7 +196,7 @@ class Sessions(unittest.TestCase):
         repository.component("x", "Int")
         repository.component("f", "Imt -> B")
         with self.assertWarns(RepositoryWarning):
-            session(repository).close()
+            session(repository, lint=True).close()
 
     def test_it_can_be_told_not_to(self) -> None:
         with warnings.catch_warnings():

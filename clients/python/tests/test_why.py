@@ -23,11 +23,11 @@ comp both : List(A) & List(B)
 
 class Why(unittest.TestCase):
     def shown(self, term: str, goal: str) -> str:
-        with session(LINES, lint=False) as lines:
+        with session(LINES) as lines:
             return why(lines, term, goal).shown()
 
     def test_it_has_the_type(self) -> None:
-        with session(LINES, lint=False) as lines:
+        with session(LINES) as lines:
             reason = why(lines, Term.parse("uniq(sort(names))"), Type.parse("Unique & Lines"))
             self.assertTrue(reason.holds)
             self.assertEqual((reason.lacks, reason.arrows), ((), ()))
@@ -68,7 +68,7 @@ merge(names, sort(other)) lacks Merged. It has omega alone.
         self.assertEqual(self.shown("both", "List(A & B)").split("\n")[0], "yes")
 
     def test_faults_of_the_question(self) -> None:
-        with session(LINES, lint=False) as lines:
+        with session(LINES) as lines:
             for term, goal, error in (("nmaes", "Lines", UnknownInTerm), ("names(", "Lines", SyntaxFault), ("names", "Lines &", SyntaxFault)):
                 with self.assertRaises(error):
                     why(lines, term, goal)
@@ -76,7 +76,7 @@ merge(names, sort(other)) lacks Merged. It has omega alone.
 
 class Missing(unittest.TestCase):
     def shown(self, repository: str, goal: str) -> str:
-        with session(repository, lint=False) as asked:
+        with session(repository) as asked:
             return missing(asked, repository, goal).shown()
 
     def test_a_constructor_that_nothing_makes(self) -> None:

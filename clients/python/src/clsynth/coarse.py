@@ -115,8 +115,12 @@ class TypeReader:
             self.next += 1
             return _bare(f"${self.name()}")
         name = self.name()
-        argument = self._closed() if self._words[self.next] == "(" else ()
-        return (Path((), name, (argument,)),) if argument else _bare(name)
+        words, place = self._words, self.next
+        if words[place] != "(":
+            return _bare(name)
+        argument = self._closed()
+        # A constructor over a name is most of what there is, so it isn't made anew each time.
+        return _over(name, argument) if words[place + 2] == ")" else _made(name, argument)
 
     def _closed(self) -> Paths:
         """A type in parentheses, the first of which comes next."""
@@ -130,7 +134,16 @@ class TypeReader:
         return made
 
 
-@lru_cache(maxsize=100_000)
+def _made(name: str, argument: Paths) -> Paths:
+    """The constructor over a type."""
+    return (Path((), name, (argument,)),) if argument else _bare(name)
+
+
+_over = lru_cache(maxsize=20_000)(_made)
+"""The same for a type of one name."""
+
+
+@lru_cache(maxsize=20_000)
 def _bare(head: str) -> Paths:
     """The type that has only this head."""
     return (Path((), head, ()),)

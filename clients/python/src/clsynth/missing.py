@@ -76,7 +76,8 @@ def missing(session: Session, repository: Repository | str, goal: TypeLike) -> M
     if grammar.goals[0].rank is not None:
         return Missing(str(goal), True)
     goals = _empty_goals(grammar)
-    roles = Roles(survey := Survey(input_of(repository, [f"inhabit {it.type}" for it in goals])))
+    survey = Survey(input_of(repository, [f"inhabit {it.type}" for it in goals]))
+    roles = Roles(survey)
     slips = SlipIndex(sorted(roles.had))
     lacks = tuple(
         Lack(name, _users(survey, roles.wanted[name]), tuple(slips.near(name)))

@@ -124,6 +124,9 @@ def _arrows(survey: Survey, component: int, type: Paths) -> list[_Arrow]:
 
 def _choices(survey: Survey, path: Path) -> Iterator[tuple[tuple[_Need, ...], str]]:
     variables = sorted({head for head in _bare_heads(path) if head[0] == "$"})
+    if not variables:
+        yield tuple([_need(source, {}) for source in path.sources]), path.head
+        return
     kinds = [[line.type for line in survey.kinds.get(variable[1:], ())] for variable in variables]
     if math.prod(map(len, kinds)) <= _CHOICES:
         for types in product(*kinds):

@@ -10,6 +10,7 @@ from clsynth.command.asking import session_of
 from clsynth.command.progress import Progress
 from clsynth.command.sources import repository_in
 from clsynth.session import Session
+from clsynth.terms import Term
 
 __all__ = ["list_terms"]
 
@@ -30,15 +31,21 @@ def list_terms(given: Namespace) -> int:
     return 0
 
 
+def _tell_long(terms: list[Term]) -> None:
+    for term in terms:
+        print(f"cls: the text of {term} has more than 65,536 bytes", file=sys.stderr)
+
+
 def _pages(session: Session, given: Namespace) -> Iterator[list[str]]:
     """The lines of each page."""
     left, after, has_more = given.count, given.after, True
     while left and has_more:
         take = min(left, _PAGE)
         if given.text:
-            texts, has_more = session.text_page(given.type, take, max_size=given.max, after=after)
-            terms = [entry.term for entry in texts]
-            yield [f"# the text of {term} has more than 65,536 bytes" if text is None else text for term, text in texts]
+            entries, has_more = session.text_page(given.type, take, max_size=given.max, after=after)
+            terms = [entry.term for entry in entries]
+            yield [entry.text for entry in entries if entry.text is not None]
+            _tell_long([entry.term for entry in entries if entry.text is None])
         else:
             terms, has_more = session.page(given.type, take, max_size=given.max, after=after)
             yield [str(term) for term in terms]
