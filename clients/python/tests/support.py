@@ -33,7 +33,8 @@ CHAIN = "comp x : A\ncomp f : A -> A\n"
 
 
 def session(repository: str | clsynth.Repository, **options: Any) -> clsynth.Session:
-    return clsynth.Session(repository, program=PROGRAM, **{"lint": False, **options})
+    options.setdefault("lint", False)
+    return clsynth.Session(repository, program=PROGRAM, **options)
 
 
 def terms(*texts: str) -> list[clsynth.Term]:

@@ -9,6 +9,7 @@ import signal
 import subprocess
 import sys
 import tempfile
+import tomllib
 import unittest
 from pathlib import Path
 from typing import Any
@@ -53,6 +54,11 @@ class Words(Command):
             self.assertIn(f"\n    {command} ", told)
             if command != "view":
                 self.assertTrue(self.cls(command, "--help").stdout.startswith(f"usage: cls {command} "))
+
+    def test_names_of_the_commands(self) -> None:
+        scripts = tomllib.loads((SOURCES.parent / "pyproject.toml").read_text())["project"]["scripts"]
+        # On the PATH `clsynth` is the program.
+        self.assertEqual(scripts, {"cls": "clsynth.command:main", "clsynth-check": "clsynth.command:check_main"})
 
     def test_words_of_no_form(self) -> None:
         cases: tuple[tuple[str, ...], ...] = (
