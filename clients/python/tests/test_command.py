@@ -202,6 +202,12 @@ class Explain(Command):
         self.assertEqual([self.cls("explain", name).returncode for name in (well, wrong, refused)], [0, 7, 2])
         self.assertEqual(self.cls("explain", well).stdout, "")
 
+    def test_a_certificate_that_is_refused(self) -> None:
+        ran = self.cls("explain", self.file("t.cls", CHAIN + "end\nverify B\nempty\nmember A\nqed\n"))
+        self.assertEqual(ran.returncode, 0)
+        self.assertTrue(ran.stdout.startswith("t.cls:6:1: warning: unblocked: "))
+        self.assertIn("\n    member A\n", ran.stdout)
+
 
 class Check(Command):
     def test_both_commands(self) -> None:

@@ -78,7 +78,7 @@ def _of_certificate(asked: Asked, number: int, fault: Fault) -> Diagnostic:
     place = heads[number - 1] if 0 < number <= len(heads) and fault.word != "goal" else 0
     explanation = REASONS.get(fault.word, _UNKNOWN)
     words = f"{fault.word}: {explanation.says}"
-    return Diagnostic(Severity.ERROR, asked.line + place, text_of(asked.lines[place]), None, words, (explanation.remedy,))
+    return Diagnostic(Severity.WARNING, asked.line + place, text_of(asked.lines[place]), None, words, (explanation.remedy,))
 
 
 def _diagnostic(case: Case) -> Diagnostic:

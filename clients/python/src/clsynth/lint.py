@@ -37,8 +37,6 @@ _MOST_NAMES = 50_000
 """With more names no similar ones are looked for."""
 _OFTEN = 3
 """A name that stands so often may be meant by one that stands once."""
-
-
 _PART = re.compile(r"[A-Za-z0-9_$]", re.ASCII)
 """What stands beside a name only if it is a part of a longer one, or of a variable."""
 _MOST_WARNINGS = 20
@@ -88,7 +86,6 @@ def _sorted(found: Iterable[Diagnostic]) -> list[Diagnostic]:
     return sorted(found, key=lambda it: (it.line, it.place or 0))
 
 
-
 class _Lint:
     """What is found about an input."""
 
@@ -123,7 +120,7 @@ class _Lint:
                 line, meant = self._roles.made[name].line, self._meant(name, self._roles.wanted)
                 yield self._of(Severity.HINT, line, name, f"`{name}` is made, and nothing wants it", meant)
         often = [name for name in self._roles.standing if self._survey.counts[name] >= _OFTEN]
-        for name in self._roles.standing - told:
+        for name in sorted(self._roles.standing - told):
             meant = self._meant(name, often) if self._survey.counts[name] == 1 else ""
             if meant:
                 yield self._of(Severity.HINT, self._first_line(name), name, f"`{name}` stands once", meant)

@@ -118,8 +118,8 @@ def _all_needs(survey: Survey, arrows: list[_Arrow]) -> Iterator[_Need]:
 
 def _arrows(survey: Survey, component: int, type: Paths) -> list[_Arrow]:
     """The paths of a component, those that are alike once, for each choice of the variables that are a source or the target."""
-    found = {arrow for path in type for arrow in _choices(survey, path)}
-    return [_Arrow(component, needs, head) for needs, head in sorted(found, key=lambda it: (len(it[0]), it[1]))]
+    found = dict.fromkeys(arrow for path in type for arrow in _choices(survey, path))
+    return [_Arrow(component, needs, head) for needs, head in found]
 
 
 def _choices(survey: Survey, path: Path) -> Iterator[tuple[tuple[_Need, ...], str]]:

@@ -36,14 +36,14 @@ def run(given: Namespace) -> int:
 
 
 def explain(given: Namespace) -> int:
-    """Prints what is wrong, and nothing else."""
+    """Prints what is wrong, and nothing else. A certificate that is refused is no error of its query."""
     sources = Sources(given.files)
     process = Run(sources, options_of(given))
     has_error = False
     for exchange in process.exchanges():
+        has_error = has_error or exchange.error is not None
         explained = _explained(sources, exchange)
         if explained:
-            has_error = True
             print(explained, flush=True)
     return _status(process, FOUND if has_error else 0)
 
