@@ -33,6 +33,7 @@ CHAIN = "comp x : A\ncomp f : A -> A\n"
 
 
 def session(repository: str | clsynth.Repository, **options: Any) -> clsynth.Session:
+    options.setdefault("lint", False)
     return clsynth.Session(repository, program=PROGRAM, **options)
 
 

@@ -26,6 +26,7 @@ from clsynth.errors import RepositoryTooLong, SessionClosed
 from clsynth.evaluation import Functions
 from clsynth.grammars import Grammar
 from clsynth.limits import MAX_INPUT_BYTES, MAX_SIZE
+from clsynth.lint import warn_of
 from clsynth.names import check_name
 from clsynth.numbering import Numbering
 from clsynth.program import Options, Program, find_program
@@ -57,12 +58,14 @@ class Session:
     more than half of the room.
 
     Threads may share a session: their queries are answered one after another.
+
+    With `lint` what the module `lint` warns of in the repository is issued as a `RepositoryWarning`.
     """
 
     def __init__(
         self, repository: Repository | str, *, program: str | os.PathLike[str] | None = None, workers: int | None = None,
         max_goals: int | None = None, max_rules: int | None = None, pool: int | None = None, timeout: float | None = None,
-        names: Iterable[str] = (),
+        names: Iterable[str] = (), lint: bool = True,
     ) -> None:
         self._words = [find_program(program), *Options(workers, max_goals, max_rules, pool).words()]
         self._functions = repository.functions if isinstance(repository, Repository) else {}
@@ -75,6 +78,8 @@ class Session:
         self._is_closed = False
         with self._under_way(_GREETING, timeout) as attempt:
             self._program_for(0, attempt)
+        if lint:
+            warn_of(str(repository), stacklevel=2)
 
     def __enter__(self) -> Session:
         return self
