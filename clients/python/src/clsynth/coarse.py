@@ -62,7 +62,8 @@ class TypeReader:
 
     def number(self) -> None:
         """Passes a number."""
-        if not self._words[self.next].isdigit():
+        word = self._words[self.next]
+        if not (word.isascii() and word.isdigit()):
             raise Unreadable
         self.next += 1
 
@@ -91,21 +92,24 @@ class TypeReader:
         return tuple([Path(sources + path.sources, path.head, path.arguments) for path in parts[-1]])
 
     def _meet(self) -> Paths:
-        made = self._product()
-        while self._words[self.next] == "&":
-            self.next += 1
-            made += self._product()
-        return made
-
-    def _product(self) -> Paths:
-        made = self._atom()
-        while self._words[self.next] == "*":
-            self.next += 1
-            made = (Path((), PRODUCT, (made, self._atom())),)
-        return made
+        words = self._words
+        made: Paths = ()
+        product = self._atom()
+        while True:
+            sign = words[self.next]
+            if sign == "&":
+                self.next += 1
+                made += product
+                product = self._atom()
+            elif sign == "*":
+                self.next += 1
+                product = (Path((), PRODUCT, (product, self._atom())),)
+            else:
+                return made + product if made else product
 
     def _atom(self) -> Paths:
-        word = self._words[self.next]
+        words, place = self._words, self.next
+        word = words[place]
         if word == "(":
             return self._closed()
         if word == "omega":
@@ -115,12 +119,16 @@ class TypeReader:
             self.next += 1
             return _bare(f"${self.name()}")
         name = self.name()
-        words, place = self._words, self.next
-        if words[place] != "(":
+        if words[place + 1] != "(":
             return _bare(name)
+        if words[place + 2] and words[place + 3] == ")" and self._open < MAX_PARENTHESES:
+            # A constructor over a name is most of what there is, so it isn't made anew each time.
+            self.next += 1
+            inner = "omega" if self.takes("omega") else self.name()
+            self.wants(")")
+            return _over(name, inner)
         argument = self._closed()
-        # A constructor over a name is most of what there is, so it isn't made anew each time.
-        return _over(name, argument) if words[place + 2] == ")" else _made(name, argument)
+        return (Path((), name, (argument,)),) if argument else _bare(name)
 
     def _closed(self) -> Paths:
         """A type in parentheses, the first of which comes next."""
@@ -134,13 +142,10 @@ class TypeReader:
         return made
 
 
-def _made(name: str, argument: Paths) -> Paths:
-    """The constructor over a type."""
-    return (Path((), name, (argument,)),) if argument else _bare(name)
-
-
-_over = lru_cache(maxsize=20_000)(_made)
-"""The same for a type of one name."""
+@lru_cache(maxsize=20_000)
+def _over(name: str, inner: str) -> Paths:
+    """The constructor over a type that is one name."""
+    return _bare(name) if inner == "omega" else (Path((), name, (_bare(inner),)),)
 
 
 @lru_cache(maxsize=20_000)

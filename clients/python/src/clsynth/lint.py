@@ -13,9 +13,11 @@ What a warning says is so, whatever is asked. A hint is about what may be meant 
 
 from __future__ import annotations
 
+import gc
 import re
 import warnings
 from collections.abc import Collection, Iterable, Iterator
+from contextlib import contextmanager
 from functools import cached_property, lru_cache
 from typing import Any
 
@@ -65,7 +67,8 @@ def input_of(repository: Repository | str, queries: Iterable[str | Query[Any]] =
 
 def lint_input(given: Input) -> list[Diagnostic]:
     """The same about an input as the program reads it."""
-    return _sorted(_Lint(given).all())
+    with _without_collector():
+        return _sorted(_Lint(given).all())
 
 
 def warn_of(repository: str, stacklevel: int) -> None:
@@ -76,10 +79,23 @@ def warn_of(repository: str, stacklevel: int) -> None:
 
 @lru_cache(maxsize=4)
 def _warnings(repository: str) -> tuple[str, ...]:
-    found = _sorted(_Lint(input_of(repository)).warnings())
+    with _without_collector():
+        found = _sorted(_Lint(input_of(repository)).warnings())
     texts = [it.shown("repository") for it in found[:_MOST_WARNINGS]]
     others = len(found) - len(texts)
     return (*texts, *([f"{others:,} further warnings: `lint` and the command clsynth-check have all"] if others else ()))
+
+
+@contextmanager
+def _without_collector() -> Iterator[None]:
+    """Types are many small objects without cycles. The collector would go through all of them again and again, a third of the time."""
+    was_enabled = gc.isenabled()
+    gc.disable()
+    try:
+        yield
+    finally:
+        if was_enabled:
+            gc.enable()
 
 
 def _sorted(found: Iterable[Diagnostic]) -> list[Diagnostic]:
