@@ -1,29 +1,17 @@
-"""Tests of the client over the program that CLSYNTH names, or that is built in this repository."""
+"""Tests of a session over the program that CLSYNTH names, or that is built in this repository."""
+
+from __future__ import annotations
 
 import itertools
-import os
-import tempfile
 import unittest
 import unittest.mock
 from collections.abc import Callable
-from pathlib import Path
+
+from support import CHAIN, LISTS, fake, session, terms
 
 import clsynth
-from clsynth import Session, Step, TermText, Verdict
+from clsynth import Session, Step, Term, TermText, Verdict
 
-BUILT = Path(__file__).parents[2] / "crates/clsynth/out/clsynth"
-PROGRAM = os.environ.get("CLSYNTH") or str(BUILT)
-
-LISTS = """
-kind a = Int | Str
-comp input : List(Int)
-comp sort : List($a) -> List($a) & Asc
-comp rev : (List($a) -> List($a)) & (Asc -> Desc) & (Desc -> Asc)
-text input = xs
-text sort = sorted({1})
-text rev = {1}\\n  .reversed()
-"""
-CHAIN = "comp x : A\ncomp f : A -> A\n"
 # One component that meets each of eleven paths in two ways: 2,048 covers.
 WIDE = "comp w : " + " & ".join(f"({side}{path} -> C{path})" for path in range(1, 12) for side in "AB") + "\n"
 
@@ -31,10 +19,6 @@ WIDE = "comp w : " + " & ".join(f"({side}{path} -> C{path})" for path in range(1
 def tower(height: int) -> str:
     """A type whose spread grows threefold with each step."""
     return "A & B & C" if height == 0 else f"({tower(height - 1)}) -> A & B & C"
-
-
-def session(repository: str, **options: int) -> Session:
-    return Session(repository, program=PROGRAM, **options)
 
 
 class Answers(unittest.TestCase):
@@ -58,24 +42,24 @@ class Answers(unittest.TestCase):
     def test_terms_of_many_pages(self) -> None:
         with session(CHAIN) as chain:
             once = chain.page("A", 64)
-            self.assertEqual(once.entries[:3], ["x", "f(x)", "f(f(x))"])
+            self.assertEqual(once.entries[:3], terms("x", "f(x)", "f(f(x))"))
             self.assertFalse(once.more)
             for size in (1, 7, 63, 64, 65):
                 self.assertEqual(list(chain.terms("A", page_size=size)), once.entries)
-            self.assertEqual(list(chain.terms("A", max_size=3, after="x")), ["f(x)", "f(f(x))"])
+            self.assertEqual(list(chain.terms("A", max_size=3, after="x")), terms("f(x)", "f(f(x))"))
             self.assertEqual(list(chain.terms("B")), [])
 
     def test_iterators_go_side_by_side(self) -> None:
         with session(CHAIN) as chain:
             pairs = zip(chain.terms("A", page_size=2), chain.texts("A", page_size=3))
             for term, entry in itertools.islice(pairs, 10):
-                self.assertEqual(entry, TermText(term, term))
+                self.assertEqual(entry, TermText(term, str(term)))
                 self.assertTrue(chain.has_type(term, "A"))
 
     def test_texts(self) -> None:
         with session(LISTS) as lists:
             page = lists.text_page("List(Int) & Desc", 1)
-            self.assertEqual(page.entries, [TermText("rev(sort(input))", "sorted(xs)\n  .reversed()")])
+            self.assertEqual(page.entries, [TermText(Term.parse("rev(sort(input))"), "sorted(xs)\n  .reversed()")])
             self.assertTrue(page.more)
 
     def test_a_text_that_is_too_long_is_none(self) -> None:
@@ -85,18 +69,21 @@ class Answers(unittest.TestCase):
 
     def test_texts_are_utf8(self) -> None:
         with session("comp x : A\ntext x = über\n") as accents:
-            self.assertEqual(list(accents.texts("A")), [TermText("x", "über")])
+            self.assertEqual(list(accents.texts("A")), [TermText(Term("x"), "über")])
 
     def test_sizes(self) -> None:
         with session(CHAIN + "comp y : B\ncost y 7\n") as chain:
             self.assertEqual(chain.sizes("B"), clsynth.Sizes(7))
             self.assertEqual(chain.sizes("C"), clsynth.Sizes(0))
             self.assertEqual(chain.sizes("A"), clsynth.Sizes(None, (Step(0, 1, 0),)))
+            self.assertEqual([(it.is_infinite, it.is_over) for it in map(chain.sizes, "ABC")], [(True, False), (False, False), (False, False)])
 
     def test_a_greatest_size_over_the_bound(self) -> None:
         doubling = "".join(f"comp f{step} : A{step} -> A{step} -> A{step + 1}\n" for step in range(31))
         with session(doubling + "comp x : A0\n") as tree:
-            self.assertEqual(tree.sizes("A31"), clsynth.Sizes(None))
+            over = tree.sizes("A31")
+        self.assertEqual(over, clsynth.Sizes(None))
+        self.assertTrue(over.is_over and not over.is_infinite)
 
     def test_history(self) -> None:
         with session(CHAIN, workers=2) as chain:
@@ -162,8 +149,8 @@ class Errors(unittest.TestCase):
         }
         for word, ask in queries.items():
             options = {"max_goals": 1} if word == "too-large" else {"pool": 5} if word == "too-many-terms" else {}
-            text = "comp p : D -> A & B\n" + (WIDE if word == "wide" else CHAIN)
-            with self.subTest(word), session(text, **options) as chain:
+            repository = "comp p : D -> A & B\n" + (WIDE if word == "wide" else CHAIN)
+            with self.subTest(word), session(repository, **options) as chain:
                 with self.assertRaises(clsynth.ERRORS[word]):
                     ask(chain)
                 self.assertTrue(chain.is_subtype("A & B", "B"), "the session goes on")
@@ -197,67 +184,36 @@ class Errors(unittest.TestCase):
             session("comp x : A\ncomp x : B\n" + "# a comment\n" * 10_000)
         self.assertEqual((refused.exception.line, refused.exception.words), (2, "duplicate-component x"))
 
-    def test_the_input_has_a_greatest_length(self) -> None:
-        with session(CHAIN) as chain:
-            query = "A" + " " * 60_000
-            with self.assertRaises(clsynth.InputFull):
-                for _ in range(20):
-                    chain.inhabited(query)
-            self.assertTrue(chain.inhabited("A" + " " * (chain.bytes_left - len("inhabit A\n"))))
-            self.assertEqual(chain.bytes_left, 0)
-
 
 class Processes(unittest.TestCase):
-    def fake(self, body: str) -> str:
-        """A program of its own kind in a folder that goes with the test."""
-        folder = tempfile.TemporaryDirectory()
-        self.addCleanup(folder.cleanup)
-        program = Path(folder.name, "program")
-        program.write_text("#!/bin/sh\n" + body)
-        program.chmod(0o755)
-        return str(program)
-
     def test_a_fault_has_the_name_of_the_status(self) -> None:
         for status in clsynth.Status:
             with self.subTest(status.name), self.assertRaises(clsynth.ProcessFault) as fault:
-                Session(CHAIN, program=self.fake(f"exit {status.value}"))
+                Session(CHAIN, program=fake(self, f"exit {status.value}"))
             self.assertEqual(fault.exception.status, status)
             self.assertIn(status.name, str(fault.exception))
 
     def test_a_fault_within_a_reply(self) -> None:
-        session = Session(CHAIN, program=self.fake("echo yes; read -r line; echo term x; exit 5"))
+        session = Session(CHAIN, program=fake(self, "echo yes; read -r line; echo term x; exit 5"))
         with self.assertRaises(clsynth.ProcessFault) as fault:
             list(session.terms("A"))
         self.assertEqual(fault.exception.status, clsynth.Status.NO_MEMORY)
-        with self.assertRaises(clsynth.SessionClosed):
-            session.inhabited("A")
-
-    def test_a_reply_that_is_not_read_ends_the_session(self) -> None:
-        chain = session(CHAIN)
-        with self.assertRaises(KeyboardInterrupt), unittest.mock.patch.object(chain, "_with_text", side_effect=KeyboardInterrupt):
-            chain.text_page("A", 3)
-        with self.assertRaises(clsynth.SessionClosed):
-            chain.inhabited("A")
 
     def test_a_fault_at_the_end(self) -> None:
-        session = Session(CHAIN, program=self.fake("echo yes; cat >/dev/null; exit 4"))
+        session = Session(CHAIN, program=fake(self, "echo yes; cat >/dev/null; exit 4"))
         with self.assertRaises(clsynth.ProcessFault) as fault:
             session.close()
         self.assertEqual(fault.exception.status, clsynth.Status.WRITE_FAULT)
 
     def test_a_signal_has_no_status(self) -> None:
         with self.assertRaises(clsynth.ProcessFault) as fault:
-            Session(CHAIN, program=self.fake("kill -9 $$"))
+            Session(CHAIN, program=fake(self, "kill -9 $$"))
         self.assertEqual((fault.exception.code, fault.exception.status), (-9, None))
 
     def test_bad_options(self) -> None:
         with self.assertRaises(clsynth.ProcessFault) as fault:
             session(CHAIN, workers=65)
         self.assertEqual(fault.exception.status, clsynth.Status.USAGE)
-
-    def test_no_program(self) -> None:
-        with self.assertRaises(FileNotFoundError):
-            Session(CHAIN, program="/nowhere/clsynth")
 
     def test_a_closed_session(self) -> None:
         chain = session(CHAIN)
