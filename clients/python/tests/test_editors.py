@@ -16,7 +16,7 @@ from textmate import Grammar
 import clsynth
 
 EDITORS = TOP / "editors"
-GRAMMAR = EDITORS / "clsynth.tmLanguage.json"
+GRAMMAR = EDITORS / "vscode/clsynth.tmLanguage.json"
 
 SAMPLE = r"""# comp x : A
 sub Integer Number
