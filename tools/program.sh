@@ -17,7 +17,7 @@ fail() {
 
 # Finds the files that a build reads, and `rt` if it is given. The other words are those of `find`.
 find_files() {
-    (cd "$top" && find -H crates crates.txt HANDLES ${rt:+"$rt"} -regex 'crates/[^/]*/out' -prune -o -type f "$@")
+    (cd "$top" && find -H crates crates.txt HANDLES ${rt:+"$rt"} -name out -regex 'crates/[^/]*/out' -prune -o -type f "$@")
 }
 
 listing() {
