@@ -1,25 +1,25 @@
-ghost use Rattle.std.specs.Prelude.{◌<◌, ◌≤◌, ◌^◌, IfSome, option_copied};
-ghost use Rattle.cls_base.specs.Terms.{length_of};
+ghost use Rattle.std.specs.Prelude.{ℕ, ◌<◌, ◌≤◌, ◌^◌, IfSome, length, option_copied, slice_index_or};
+ghost use Rattle.cls_base.specs.Terms.{component, length_of};
 
 use crate::generated::{Generated, MOST};
 use crate::hand_book::HandBook;
-use crate::listing::{listed, pool};
+use crate::listing::{deciding_size, listed};
 use crate::query::{Codes, Query, alone, applied, codes_of, paged};
 use crate::random_books::{Random, random_book};
 use cls_enum::PageFault;
-use cls_term::Term;
+use cls_term::{CodedTerms, Term};
 use std::alloc::Global;
 use std::test::Fail;
 
 /// A book, with the terms that its rules generate, and what its pages are asked for.
 #[derive(Clone, Copy)]
-struct Asked<'a> {
+struct Asked<'a, 'q> {
     book: &'a HandBook,
     made: &'a Generated,
-    query: Query<'a>,
+    query: Query<'q>,
 }
 
-/// The codes of the page behind the term, if there is one.
+/// The codes of the page behind the term, or of the first page where there is none.
 fn codes_behind(alloc: Global, asked: &Asked, after: Option<&Term>) -> Result<Codes, PageFault>
     requires token { IfSome (option_copied after) (λ a. length_of a < 2 ^ 32) }
 {
@@ -32,50 +32,111 @@ fn agrees(alloc: Global, asked: &Asked) -> bool {
 }
 
 /// Whether the page behind the term is the one of the definition.
-fn agrees_behind(alloc: Global, asked: &Asked, after: &Term) -> Result<bool, PageFault>
+fn agrees_behind(alloc: Global, asked: &Asked, after: &Term) -> bool
     requires { length_of after.now < 2 ^ 32 }
 {
-    let code = after.code(alloc)?;
-    let wanted = listed(alloc, asked.made, &asked.query, code.as_slice());
-    Ok(codes_behind(alloc, asked, Some(after)) == wanted)
+    match after.code(alloc) {
+        Ok(code) => {
+            codes_behind(alloc, asked, Some(after))
+                == listed(alloc, asked.made, &asked.query, code.as_slice())
+        }
+        Err(_) => false,
+    }
 }
 
-/// Whether the pages behind each term of the first page are those of the definition.
-fn agrees_behind_its_terms(alloc: Global, asked: &Asked) -> Result<bool, PageFault> {
-    let Ok(page) = paged(alloc, asked.book, &asked.query, None) else {
-        return Ok(true);
-    };
-    for place in 0..page.terms.len() {
-        let term = page.terms.term(alloc, place)?;
-        if !agrees_behind(alloc, asked, &term)? {
-            return Ok(false);
+/// Whether the page behind the term at a place is the one of the definition.
+fn agrees_behind_place(alloc: Global, asked: &Asked, terms: &CodedTerms, place: usize) -> bool
+    requires place { place < length terms.now }
+    requires short { length_of (slice_index_or terms.now place (component 0)) < 2 ^ 32 }
+{
+    match terms.term(alloc, place) {
+        Ok(term) => agrees_behind(alloc, asked, &term),
+        Err(_) => false,
+    }
+}
+
+/// Whether the pages behind each of the terms are those of the definition.
+fn agrees_behind_each(alloc: Global, asked: &Asked, terms: &CodedTerms) -> bool
+    requires short { (i : ℕ) → i < length terms.now → length_of (slice_index_or terms.now i (component 0)) < 2 ^ 32 }
+{
+    for place in 0..terms.len() {
+        if !agrees_behind_place(alloc, asked, terms, place) {
+            return false;
         }
     }
-    Ok(true)
+    true
+}
+
+/// Whether the pages behind each term of the first page are those of the definition, if there is such a page.
+fn agrees_behind_its_terms(alloc: Global, asked: &Asked) -> bool {
+    match paged(alloc, asked.book, &asked.query, None) {
+        Ok(page) => agrees_behind_each(alloc, asked, &page.terms),
+        Err(_) => true,
+    }
+}
+
+/// Whether the page behind a component that is applied to another one is the one of the definition.
+fn agrees_behind_applied(alloc: Global, asked: &Asked, head: u32, arg: u32) -> bool {
+    match applied(alloc, head, arg) {
+        Ok(term) => agrees_behind(alloc, asked, &term),
+        Err(_) => false,
+    }
 }
 
 /// Whether the pages agree where the pool is met, and where it is one short.
-fn agrees_at_its_pool(alloc: Global, mut asked: Asked) -> Result<bool, PageFault> {
-    asked.query.pool = pool(alloc, asked.made, &asked.query, &[])?;
-    if asked.query.pool == 0 || asked.query.pool > MOST as u64 {
-        return Ok(true);
+fn agrees_at_its_pool(alloc: Global, mut asked: Asked) -> bool {
+    let pool = asked
+        .made
+        .pooled(deciding_size(asked.made, &asked.query, &[]));
+    if pool == 0 || pool > MOST as u64 {
+        return true;
     }
+    asked.query.pool = pool;
     let is_met = agrees(alloc, &asked);
-    asked.query.pool -= 1;
-    Ok(is_met && agrees(alloc, &asked))
+    asked.query.pool = pool - 1;
+    is_met && agrees(alloc, &asked)
 }
 
-/// Whether the first page and those behind its terms are those of the definition, and those behind two terms by chance, which
-/// need not be in the language.
-fn agrees_throughout(alloc: Global, asked: &Asked, random: &mut Random) -> Result<bool, PageFault> {
-    let short = alone(alloc, random.below(4));
-    let longer = applied(alloc, random.below(4), random.below(4))?;
-    Ok(
-        agrees(alloc, asked)
-            && agrees_behind_its_terms(alloc, asked)?
-            && agrees_behind(alloc, asked, &short)?
-            && agrees_behind(alloc, asked, &longer)?,
-    )
+/// Whether all these pages of the book are those of the definition.
+fn agrees_on(
+    alloc: Global,
+    random: &mut Random,
+    book: &HandBook,
+    most_cost: u32,
+    most_size: u32,
+) -> bool
+    requires cost { (1 ≤ most_cost) × (most_cost ≤ 255) }
+    requires size { (1 ≤ most_size) × (most_size ≤ 1000) }
+{
+    let costs = [
+        1 + random.below(most_cost),
+        1 + random.below(most_cost),
+        most_cost,
+        1,
+    ];
+    let query = Query {
+        costs: &costs,
+        max: 1 + random.below(most_size),
+        take: 1 + random.below(12),
+        pool: 1 + u64::from(random.below(80)),
+    };
+    match Generated::of(alloc, book, &costs, query.max) {
+        Ok(made) => {
+            let asked = Asked {
+                book,
+                made: &made,
+                query,
+            };
+            // These terms need not be in the language.
+            let (short, head, arg) = (random.below(4), random.below(4), random.below(4));
+            agrees(alloc, &asked)
+                && agrees_behind_its_terms(alloc, &asked)
+                && agrees_behind(alloc, &asked, &alone(alloc, short))
+                && agrees_behind_applied(alloc, &asked, head, arg)
+                && agrees_at_its_pool(alloc, asked)
+        }
+        Err(_) => false,
+    }
 }
 
 /// Whether the pages of so many books by chance are those of the definition, where components cost at most so much and
@@ -87,25 +148,7 @@ fn agree(alloc: Global, books: u32, most_cost: u32, most_size: u32) -> Result<bo
     let mut random = Random::new(u64::from(most_size));
     for _book in 0..books {
         let book = random_book(alloc, &mut random)?;
-        let costs = [
-            1 + random.below(most_cost),
-            1 + random.below(most_cost),
-            most_cost,
-            1,
-        ];
-        let query = Query {
-            costs: &costs,
-            max: 1 + random.below(most_size),
-            take: 1 + random.below(12),
-            pool: 1 + u64::from(random.below(80)),
-        };
-        let made = Generated::of(alloc, &book, &costs, query.max)?;
-        let asked = Asked {
-            book: &book,
-            made: &made,
-            query,
-        };
-        if !agrees_throughout(alloc, &asked, &mut random)? || !agrees_at_its_pool(alloc, asked)? {
+        if !agrees_on(alloc, &mut random, &book, most_cost, most_size) {
             return Ok(false);
         }
     }
@@ -121,7 +164,9 @@ fn pages_of_random_books_are_those_of_the_definition(rt: HostRuntime) -> Result<
 
 // Sizes go far over 64, up to which terms are counted by arithmetic.
 #[test]
-fn so_they_are_where_components_cost_much(rt: HostRuntime) -> Result<(), Fail> {
+fn pages_are_those_of_the_definition_where_components_cost_much(
+    rt: HostRuntime,
+) -> Result<(), Fail> {
     assert!(rt; agree(rt.alloc(), 50, 100, 300)?);
     Ok(())
 }
