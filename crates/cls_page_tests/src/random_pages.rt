@@ -11,56 +11,72 @@ use cls_term::{CodedTerms, Term};
 use std::alloc::Global;
 use std::test::Fail;
 
-/// A book, with the terms that its rules generate, and what its pages are asked for.
-#[derive(Clone, Copy)]
-struct Asked<'a, 'q> {
-    book: &'a HandBook,
-    made: &'a Generated,
-    query: Query<'q>,
-}
-
 /// The codes of the page behind the term, or of the first page where there is none.
-fn codes_behind(alloc: Global, asked: &Asked, after: Option<&Term>) -> Result<Codes, PageFault>
+fn codes_behind(
+    alloc: Global,
+    book: &HandBook,
+    query: &Query,
+    after: Option<&Term>,
+) -> Result<Codes, PageFault>
     requires token { IfSome (option_copied after) (λ a. length_of a < 2 ^ 32) }
 {
-    codes_of(alloc, &paged(alloc, asked.book, &asked.query, after)?)
+    codes_of(alloc, &paged(alloc, book, query, after)?)
 }
 
 /// Whether the first page is the one of the definition.
-fn agrees(alloc: Global, asked: &Asked) -> bool {
-    codes_behind(alloc, asked, None) == listed(alloc, asked.made, &asked.query, &[])
+fn agrees(alloc: Global, book: &HandBook, made: &Generated, query: &Query) -> bool {
+    codes_behind(alloc, book, query, None) == listed(alloc, made, query, &[])
 }
 
 /// Whether the page behind the term is the one of the definition.
-fn agrees_behind(alloc: Global, asked: &Asked, after: &Term) -> bool
+fn agrees_behind(
+    alloc: Global,
+    book: &HandBook,
+    made: &Generated,
+    query: &Query,
+    after: &Term,
+) -> bool
     requires { length_of after.now < 2 ^ 32 }
 {
     match after.code(alloc) {
         Ok(code) => {
-            codes_behind(alloc, asked, Some(after))
-                == listed(alloc, asked.made, &asked.query, code.as_slice())
+            codes_behind(alloc, book, query, Some(after))
+                == listed(alloc, made, query, code.as_slice())
         }
         Err(_) => false,
     }
 }
 
 /// Whether the page behind the term at a place is the one of the definition.
-fn agrees_behind_place(alloc: Global, asked: &Asked, terms: &CodedTerms, place: usize) -> bool
+fn agrees_behind_place(
+    alloc: Global,
+    book: &HandBook,
+    made: &Generated,
+    query: &Query,
+    terms: &CodedTerms,
+    place: usize,
+) -> bool
     requires place { place < length terms.now }
     requires short { length_of (slice_index_or terms.now place (component 0)) < 2 ^ 32 }
 {
     match terms.term(alloc, place) {
-        Ok(term) => agrees_behind(alloc, asked, &term),
+        Ok(term) => agrees_behind(alloc, book, made, query, &term),
         Err(_) => false,
     }
 }
 
 /// Whether the pages behind each of the terms are those of the definition.
-fn agrees_behind_each(alloc: Global, asked: &Asked, terms: &CodedTerms) -> bool
+fn agrees_behind_each(
+    alloc: Global,
+    book: &HandBook,
+    made: &Generated,
+    query: &Query,
+    terms: &CodedTerms,
+) -> bool
     requires short { (i : ℕ) → i < length terms.now → length_of (slice_index_or terms.now i (component 0)) < 2 ^ 32 }
 {
     for place in 0..terms.len() {
-        if !agrees_behind_place(alloc, asked, terms, place) {
+        if !agrees_behind_place(alloc, book, made, query, terms, place) {
             return false;
         }
     }
@@ -68,33 +84,43 @@ fn agrees_behind_each(alloc: Global, asked: &Asked, terms: &CodedTerms) -> bool
 }
 
 /// Whether the pages behind each term of the first page are those of the definition, if there is such a page.
-fn agrees_behind_its_terms(alloc: Global, asked: &Asked) -> bool {
-    match paged(alloc, asked.book, &asked.query, None) {
-        Ok(page) => agrees_behind_each(alloc, asked, &page.terms),
+fn agrees_behind_its_terms(
+    alloc: Global,
+    book: &HandBook,
+    made: &Generated,
+    query: &Query,
+) -> bool {
+    match paged(alloc, book, query, None) {
+        Ok(page) => agrees_behind_each(alloc, book, made, query, &page.terms),
         Err(_) => true,
     }
 }
 
 /// Whether the page behind a component that is applied to another one is the one of the definition.
-fn agrees_behind_applied(alloc: Global, asked: &Asked, head: u32, arg: u32) -> bool {
+fn agrees_behind_applied(
+    alloc: Global,
+    book: &HandBook,
+    made: &Generated,
+    query: &Query,
+    head: u32,
+    arg: u32,
+) -> bool {
     match applied(alloc, head, arg) {
-        Ok(term) => agrees_behind(alloc, asked, &term),
+        Ok(term) => agrees_behind(alloc, book, made, query, &term),
         Err(_) => false,
     }
 }
 
 /// Whether the pages agree where the pool is met, and where it is one short.
-fn agrees_at_its_pool(alloc: Global, mut asked: Asked) -> bool {
-    let pool = asked
-        .made
-        .pooled(deciding_size(asked.made, &asked.query, &[]));
+fn agrees_at_its_pool(alloc: Global, book: &HandBook, made: &Generated, mut query: Query) -> bool {
+    let pool = made.pooled(deciding_size(made, &query, &[]));
     if pool == 0 || pool > MOST as u64 {
         return true;
     }
-    asked.query.pool = pool;
-    let is_met = agrees(alloc, &asked);
-    asked.query.pool = pool - 1;
-    is_met && agrees(alloc, &asked)
+    query.pool = pool;
+    let is_met = agrees(alloc, book, made, &query);
+    query.pool = pool - 1;
+    is_met && agrees(alloc, book, made, &query)
 }
 
 /// Whether all these pages of the book are those of the definition.
@@ -122,18 +148,13 @@ fn agrees_on(
     };
     match Generated::of(alloc, book, &costs, query.max) {
         Ok(made) => {
-            let asked = Asked {
-                book,
-                made: &made,
-                query,
-            };
             // These terms need not be in the language.
             let (short, head, arg) = (random.below(4), random.below(4), random.below(4));
-            agrees(alloc, &asked)
-                && agrees_behind_its_terms(alloc, &asked)
-                && agrees_behind(alloc, &asked, &alone(alloc, short))
-                && agrees_behind_applied(alloc, &asked, head, arg)
-                && agrees_at_its_pool(alloc, asked)
+            agrees(alloc, book, &made, &query)
+                && agrees_behind_its_terms(alloc, book, &made, &query)
+                && agrees_behind(alloc, book, &made, &query, &alone(alloc, short))
+                && agrees_behind_applied(alloc, book, &made, &query, head, arg)
+                && agrees_at_its_pool(alloc, book, &made, query)
         }
         Err(_) => false,
     }
