@@ -71,7 +71,7 @@ fn main(rt: HostRuntime) -> io::Result<()> {
         let found = covers(rt.alloc(), families.as_slice(), 1024);
         let time = start.elapsed(&rt)?.as_nanos();
         match found {
-            Ok(list) => println!(rt; "covers {} {time}", list.as_slice().len())?,
+            Ok(list) => println!(rt; "covers {} {time}", list.len())?,
             Err(CoverFault::TooManyCovers(j)) => println!(rt; "many {j} {time}")?,
             Err(CoverFault::OutOfMemory) => println!(rt; "memory 0 {time}")?,
         }

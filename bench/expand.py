@@ -16,7 +16,7 @@ CRATES = ["cls_base", "cls_taxon", "cls_path", "cls_norm", "cls_kind", "cls_term
 PROGRAM = '''// Reads lines of two numbers: a case, and how many pairs, types or applications it has.
 #![tactic(auto)]
 
-ghost use Rattle.std.specs.Prelude.{◌<◌, length, IfOk};
+ghost use Rattle.std.specs.Prelude.{◌≡◌, ◌<◌, length, IfOk};
 ghost use Rattle.cls_base.specs.Terms.{IsTermOver};
 ghost use Rattle.cls_expand.specs.Answers.{IsReady};
 
@@ -28,7 +28,7 @@ use cls_library::Library;
 use cls_norm::{fit, normal};
 use cls_path::Nf;
 use cls_taxon::Taxonomy;
-use cls_term::{Term, Terms};
+use cls_term::{CodedTerm, Term, Terms};
 use std::alloc::Global;
 use std::io;
 use std::time::Instant;
@@ -142,6 +142,13 @@ fn nested(alloc: Global, count: u32) -> Result<Term, OutOfMemory>
     Ok(term)
 }
 
+/// The term by its code.
+fn coded(alloc: Global, term: &Term) -> Result<CodedTerm, OutOfMemory>
+    ensures { IfOk result (λ coded. coded ≡ term.now) }
+{
+    Ok(CodedTerm::from_vec(term.code(alloc)?.into_vec()))
+}
+
 fn main(rt: HostRuntime) -> io::Result<()> {
     let alloc = rt.alloc();
     for line in rt.lines(alloc) {
@@ -166,7 +173,10 @@ fn main(rt: HostRuntime) -> io::Result<()> {
             };
             println!(rt; "{} {time}", answer.rule_count())?;
         } else if library.count() == 2 {
-            let Ok(term) = nested(alloc, count) else {
+            let Ok(nested) = nested(alloc, count) else {
+                return Ok(());
+            };
+            let Ok(term) = coded(alloc, &nested) else {
                 return Ok(());
             };
             let start = Instant::now(&rt)?;

@@ -3,8 +3,9 @@
 
     bench/machine.py [--runs N] [--goals N]
 
-No program of the repository expands goals yet, so this builds one in a folder of its own, which proves it first. The time is
-that of the call alone. The memory is the greatest of the whole program, by GNU time."""
+In a run of clsynth the rules of the goals take time as well. So this builds a program over an expander that has its rules at hand,
+in a folder of its own, which proves it first. The time is that of the call alone. The memory is the greatest of the whole program,
+by GNU time."""
 import argparse
 import subprocess
 import tempfile

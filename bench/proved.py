@@ -1,4 +1,4 @@
-"""Builds a small program over crates of the repository, in a folder of its own. It is proved before it is built."""
+"""Small programs over crates of the repository, each in a folder of its own. One that is built is proved first."""
 import os
 import re
 import shutil
@@ -26,9 +26,8 @@ def closure(crates, stands_on):
     return [crate for crate in stands_on if crate in wanted]
 
 
-def build(folder, name, crates, source, proof=None, files=None):
-    """The path of the program with this source over these crates and those below them, with this proof of its `main`, and with
-    further files by their paths in its folder."""
+def lay_out(folder, name, crates, source, files=None):
+    """The folder of a program with this source over these crates and those below them, and with further files by their paths in it."""
     stands_on = dependencies()
     crates = closure(crates, stands_on)
     program = os.path.join(folder, "crates", name)
@@ -40,17 +39,17 @@ def build(folder, name, crates, source, proof=None, files=None):
             file.write("%s: %s\n" % (crate, " ".join(stands_on[crate])))
         file.write("%s: %s\n" % (name, " ".join(crates)))
     shutil.copy(os.path.join(TOP, "HANDLES"), folder)
-    with open(os.path.join(program, "src/main.rt"), "w") as file:
-        file.write(source)
-    if proof is not None:
-        os.makedirs(os.path.join(program, "proofs/main"))
-        with open(os.path.join(program, "proofs/main/Answers.antt"), "w") as file:
-            file.write(proof)
-    for path, text in (files or {}).items():
+    for path, text in {"src/main.rt": source, "stdin": "", **(files or {})}.items():
         os.makedirs(os.path.dirname(os.path.join(program, path)), exist_ok=True)
         with open(os.path.join(program, path), "w") as file:
             file.write(text)
-    open(os.path.join(program, "stdin"), "w").close()
+    return program
+
+
+def build(folder, name, crates, source, proof=None, files=None):
+    """The path of such a program, with this proof of its `main`."""
+    proofs = {} if proof is None else {"proofs/main/Answers.antt": proof}
+    program = lay_out(folder, name, crates, source, {**proofs, **(files or {})})
     subprocess.run(["rt", "run"], cwd=program, check=True, stdout=subprocess.DEVNULL)
     return os.path.join(program, "out", name)
 

@@ -3,8 +3,8 @@
 
     bench/taxonomy.py [--runs N]
 
-No program of the repository reads a taxonomy yet, so this builds one in a folder of its own, which proves it first.
-Times are those of the calls, without the reading of the pairs; the memory is that of the whole program."""
+A run of clsynth reads and answers lines as well. So this builds a program that makes a taxonomy alone, in a folder of its own,
+which proves it first. Times are those of the calls, without the reading of the pairs; the memory is that of the whole program."""
 import argparse
 import random
 import subprocess

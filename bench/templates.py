@@ -3,8 +3,8 @@
 
     bench/templates.py [--runs N]
 
-No program of the repository writes texts of terms yet, so this builds one in a folder of its own, which proves it first. A time
-is that of one call of `text_of`, the best of some runs."""
+A run of clsynth finds the terms first. So this builds a program that writes texts of terms alone, in a folder of its own, which
+proves it first. A time is that of one call of `text_of`, the best of some runs."""
 import argparse
 import subprocess
 import tempfile

@@ -9,7 +9,7 @@ import tempfile
 from pathlib import Path
 
 HERE = Path(__file__).parent
-sys.path.insert(0, str(HERE.parents[1] / "clients/python"))
+sys.path.insert(0, str(HERE.parents[1] / "clients/python/src"))
 
 from clsynth import Session
 

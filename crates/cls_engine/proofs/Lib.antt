@@ -1,4 +1,5 @@
 pub mod Causes
+pub mod Certifying
 pub mod Completions
 pub mod Faulting
 pub mod Finiteness

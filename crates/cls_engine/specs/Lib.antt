@@ -5,6 +5,7 @@ pub mod Engines
 pub mod Faults
 pub mod Goals
 pub mod Histories
+pub mod Laws
 pub mod Options
 pub mod Recents
 pub mod Sizes

@@ -12,6 +12,7 @@ mod closure;
 mod compare;
 mod engine;
 mod fault;
+pub mod laws;
 mod library_expander;
 mod listing;
 mod options;

@@ -1,6 +1,7 @@
 pub mod Alike
 pub mod Answering
 pub mod Answers
+pub mod Beginnings
 pub mod BookSizes
 pub mod Classical
 pub mod Closures

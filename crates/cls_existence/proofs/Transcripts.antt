@@ -55,12 +55,12 @@ fault_more lines more said (repositories.IsFirstFault.of_line before after line 
 fault_more lines more said (repositories.IsFirstFault.of_repository before after end reading ended split t e is f) =
     repositories.IsFirstFault.of_repository before (after ++ more) end reading ended (ap (λ (ls : List (List ℕ)). ls ++ more) split ∙ append_assoc before (end ∷ after) more) t e is f
 
-refused_more : (lines more : List (List ℕ)) (text : List ℕ) → IsRefused lines text → IsRefused (lines ++ more) text
+pub refused_more : (lines more : List (List ℕ)) (text : List ℕ) → IsRefused lines text → IsRefused (lines ++ more) text
 refused_more lines more text r = record { said = r.said; fault = fault_more lines more r.said r.fault; written = r.written }
 
 module _ (o : Options) where
   -- the text goes on with replies, or with a refusal
-  abbrev Next : List (List ℕ) → List ℕ → Type 0
+  abbrev pub Next : List (List ℕ) → List ℕ → Type 0
   Next lines text = (rest : List ℕ) × (Transcript o lines (text ++ rest) ⊎ IsRefused lines (text ++ rest))
 
   served : (d : Draft) (l : Library) → IsLibraryOf (declared_in d) d.kinds (schemas_in d) l → (s : Serving) × Serves o d s
@@ -157,20 +157,20 @@ module _ (o : Options) where
   after_one lines more line text on (reply, inl t) = after (on reply t) (λ u. joined lines more line text reply u.0 u.1)
   after_one lines more line text on (reply, inr r) = surely (ended_by lines more line text reply r)
 
-  goes_on : (more lines : List (List ℕ)) (text : List ℕ) → Transcript o lines text → IsPossible (After lines more text)
+  pub goes_on : (more lines : List (List ℕ)) (text : List ℕ) → Transcript o lines text → IsPossible (After lines more text)
   goes_on [] lines text t =
       surely ([], inl (subst (λ (ls : List (List ℕ)). Transcript o ls (text ++ [])) (sym (append-nil lines)) (subst (λ (s : List ℕ). Transcript o lines s) (sym (append-nil text)) t)))
   goes_on (line ∷ more) lines text t =
       follow (next lines text line t) (after_one lines more line text (λ reply u. goes_on more (lines ++ line ∷ []) (text ++ reply) u))
 
   -- THE END
-  abbrev HasEnd : List (List ℕ) → List ℕ → Type 0
+  abbrev pub HasEnd : List (List ℕ) → List ℕ → Type 0
   HasEnd lines text = (last : List ℕ) × (status : Status) × Ending o lines (text ++ last) status
 
   completed : (lines : List (List ℕ)) (text : List ℕ) (s : Serving) → IsAnswered o lines text s → (e : (last : List ℕ) × Ends s last) → HasEnd lines text
   completed lines text s h (last, e) = (last, Done, transcripts.Ending.complete s text last h e refl refl)
 
-  ends : (lines : List (List ℕ)) (text : List ℕ) → Transcript o lines text → IsPossible (HasEnd lines text)
+  pub ends : (lines : List (List ℕ)) (text : List ℕ) → Transcript o lines text → IsPossible (HasEnd lines text)
   ends lines text (transcripts.Transcript.opening reading taken empty) =
       let words = refusal (reading.lines, codes "no-end") in
       surely (words, Refused, transcripts.Ending.without_end reading taken (ap (λ (t : List ℕ). t ++ words) empty) refl)
@@ -184,12 +184,12 @@ module _ (o : Options) where
     begun : Transcript o [] []
     begun = transcripts.Transcript.opening no_reading (record { taken = refl; unended = refl }) refl
 
-    all_read : length bytes ≤ max_input_bytes → lines_read bytes ≡ lines_of bytes
+    pub all_read : length bytes ≤ max_input_bytes → lines_read bytes ≡ lines_of bytes
     all_read few =
         let e : nat_lt max_input_bytes (length bytes) ≡ false = grind (arith, nat_tests) in
         ap (λ (b : Bool). if b then ended_lines (take max_input_bytes bytes) else lines_of bytes) e
 
-    few_or_many : (n : ℕ) → (n ≤ max_input_bytes) ⊎ (max_input_bytes < n)
+    pub few_or_many : (n : ℕ) → (n ≤ max_input_bytes) ⊎ (max_input_bytes < n)
     few_or_many n = grind arith
 
     whole : length bytes ≤ max_input_bytes → (text : List ℕ) → (e : HasEnd (lines_of bytes) text) → HasOutput

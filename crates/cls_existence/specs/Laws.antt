@@ -1,6 +1,7 @@
 -- What exists for each library and goal, as statements.
-use Rattle.std.specs.Prelude.{ℕ, ◌⊎◌, ◌<◌, Bool, List, ◌++◌}
+use Rattle.std.specs.Prelude.{ℕ, ◌⊎◌, ◌<◌, Bool, List, ◌++◌, IfSome}
 use Rattle.std.specs.Ordering.{eq_by_cmp}
+use Rattle.cls_base.specs.Outside.{SourceSeen, SinkSeen}
 use Rattle.cls_base.specs.Pages.{Request, IsPage}
 use Rattle.cls_base.specs.Terms.{Applicative}
 use Rattle.cls_base.specs.Types.{ClosedType}
@@ -30,7 +31,7 @@ use Rattle.cls_replies.specs.Replies.{TellsSizes}
 use Rattle.cls_replies.specs.Lines.{Goes, Ends}
 use Rattle.cls_replies.specs.Serving.{Serving}
 use Rattle.cls_session.specs.declared.status.Status.{Status}
-use Rattle.cls_session.specs.Outputs.{Output}
+use Rattle.cls_session.specs.Outputs.{Output, MayStand, IsEnoughRoom, HasRoom}
 use Rattle.cls_session.specs.Transcripts.{IsAnswered, Transcript, IsRefused, Ending}
 use Rattle.cls_existence.specs.Possible.{IsPossible}
 use Rattle.cls_existence.specs.Histories.{AreBy}
@@ -136,3 +137,20 @@ abbrev pub OutputsExist : Type 0
 OutputsExist =
     (words : List (List ℕ)) (bytes : List ℕ)
     → IsPossible ((text : List ℕ) × (status : Status) × Output words bytes text status)
+
+-- What may stand written at one time or another begins an output.
+abbrev pub WhatMayStandBegins : Type 0
+WhatMayStandBegins =
+    (words : List (List ℕ)) (bytes text : List ℕ) → MayStand words bytes text
+    → IsPossible ((rest : List ℕ) × (status : Status) × Output words bytes (text ++ rest) status)
+
+-- The room that the sink tells is enough for each output, for the bytes that the source tells.
+abbrev pub HasRoomForOutputs : List (List ℕ) → SourceSeen → SinkSeen → Type 0
+HasRoomForOutputs words source sink =
+    IfSome sink.room (λ n. IsEnoughRoom (λ bytes text. (status : Status) × Output words bytes text status) source.left n)
+
+-- Room for each output is the room that a run requires.
+abbrev pub RoomForOutputsIsEnough : Type 0
+RoomForOutputsIsEnough =
+    (words : List (List ℕ)) (source : SourceSeen) (sink : SinkSeen)
+    → HasRoomForOutputs words source sink → HasRoom words source sink

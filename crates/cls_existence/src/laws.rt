@@ -1,5 +1,5 @@
 //! What can't fail to exist, as calls that do nothing and promise the law. No law names a way of finding it.
-ghost use Rattle.cls_existence.specs.Laws.{AnswersExist, HistoriesExist, ClosuresExist, GrammarTextsExist, VerdictsExist, ReadingsExist, TypesHaveClosures, AuditsExist, CertificatesExist, SizesExist, PagesExist, LinesHaveReplies, TranscriptsGoOn, OutputsExist};
+ghost use Rattle.cls_existence.specs.Laws.{AnswersExist, HistoriesExist, ClosuresExist, GrammarTextsExist, VerdictsExist, ReadingsExist, TypesHaveClosures, AuditsExist, CertificatesExist, SizesExist, PagesExist, LinesHaveReplies, TranscriptsGoOn, OutputsExist, WhatMayStandBegins, RoomForOutputsIsEnough};
 
 /// Law: each goal has an answer by each library.
 pub fn answers_exist()
@@ -70,4 +70,14 @@ pub fn transcripts_go_on()
 /// Law: whatever the words and the bytes are, a run has an output.
 pub fn outputs_exist()
     ensures { OutputsExist }
+{}
+
+/// Law: what may stand written at one time or another in a run begins an output.
+pub fn what_may_stand_begins()
+    ensures { WhatMayStandBegins }
+{}
+
+/// Law: room for each output is the room that a run requires.
+pub fn room_for_outputs_is_enough()
+    ensures { RoomForOutputsIsEnough }
 {}

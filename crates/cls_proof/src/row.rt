@@ -40,11 +40,21 @@ pub(crate) struct RowPlace {
 }
 
 /// A list of rows, seen as that list. It is kept in columns, so that a short row takes little memory.
-#[derive(Drop)]
 pub struct ProofRows {
     goals: Vec<Ty>,
     places: Vec<RowPlace>,
     covers: NumberLists,
+}
+
+// Not derived, for the prover: so a caller's proof has one step where a value is dropped, and not one for each part of it.
+impl Drop for ProofRows {
+    fn drop(self) {
+        let ProofRows {
+            goals: _,
+            places: _,
+            covers: _,
+        } = self;
+    }
 }
 
 impl Model for ProofRows {

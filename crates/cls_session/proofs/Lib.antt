@@ -16,6 +16,8 @@ pub mod OnePage
 pub mod OneSize
 pub mod OneReply
 pub mod OneLine
+pub mod ByWorkers
+pub mod SameLine
 pub mod SkippedLines
 pub mod ComponentNames
 pub mod OneRepository

@@ -1,5 +1,5 @@
--- What is written for a line after a repository is one text, and queries are answered by one thing after it.
-use Rattle.std.proofs.Common.{ℕ, ◌≡◌, refl, sym, ◌∙◌, ap, subst, List, [], ◌∷◌, ◌++◌, append-nil, Option, Some, None}
+-- What a line after a repository asks, and what is written for a certificate, is one thing.
+use Rattle.std.proofs.Common.{ℕ, ◌≡◌, refl, sym, ◌∙◌, ap, subst, List, [], ◌∷◌, ◌++◌, Option, Some, None}
 use Rattle.std.specs.List.{IsDistinct}
 use Rattle.std.specs.Str.{bytes_eq}
 use Rattle.cls_base.specs.Firsts.{IsDetermined}
@@ -24,21 +24,17 @@ use Rattle.cls_engine.specs.Verdicts.{IsVerdict}
 use Rattle.cls_replies.specs.Serving.{Serving, tables_in, with_names, holding}
 use Rattle.cls_replies.specs.Texts.{error_line, fault_words, verdict_text}
 use Rattle.cls_replies.specs.Errors.{proof_words}
-use Rattle.cls_replies.specs.Answering.{Asks, IsMisread, Answers, Answered, Judges, Verifies, Verified}
+use Rattle.cls_replies.specs.Answering.{Asks, IsMisread, Judges, Verifies, Verified}
 use Rattle.cls_replies.specs.Answering as answering
-use Rattle.cls_replies.specs.Lines.{Goes, Ends}
-use Rattle.cls_replies.specs.Lines as lines
-use Rattle.cls_session.specs.Laws.{AsksAudit}
-use Rattle.cls_session.proofs.OneReply.{fault_one, answer_one}
-use Rattle.cls_session.proofs.SkippedLines.{skipped_opens}
+use Rattle.cls_session.proofs.OneReply.{fault_one}
 
 -- WHAT A LINE ASKS
 module _ (s : Serving) (line : List ℕ) where
-  misread_one : (t u : List ℕ) (m n : Serving) → IsMisread s line t m → IsMisread s line u n → (t ≡ u) × (m ≡ n)
+  pub misread_one : (t u : List ℕ) (m n : Serving) → IsMisread s line t m → IsMisread s line u n → (t ≡ u) × (m ≡ n)
   misread_one t u m n h k =
       (h.written ∙ (ap error_line (errors_determined (tables_in s) line h.words k.words h.first k.first) ∙ sym k.written), h.same ∙ sym k.same)
 
-  asks_one : (q r : Query) (m n : Serving) → Asks s line q m → Asks s line r n → (q ≡ r) × (m ≡ n)
+  pub asks_one : (q r : Query) (m n : Serving) → Asks s line q m → Asks s line r n → (q ≡ r) × (m ≡ n)
   asks_one q r m n h k =
       let said : h.0.said ≡ k.0.said = lines_read_once (words_of line) h.0.said k.0.said h.0.spelled k.0.spelled in
       let names : m.names ≡ n.names = h.0.numbered ∙ (ap (λ (v : LineOf query_rows). (with_query (tables_in s) v).constructors) said ∙ sym k.0.numbered) in (
@@ -46,17 +42,8 @@ module _ (s : Serving) (line : List ℕ) where
         h.1 ∙ (ap (λ (x : List (List ℕ)). with_names s x) names ∙ sym k.1),
       )
 
-  read_or_not : (q : Query) (t : List ℕ) (m n : Serving) → Asks s line q m → IsMisread s line t n → ⊥
+  pub read_or_not : (q : Query) (t : List ℕ) (m n : Serving) → Asks s line q m → IsMisread s line t n → ⊥
   read_or_not q t m n h k = h.0.faultless k.words k.first
-
-  answered_one : (AsksAudit s line → ⊥) → (t u : List ℕ) (m n : Serving) → Answered s line t m → Answered s line u n → (t ≡ u) × (m ≡ n)
-  answered_one free t u m n (answering.Answered.misread h) (answering.Answered.misread k) = misread_one t u m n h k
-  answered_one free t u m n (answering.Answered.misread h) (answering.Answered.asked r k b) = absurd (read_or_not r t n m k h)
-  answered_one free t u m n (answering.Answered.asked q h a) (answering.Answered.misread k) = absurd (read_or_not q u m n h k)
-  answered_one free t u m n (answering.Answered.asked q h a) (answering.Answered.asked r k b) =
-      let one = asks_one q r m n h k in
-      let b' : Answers m q u = subst (λ (x : Serving). Answers x q u) (sym one.1) (subst (λ (x : Query). Answers n x u) (sym one.0) b) in
-      (answer_one m q (λ goal e. free (goal, m, subst (λ (x : Query). Asks s line x m) e h)) t u a b', one.1)
 
 -- CERTIFICATES
 verdict_one : (lib : Library) (goal : ClosedType) (c : Certificate) (v w : Verdict) → IsVerdict lib goal c v → IsVerdict lib goal c w → v ≡ w
@@ -122,7 +109,7 @@ module _ (s : Serving) (distinct : IsDistinct bytes_eq s.components) (line : Lis
       verifies_one x (asked_components s line (verify goal) x h distinct) goal certificate t u m n a b'
 
 -- ONE LINE
-nil_cons : {A : Type 0} (l : List A) (x : A) (xs : List A) → l ≡ [] → l ≡ x ∷ xs → ⊥
+pub nil_cons : {A : Type 0} (l : List A) (x : A) (xs : List A) → l ≡ [] → l ≡ x ∷ xs → ⊥
 nil_cons l x xs e f = cc
 
 same_front : {A : Type 0} (l : List A) (x y : A) (xs ys : List A) → l ≡ x ∷ xs → l ≡ y ∷ ys → (x ≡ y) × (xs ≡ ys)
@@ -130,51 +117,14 @@ same_front l x y xs ys e f = (cc, cc)
 
 module _ (s : Serving) (distinct : IsDistinct bytes_eq s.components) where
   -- the certificates that two lists of held lines begin
-  held_one : (first first' : List ℕ) (inside inside' more : List (List ℕ)) (t u : List ℕ) (m n : Serving) → s.held ≡ first ∷ inside → s.held ≡ first' ∷ inside'
+  pub held_one : (first first' : List ℕ) (inside inside' more : List (List ℕ)) (t u : List ℕ) (m n : Serving) → s.held ≡ first ∷ inside → s.held ≡ first' ∷ inside'
       → Verified (holding s []) first (inside ++ more) t m → Verified (holding s []) first' (inside' ++ more) u n → (t ≡ u) × (m ≡ n)
   held_one first first' inside inside' more t u m n e f h k =
       let same = same_front s.held first first' inside inside' e f in
       verified_one (holding s []) distinct first (inside ++ more) t u m n h
       (subst (λ (l : List ℕ). Verified (holding s []) l (inside ++ more) u n) (sym same.0) (subst (λ (ls : List (List ℕ)). Verified (holding s []) first' (ls ++ more) u n) (sym same.1) k))
 
-  holds_one : (line first first' : List ℕ) (inside inside' : List (List ℕ)) → s.held ≡ first ∷ inside → s.held ≡ first' ∷ inside' → holding s (first ∷ (inside ++ line ∷ [])) ≡ holding s (first' ∷ (inside' ++ line ∷ []))
+  pub holds_one : (line first first' : List ℕ) (inside inside' : List (List ℕ)) → s.held ≡ first ∷ inside → s.held ≡ first' ∷ inside' → holding s (first ∷ (inside ++ line ∷ [])) ≡ holding s (first' ∷ (inside' ++ line ∷ []))
   holds_one line first first' inside inside' e f =
       let same = same_front s.held first first' inside inside' e f in
       λ i. holding s (same.0 i ∷ (same.1 i ++ line ∷ []))
-
-  pub goes_one : (line t u : List ℕ) (m n : Serving) → (AsksAudit s line → ⊥) → Goes s line t m → Goes s line u n → (t ≡ u) × (m ≡ n)
-  goes_one line t u m n free (lines.Goes.skips e a p c) (lines.Goes.skips f b q d) = (p ∙ sym q, c ∙ sym d)
-  goes_one line t u m n free (lines.Goes.skips e a p c) (lines.Goes.asks f b w) = absurd (b.unskipped a)
-  goes_one line t u m n free (lines.Goes.skips e a p c) (lines.Goes.opens f b q d) = absurd (skipped_opens line a b)
-  goes_one line t u m n free (lines.Goes.skips e a p c) (lines.Goes.holds y ys f b q d) = absurd (nil_cons s.held y ys e f)
-  goes_one line t u m n free (lines.Goes.skips e a p c) (lines.Goes.ends y ys f b w) = absurd (nil_cons s.held y ys e f)
-  goes_one line t u m n free (lines.Goes.asks e a v) (lines.Goes.skips f b q d) = absurd (a.unskipped b)
-  goes_one line t u m n free (lines.Goes.asks e a v) (lines.Goes.asks f b w) = answered_one s line free t u m n v w
-  goes_one line t u m n free (lines.Goes.asks e a v) (lines.Goes.opens f b q d) = absurd (a.closed b)
-  goes_one line t u m n free (lines.Goes.asks e a v) (lines.Goes.holds y ys f b q d) = absurd (nil_cons s.held y ys e f)
-  goes_one line t u m n free (lines.Goes.asks e a v) (lines.Goes.ends y ys f b w) = absurd (nil_cons s.held y ys e f)
-  goes_one line t u m n free (lines.Goes.opens e a p c) (lines.Goes.skips f b q d) = absurd (skipped_opens line b a)
-  goes_one line t u m n free (lines.Goes.opens e a p c) (lines.Goes.asks f b w) = absurd (b.closed a)
-  goes_one line t u m n free (lines.Goes.opens e a p c) (lines.Goes.opens f b q d) = (p ∙ sym q, c ∙ sym d)
-  goes_one line t u m n free (lines.Goes.opens e a p c) (lines.Goes.holds y ys f b q d) = absurd (nil_cons s.held y ys e f)
-  goes_one line t u m n free (lines.Goes.opens e a p c) (lines.Goes.ends y ys f b w) = absurd (nil_cons s.held y ys e f)
-  goes_one line t u m n free (lines.Goes.holds x xs e a p c) (lines.Goes.skips f b q d) = absurd (nil_cons s.held x xs f e)
-  goes_one line t u m n free (lines.Goes.holds x xs e a p c) (lines.Goes.asks f b w) = absurd (nil_cons s.held x xs f e)
-  goes_one line t u m n free (lines.Goes.holds x xs e a p c) (lines.Goes.opens f b q d) = absurd (nil_cons s.held x xs f e)
-  goes_one line t u m n free (lines.Goes.holds x xs e a p c) (lines.Goes.holds y ys f b q d) = (p ∙ sym q, c ∙ (holds_one line x y xs ys e f ∙ sym d))
-  goes_one line t u m n free (lines.Goes.holds x xs e a p c) (lines.Goes.ends y ys f b w) = absurd (a b)
-  goes_one line t u m n free (lines.Goes.ends x xs e a v) (lines.Goes.skips f b q d) = absurd (nil_cons s.held x xs f e)
-  goes_one line t u m n free (lines.Goes.ends x xs e a v) (lines.Goes.asks f b w) = absurd (nil_cons s.held x xs f e)
-  goes_one line t u m n free (lines.Goes.ends x xs e a v) (lines.Goes.opens f b q d) = absurd (nil_cons s.held x xs f e)
-  goes_one line t u m n free (lines.Goes.ends x xs e a v) (lines.Goes.holds y ys f b q d) = absurd (b a)
-  goes_one line t u m n free (lines.Goes.ends x xs e a v) (lines.Goes.ends y ys f b w) = held_one x y xs ys (line ∷ []) t u m n e f v w
-
-  pub ends_one : IsDetermined (Ends s)
-  ends_one t u (lines.Ends.free e p) (lines.Ends.free f q) = p ∙ sym q
-  ends_one t u (lines.Ends.free e p) (lines.Ends.held y ys n f w) = absurd (nil_cons s.held y ys e f)
-  ends_one t u (lines.Ends.held x xs m e v) (lines.Ends.free f q) = absurd (nil_cons s.held x xs f e)
-  ends_one t u (lines.Ends.held x xs m e v) (lines.Ends.held y ys n f w) =
-      (held_one x y xs ys [] t u m n e f (whole x xs t m v) (whole y ys u n w)).0
-    where
-      whole : (first : List ℕ) (inside : List (List ℕ)) (text : List ℕ) (k : Serving) → Verified (holding s []) first inside text k → Verified (holding s []) first (inside ++ []) text k
-      whole first inside text k h = subst (λ (ls : List (List ℕ)). Verified (holding s []) first ls text k) (sym (append-nil inside)) h

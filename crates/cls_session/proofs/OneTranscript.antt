@@ -1,5 +1,5 @@
--- What is written for lines is one text.
-use Rattle.std.proofs.Common.{ℕ, ◌≡◌, ◌+◌, List, [], ◌∷◌, ◌++◌, length, sym, ◌∙◌, ap, subst, arith, Contains, codes}
+-- What is written for lines is one text, whatever the number of workers, but for audits.
+use Rattle.std.proofs.Common.{ℕ, ◌≡◌, ◌+◌, List, [], ◌∷◌, ◌++◌, length, sym, ◌∙◌, ap, subst, arith, append-nil, Contains, codes}
 use Rattle.std.specs.List.{IsDistinct}
 use Rattle.std.specs.Str.{bytes_eq}
 use Rattle.cls_base.specs.Firsts.{IsDetermined}
@@ -15,10 +15,13 @@ use Rattle.cls_replies.specs.Lines.{Goes, Replies, Ends}
 use Rattle.cls_replies.specs.Lines as lines
 use Rattle.cls_replies.specs.Serving.{Serving, Serves, tables_in, holding}
 use Rattle.cls_session.specs.declared.status.Status.{Status}
+use Rattle.cls_session.specs.Alike.{with_workers, served_by, AreSameReplies, AreSameTexts}
+use Rattle.cls_session.specs.Alike as alike
 use Rattle.cls_session.specs.Laws.{AsksAudit, AsksNoAudit, HaveNoAudit, TranscriptsAreDetermined}
+use Rattle.cls_session.specs.Repositories.{AreTaken}
 use Rattle.cls_session.specs.Transcripts.{IsAnswered, Transcript, refusal, IsRefused, Ending}
 use Rattle.cls_session.specs.Transcripts as transcripts
-use Rattle.cls_session.proofs.OneLine.{goes_one, ends_one}
+use Rattle.cls_session.proofs.SameLine.{one_unless_audit, goes_same, ends_same}
 use Rattle.cls_session.proofs.OneRepository.{IsReadUp, read_up, one_read, read_apart, one_taking, taken_or_read, one_fault, fault_or_read, fault_or_taken}
 
 -- COMPONENTS KEEP THEIR NAMES
@@ -59,16 +62,22 @@ replies_apart s (line ∷ queries) text m (x, first, rest, g, gs, e) h = replies
 
 -- LINES AFTER A REPOSITORY
 asks_none : (s : Serving) (line : List ℕ) → AsksNoAudit line → AsksAudit s line → ⊥
-asks_none s line n (goal, m, h) = n (tables_in s) goal m.names h.0
+asks_none s line free (goal, m, h) = free (tables_in s) goal m.names h.0
 
-replies_one : (s : Serving) → Apart s → (queries : List (List ℕ)) → ((line : List ℕ) → Contains queries line → AsksNoAudit line)
-    → (t u : List ℕ) (m n : Serving) → Replies s queries t m → Replies s queries u n → (t ≡ u) × (m ≡ n)
-replies_one s apart [] none t u m n (p, e) (q, f) = (p ∙ sym q, e ∙ sym f)
-replies_one s apart (line ∷ queries) none t u m n (x, first, rest, g, gs, e) (y, first', rest', k, ks, f) =
-    let one = goes_one s apart line first first' x y (asks_none s line (none line (Contains-here line queries))) g k in
-    let on = replies_one x (stays_apart s x (goes_keeps s line first x g) apart) queries (λ l c. none l (Contains-later l line queries c)) rest rest' m n gs
-    (subst (λ (z : Serving). Replies z queries rest' n) (sym one.1) ks) in
-    (e ∙ ((λ i. one.0 i ++ on.0 i) ∙ sym f), on.1)
+module _ (n : ℕ) where
+  replies_same : (s : Serving) → Apart s → (queries : List (List ℕ)) (t u : List ℕ) (m k : Serving) → Replies s queries t m → Replies (served_by n s) queries u k → AreSameReplies s n queries t u × (k ≡ served_by n m)
+  replies_same s apart [] t u m k (p, e) (q, f) = ((p, q), f ∙ sym (ap (served_by n) e))
+  replies_same s apart (line ∷ queries) t u m k (x, first, rest, g, gs, e) (y, first', rest', h, hs, f) =
+      let one = goes_same n s apart line first first' x y g h in
+      let on = replies_same x (stays_apart s x (goes_keeps s line first x g) apart) queries rest rest' m k gs (subst (λ (z : Serving). Replies z queries rest' k) one.1 hs) in
+      ((first, first', rest, rest', x, g, one.0, on.0, e, f), on.1)
+
+  replies_free : (s : Serving) (queries : List (List ℕ)) → ((line : List ℕ) → Contains queries line → AsksNoAudit line) → (t u : List ℕ) → AreSameReplies s n queries t u → t ≡ u
+  replies_free s [] free t u (p, q) = p ∙ sym q
+  replies_free s (line ∷ queries) free t u (first, first', rest, rest', x, g, one, on, e, f) =
+      let here = one_unless_audit s n line first first' (asks_none s line (free line (Contains-here line queries))) one in
+      let there = replies_free x queries (λ l c. free l (Contains-later l line queries c)) rest rest' on in
+      e ∙ ((λ i. here i ++ there i) ∙ sym f)
 
 -- HOW A REPOSITORY IS OPENED
 module _ (o : Options) (d : Draft) where
@@ -99,30 +108,9 @@ module _ (o : Options) (input : List (List ℕ)) where
   pub answered_apart : (text : List ℕ) (s : Serving) → IsAnswered o input text s → Apart s
   answered_apart text s a = replies_apart a.opened a.queries text s a.replies (opened_apart text s a)
 
-  module _ (none : HaveNoAudit input) where
-    answered_one : (t u : List ℕ) (m n : Serving) → IsAnswered o input t m → IsAnswered o input u n → (t ≡ u) × (m ≡ n)
-    answered_one t u m n a b =
-        let one = one_read input (length a.repository + 1) (length b.repository + 1) a.declared b.declared (read_of t m a) (read_of u n b) in
-        let queries : a.queries ≡ b.queries = same_split a.repository b.repository a.end b.end a.queries b.queries one.0 (sym a.split ∙ b.split) in
-        let opened : a.opened ≡ b.opened = serves_one o b.declared a.opened b.opened (subst (λ (d : Draft). Serves o d a.opened) one.1 a.serves) b.serves in
-        replies_one a.opened (opened_apart t m a) a.queries (none a.repository a.queries a.end a.declared a.split a.reads) t u m n a.replies
-        (subst (λ (x : Serving). Replies x a.queries u n) (sym opened) (subst (λ (ls : List (List ℕ)). Replies b.opened ls u n) (sym queries) b.replies))
-
-    pub transcript_one : IsDetermined (Transcript o input)
-    transcript_one t u (transcripts.Transcript.opening r h p) (transcripts.Transcript.opening r' k q) = p ∙ sym q
-    transcript_one t u (transcripts.Transcript.opening r h p) (transcripts.Transcript.answering n b) = absurd (taken_or_read input r (length b.repository + 1) b.declared h (read_of u n b))
-    transcript_one t u (transcripts.Transcript.answering m a) (transcripts.Transcript.opening r k q) = absurd (taken_or_read input r (length a.repository + 1) a.declared k (read_of t m a))
-    transcript_one t u (transcripts.Transcript.answering m a) (transcripts.Transcript.answering n b) = (answered_one t u m n a b).0
-
-    pub ending_one : (t u : List ℕ) (status status' : Status) → Ending o input t status → Ending o input u status' → (t ≡ u) × (status ≡ status')
-    ending_one t u status status' (transcripts.Ending.without_end r h p e) (transcripts.Ending.without_end r' k q f) =
-        (p ∙ (ap (λ (x : Reading). refusal (x.lines, codes "no-end")) (one_taking input r r' h k) ∙ sym q), e ∙ sym f)
-    ending_one t u status status' (transcripts.Ending.without_end r h p e) (transcripts.Ending.complete n y last b w q f) = absurd (taken_or_read input r (length b.repository + 1) b.declared h (read_of y n b))
-    ending_one t u status status' (transcripts.Ending.complete m x last a v p e) (transcripts.Ending.without_end r k q f) = absurd (taken_or_read input r (length a.repository + 1) a.declared k (read_of x m a))
-    ending_one t u status status' (transcripts.Ending.complete m x last a v p e) (transcripts.Ending.complete n y last' b w q f) =
-        let one = answered_one x y m n a b in
-        let ends : last ≡ last' = ends_one m (answered_apart x m a) last last' v (subst (λ (z : Serving). Ends z last') (sym one.1) w) in
-        (p ∙ ((λ i. one.0 i ++ ends i) ∙ sym q), e ∙ sym f)
+  -- a repository with lines after it is taken whole, and no line of it is at fault
+  pub answered_or_taken : (text : List ℕ) (s : Serving) (r : Reading) → IsAnswered o input text s → AreTaken input r → ⊥
+  answered_or_taken text s r a h = taken_or_read input r (length a.repository + 1) a.declared h (read_of text s a)
 
   pub refused_or_going : (t u : List ℕ) → IsRefused input t → Transcript o input u → ⊥
   refused_or_going t u h (transcripts.Transcript.opening r k q) = fault_or_taken input h.said r h.fault k
@@ -135,10 +123,67 @@ module _ (o : Options) (input : List (List ℕ)) where
 pub refusal_one : (input : List (List ℕ)) → IsDetermined (IsRefused input)
 refusal_one input t u h k = h.written ∙ (ap refusal (one_fault input h.said k.said h.fault k.fault) ∙ sym k.written)
 
+-- ANOTHER NUMBER OF WORKERS
+module _ (o : Options) (n : ℕ) (input : List (List ℕ)) where
+  serves_by : (d : Draft) (s : Serving) → Serves o d s → Serves (with_workers n o) d (served_by n s)
+  serves_by d s h = record {
+    same_names = h.same_names;
+    same_components = h.same_components;
+    templates_are = h.templates_are;
+    library_is = h.library_is;
+    costs_are = h.costs_are;
+    options_are = ap (with_workers n) h.options_are;
+    none_held = h.none_held;
+  }
+
+  module _ (t u : List ℕ) (m k : Serving) (a : IsAnswered o input t m) (b : IsAnswered (with_workers n o) input u k) where
+    same_end : a.queries ≡ b.queries
+    same_end =
+        let one = one_read input (length a.repository + 1) (length b.repository + 1) a.declared b.declared (read_of o input t m a) (read_of (with_workers n o) input u k b) in
+        same_split a.repository b.repository a.end b.end a.queries b.queries one.0 (sym a.split ∙ b.split)
+
+    same_opening : served_by n a.opened ≡ b.opened
+    same_opening =
+        let one = one_read input (length a.repository + 1) (length b.repository + 1) a.declared b.declared (read_of o input t m a) (read_of (with_workers n o) input u k b) in
+        serves_one (with_workers n o) b.declared (served_by n a.opened) b.opened (subst (λ (d : Draft). Serves (with_workers n o) d (served_by n a.opened)) one.1 (serves_by a.declared a.opened a.serves)) b.serves
+
+    pub answers_same : AreSameReplies a.opened n a.queries t u × (k ≡ served_by n m)
+    answers_same =
+        replies_same n a.opened (opened_apart o input t m a) a.queries t u m k a.replies
+        (subst (λ (x : Serving). Replies x a.queries u k) (sym same_opening) (subst (λ (ls : List (List ℕ)). Replies b.opened ls u k) (sym same_end) b.replies))
+
+    -- with the same text behind the replies
+    same_texts : (last : List ℕ) (text other : List ℕ) → text ≡ t ++ last → other ≡ u ++ last → AreSameTexts o n input text other
+    same_texts last text other p q =
+        alike.AreSameTexts.replies a.repository a.queries a.end a.declared a.opened a.split a.reads a.serves t u last answers_same.0 p q
+
+  transcript_same : (t u : List ℕ) → Transcript o input t → Transcript (with_workers n o) input u → AreSameTexts o n input t u
+  transcript_same t u (transcripts.Transcript.opening r h p) (transcripts.Transcript.opening r' g q) = alike.AreSameTexts.one_text (p ∙ sym q)
+  transcript_same t u (transcripts.Transcript.opening r h p) (transcripts.Transcript.answering k b) = absurd (answered_or_taken (with_workers n o) input u k r b h)
+  transcript_same t u (transcripts.Transcript.answering m a) (transcripts.Transcript.opening r g q) = absurd (answered_or_taken o input t m r a g)
+  transcript_same t u (transcripts.Transcript.answering m a) (transcripts.Transcript.answering k b) =
+      same_texts t u m k a b [] t u (sym (append-nil t)) (sym (append-nil u))
+
+  ending_same : (t u : List ℕ) (status status' : Status) → Ending o input t status → Ending (with_workers n o) input u status' → AreSameTexts o n input t u × (status ≡ status')
+  ending_same t u status status' (transcripts.Ending.without_end r h p e) (transcripts.Ending.without_end r' g q f) =
+      (alike.AreSameTexts.one_text (p ∙ (ap (λ (x : Reading). refusal (x.lines, codes "no-end")) (one_taking input r r' h g) ∙ sym q)), e ∙ sym f)
+  ending_same t u status status' (transcripts.Ending.without_end r h p e) (transcripts.Ending.complete k y last b w q f) = absurd (answered_or_taken (with_workers n o) input y k r b h)
+  ending_same t u status status' (transcripts.Ending.complete m x last a v p e) (transcripts.Ending.without_end r g q f) = absurd (answered_or_taken o input x m r a g)
+  ending_same t u status status' (transcripts.Ending.complete m x last a v p e) (transcripts.Ending.complete k y last' b w q f) =
+      let end : last ≡ last' = ends_same n m (answered_apart o input x m a) last last' v (subst (λ (z : Serving). Ends z last') (answers_same x y m k a b).1 w) in
+      (same_texts x y m k a b last t u p (q ∙ ap (λ (l : List ℕ). y ++ l) (sym end)), e ∙ sym f)
+
+texts_free : (o : Options) (n : ℕ) (input : List (List ℕ)) (t u : List ℕ) → HaveNoAudit input → AreSameTexts o n input t u → t ≡ u
+texts_free o n input t u none (alike.AreSameTexts.one_text e) = e
+texts_free o n input t u none (alike.AreSameTexts.replies repository queries end d s split reads serves first second last same p q) =
+    p ∙ (ap (λ (x : List ℕ). x ++ last) (replies_free n s queries (none repository queries end d split reads) first second same) ∙ sym q)
+
 pub transcripts_determined : TranscriptsAreDetermined
 transcripts_determined = record {
-  transcripts = transcript_one;
-  endings = λ o input t u status status' none h k. ending_one o input none t u status status' h k;
+  answers = λ o n input t u m k a b. (answers_same o n input t u m k a b).1;
+  transcripts = transcript_same;
+  endings = ending_same;
+  free = texts_free;
   refusals = refusal_one;
   no_transcript = refused_or_going;
   no_ending = refused_or_ended;

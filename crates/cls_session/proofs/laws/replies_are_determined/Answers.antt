@@ -1,6 +1,11 @@
-use Rattle.cls_session.proofs.OneLine.{goes_one, ends_one}
+use Rattle.cls_session.proofs.SameLine.{one_unless_audit, goes_same, ends_same}
 use Rattle.cls_session.proofs.OneTranscript.{answered_apart}
 use Rattle.cls_session.proofs.laws.replies_are_determined.Goals as goal
 
 pub returns : goal.returns
-returns c = record { goes = goes_one; ends = ends_one; distinct = answered_apart }
+returns c = record {
+  goes = λ s distinct n. goes_same n s distinct;
+  ends = λ s distinct n. ends_same n s distinct;
+  free = one_unless_audit;
+  distinct = answered_apart;
+}

@@ -1,0 +1,3 @@
+"""The version of the package. It stands here alone: pyproject.toml reads it."""
+
+__version__ = "0.3.0"

@@ -1,0 +1,112 @@
+"""The program: where it is, with which words it is started, and its process."""
+
+from __future__ import annotations
+
+import os
+import shutil
+import subprocess
+from contextlib import suppress
+from dataclasses import astuple, dataclass
+from pathlib import Path
+
+from clsynth.errors import ProcessFault, ProgramNotFound, Status
+from clsynth.limits import MAX_INPUT_BYTES
+
+__all__ = ["Options", "Program", "find_program"]
+
+_NAME = "clsynth"
+_VARIABLE = "CLSYNTH"
+
+
+def find_program(program: str | os.PathLike[str] | None = None) -> str:
+    """The path of the program: what is given, or else what the variable CLSYNTH of the environment says, or else the command `clsynth`
+    on the PATH, or else the file `bin/clsynth` beside this package, as a wheel may have it. Raises `ProgramNotFound`."""
+    told = os.environ.get(_VARIABLE)
+    if program is not None:
+        places = [(f"the argument `program`: {os.fspath(program)!r}", os.fspath(program))]
+    elif told:
+        places = [("the argument `program`: not given", ""), (f"the variable {_VARIABLE}: {told!r}", told)]
+    else:
+        beside = str(Path(__file__).parent / "bin" / _NAME)
+        places = [
+            ("the argument `program`: not given", ""), (f"the variable {_VARIABLE}: not set", ""),
+            (f"the command {_NAME!r} on the PATH: {os.environ.get('PATH', '')}", _NAME), (f"beside the package: {beside}", beside),
+        ]
+    for _, place in places:
+        found = shutil.which(place) if place else None
+        if found:
+            return found
+    raise ProgramNotFound(f"{said}: no program that can be run" if place else said for said, place in places)
+
+
+@dataclass(frozen=True)
+class Options:
+    """The options of the program. One that is None isn't given, and has the value that docs/LANGUAGE.md says."""
+
+    workers: int | None = None
+    max_goals: int | None = None
+    max_rules: int | None = None
+    pool: int | None = None
+
+    def words(self) -> list[str]:
+        """As the command line has them."""
+        names = ("--workers", "--max-goals", "--max-rules", "--pool")
+        return [word for name, value in zip(names, astuple(self)) if value is not None for word in (name, str(value))]
+
+
+class Program:
+    """The process, its input and its output."""
+
+    def __init__(self, words: list[str]) -> None:
+        self._process = subprocess.Popen(words, stdin=subprocess.PIPE, stdout=subprocess.PIPE)
+        assert self._process.stdin and self._process.stdout
+        self._input = self._process.stdin
+        self._output = self._process.stdout
+        self.bytes_left = MAX_INPUT_BYTES
+
+    def send(self, piece: bytes) -> None:
+        """Sends lines, of no more bytes than are left."""
+        self.bytes_left -= len(piece)
+        # If the program has ended, its last lines and its status are still to be read.
+        with suppress(BrokenPipeError):
+            self._input.write(piece)
+            self._input.flush()
+
+    def line(self) -> str:
+        """The next line of the output, without its line feed."""
+        line = self._output.readline()
+        if not line.endswith(b"\n"):
+            raise self.fault()
+        return line[:-1].decode()
+
+    def text(self, length: int) -> str:
+        """The text of the next so many bytes, behind which a line feed stands."""
+        piece = self._output.read(length + 1)
+        if len(piece) <= length:
+            raise self.fault()
+        return piece[:length].decode()
+
+    def close(self) -> None:
+        """Ends the input, and waits for the program to end."""
+        code = self._end()
+        if code != Status.DONE.value:
+            raise ProcessFault(code)
+
+    def kill(self) -> None:
+        """Ends the program at once. Another thread may call this: whoever reads finds the end of the output."""
+        self._process.kill()
+
+    def abandon(self) -> None:
+        """Ends the program at once, and frees what it held."""
+        self._process.kill()
+        self._end()
+
+    def fault(self) -> ProcessFault:
+        """Why the output ended too early."""
+        return ProcessFault(self._end())
+
+    def _end(self) -> int:
+        with suppress(BrokenPipeError):
+            self._input.close()
+        self._output.close()
+        return self._process.wait()

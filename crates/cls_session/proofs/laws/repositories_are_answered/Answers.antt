@@ -1,0 +1,5 @@
+use Rattle.cls_session.proofs.OneOutput.{repositories_answered}
+use Rattle.cls_session.proofs.laws.repositories_are_answered.Goals as goal
+
+pub returns : goal.returns
+returns c = repositories_answered

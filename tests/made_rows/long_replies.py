@@ -1,0 +1,29 @@
+"""Replies that are as long as may be."""
+
+from __future__ import annotations
+
+from collections.abc import Iterator
+
+from row import Row
+
+
+def rows() -> Iterator[Row]:
+    yield paths_of_4096_instances()
+    yield text_of_65536_bytes()
+
+
+def paths_of_4096_instances() -> Row:
+    """Three variables of 16 types each make 4,096 instances, none of which is above another. Numbers of names go up as they stand here."""
+    kinds = {variable: [f"{variable.upper()}{number}" for number in range(16)] for variable in "abc"}
+    lines = [f"kind {variable} = {' | '.join(types)}" for variable, types in kinds.items()]
+    given = "\n".join([*lines, "comp f : $a -> $b -> $c", "end", "paths f", ""])
+    paths = [f"path {a} -> {b} -> {c}\n" for a in kinds["a"] for b in kinds["b"] for c in kinds["c"]]
+    return Row("limits/4096_instances", given.encode(), ("".join(paths) + "done\n").encode())
+
+
+def text_of_65536_bytes() -> Row:
+    """A text of two bytes is doubled by each of 15 applications. With one more it is too long."""
+    cursor = "f(" * 14 + "x" + ")" * 14
+    given = f"comp x : A\ncomp f : A -> A\ntext x = ab\ntext f = {{1}}{{1}}\nend\ntexts A max 17 take 2 after {cursor}\n"
+    wanted = f"term f({cursor})\ntext 65536\n{'ab' * 32_768}\nterm f(f({cursor}))\nlong\ndone\n"
+    return Row("limits/text_of_65536_bytes", given.encode(), wanted.encode())
