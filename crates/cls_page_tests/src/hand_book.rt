@@ -4,6 +4,7 @@ ghost use Rattle.cls_page_tests.specs.HandBooks.{are_nodes, all_within};
 use cls_base::OutOfMemory;
 use cls_rulebook::{NodeRules, RuleBook, RuleRef};
 use std::alloc::Global;
+use std::test::Fail;
 
 /// A rule book that a test makes: the rules of each node.
 #[derive(Drop)]
@@ -15,13 +16,13 @@ pub(crate) struct HandBook {
 }
 
 impl HandBook {
-    /// The book of these rules. None where there is no node, or an argument is none.
-    pub(crate) fn new(nodes: Vec<NodeRules>) -> Option<HandBook> {
+    /// The book of these rules, if there is a node and each argument is one.
+    pub(crate) fn new(nodes: Vec<NodeRules>) -> Result<HandBook, Fail> {
         let count = nodes.len();
         if count == 0 || count > u32::MAX as usize || !all_within(count as u32, nodes.as_slice()) {
-            return None;
+            return Err("no node, or an argument that is none".into());
         }
-        Some(HandBook { nodes })
+        Ok(HandBook { nodes })
     }
 }
 

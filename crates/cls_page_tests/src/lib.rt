@@ -1,19 +1,19 @@
-//! Tests of rule books and of pages: by the bank of terms, by the walk over codes, and by both, which are to agree. There is
+//! Tests of pages: over rule books by hand, and over rule books by chance against the terms that their rules generate. There is
 //! nothing here but tests.
 #![tactic(auto)]
 
 #[cfg(test)]
 mod books;
 #[cfg(test)]
+mod generated;
+#[cfg(test)]
 mod hand_book;
 #[cfg(test)]
 mod listing;
 #[cfg(test)]
-mod omega;
-#[cfg(test)]
-mod omega_books;
-#[cfg(test)]
 mod pages;
+#[cfg(test)]
+mod query;
 #[cfg(test)]
 mod random_books;
 #[cfg(test)]

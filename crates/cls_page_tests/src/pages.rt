@@ -1,186 +1,96 @@
-use crate::books;
-use crate::listing::{Query, alone, goes_on, listed, twice};
+use crate::books::{
+    A_WIDE_RULE, AN_EMPTY_NODE, ONE_CHAIN, ONE_TERM_TWICE, Rules, TWO_CYCLES, TWO_FUNCTIONS, book,
+};
+use crate::hand_book::HandBook;
+use crate::query::{Codes, Query, codes_of, paged};
 use cls_enum::PageFault;
+use std::alloc::Global;
 use std::test::Fail;
 
-#[test]
-fn a_term_that_two_rules_give_is_listed_and_counted_once(rt: HostRuntime) -> Result<(), Fail> {
-    let alloc = rt.alloc();
-    let book = books::one_term_twice(alloc)?;
-    // node 0 has 0(1), and the other two have 1
-    let mut query = Query {
-        costs: &[],
-        max: 2,
-        take: 10,
-        pool: 3,
-    };
-    let (codes, more) = listed(alloc, &book, &query, None)?;
-    assert_eq!(rt; codes.as_slice(), [0, 1, 1, 0].as_slice());
-    assert!(rt; !more);
-    query.pool = 2;
-    assert!(rt; listed(alloc, &book, &query, None) == Err(PageFault::TooManyTerms));
-    Ok(())
-}
+/// A book with the costs of its components, the greatest size and the number of terms that are asked for, and the codes of
+/// the terms that are listed, one after another.
+type Listing = (Rules, &'static [u32], u32, u32, &'static [u32]);
 
-#[test]
-fn a_node_that_needs_itself_has_no_terms(rt: HostRuntime) -> Result<(), Fail> {
-    let alloc = rt.alloc();
-    let query = Query {
-        costs: &[],
-        max: 4,
-        take: 10,
-        pool: 1000,
-    };
+/// Listings at the end of which no term follows.
+const WHOLE: [Listing; 5] = [
+    // 0(1) by two rules
+    (ONE_TERM_TWICE, &[], 2, 9, &[0, 1, 1, 0]),
     // 1(2), 1(0(2)) and 1(0(0(2))), by the other cycle
-    let (codes, more) = listed(alloc, &books::two_cycles(alloc)?, &query, None)?;
-    assert_eq!(rt;
-        codes.as_slice(),
-        [1, 1, 2, 0, 1, 1, 0, 1, 2, 0, 1, 1, 0, 1, 0, 1, 2, 0].as_slice()
-    );
-    assert!(rt; !more);
-    Ok(())
-}
-
-#[test]
-fn a_rule_over_a_node_without_terms_gives_none(rt: HostRuntime) -> Result<(), Fail> {
-    let alloc = rt.alloc();
-    let query = Query {
-        costs: &[],
-        max: 10,
-        take: 10,
-        pool: 1000,
-    };
-    let (codes, more) = listed(alloc, &books::an_empty_node(alloc)?, &query, None)?;
-    assert_eq!(rt; codes.as_slice(), [1, 0].as_slice());
-    assert!(rt; !more);
-    Ok(())
-}
-
-#[test]
-fn sizes_come_before_codes(rt: HostRuntime) -> Result<(), Fail> {
-    let alloc = rt.alloc();
-    let book = books::two_functions(alloc)?;
+    (
+        TWO_CYCLES,
+        &[],
+        4,
+        9,
+        &[1, 1, 2, 0, 1, 1, 0, 1, 2, 0, 1, 1, 0, 1, 0, 1, 2, 0],
+    ),
+    (AN_EMPTY_NODE, &[], 9, 9, &[1, 0]),
     // x of size 1, g(x) of 3, f(x) of 4, g(g(x)) of 5
-    let query = Query {
-        costs: &[1, 3, 2],
-        max: 5,
-        take: 10,
-        pool: 1000,
-    };
-    let (codes, more) = listed(alloc, &book, &query, None)?;
-    assert_eq!(rt;
-        codes.as_slice(),
-        [0, 0, 2, 1, 0, 0, 1, 1, 0, 0, 2, 1, 2, 1, 0, 0].as_slice()
-    );
-    assert!(rt; !more);
-    assert!(rt; goes_on(alloc, &book, &query)?);
-    Ok(())
-}
+    (
+        TWO_FUNCTIONS,
+        &[1, 3, 2],
+        5,
+        9,
+        &[0, 0, 2, 1, 0, 0, 1, 1, 0, 0, 2, 1, 2, 1, 0, 0],
+    ),
+    // each of 32 arguments has two occurrences or more
+    (A_WIDE_RULE, &[], 1024, 9, &[]),
+];
 
-#[test]
-fn codes_decide_at_one_size(rt: HostRuntime) -> Result<(), Fail> {
-    let alloc = rt.alloc();
-    let book = books::two_functions(alloc)?;
-    // f(f(x)), f(g(x)) and g(f(x)) of size 3 stand behind x, f(x) and g(x), and g(g(x)) follows
-    let mut query = Query {
-        costs: &[],
-        max: 3,
-        take: 6,
-        pool: 1000,
-    };
-    let (codes, more) = listed(alloc, &book, &query, None)?;
-    let six = [
+/// f(f(x)), f(g(x)) and g(f(x)) of size 3 stand behind x, f(x) and g(x), and g(g(x)) follows.
+const SIX: Listing = (
+    TWO_FUNCTIONS,
+    &[],
+    3,
+    6,
+    &[
         0, 0, 1, 1, 0, 0, 2, 1, 0, 0, 1, 1, 1, 1, 0, 0, 1, 1, 2, 1, 0, 0, 2, 1, 1, 1, 0, 0,
-    ];
-    assert_eq!(rt; codes.as_slice(), six.as_slice());
-    assert!(rt; more);
-    query.take = 7;
-    assert!(rt; goes_on(alloc, &book, &query)?);
-    Ok(())
-}
+    ],
+);
 
-#[test]
-fn a_page_goes_on_after_terms_that_the_book_does_not_give(rt: HostRuntime) -> Result<(), Fail> {
-    let alloc = rt.alloc();
-    let book = books::two_functions(alloc)?;
+/// The first page of the book.
+fn first_page(
+    alloc: Global,
+    book: &HandBook,
+    costs: &[u32],
+    max: u32,
+    take: u32,
+) -> Result<Codes, PageFault> {
     let query = Query {
-        costs: &[],
-        max: 2,
-        take: 10,
-        pool: 1000,
+        costs,
+        max: max.min(1024),
+        take: take.max(1),
+        pool: 1_000_000,
     };
-    // f alone comes behind x, f(f) between f(x) and g(x), and g(g) behind g(x)
-    let (codes, _) = listed(alloc, &book, &query, Some(&alone(alloc, 1)))?;
-    assert_eq!(rt; codes.as_slice(), [1, 1, 0, 0, 2, 1, 0, 0].as_slice());
-    let (codes, _) = listed(alloc, &book, &query, Some(&twice(alloc, 1)?))?;
-    assert_eq!(rt; codes.as_slice(), [2, 1, 0, 0].as_slice());
-    let (codes, more) = listed(alloc, &book, &query, Some(&twice(alloc, 2)?))?;
-    assert!(rt; codes.len() == 0);
-    assert!(rt; !more);
-    Ok(())
+    codes_of(alloc, &paged(alloc, book, &query, None)?)
+}
+
+/// Whether these are the codes, and whether more follow or not.
+fn is_listed(alloc: Global, listing: Listing, follows: bool) -> Result<bool, Fail> {
+    let (rules, costs, max, take, wanted) = listing;
+    let book = book(alloc, rules)?;
+    let (codes, more) = first_page(alloc, &book, costs, max, take)?;
+    Ok(codes.as_slice() == wanted && more == follows)
 }
 
 #[test]
-fn a_pool_that_is_met_and_one_that_is_one_short(rt: HostRuntime) -> Result<(), Fail> {
-    let alloc = rt.alloc();
-    let book = books::two_functions(alloc)?;
-    // 1 term of size 1, 2 of size 2 and 4 of size 3
-    let mut query = Query {
-        costs: &[],
-        max: 3,
-        take: 10,
-        pool: 7,
-    };
-    let (codes, more) = listed(alloc, &book, &query, None)?;
-    assert!(rt; codes.len() == 34);
-    assert!(rt; !more);
-    query.pool = 6;
-    assert!(rt; listed(alloc, &book, &query, None) == Err(PageFault::TooManyTerms));
-    // size 2 decides the page of two terms
-    let mut query = Query {
-        costs: &[],
-        max: 3,
-        take: 2,
-        pool: 3,
-    };
-    let (codes, more) = listed(alloc, &book, &query, None)?;
-    assert_eq!(rt; codes.as_slice(), [0, 0, 1, 1, 0, 0].as_slice());
-    assert!(rt; more);
-    query.pool = 2;
-    assert!(rt; listed(alloc, &book, &query, None) == Err(PageFault::TooManyTerms));
+fn terms_are_listed_once_by_size_and_code(rt: HostRuntime) -> Result<(), Fail> {
+    for listing in WHOLE {
+        assert!(rt; is_listed(rt.alloc(), listing, false)?);
+    }
+    assert!(rt; is_listed(rt.alloc(), SIX, true)?);
     Ok(())
+}
+
+/// How many numbers the codes of the chain's terms have.
+fn numbers_of_chain(alloc: Global) -> Result<usize, Fail> {
+    let book = book(alloc, ONE_CHAIN)?;
+    let (codes, _) = first_page(alloc, &book, &[], 1024, 100)?;
+    Ok(codes.len())
 }
 
 #[test]
 fn a_term_has_64_occurrences_at_most(rt: HostRuntime) -> Result<(), Fail> {
-    let alloc = rt.alloc();
-    let query = Query {
-        costs: &[],
-        max: 1024,
-        take: 100,
-        pool: 1000,
-    };
-    let (codes, more) = listed(alloc, &books::one_chain(alloc)?, &query, None)?;
     // the code of a term has two numbers for each occurrence, and 1 + 2 + .. + 64 is 2,080
-    assert!(rt; codes.len() == 4160);
-    assert!(rt; !more);
-    Ok(())
-}
-
-#[test]
-fn a_rule_with_32_arguments_that_are_too_long_together_gives_none(
-    rt: HostRuntime,
-) -> Result<(), Fail> {
-    let alloc = rt.alloc();
-    let query = Query {
-        costs: &[],
-        max: 1024,
-        take: 100,
-        pool: 1_000_000,
-    };
-    // each argument has two occurrences or more
-    let (codes, more) = listed(alloc, &books::a_wide_rule(alloc)?, &query, None)?;
-    assert!(rt; codes.len() == 0);
-    assert!(rt; !more);
+    assert!(rt; numbers_of_chain(rt.alloc())? == 4160);
     Ok(())
 }

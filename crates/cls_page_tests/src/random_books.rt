@@ -1,7 +1,6 @@
 //! Rule books by chance, the same ones in each run.
 ghost use Rattle.std.specs.Prelude.{◌≤◌, ◌<◌};
 
-use crate::books::made;
 use crate::hand_book::HandBook;
 use cls_base::OutOfMemory;
 use cls_rulebook::{NodeRules, RuleRef};
@@ -52,6 +51,22 @@ fn add_head(
     })
 }
 
+/// Adds, in one of four cases, a pair of this node and another one.
+fn add_pair(
+    random: &mut Random,
+    left: u32,
+    count: u32,
+    rules: &mut NodeRules,
+) -> Result<(), OutOfMemory>
+    requires { 1 ≤ count }
+{
+    let right = random.below(count);
+    if random.below(4) > 0 {
+        return Ok(());
+    }
+    rules.push(RuleRef::Any { left, right })
+}
+
 /// At most four head rules, in one of four nodes a pair of the node itself and another one, and in one of four a pair of
 /// any nodes.
 fn rules(
@@ -66,18 +81,9 @@ fn rules(
     for _rule in 0..1 + random.below(4) {
         add_head(alloc, random, count, &mut rules)?;
     }
-    if random.below(4) == 0 {
-        rules.push(RuleRef::Any {
-            left: node,
-            right: random.below(count),
-        })?;
-    }
-    if random.below(4) == 0 {
-        rules.push(RuleRef::Any {
-            left: random.below(count),
-            right: random.below(count),
-        })?;
-    }
+    add_pair(random, node, count, &mut rules)?;
+    let left = random.below(count);
+    add_pair(random, left, count, &mut rules)?;
     Ok(rules)
 }
 
@@ -88,5 +94,5 @@ pub(crate) fn random_book(alloc: Global, random: &mut Random) -> Result<HandBook
     for node in 0..count {
         nodes.push(rules(alloc, random, node, count)?)?;
     }
-    made(nodes)
+    HandBook::new(nodes)
 }
