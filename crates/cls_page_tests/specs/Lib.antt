@@ -1,1 +1,2 @@
 pub mod HandBooks
+pub mod ShortTerms

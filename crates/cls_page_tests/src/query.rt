@@ -1,6 +1,7 @@
 //! What pages are asked for, and what `page` answers.
-ghost use Rattle.std.specs.Prelude.{◌≡◌, ℕ, ◌<◌, ◌≤◌, ◌^◌, IfOk, IfSome, length, option_copied, slice_index_or};
+ghost use Rattle.std.specs.Prelude.{◌≡◌, ℕ, ◌<◌, ◌≤◌, ◌^◌, IfOk, IfSome, option_copied};
 ghost use Rattle.cls_base.specs.Terms.{component, length_of};
+ghost use Rattle.cls_page_tests.specs.ShortTerms.{AreShort};
 ghost use Rattle.cls_term.specs.Costs.{cost_of};
 
 use crate::hand_book::HandBook;
@@ -32,7 +33,7 @@ pub(crate) fn paged(
     after: Option<&Term>,
 ) -> Result<Page, PageFault>
     requires token { IfSome (option_copied after) (λ a. length_of a < 2 ^ 32) }
-    ensures short { IfOk result (λ p. (i : ℕ) → i < length p.terms → length_of (slice_index_or p.terms i (component 0)) < 2 ^ 32) }
+    ensures short { IfOk result (λ p. AreShort p.terms) }
 {
     let costs = positive(alloc, query.costs)?;
     page(

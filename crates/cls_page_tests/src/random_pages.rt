@@ -1,5 +1,6 @@
 ghost use Rattle.std.specs.Prelude.{ℕ, ◌<◌, ◌≤◌, ◌^◌, IfSome, length, option_copied, slice_index_or};
 ghost use Rattle.cls_base.specs.Terms.{component, length_of};
+ghost use Rattle.cls_page_tests.specs.ShortTerms.{AreShort};
 
 use crate::generated::{Generated, MOST};
 use crate::hand_book::HandBook;
@@ -73,7 +74,7 @@ fn agrees_behind_each(
     query: &Query,
     terms: &CodedTerms,
 ) -> bool
-    requires short { (i : ℕ) → i < length terms.now → length_of (slice_index_or terms.now i (component 0)) < 2 ^ 32 }
+    requires short { AreShort terms.now }
 {
     for place in 0..terms.len() {
         if !agrees_behind_place(alloc, book, made, query, terms, place) {
