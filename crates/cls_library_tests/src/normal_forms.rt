@@ -115,3 +115,35 @@ fn deep_invariant_names(rt: HostRuntime) -> Result<(), Fail> {
     assert!(rt; have_answer(rt.alloc(), &taxonomy, "A = C\nD = P\nA = A & C", false)?);
     Ok(())
 }
+
+/// Whether no path is made of the arrow from a tower of that height to omega. The tower has some 3 to the power of its
+/// height.
+fn is_without_paths(alloc: Global, height: usize) -> Result<bool, Fail> {
+    let arrow = Ty::Arrow(Box::new(alloc, (tower(alloc, height)?, Ty::Omega))?);
+    Ok(normal(alloc, &Flat, &arrow)?.paths().is_empty())
+}
+
+#[test]
+fn nothing_is_made_of_the_source_of_an_arrow_to_omega(rt: HostRuntime) -> Result<(), Fail> {
+    assert!(rt; is_without_paths(rt.alloc(), 50)?);
+    Ok(())
+}
+
+/// The type that the texts spell around a tower of 50 arrows.
+fn around_tower(alloc: Global, before: &str, after: &str) -> Result<Ty, Fail> {
+    let tower = nested(alloc, 50, "(", "A & B & C", ") -> A & B & C")?;
+    let text = nested(alloc, 1, before, tower.as_str(), after)?;
+    type_of_text(alloc, text.as_str())
+}
+
+#[test]
+fn nothing_is_asked_of_an_arrow_to_omega(rt: HostRuntime) -> Result<(), Fail> {
+    let taxonomy = order_of_names(rt.alloc())?;
+    let lower = around_tower(rt.alloc(), "(R(A & (", "))) -> omega")?;
+    let upper = type_of_text(rt.alloc(), "(R(A)) -> A")?;
+    assert!(rt; !subtype(rt.alloc(), &taxonomy, &lower, &upper)?);
+    let lower = type_of_text(rt.alloc(), "(R(omega -> A & B & C)) -> A")?;
+    let upper = around_tower(rt.alloc(), "(R((omega -> A & B & C) & (", "))) -> omega")?;
+    assert!(rt; subtype(rt.alloc(), &taxonomy, &lower, &upper)?);
+    Ok(())
+}

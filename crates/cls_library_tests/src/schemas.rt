@@ -113,3 +113,12 @@ fn an_instance_is_too_large(rt: HostRuntime) -> Result<(), Fail> {
     assert!(rt; !is_made(rt.alloc(), &schema, &kinds)?);
     Ok(())
 }
+
+#[test]
+fn instances_come_without_what_no_path_goes_through(rt: HostRuntime) -> Result<(), Fail> {
+    let kinds = two_kinds(rt.alloc(), "A -> omega\nA", "C\nD -> omega & omega")?;
+    let schema = schema_of_text(rt.alloc(), "(B -> $a) -> $b & ($a -> omega)")?;
+    let wanted = "omega -> C\nomega\n(B -> A) -> C\nomega";
+    assert!(rt; are_instances(rt.alloc(), &schema, &kinds, wanted)?);
+    Ok(())
+}
