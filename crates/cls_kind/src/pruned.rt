@@ -1,13 +1,13 @@
 //! Types without what no path goes through.
 ghost use Rattle.std.specs.Prelude.{◌≡◌, ◌↔◌, IfOk, IsTrue};
-ghost use Rattle.cls_base.specs.Types.{omega};
+ghost use Rattle.cls_base.specs.Types.{omega, path_count};
 ghost use Rattle.cls_base.specs.Ty.{type_of};
 ghost use Rattle.cls_kind.specs.Pruned.{arrow_to, meet_of, pruned};
 
 use cls_base::{OutOfMemory, Ty};
 use std::alloc::Global;
 
-/// The type without what no path goes through. Of an arrow to such a type the source isn't looked at.
+/// The type without what no path goes through. Where a type has no path, none of its parts is made.
 pub(crate) fn pruned(alloc: Global, ty: &Ty) -> Result<Ty, OutOfMemory>
     ensures { IfOk result (λ whole. type_of whole ≡ pruned (type_of ty.now)) }
 {
@@ -24,11 +24,11 @@ pub(crate) fn pruned(alloc: Global, ty: &Ty) -> Result<Ty, OutOfMemory>
             Ok(Ty::Prod(Box::new(alloc, (left, right))?))
         }
         Ty::Arrow(sides) => {
-            let target = pruned(alloc, &sides.1)?;
-            if is_omega(&target) {
+            if is_pathless(&sides.1) {
                 return Ok(Ty::Omega);
             }
             let source = pruned(alloc, &sides.0)?;
+            let target = pruned(alloc, &sides.1)?;
             Ok(arrow_to(alloc, source, target)?)
         }
         Ty::Meet(sides) => {
@@ -37,13 +37,6 @@ pub(crate) fn pruned(alloc: Global, ty: &Ty) -> Result<Ty, OutOfMemory>
             Ok(meet_of(alloc, left, right)?)
         }
     }
-}
-
-/// Whether the type is omega.
-pub(crate) fn is_omega(ty: &Ty) -> bool
-    ensures { IsTrue result ↔ (type_of ty.now ≡ omega) }
-{
-    matches!(ty, Ty::Omega)
 }
 
 /// The arrow between pruned types, of which the target isn't omega.
@@ -65,4 +58,23 @@ pub(crate) fn meet_of(alloc: Global, left: Ty, right: Ty) -> Result<Ty, OutOfMem
         return Ok(left);
     }
     Ok(Ty::Meet(Box::new(alloc, (left, right))?))
+}
+
+/// Whether the type has no path.
+pub(crate) fn is_pathless(ty: &Ty) -> bool
+    ensures { IsTrue result ↔ (path_count (type_of ty.now) ≡ 0) }
+{
+    match ty {
+        Ty::Omega => true,
+        Ty::Bare(_) | Ty::Con(..) | Ty::Prod(..) => false,
+        Ty::Arrow(sides) => is_pathless(&sides.1),
+        Ty::Meet(sides) => is_pathless(&sides.0) && is_pathless(&sides.1),
+    }
+}
+
+/// Whether the type is omega.
+fn is_omega(ty: &Ty) -> bool
+    ensures { IsTrue result ↔ (type_of ty.now ≡ omega) }
+{
+    matches!(ty, Ty::Omega)
 }
