@@ -6,42 +6,58 @@ use Rattle.cls_kind.specs.Instances.{IsSmall}
 use Rattle.cls_kind.specs.Pruned.{arrow_to, meet_of, pruned}
 
 -- what the forms come to
-pub arrow_other : (s t : ClosedType) → (t ≡ types.omega → ⊥) → arrow s t ≡ arrow_to s t
+pub arrow_other : (s t : ClosedType) → (t ≡ types.omega → ⊥) → arrow_to s t ≡ arrow s t
+unfolding arrow_to
 arrow_other s types.omega f = absurd (f refl)
 arrow_other s t f = refl
 
-pub meet_other : (s t : ClosedType) → (s ≡ types.omega → ⊥) → (t ≡ types.omega → ⊥) → meet s t ≡ meet_of s t
+pub meet_first : (s t : ClosedType) → s ≡ types.omega → meet_of s t ≡ t
+unfolding meet_of
+meet_first s t e = ap (λ (u : ClosedType). meet_of u t) e
+
+pub meet_omega : (s : ClosedType) → meet_of s types.omega ≡ s
+unfolding meet_of
+meet_omega types.omega = refl
+meet_omega s = refl
+
+pub meet_second : (s t : ClosedType) → t ≡ types.omega → meet_of s t ≡ s
+meet_second s t e = ap (meet_of s) e ∙ meet_omega s
+
+pub meet_other : (s t : ClosedType) → (s ≡ types.omega → ⊥) → (t ≡ types.omega → ⊥) → meet_of s t ≡ meet s t
+unfolding meet_of
 meet_other types.omega t f g = absurd (f refl)
 meet_other s types.omega f g = absurd (g refl)
 meet_other s t f g = refl
 
-pub meet_omega : (s : ClosedType) → meet_of s types.omega ≡ s
-meet_omega types.omega = refl
-meet_omega s = refl
-
 arrow_count : (s t : ClosedType) → path_count (arrow_to s t) ≡ path_count t
+unfolding arrow_to
 arrow_count s types.omega = refl
 arrow_count s t = refl
 
 arrow_spread : (s t : ClosedType) → spread (arrow_to s t) ≡ spread t + path_count t * (1 + spread s)
+unfolding arrow_to
 arrow_spread s types.omega = omega arith
 arrow_spread s t = refl
 
 arrow_nodes : (s t : ClosedType) → nodes (arrow_to s t) ≤ 1 + nodes s + nodes t
+unfolding arrow_to
 arrow_nodes s types.omega = omega arith
 arrow_nodes s t = omega arith
 
 meet_count : (s t : ClosedType) → path_count (meet_of s t) ≡ path_count s + path_count t
+unfolding meet_of
 meet_count types.omega t = omega arith
 meet_count s types.omega = omega arith
 meet_count s t = refl
 
 meet_spread : (s t : ClosedType) → spread (meet_of s t) ≡ spread s + spread t
+unfolding meet_of
 meet_spread types.omega t = omega arith
 meet_spread s types.omega = omega arith
 meet_spread s t = refl
 
 meet_nodes : (s t : ClosedType) → nodes (meet_of s t) ≤ 1 + nodes s + nodes t
+unfolding meet_of
 meet_nodes types.omega t = omega arith
 meet_nodes s types.omega = omega arith
 meet_nodes s t = omega arith
@@ -55,6 +71,7 @@ count-pruned (meet s t) = meet_count (pruned s) (pruned t) ∙ (λ i. count-prun
 
 -- a type without a path is pruned to omega, and no other one
 pub omega_pruned : (t : ClosedType) → path_count t ≡ 0 → pruned t ≡ types.omega
+unfolding arrow_to meet_of
 omega_pruned types.omega h = refl
 omega_pruned (constructor c s) h = absurd (omega arith)
 omega_pruned (product s t) h = absurd (omega arith)

@@ -3,12 +3,12 @@
 use Rattle.cls_base.specs.Types.{ClosedType, omega, constructor, product, arrow, meet}
 
 -- the arrow between pruned types
-abbrev pub arrow_to : ClosedType → ClosedType → ClosedType
+unfoldable pub arrow_to : ClosedType → ClosedType → ClosedType
 arrow_to s omega = omega
 arrow_to s t = arrow s t
 
 -- the intersection of pruned types
-abbrev pub meet_of : ClosedType → ClosedType → ClosedType
+unfoldable pub meet_of : ClosedType → ClosedType → ClosedType
 meet_of omega t = t
 meet_of s omega = s
 meet_of s t = meet s t

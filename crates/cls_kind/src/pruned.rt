@@ -40,6 +40,7 @@ pub(crate) fn pruned(alloc: Global, ty: &Ty) -> Result<Ty, OutOfMemory>
 }
 
 /// The arrow between pruned types, of which the target isn't omega.
+#[tactic(auto, using(crate::proofs::Pruning::arrow_other))]
 pub(crate) fn arrow_to(alloc: Global, source: Ty, target: Ty) -> Result<Ty, OutOfMemory>
     requires { type_of target ≡ omega → ⊥ }
     ensures { IfOk result (λ whole. type_of whole ≡ arrow_to (type_of source) (type_of target)) }
@@ -48,6 +49,7 @@ pub(crate) fn arrow_to(alloc: Global, source: Ty, target: Ty) -> Result<Ty, OutO
 }
 
 /// The intersection of pruned types. Omega is left out.
+#[tactic(auto, using(crate::proofs::Pruning::meet_first, crate::proofs::Pruning::meet_second, crate::proofs::Pruning::meet_other))]
 pub(crate) fn meet_of(alloc: Global, left: Ty, right: Ty) -> Result<Ty, OutOfMemory>
     ensures { IfOk result (λ whole. type_of whole ≡ meet_of (type_of left) (type_of right)) }
 {

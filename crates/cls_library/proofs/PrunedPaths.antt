@@ -8,10 +8,12 @@ use Rattle.cls_norm.proofs.Steps.{append_none}
 use Rattle.cls_kind.specs.Pruned.{arrow_to, meet_of, pruned}
 
 arrow-paths : (v : ℕ → Variance) (s t : ClosedType) → paths_of v (arrow_to s t) ≡ map_paths (function (paths_of v s)) (paths_of v t)
+unfolding arrow_to
 arrow-paths v s types.omega = refl
 arrow-paths v s t = refl
 
 meet-paths : (v : ℕ → Variance) (s t : ClosedType) → paths_of v (meet_of s t) ≡ append (paths_of v s) (paths_of v t)
+unfolding meet_of
 meet-paths v types.omega t = refl
 meet-paths v s types.omega = sym (append_none (paths_of v s))
 meet-paths v s t = refl

@@ -1,4 +1,4 @@
-use Rattle.std.proofs.Common.{rules, ◌≡◌, refl, sym, ◌∙◌, ap, subst, ◌+◌, inl, inr, List, [], length, drop, arith, eq-eqb, Bor, true, false}
+use Rattle.std.proofs.Common.{rules, ◌≡◌, refl, sym, ◌∙◌, ap, subst, ◌+◌, inl, inr, List, [], drop, arith, eq-eqb, Bor, true, false}
 use Rattle.std.proofs.lemmas.List.{drop_all}
 use Rattle.std.proofs.lemmas.Bool.{eqb-true, false≢true}
 use Rattle.cls_base.specs.Types.{arrow, nodes, path_count}
@@ -280,8 +280,8 @@ parts_are_below-returns-then-is_empty g t c =
     let v = g.T.Taxa.variance_of_name c.args.taxa.now in
     let x = paths_of_all v c.args.lowers.now in
     let k = nodes_of_all c.args.lowers.now in
-    let parts = c.in_ok-parts.parts.items in
-    let e = unfilled parts (eqb-true (length parts) 0 (sym c.is_empty.ensures ∙ c.if-is_empty.true)) in
+    let parts = c.in_ok-parts.parts in
+    let e = unfilled parts.items (sym parts.ok.0 ∙ eqb-true parts.len 0 (sym c.is_empty.ensures ∙ c.if-is_empty.true)) in
     let a = subst (λ (l : List (Bor Ty)). Adds b v c.args.step x k [] l) e c.in_ok-parts.ensures in
     no (λ l. parts_lack b v c.args.step x k (type_of c.args.upper.now) a c.requires.asked l)
 
@@ -293,7 +293,8 @@ parts_are_below-returns g t c =
     let k = nodes_of_all c.args.lowers.now in
     let n = paths_of v (type_of c.args.upper.now) in
     let parts = c.in_ok-parts.parts.items in
-    let f = filled parts (λ l. false≢true (sym c.if-is_empty.false ∙ (c.is_empty.ensures ∙ eq-eqb (length parts) 0 l))) in
+    let whole = c.in_ok-parts.parts in
+    let f = filled parts (λ l. false≢true (sym c.if-is_empty.false ∙ (c.is_empty.ensures ∙ eq-eqb whole.len 0 (whole.ok.0 ∙ l)))) in
     let a = parts_decide b v c.args.step x k parts n c.in_ok-parts.ensures f in
     let e = c.in_ok-are_below.ensures in
     let s = c.deref.ensures.value in (
