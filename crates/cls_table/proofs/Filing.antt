@@ -1,9 +1,13 @@
 -- What becomes of filings that are filed one after the other, from the last one on.
-use Rattle.std.proofs.Common.{◌≡◌, sym, ◌∙◌, ap, subst, ◌⊎◌, inl, inr, Bool, true, List, [], ◌∷◌, ◌++◌, append_assoc}
+use Rattle.std.proofs.Common.{◌≡◌, refl, sym, ◌∙◌, ap, subst, ◌⊎◌, inl, inr, arith, Bool, true, List, [], ◌∷◌, ◌++◌, length, append_assoc}
 use Rattle.std.specs.Prelude.{reverse}
 use Rattle.std.proofs.lemmas.List.{append-nil, reverse-append}
 use Rattle.cls_table.specs.Batches.{Files, FilesEach, no_filing, one_filing}
 use Rattle.cls_table.specs.Seen.{FiledSeen, TableSeen}
+
+pub nothing-left : {A : Type 0} → (xs : List A) → length xs ≡ 0 → xs ≡ []
+nothing-left [] e = refl
+nothing-left (x ∷ xs) e = absurd (omega arith)
 
 module _ {B G : Type 0} (eq : G → G → Bool) (begin : TableSeen B G) (all : List (FiledSeen B G)) where
   -- What is made of those that still wait is made of all; or the table is stopped, as memory ran out.
