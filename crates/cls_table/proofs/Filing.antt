@@ -2,7 +2,8 @@
 use Rattle.std.proofs.Common.{◌≡◌, refl, sym, ◌∙◌, ap, subst, ◌⊎◌, inl, inr, arith, Bool, true, List, [], ◌∷◌, ◌++◌, length, append_assoc}
 use Rattle.std.specs.Prelude.{reverse}
 use Rattle.std.proofs.lemmas.List.{append-nil, reverse-append}
-use Rattle.cls_table.specs.Batches.{Files, FilesEach, no_filing, one_filing}
+use Rattle.cls_table.specs.Batches.{Files, is_filed, passes_limits, is_left, FilesEach, no_filing, one_filing}
+use Rattle.cls_table.specs.Holdings.{HasRoom, IsHeldClaim, after_file, large_table}
 use Rattle.cls_table.specs.Seen.{FiledSeen, TableSeen}
 
 pub nothing-left : {A : Type 0} → (xs : List A) → length xs ≡ 0 → xs ≡ []
@@ -17,10 +18,14 @@ module _ {B G : Type 0} (eq : G → G → Bool) (begin : TableSeen B G) (all : L
       ⊎ ((left : List (FiledSeen B G)) (u : TableSeen B G) → FilesEach eq t (reverse waiting) left u
       → FilesEach eq begin (reverse all) (others ++ left) u)
 
+  -- what one filing comes to, and the filings that are left then
+  abbrev pub Step : TableSeen B G → TableSeen B G → FiledSeen B G → List (FiledSeen B G) → List (FiledSeen B G) → Type 0
+  Step t u f others more =
+      (u.stopped ≡ true) ⊎ ((left : List (FiledSeen B G)) × Files eq t f left u × (more ≡ others ++ left))
+
   pub goes-on :
       (t u : TableSeen B G) (waiting rest others more : List (FiledSeen B G)) (f : FiledSeen B G)
-      → waiting ≡ rest ++ f ∷ [] → Goes t waiting others
-      → (u.stopped ≡ true) ⊎ ((left : List (FiledSeen B G)) × Files eq t f left u × (more ≡ others ++ left))
+      → waiting ≡ rest ++ f ∷ [] → Goes t waiting others → Step t u f others more
       → (t.stopped ≡ true → u.stopped ≡ true) → Goes u rest more
   goes-on t u waiting rest others more f e (inl s) step stays = inl (stays s)
   goes-on t u waiting rest others more f e (inr h) (inl s) stays = inl s
@@ -42,3 +47,16 @@ module _ {B G : Type 0} (eq : G → G → Bool) (begin : TableSeen B G) (all : L
 pub goes-begin :
     {B G : Type 0} (eq : G → G → Bool) (t : TableSeen B G) (all : List (FiledSeen B G)) → Goes eq t all t all []
 goes-begin eq t all = inr (λ left u h. h)
+
+module _ {B G : Type 0} (eq : G → G → Bool) (t u : TableSeen B G) (f : FiledSeen B G) (others : List (FiledSeen B G)) where
+  abbrev Files-to : List (FiledSeen B G) → TableSeen B G → Type 0
+  Files-to left v = Files eq t f left v
+
+  pub step-filed : IsHeldClaim t.rows f.claim → HasRoom eq t.tag t.rows f.answer → u ≡ after_file eq t f → (u.stopped ≡ true) ⊎ ((left : List (FiledSeen B G)) × Files eq t f left u × (others ≡ others ++ left))
+  step-filed h r e = inr ([], subst (Files-to []) (sym e) (is_filed h r), sym (append-nil others))
+
+  pub step-past : IsHeldClaim t.rows f.claim → (HasRoom eq t.tag t.rows f.answer → ⊥) → u ≡ large_table t → (u.stopped ≡ true) ⊎ ((left : List (FiledSeen B G)) × Files eq t f left u × (others ≡ others ++ left))
+  step-past h r e = inr ([], subst (Files-to []) (sym e) (passes_limits h r), sym (append-nil others))
+
+  pub step-left : (IsHeldClaim t.rows f.claim → ⊥) → u ≡ t → (more : List (FiledSeen B G)) → more ≡ others ++ f ∷ [] → (u.stopped ≡ true) ⊎ ((left : List (FiledSeen B G)) × Files eq t f left u × (more ≡ others ++ left))
+  step-left h e more k = inr (f ∷ [], subst (Files-to (f ∷ [])) (sym e) (is_left h), k)

@@ -53,7 +53,7 @@ fn round<E: Expand, L: Ledger, T: Gate, R: Wait>(
     requires batch { ForSome seat.tag (λ t. IsBatchFor t seat.worker batch.old) }
     requires no_claims { batch.old.claims ≡ [] }
     ensures after { IsAfterWork seat result.0 }
-    ensures batch { ForSome seat.tag (λ t. IsBatchFor t seat.worker batch.new) }
+    ensures batch { ForSome result.0.tag (λ t. IsBatchFor t result.0.worker batch.new) }
     ensures no_claims { batch.new.claims ≡ [] }
 {
     let mut seat = seat;
@@ -84,7 +84,7 @@ fn rounds<E: Expand, L: Ledger, T: Gate, R: Wait>(
     requires batch { ForSome seat.tag (λ t. IsBatchFor t seat.worker batch.old) }
     requires no_claims { batch.old.claims ≡ [] }
     ensures after { IsAfterWork seat result.0 }
-    ensures batch { ForSome seat.tag (λ t. IsBatchFor t seat.worker batch.new) }
+    ensures batch { ForSome result.0.tag (λ t. IsBatchFor t result.0.worker batch.new) }
     ensures no_claims { batch.new.claims ≡ [] }
 {
     let mut seat = seat;
