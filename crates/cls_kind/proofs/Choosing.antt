@@ -2,6 +2,7 @@
 use Rattle.std.proofs.Common.{◌≡◌, ℕ, ◌+◌, ◌*◌, ◌/◌, ◌%◌, ◌<◌, ◌≤◌, List, [], ◌∷◌, ◌++◌, length, map, take, get_or, refl, sym, subst, ap, ◌∙◌, arith}
 use Rattle.std.specs.Prelude.{All}
 use Rattle.std.proofs.lemmas.List.{get_or-map, length-map, map_more}
+use Rattle.std.proofs.lemmas.List.Elements.{All-map}
 use Rattle.cls_base.specs.Limits.{max_instances}
 use Rattle.cls_base.specs.declared.ty.Ty.{Ty}
 use Rattle.cls_base.specs.Ty.{type_of}
@@ -56,10 +57,11 @@ module _ (ranges : List Range) (i : ℕ) (r : Range) (at : i < length ranges) (i
 
   pub largest_next :
       (done : List (ℕ × ClosedType)) (t : Ty) → AreLargest (map range_of (take i ranges)) done
-      → All (λ x. capped_nodes x ≤ capped_nodes (type_of t)) (map type_of r.choices.now)
+      → All (λ x. capped_nodes (type_of x) ≤ capped_nodes (type_of t)) r.choices.now
       → AreLargest (map range_of (take (i + 1) ranges)) (done ++ (r.variable, type_of t) ∷ [])
   largest_next done t h a =
       let before = map range_of (take i ranges) in
       let e : map range_of (take (i + 1) ranges) ≡ before ++ range_of r ∷ [] = map_more range_of ranges i r at ∙ ap (λ (x : Range). before ++ range_of x ∷ []) (sym is) in
+      let most : All (λ x. capped_nodes x ≤ capped_nodes (type_of t)) (map type_of r.choices.now) = All-map (λ x. capped_nodes x ≤ capped_nodes (type_of t)) type_of r.choices.now a in
       subst (λ rs. AreLargest rs (done ++ (r.variable, type_of t) ∷ [])) (sym e)
-      (largest-more before done (range_of r) (r.variable, type_of t) h refl a)
+      (largest-more before done (range_of r) (r.variable, type_of t) h refl most)

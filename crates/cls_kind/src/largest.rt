@@ -1,5 +1,5 @@
 //! The largest types of kinds, by which all instances are known to have few nodes.
-ghost use Rattle.std.specs.Prelude.{◌≡◌, ◌≤◌, [], All, IfOk, map};
+ghost use Rattle.std.specs.Prelude.{◌≡◌, ◌≤◌, ◌↔◌, [], All, IfOk, IfSome, IsNone};
 ghost use Rattle.cls_base.specs.Ty.{type_of};
 ghost use Rattle.cls_kind.specs.Instances.{AreFull};
 ghost use Rattle.cls_kind.specs.Ranges.{AreLargest, capped_nodes, choice_in, kinds_in};
@@ -19,27 +19,22 @@ pub(crate) fn largest<'a>(
 {
     let mut chosen = Vec::with_capacity(alloc, ranges.len())?;
     for range in ranges {
+        let Some(ty) = largest_of(range.choices) else {
+            unreachable!();
+        };
         chosen.push(Chosen {
             variable: range.variable,
-            ty: largest_of(range.choices),
+            ty,
         })?;
     }
     Ok(chosen)
 }
 
 /// The type that has the most nodes, which are counted up to 4,097.
-fn largest_of<'a>(types: &'a [Ty]) -> &'a Ty
-    requires { types.now ≡ [] → ⊥ }
-    ensures { All (λ t. capped_nodes t ≤ capped_nodes (type_of result.now)) (map type_of types.now) }
+fn largest_of<'a>(types: &'a [Ty]) -> Option<&'a Ty>
+    ensures largest { IfSome result (λ ty.
+        All (λ t. capped_nodes (type_of t) ≤ capped_nodes (type_of ty.now)) types.now) }
+    ensures none { IsNone result ↔ (types.now ≡ []) }
 {
-    let mut largest = &types[0];
-    let mut most = type_nodes(largest);
-    for ty in types {
-        let nodes = type_nodes(ty);
-        if nodes > most {
-            largest = ty;
-            most = nodes;
-        }
-    }
-    largest
+    types.iter().max_by_key(|ty| type_nodes(*ty))
 }
