@@ -1,15 +1,15 @@
 -- The laws of histories. IsAnswer g a says that a is an answer of the goal g. `src/laws.rt` promises them of the
 -- answers that a tag of an expander means, of which each goal has at most one.
-use Rattle.std.specs.Prelude.{◌≡◌, ◌↔◌, Bool, List, Contains, length}
+use Rattle.std.specs.Prelude.{◌≡◌, ◌↔◌, ℕ, Bool, List, Some, Contains, length, slice_get}
 use Rattle.cls_base.specs.Lists.{AreDistinct}
 use Rattle.cls_core.specs.declared.answer.Answer.{Answer}
 use Rattle.cls_core.specs.declared.entry.Entry.{Entry}
 use Rattle.cls_core.specs.Rows.{Machine, Row, filed_rows}
 use Rattle.cls_core.specs.Machine.{begun, Replays, AllFiled}
-use Rattle.cls_core.specs.Closure.{AllReached, IsClosure}
+use Rattle.cls_core.specs.Closure.{AllReached, IsClosure, goals_of}
 use Rattle.cls_core.specs.Times.{EachAtMostOnce, EachOnce}
 use Rattle.cls_core.specs.Canonical.{IsCanonical}
-use Rattle.cls_core.specs.Renumbering.{renumbered}
+use Rattle.cls_core.specs.Renumbering.{renumbered, renumbered_from}
 use Rattle.cls_core.specs.Grammar.{IsGrammar}
 
 module _ {G : Type 0} (eq : G → G → Bool) (IsAnswer : G → Answer G → Type 0) where
@@ -45,6 +45,11 @@ module _ {G : Type 0} (eq : G → G → Bool) (IsAnswer : G → Answer G → Typ
   RenumberedRowsAreCanonical =
       (start : G) (es : List Entry) (t : Machine G) → Completes start es t
       → IsCanonical eq IsAnswer start (renumbered (filed_rows t.goals t.states))
+
+  abbrev pub RenumberedClosuresAreCanonical : Type 0
+  RenumberedClosuresAreCanonical =
+      (root g : G) (rows : List (Row G)) (k : ℕ) → IsClosure eq IsAnswer root rows → slice_get (goals_of rows) k ≡ Some g
+      → IsCanonical eq IsAnswer g (renumbered_from k rows)
 
   abbrev pub RenumberedRowsAgree : Type 0
   RenumberedRowsAgree =

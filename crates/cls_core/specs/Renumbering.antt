@@ -1,4 +1,4 @@
--- The renumbering of rows: breadth first from the first one, in the order of rules and of arguments within a rule.
+-- The renumbering of rows: breadth first from one of them, in the order of rules and of arguments within a rule.
 use Rattle.std.specs.Prelude.{ℕ, zero, suc, Bool, List, [], ◌∷◌, Option, None, Some, length, map, nat_eq, slice_get}
 use Rattle.std.specs.List.{filter_map}
 use Rattle.cls_core.specs.declared.answer.Answer.{Answer}
@@ -28,14 +28,22 @@ module _ {G : Type 0} where
   abbrev pub row_answer : List (Row G) → ℕ → Answer ℕ
   row_answer rows n = answer_in (slice_get rows n)
 
+  -- the numbers of the rows that are found from the row k, breadth first
+  abbrev pub order_from : ℕ → List (Row G) → List ℕ
+  order_from k rows = found nat_eq (row_answer rows) k (length rows)
+
   -- the numbers of the rows, breadth first from the first one
   abbrev pub order : List (Row G) → List ℕ
-  order rows = found nat_eq (row_answer rows) 0 (length rows)
+  order rows = order_from 0 rows
 
   -- the row, with each argument replaced by its place among the numbers
   abbrev pub placed : List ℕ → Row G → Row G
   placed numbers r = record { goal = r.goal; answer = numbered nat_eq numbers r.answer }
 
-  -- the rows in that order, with the new number of its row for each argument
+  -- the rows that are found from the row k in their order, with the new number of its row for each argument
+  abbrev pub renumbered_from : ℕ → List (Row G) → List (Row G)
+  renumbered_from k rows = map (placed (order_from k rows)) (filter_map (slice_get rows) (order_from k rows))
+
+  -- the same from the first row on
   abbrev pub renumbered : List (Row G) → List (Row G)
-  renumbered rows = map (placed (order rows)) (filter_map (slice_get rows) (order rows))
+  renumbered rows = renumbered_from 0 rows

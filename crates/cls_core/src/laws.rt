@@ -1,6 +1,6 @@
 //! What holds of every history, as calls that do nothing and promise the law. The answers are those that any tag of an
 //! expander means.
-ghost use Rattle.cls_core.specs.Laws.{HistoriesStayInTheClosure, CompleteHistoriesAreTheClosure, CompleteHistoriesAgree, TheCanonicalRowsAreOne, RenumberedRowsAreCanonical, RenumberedRowsAgree, CanonicalRowsAreTheClosure, CompleteHistoriesMakeGrammars};
+ghost use Rattle.cls_core.specs.Laws.{HistoriesStayInTheClosure, CompleteHistoriesAreTheClosure, CompleteHistoriesAgree, TheCanonicalRowsAreOne, RenumberedRowsAreCanonical, RenumberedClosuresAreCanonical, RenumberedRowsAgree, CanonicalRowsAreTheClosure, CompleteHistoriesMakeGrammars};
 
 use crate::expand::Expand;
 
@@ -31,6 +31,12 @@ pub fn the_canonical_rows_are_one<E: Expand>()
 /// in its canonical numbering.
 pub fn renumbered_rows_are_canonical<E: Expand>()
     ensures { (tag : E.Tag) → RenumberedRowsAreCanonical E.Goal.eq (E.answers tag) }
+{}
+
+/// The rows of a closure that are found from any of them, renumbered breadth first, are the closure of its goal in its canonical
+/// numbering.
+pub fn renumbered_closures_are_canonical<E: Expand>()
+    ensures { (tag : E.Tag) → RenumberedClosuresAreCanonical E.Goal.eq (E.answers tag) }
 {}
 
 /// Renumbered, the rows of two legal complete histories of one goal are the same.

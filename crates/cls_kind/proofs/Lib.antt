@@ -4,3 +4,5 @@ pub mod Counting
 pub mod Going
 pub mod InstanceLaws
 pub mod KindLaws
+pub mod LargestLaws
+pub mod Pruning

@@ -9,6 +9,7 @@ use Rattle.cls_kind.specs.declared.fault.KindFault.{KindFault}
 use Rattle.cls_kind.specs.declared.fault.KindFault.TheVariants.{UnknownVariable, TooManyInstances, InstanceTooLarge, OutOfMemory}
 use Rattle.cls_kind.specs.Instances.{variables_of, count_of, IsSmall}
 use Rattle.cls_kind.specs.Kinds.{kind_of, ranges_of, AreKnown}
+use Rattle.cls_kind.specs.Pruned.{pruned}
 
 -- the variable is the first one of the schema without a kind
 abbrev pub IsFirstUnknown : List (ℕ × List ClosedType) → OpenType → ℕ → Type 0
@@ -30,9 +31,9 @@ HasNoInstances kinds s TooManyInstances = AreKnown kinds s × (max_instances < c
 HasNoInstances kinds s InstanceTooLarge = ⊥
 HasNoInstances kinds s OutOfMemory = Unit {0}
 
--- what comes for an instance: the instance itself, unless it is too large
+-- what comes for an instance: the pruned instance, unless the instance is too large
 abbrev pub IsAnswerFor : ClosedType → Result Ty KindFault → Type 0
-IsAnswerFor t (Ok ty) = (type_of ty ≡ t) × IsSmall t
+IsAnswerFor t (Ok ty) = (type_of ty ≡ pruned t) × IsSmall t
 IsAnswerFor t (Err (UnknownVariable v)) = ⊥
 IsAnswerFor t (Err TooManyInstances) = ⊥
 IsAnswerFor t (Err InstanceTooLarge) = IsSmall t → ⊥

@@ -5,7 +5,9 @@ ghost use Rattle.cls_kind.specs.Faults.{HasNoInstances};
 ghost use Rattle.cls_kind.specs.Kinds.{instances_of, HasInstances};
 
 use crate::fault::KindFault;
+use crate::instance::{TOO_MANY, filled_nodes};
 use crate::kinds::Kinds;
+use crate::largest::largest;
 use crate::left::Instances;
 use crate::ranges::{count, ranges};
 use cls_base::Schema;
@@ -29,5 +31,7 @@ pub fn instances<'a>(
     let Some(count) = count(&ranges) else {
         return Err(KindFault::TooManyInstances);
     };
-    Ok(Instances::new(alloc, schema, ranges, count))
+    let largest = largest(alloc, &ranges)?;
+    let few_nodes = filled_nodes(schema, &largest) < TOO_MANY;
+    Ok(Instances::new(alloc, schema, ranges, count, few_nodes))
 }

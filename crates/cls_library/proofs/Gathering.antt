@@ -1,5 +1,5 @@
 -- The instances of a schema, gathered one by one.
-use Rattle.std.proofs.Common.{◌≡◌, ℕ, ◌+◌, ◌≤◌, max, List, [], ◌∷◌, ◌++◌, refl, sym, subst, ap, ◌∙◌, arith, append_assoc, Some, Result, Ok, Err}
+use Rattle.std.proofs.Common.{◌≡◌, ℕ, ◌+◌, ◌<◌, ◌≤◌, max, List, [], ◌∷◌, ◌++◌, refl, sym, subst, ap, ◌∙◌, arith, append_assoc, Some, Result, Ok, Err}
 use Rattle.std.proofs.lemmas.List.{append-nil}
 use Rattle.cls_base.specs.Limits.{max_arity, max_library_weight}
 use Rattle.cls_base.specs.declared.ty.Ty.{Ty}
@@ -26,11 +26,11 @@ use Rattle.cls_library.specs.Faults.{kind_of_fault}
 use Rattle.cls_library.specs.Gathered.{RefusesInstance, AreGathered, ArePartlyGathered}
 use Rattle.cls_library.specs.Libraries.{below_in, variances_in, all_of, weight_of}
 use Rattle.cls_library.specs.Refusals.{IsAcceptable, AreAcceptable, RefusesSchema}
+use Rattle.cls_kind.specs.Pruned.{pruned}
+use Rattle.cls_kind.proofs.Pruning.{spread_pruned, small-pruned}
+use Rattle.cls_norm.proofs.Steps.{append_none}
+use Rattle.cls_library.proofs.PrunedPaths.{paths-pruned}
 use Rattle.cls_library.proofs.Splitting.{arity-form}
-
-append_none : (n : Paths) → append n none ≡ n
-append_none none = refl
-append_none (more p n) = ap (more p) (append_none n)
 
 append_assoc' : (n m k : Paths) → append n (append m k) ≡ append (append n m) k
 append_assoc' none m k = refl
@@ -62,7 +62,45 @@ acceptable-arity v w (t ∷ ts) h =
     let e = arity-append (paths_of v t) (paths_of v (all_of ts)) in
     omega arith
 
+-- an instance that came isn't too large, nor is what came of it
+pub small-step :
+    (left : List ClosedType) (made : Result Ty KindFault) (left' : List ClosedType) (ty : Ty)
+    → TakesFirst left (Some made) left' → made ≡ Ok ty → IsSmall (type_of ty)
+small-step left made left' ty r e =
+    let came : IsAnswerFor r.0 (Ok ty) = subst (IsAnswerFor r.0) e r.3 in
+    subst IsSmall (sym came.0) (small-pruned r.0 came.1)
+
 module _ (d : Declared) where
+  -- what holds of the pruned instance u holds of the instance t
+  module _ (t u : ClosedType) (e : u ≡ pruned t) where
+    same-paths : paths_of (variances_in d) u ≡ paths_of (variances_in d) t
+    same-paths = ap (paths_of (variances_in d)) e ∙ paths-pruned (variances_in d) t
+
+    same-spread : spread u ≡ spread t
+    same-spread = ap spread e ∙ spread_pruned t
+
+    acceptable-whole : (w : ℕ) → IsSmall t → IsAcceptable (variances_in d) w u → IsAcceptable (variances_in d) w t
+    acceptable-whole w small k = record {
+      small = small;
+      arity = subst (λ (n : Paths). arity_of n ≤ max_arity) same-paths k.arity;
+      light = let l = k.light in let s = same-spread in omega arith;
+    }
+
+    form-whole : (n : Paths) → IsNormalForm (below_in d) (variances_in d) u n → IsNormalForm (below_in d) (variances_in d) t n
+    form-whole n h = record {
+      normal = h.normal;
+      lower = subst (λ (m : Paths). PathsLe (below_in d) (variances_in d) n m) same-paths h.lower;
+      upper = subst (λ (m : Paths). PathsLe (below_in d) (variances_in d) m n) same-paths h.upper;
+    }
+
+    refused-whole : (w : ℕ) (kind : LibraryKind) → RefusesInstance (variances_in d) w u kind → RefusesInstance (variances_in d) w t kind
+    refused-whole w ArityTooLarge r = subst (λ (n : Paths). max_arity < arity_of n) same-paths r
+    refused-whole w LibraryTooLarge r =
+        (subst (λ (n : Paths). arity_of n ≤ max_arity) same-paths r.0, (let b = r.1 in let s = same-spread in omega arith))
+    refused-whole w OutOfMemory r = tt
+    refused-whole w TooManyComponents r = absurd r
+    refused-whole w (Kind fault) r = absurd r
+
   paths-same : (s t : ClosedType) (n : Paths) → paths_of (variances_in d) s ≡ paths_of (variances_in d) t → ArePathsOf (below_in d) (variances_in d) t n → ArePathsOf (below_in d) (variances_in d) s n
   paths-same s t n e h = record {
     suits = h.suits;
@@ -126,16 +164,16 @@ module _ (d : Declared) where
       → ((form : List TypePath) × IsNormalForm (below_in d) (variances_in d) (type_of ty) (listed form) × (ps' ≡ ps ++ form)) → w' ≡ w + (spread (type_of ty) + 1) → ArePartlyGathered d held all (listed ps') w' left'
   partly-step held all ps w left made left' ty ps' w' h r e k f q =
       let came : IsAnswerFor r.0 (Ok ty) = subst (IsAnswerFor r.0) e r.3 in
-      let same : type_of ty ≡ r.0 = came.0 in
-      partly-more held all ps w left r.0 r.1 r.2 h ps' f.0 w' left' (r.4 ∙ ap (left_after r.1) e) (subst (IsAcceptable (variances_in d) w) same k)
-      (subst (λ t. IsNormalForm (below_in d) (variances_in d) t (listed f.0)) same f.1) f.2 (q ∙ ap (λ t. w + (spread t + 1)) same)
+      let same : type_of ty ≡ pruned r.0 = came.0 in
+      partly-more held all ps w left r.0 r.1 r.2 h ps' f.0 w' left' (r.4 ∙ ap (left_after r.1) e) (acceptable-whole r.0 (type_of ty) same w came.1 k)
+      (form-whole r.0 (type_of ty) same (listed f.0) f.1) f.2 (q ∙ ap (λ (n : ℕ). w + (n + 1)) (same-spread r.0 (type_of ty) same))
 
   -- one that was refused
   pub step-refused : (kinds : List (ℕ × List ClosedType)) (s : OpenType) (held : ℕ) (ps : List TypePath) (w : ℕ) (left : List ClosedType) (made : Result Ty KindFault) (left' : List ClosedType) (ty : Ty) (kind : LibraryKind)
       → HasInstances kinds s → ArePartlyGathered d held (instances_of kinds s) (listed ps) w left → TakesFirst left (Some made) left' → made ≡ Ok ty → RefusesInstance (variances_in d) w (type_of ty) kind → RefusesSchema d kinds held s kind
   step-refused kinds s held ps w left made left' ty kind has h r e k =
       let came : IsAnswerFor r.0 (Ok ty) = subst (IsAnswerFor r.0) e r.3 in
-      partly-refused held (instances_of kinds s) ps w left r.0 r.1 r.2 h kinds s refl has came.1 kind (subst (λ t. RefusesInstance (variances_in d) w t kind) came.0 k)
+      partly-refused held (instances_of kinds s) ps w left r.0 r.1 r.2 h kinds s refl has came.1 kind (refused-whole r.0 (type_of ty) came.0 w kind k)
 
   pub step-fault : (kinds : List (ℕ × List ClosedType)) (s : OpenType) (held : ℕ) (ps : List TypePath) (w : ℕ) (left : List ClosedType) (made : Result Ty KindFault) (left' : List ClosedType) (fault : KindFault)
       → HasInstances kinds s → ArePartlyGathered d held (instances_of kinds s) (listed ps) w left → TakesFirst left (Some made) left' → made ≡ Err fault → RefusesSchema d kinds held s (kind_of_fault fault)

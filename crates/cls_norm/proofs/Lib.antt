@@ -2,6 +2,7 @@ pub mod Changes
 pub mod Counts
 pub mod NameLists
 pub mod Parts
+pub mod Pathless
 pub mod PathLists
 pub mod Puts
 pub mod Several

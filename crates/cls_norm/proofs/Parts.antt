@@ -2,7 +2,7 @@
 use Rattle.std.proofs.Common.{◌≡◌, refl, sym, ◌∙◌, ap, subst, ℕ, ◌+◌, ◌<◌, ◌↔◌, ◌⊎◌, inl, inr, List, [], ◌∷◌, ◌++◌, length, get_or, drop, arith, Bor}
 use Rattle.std.proofs.lemmas.List.{drop_more}
 use Rattle.std.specs.Prelude.{Option, Some, None}
-use Rattle.cls_base.specs.Types.{ClosedType, constructor, product, arrow, meet, nodes}
+use Rattle.cls_base.specs.Types.{ClosedType, constructor, product, arrow, meet, nodes, path_count}
 use Rattle.cls_base.specs.Taxonomies.{Variance, covariant, contravariant, invariant}
 use Rattle.cls_base.specs.Ty.{type_of}
 use Rattle.cls_base.specs.declared.ty.Ty.{Ty}
@@ -10,6 +10,7 @@ use Rattle.cls_path.specs.Paths.{TypePath, atom, inside, unit, sealed, Paths, no
 use Rattle.cls_norm.specs.declared.subtypes.Step.{Step}
 use Rattle.cls_norm.specs.declared.subtypes.Step.TheVariants.{Name, Source, Left, Right}
 use Rattle.cls_norm.specs.Subtypes.{paths_of_all, Stands, IsEntered, Joins, Adds}
+use Rattle.cls_norm.proofs.Pathless.{no_paths}
 use Rattle.cls_norm.proofs.Steps.{shape, product_shape, arrow_shape, covariant_shape, append_none, Above, some_shape, from_inside, to_inside, from_atom, to_atom, from_function, to_function, from_left, to_left, from_right, to_right, to_unit, nothing, one}
 
 none_some : (p : TypePath) → ◌≡◌ {A = Option TypePath} None (Some p) → ⊥
@@ -202,6 +203,12 @@ module _ (below : ℕ → ℕ → Type 0) (variance : ℕ → Variance) where
   -- omega
   pub none_added : (step : Step) (k : ℕ) (old : List (Bor Ty)) → Adds below variance step none k old old
   none_added step k old = nothing below variance step none k old (λ q h. elim h [ ]) (λ p e h. elim h [ ])
+
+  -- an arrow without a path
+  pub pathless_passed : (step : Step) (s u : ClosedType) (old : List (Bor Ty)) → path_count u ≡ 0 → Adds below variance step (P (arrow s u)) (1 + nodes s + nodes u) old old
+  pathless_passed step s u old e =
+      let k = 1 + nodes s + nodes u in
+      subst (λ (n : Paths). Adds below variance step n k old old) (sym (no_paths variance (arrow s u) e)) (none_added step k old)
 
   -- lists of paths above one
   pub le_append : (x n m : Paths) → Le x (append n m) ↔ (Le x n × Le x m)

@@ -1,11 +1,11 @@
 -- Paths of a type that are put behind others.
-use Rattle.std.proofs.Common.{◌≡◌, sym, ◌∙◌, ap, subst, ℕ, arith, List, [], ◌∷◌, ◌++◌, length, take, drop, append_assoc, length-append}
+use Rattle.std.proofs.Common.{◌≡◌, refl, sym, ◌∙◌, ap, subst, ℕ, arith, List, [], ◌∷◌, ◌++◌, length, take, drop, append_assoc, length-append}
 use Rattle.std.proofs.lemmas.List.{append-nil}
 use Rattle.std.proofs.Math.Seq.{take-append_seam, drop-append_seam}
 use Rattle.std.specs.Prelude.{map}
-use Rattle.cls_base.specs.Types.{ClosedType, product, meet}
+use Rattle.cls_base.specs.Types.{ClosedType, product, arrow, meet}
 use Rattle.cls_base.specs.Taxonomies.{Variance}
-use Rattle.cls_path.specs.Paths.{TypePath, unit, left, right, listed}
+use Rattle.cls_path.specs.Paths.{TypePath, unit, left, right, function, Paths, none, more, PathsLe, empty, each, map_paths, paths_of, listed}
 use Rattle.cls_path.specs.NormalForms.{IsNormalForm}
 use Rattle.cls_path.specs.PathLists.{ArePathsOf}
 use Rattle.cls_path.proofs.Remains.{listed-append}
@@ -30,6 +30,10 @@ some_made :
     → new ≡ old ++ or_else p made
 some_made p old [] new e h = absurd (h (ap length (e ∙ append-nil old)))
 some_made p old (q ∷ made) new e h = e
+
+nothing_made : (old made new : List TypePath) → new ≡ old ++ made → length new ≡ length old → made ≡ []
+nothing_made old [] new e h = refl
+nothing_made old (q ∷ made) new e h = absurd (omega (arith, ap length e, length-append old (q ∷ made)))
 
 module _ (below : ℕ → ℕ → Type 0) (variance : ℕ → Variance) where
   abbrev Puts : ClosedType → List TypePath → List TypePath → Type 0
@@ -58,6 +62,32 @@ module _ (below : ℕ → ℕ → Type 0) (variance : ℕ → Variance) where
   pub puts_one :
       (t : ClosedType) (p : TypePath) (old new : List TypePath) → new ≡ old ++ (p ∷ []) → Of t (p ∷ []) → Puts t old new
   puts_one t p old new e h = record { made = p ∷ []; behind = e; paths = h }
+
+  above_none : (n : Paths) → PathsLe below variance none n → n ≡ none
+  above_none none h = refl
+  above_none (more q n) (each a h) = elim a [ ]
+
+  -- the paths of an arrow are made from those of its target alone, if there are none
+  none_of_arrow : (s t : ClosedType) → Of t [] → Of (arrow s t) []
+  none_of_arrow s t h =
+      let f : TypePath → TypePath = function (paths_of variance s) in
+      let e : none ≡ paths_of variance t = sym (above_none (paths_of variance t) h.lower) in
+      record {
+        suits = tt;
+        canonical = tt;
+        lower = subst (λ (m : Paths). PathsLe below variance none (map_paths f m)) e empty;
+        upper = subst (λ (m : Paths). PathsLe below variance (map_paths f m) none) e empty;
+      }
+
+  pub puts_no_arrow :
+      (s t : ClosedType) (old new : List TypePath) → Puts t old new → length new ≡ length old → Puts (arrow s t) old new
+  puts_no_arrow s t old new h e =
+      let n : h.made ≡ [] = nothing_made old h.made new h.behind e in
+      record {
+        made = [];
+        behind = h.behind ∙ ap (λ l. old ++ l) n;
+        paths = none_of_arrow s t (subst (λ l. Of t l) n h.paths);
+      }
 
   -- Paths of one type become paths of another, from the place on where they begin.
   pub puts_changed :

@@ -13,8 +13,9 @@ use Rattle.cls_base.specs.declared.ty.Ty.{Ty}
 use Rattle.cls_path.specs.Paths.{TypePath, atom, inside, unit, left, right, function, sealed, Paths, none, more, PathLe, inside_atom, insides, left_unit, right_unit, lefts, rights, contravariants, invariants, here, there, PathsLe, empty, each, append, map_paths, or_one, constructor_paths, paths_of, listed}
 use Rattle.cls_norm.specs.declared.subtypes.Step.{Step}
 use Rattle.cls_norm.specs.declared.subtypes.Step.TheVariants.{Name, Source, Left, Right}
-use Rattle.cls_norm.specs.Subtypes.{paths_of_all, nodes_of_all, IsFilled, IsLacking, IsSealing, path_behind, path_at, paths_behind, Adds}
+use Rattle.cls_norm.specs.Subtypes.{paths_of_all, nodes_of_all, IsAsked, IsFilled, IsSealing, path_behind, path_at, paths_behind, Adds}
 use Rattle.cls_norm.proofs.Steps.{product_shape, arrow_shape, covariant_shape, Above, some_shape, from_append, to_append_first, to_append_second}
+use Rattle.cls_norm.proofs.Pathless.{none_counted}
 use Rattle.cls_norm.proofs.Parts.{drop_item, le_append, le_through}
 
 pub equal_of : (o : Ordering) → is_eq o ≡ true → o ≡ Equal
@@ -51,9 +52,13 @@ nodes_at [] i x h e = absurd (omega arith)
 nodes_at (y ∷ xs) zero x h e = let f : nodes (type_of x.now) ≡ nodes (type_of y.now) = ap (λ (z : Bor Ty). nodes (type_of z.now)) e in omega arith
 nodes_at (y ∷ xs) (suc i) x h e = let f = nodes_at xs i x (omega arith) e in omega arith
 
-filled : (ts : List (Bor Ty)) → ((IsFilled ts → ⊥) → ⊥) → IsFilled ts
-filled [] f = f (λ h. h)
+pub filled : (ts : List (Bor Ty)) → (length ts ≡ 0 → ⊥) → IsFilled ts
+filled [] f = f refl
 filled (t ∷ ts) f = tt
+
+pub unfilled : (ts : List (Bor Ty)) → length ts ≡ 0 → ts ≡ []
+unfilled [] e = refl
+unfilled (t ∷ ts) e = absurd (omega arith)
 
 module _ (below : ℕ → ℕ → Type 0) (variance : ℕ → Variance) where
   abbrev Over : Paths → TypePath → Type 0
@@ -76,6 +81,9 @@ module _ (below : ℕ → ℕ → Type 0) (variance : ℕ → Variance) where
 
   on_right : {p q : TypePath} → PathLe below variance p (right q) → PathLe below variance p unit
   on_right (rights h) = right_unit
+
+  pub nowhere : (q : TypePath) → Over none q → ⊥
+  nowhere q h = elim h [ ]
 
   widened : (q r : TypePath) → ((p : TypePath) → PathLe below variance p q → PathLe below variance p r) → (n : Paths) → Over n q → Over n r
   widened q r f none h = elim h [ ]
@@ -101,8 +109,8 @@ module _ (below : ℕ → ℕ → Type 0) (variance : ℕ → Variance) where
   through : (step : Step) (x : Paths) (k : ℕ) (parts : List (Bor Ty)) → Adds below variance step x k [] parts → (q : TypePath) → Over (All parts) q ↔ Over x (path_behind variance step q)
   through step x k parts a q = ((λ h. elim ((a.behind q).0 h) [ inl b ↦ elim b [ ] | inr b ↦ b ]), (λ h. (a.behind q).1 (inr h)))
 
-  ending : (step : Step) (x : Paths) (k : ℕ) (parts : List (Bor Ty)) (p : TypePath) → path_at step ≡ Some p → Adds below variance step x k [] parts → ((IsFilled parts → ⊥) → ⊥) → Over x p
-  ending step x k parts p e a f = elim ((a.at p e).0 (filled parts f)) [ inl b ↦ absurd b | inr b ↦ b ]
+  ending : (step : Step) (x : Paths) (k : ℕ) (parts : List (Bor Ty)) (p : TypePath) → path_at step ≡ Some p → Adds below variance step x k [] parts → IsFilled parts → Over x p
+  ending step x k parts p e a f = elim ((a.at p e).0 f) [ inl b ↦ absurd b | inr b ↦ b ]
 
   decide_at :
       (g : TypePath → TypePath) (p : TypePath) (x y n : Paths) → ((q : TypePath) → Over y q ↔ Over x (g q)) → Over x p
@@ -114,19 +122,24 @@ module _ (below : ℕ → ℕ → Type 0) (variance : ℕ → Variance) where
 
   pub parts_decide :
       (step : Step) (x : Paths) (k : ℕ) (parts : List (Bor Ty)) (n : Paths) → Adds below variance step x k [] parts
-      → (IsLacking step parts → ⊥) → Le (All parts) n ↔ Le x (paths_behind variance step n)
+      → IsFilled parts → Le (All parts) n ↔ Le x (paths_behind variance step n)
   parts_decide (Name c) x k parts n a f = decide_at (inside c.0) (atom c.0) x (All parts) n (through (Name c) x k parts a) (ending (Name c) x k parts (atom c.0) refl a f)
   parts_decide (Source s) x k parts n a f = le_through below variance (function (P (type_of s.now))) x (All parts) (through (Source s) x k parts a) n
   parts_decide Left x k parts n a f = decide_at left unit x (All parts) n (through Left x k parts a) (ending Left x k parts unit refl a f)
   parts_decide Right x k parts n a f = decide_at right unit x (All parts) n (through Right x k parts a) (ending Right x k parts unit refl a f)
 
+  -- behind a source that no arrow takes there is no path
+  no_source : (s : Bor Ty) (x : Paths) (k : ℕ) (n : Paths) → Adds below variance (Source s) x k [] [] → Le x (map_paths (function (P (type_of s.now))) n) → n ≡ none
+  no_source s x k none a h = refl
+  no_source s x k (more q n) a h = absurd (nowhere q ((through (Source s) x k [] a q).1 (first_of x (function (P (type_of s.now)) q) (map_paths (function (P (type_of s.now))) n) h)))
+
   pub parts_lack :
-      (step : Step) (x : Paths) (k : ℕ) (parts : List (Bor Ty)) (n : Paths) → Adds below variance step x k [] parts
-      → IsLacking step parts → Le x (paths_behind variance step n) → ⊥
-  parts_lack (Name c) x k parts n a f h = f ((a.at (atom c.0) refl).1 (inr (head (inside c.0) (atom c.0) x (λ q o. widened (inside c.0 q) (atom c.0) (λ p l. under_atom l) x o) n h)))
-  parts_lack (Source s) x k parts n a f h = f
-  parts_lack Left x k parts n a f h = f ((a.at unit refl).1 (inr (head left unit x (λ q o. widened (left q) unit (λ p l. on_left l) x o) n h)))
-  parts_lack Right x k parts n a f h = f ((a.at unit refl).1 (inr (head right unit x (λ q o. widened (right q) unit (λ p l. on_right l) x o) n h)))
+      (step : Step) (x : Paths) (k : ℕ) (t : ClosedType) → Adds below variance step x k [] [] → IsAsked step t
+      → Le x (paths_behind variance step (P t)) → ⊥
+  parts_lack (Name c) x k t a f h = (a.at (atom c.0) refl).1 (inr (head (inside c.0) (atom c.0) x (λ q o. widened (inside c.0 q) (atom c.0) (λ p l. under_atom l) x o) (P t) h))
+  parts_lack (Source s) x k t a f h = f (none_counted variance t (no_source s x k (P t) a h))
+  parts_lack Left x k t a f h = (a.at unit refl).1 (inr (head left unit x (λ q o. widened (left q) unit (λ p l. on_left l) x o) (P t) h))
+  parts_lack Right x k t a f h = (a.at unit refl).1 (inr (head right unit x (λ q o. widened (right q) unit (λ p l. on_right l) x o) (P t) h))
 
   -- products
   unit_head : (x n m : Paths) → Le x (or_one unit (append (map_paths left n) (map_paths right m))) → Over x unit
@@ -162,9 +175,6 @@ module _ (below : ℕ → ℕ → Type 0) (variance : ℕ → Variance) where
   -- a covariant name over omega
   pub bare_upper : (x : Paths) (c : ℕ) (n : Paths) → n ≡ none → Over x (atom c) ↔ Le x (constructor_paths covariant c n)
   bare_upper x c n e = subst (λ (m : Paths). Over x (atom c) ↔ Le x (constructor_paths covariant c m)) (sym e) ((λ a. each a empty), (λ h. first_of x (atom c) none h))
-
-  pub nowhere : (q : TypePath) → Over none q → ⊥
-  nowhere q h = elim h [ ]
 
   pub name_below : (w : Variance) (c d : ℕ) (n m : Paths) → Over (constructor_paths w c n) (sealed d m) → below c d
   name_below covariant c d n m h = let e : ◌≡◌ {A = ℕ} 3 0 = some_shape below variance 0 (or_one (atom c) (map_paths (inside c) n)) (sealed d m) (covariant_shape c n) h in absurd (omega arith)

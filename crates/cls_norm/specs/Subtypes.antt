@@ -1,7 +1,7 @@
 -- internal: intersections of several types, and the steps from a type into its parts
 use Rattle.std.specs.Prelude.{ℕ, ◌+◌, ◌≤◌, ◌≡◌, ◌↔◌, ◌⊎◌, List, [], ◌∷◌, Option, Some, None}
 use Rattle.std.specs.Borrow.{Bor}
-use Rattle.cls_base.specs.Types.{ClosedType, nodes}
+use Rattle.cls_base.specs.Types.{ClosedType, nodes, path_count}
 use Rattle.cls_base.specs.Taxonomies.{Variance, covariant, contravariant, invariant}
 use Rattle.cls_base.specs.Ty.{type_of}
 use Rattle.cls_base.specs.declared.ty.Ty.{Ty}
@@ -41,12 +41,12 @@ IsEntered below (Source s) d = ⊥
 IsEntered below Left d = ⊥
 IsEntered below Right d = ⊥
 
--- the step needs a part, and there is none
-abbrev pub IsLacking : Step → List (Bor Ty) → Type 0
-IsLacking (Name c) ts = IsFilled ts → ⊥
-IsLacking (Source s) ts = ⊥
-IsLacking Left ts = IsFilled ts → ⊥
-IsLacking Right ts = IsFilled ts → ⊥
+-- behind a source the type has a path
+abbrev pub IsAsked : Step → ClosedType → Type 0
+IsAsked (Name c) t = Unit {0}
+IsAsked (Source s) t = path_count t ≡ 0 → ⊥
+IsAsked Left t = Unit {0}
+IsAsked Right t = Unit {0}
 
 -- types under names of the variance have no paths of their own
 abbrev pub IsSealing : Variance → Type 0

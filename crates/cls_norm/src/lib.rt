@@ -7,6 +7,7 @@
 
 mod fits;
 mod normals;
+mod pathless;
 mod paths;
 mod subtypes;
 mod types;

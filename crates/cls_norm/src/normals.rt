@@ -13,8 +13,9 @@ use std::alloc::Global;
 /// The normal form of the type: the least of its paths, strictly sorted. Each type has one, and equivalent types have equal
 /// ones: these are laws of cls_path.
 ///
-/// Time and memory are bounded by the spread of the type, which callers keep at 16,384 or below, and the stack by its
-/// depth as a tree, so by its nodes. The only error is out of memory.
+/// Time and memory are bounded by the nodes and the spread of the type, of which callers keep the spread at 16,384 or below.
+/// Of an arrow whose target has no path nothing is made, as its spread counts nothing of its source. The stack is bounded by
+/// the depth of the type as a tree, so by its nodes. The only error is out of memory.
 pub fn normal<T: Taxa>(alloc: Global, taxa: &T, ty: &Ty) -> Result<Nf, OutOfMemory>
     ensures form { IfOk result (λ nf.
         IsNormalForm (Below (T.is_below taxa.now)) (T.variance_of_name taxa.now) (type_of ty.now) (listed nf)) }

@@ -1,7 +1,7 @@
 //! The paths that a type falls into. They are put at the end of a vector, and changed in place as the type is read from
 //! the inside out.
-ghost use Rattle.std.specs.Prelude.{◌≡◌, ◌≤◌, ◌∷◌, ◌++◌, [], IfOk, OnOk, drop, length, map, take};
-ghost use Rattle.cls_base.specs.Types.{constructor, omega, product};
+ghost use Rattle.std.specs.Prelude.{◌≡◌, ◌<◌, ◌≤◌, ◌∷◌, ◌++◌, [], IfOk, OnOk, drop, length, map, take};
+ghost use Rattle.cls_base.specs.Types.{arrow, constructor, omega, product};
 ghost use Rattle.cls_base.specs.Ty.{type_of};
 ghost use Rattle.cls_base.specs.Taxa.{Below};
 ghost use Rattle.cls_path.specs.NormalForms.{IsNormalForm};
@@ -29,12 +29,7 @@ pub(crate) fn put_paths_of<T: Taxa>(
         Ty::Bare(name) => Ok(paths.push(alone(alloc, taxa, *name)?)?),
         Ty::Con(name, argument) => put_under_name(alloc, taxa, *name, argument, paths),
         Ty::Prod(sides) => put_product(alloc, taxa, &sides.0, &sides.1, paths),
-        Ty::Arrow(sides) => {
-            let start = paths.len();
-            let source = form_of(alloc, taxa, &sides.0)?;
-            put_paths_of(alloc, taxa, &sides.1, paths)?;
-            set_source(alloc, source, paths, start)
-        }
+        Ty::Arrow(sides) => put_arrow(alloc, taxa, &sides.0, &sides.1, paths),
         Ty::Meet(sides) => {
             put_paths_of(alloc, taxa, &sides.0, paths)?;
             put_paths_of(alloc, taxa, &sides.1, paths)
@@ -106,6 +101,28 @@ fn put_product<T: Taxa>(
     Ok(())
 }
 
+/// Puts the paths of an arrow behind the others. Those of the target come first: where it has none, nothing is made of the
+/// source, whose paths the spread of the arrow doesn't count then.
+#[cycle(paths)]
+fn put_arrow<T: Taxa>(
+    alloc: Global,
+    taxa: &T,
+    source: &Ty,
+    target: &Ty,
+    paths: &mut Vec<Path>,
+) -> Result<(), OutOfMemory>
+    ensures { OnOk result (PutsPathsOf (Below (T.is_below taxa.now)) (T.variance_of_name taxa.now)
+        (arrow (type_of source.now) (type_of target.now)) paths.old.items paths.new.items) }
+{
+    let start = paths.len();
+    put_paths_of(alloc, taxa, target, paths)?;
+    if paths.len() == start {
+        return Ok(());
+    }
+    let source = form_of(alloc, taxa, source)?;
+    set_source(alloc, source, paths, start)
+}
+
 /// The path of a bare name, which is the name over the empty list unless it is covariant.
 fn alone<T: Taxa>(alloc: Global, taxa: &T, name: Name) -> Result<Path, OutOfMemory>
     ensures { IfOk result (λ path. ArePathsOf (Below (T.is_below taxa.now)) (T.variance_of_name taxa.now)
@@ -165,20 +182,17 @@ fn set_right(alloc: Global, paths: &mut Vec<Path>, start: usize) -> Result<(), O
     Ok(())
 }
 
-/// Sets each path from `start` on behind the source, which the last one takes and the others copy.
+/// Sets each path from `start` on behind the source, which the last one takes and the others copy. There is one at least.
 fn set_source(
     alloc: Global,
     source: Nf,
     paths: &mut Vec<Path>,
     start: usize,
 ) -> Result<(), OutOfMemory>
-    requires { start ≤ length paths.old.items }
+    requires { start < length paths.old.items }
     ensures { OnOk result (paths.new.items ≡ take start paths.old.items
         ++ map (function (listed source)) (drop start paths.old.items)) }
 {
-    if paths.len() == start {
-        return Ok(());
-    }
     let last = paths.len() - 1;
     for place in start..last {
         let copy = source.copy(alloc)?;

@@ -14,9 +14,10 @@ ghost use Rattle.cls_base.specs.Taxa.{Below};
 ghost use Rattle.cls_base.specs.Subtyping.{Subtype};
 ghost use Rattle.cls_path.specs.Paths.{atom, sealed, PathsLe, SomeLe, paths_of};
 ghost use Rattle.cls_path.specs.Laws.{AreEquivalent};
-ghost use Rattle.cls_norm.specs.Subtypes.{Adds, Stands, IsEntered, IsLacking, IsSealing, Joins, paths_behind, paths_of_all, nodes_of_all};
+ghost use Rattle.cls_norm.specs.Subtypes.{Adds, Stands, IsAsked, IsEntered, IsSealing, Joins, paths_behind, paths_of_all, nodes_of_all};
 
 use crate::normals::normal;
+use crate::pathless::is_pathless;
 use crate::wide::{WIDE, are_below_wide};
 use cls_base::{Flat, Name, OutOfMemory, Taxa, Ty, Variance};
 use std::alloc::Global;
@@ -38,7 +39,8 @@ enum Step<'a> {
 /// is out of memory.
 ///
 /// Time is bounded by the product of the nodes of the two types, where no invariant name stands over types that are equivalent
-/// and not equal: their normal forms are made, as [`normal`] does. The stack is bounded by the depth of the types as trees.
+/// and not equal: their normal forms are made, as [`normal`] does. Nothing is asked of an arrow whose target has no path, so
+/// the spreads of the two types count those of such types. The stack is bounded by the depth of the types as trees.
 pub fn subtype<T: Taxa>(
     alloc: Global,
     taxa: &T,
@@ -158,7 +160,7 @@ fn are_below_product<T: Taxa>(
     Ok(parts_are_below(alloc, taxa, lowers, Step::Right, second)?)
 }
 
-/// Whether the intersection of the types is below the arrow.
+/// Whether the intersection of the types is below the arrow. All types are, if its target has no path.
 #[inline(never)]
 #[cycle(below)]
 fn are_below_arrow<T: Taxa>(
@@ -173,6 +175,9 @@ fn are_below_arrow<T: Taxa>(
         (paths_of_all (T.variance_of_name taxa.now) lowers.now)
         (paths_of (T.variance_of_name taxa.now) (arrow (type_of source.now) (type_of target.now)))) }
 {
+    if is_pathless(target) {
+        return Ok(true);
+    }
     let step = Step::Source(source);
     Ok(parts_are_below(alloc, taxa, lowers, step, target)?)
 }
@@ -198,7 +203,8 @@ fn are_below_bare<T: Taxa>(
     }
 }
 
-/// Whether the intersection of the types is below what has the upper type behind the step.
+/// Whether the intersection of the types is below what has the upper type behind the step. Without a part behind the step it
+/// isn't: behind a source the upper type has a path.
 #[cycle(below)]
 fn parts_are_below<T: Taxa>(
     alloc: Global,
@@ -207,7 +213,8 @@ fn parts_are_below<T: Taxa>(
     step: Step<'_>,
     upper: &Ty,
 ) -> Result<bool, OutOfMemory>
-    requires { Stands (T.variance_of_name taxa.now) step }
+    requires stands { Stands (T.variance_of_name taxa.now) step }
+    requires asked { IsAsked step (type_of upper.now) }
     ensures { IfOk result (λ answer. IsTrue answer
         ↔ PathsLe (Below (T.is_below taxa.now)) (T.variance_of_name taxa.now)
         (paths_of_all (T.variance_of_name taxa.now) lowers.now)
@@ -216,7 +223,7 @@ fn parts_are_below<T: Taxa>(
 {
     let omega = Ty::Omega;
     let parts = parts_behind(alloc, taxa, lowers, step, &omega)?;
-    if lacks_part(step, &parts) {
+    if parts.is_empty() {
         return Ok(false);
     }
     Ok(are_below(alloc, taxa, &parts, upper)?)
@@ -244,6 +251,7 @@ fn parts_behind<'a, T: Taxa>(
 }
 
 /// Puts the parts of the type that lie behind the step at the end. Bare names have the omega that is passed as their part.
+/// An arrow whose target has no path adds nothing.
 #[cycle(below)]
 fn put_parts<'a, T: Taxa>(
     alloc: Global,
@@ -280,6 +288,9 @@ fn put_parts<'a, T: Taxa>(
             let (source, target) = &**sides;
             match step {
                 Step::Source(taken) => {
+                    if is_pathless(target) {
+                        return Ok(());
+                    }
                     if are_below(alloc, taxa, &[taken], source)? {
                         parts.push(target)?;
                     }
@@ -313,16 +324,6 @@ fn put_omega<'a, T: Taxa>(
         parts.push(omega)?;
     }
     Ok(())
-}
-
-/// Whether the step needs a part, as each but one behind a source does, and there is none.
-fn lacks_part(step: Step<'_>, parts: &[&Ty]) -> bool
-    ensures { IsTrue result ↔ IsLacking step.entry parts.now }
-{
-    match step {
-        Step::Source(_) => false,
-        Step::Name(_) | Step::Left | Step::Right => parts.is_empty(),
-    }
 }
 
 /// Whether the step goes into the argument of the name.

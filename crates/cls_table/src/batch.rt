@@ -1,7 +1,9 @@
 //! What a worker has at hand between two holdings.
-ghost use Rattle.std.specs.Prelude.{◌≡◌, ◌↔◌, ◌<◌, ◌≤◌, ◌+◌, All, IfOk, IsTrue, OnErr, OnOk, [], length};
+ghost use Rattle.std.specs.Prelude.{◌≡◌, ◌⊎◌, ◌↔◌, ◌<◌, ◌≤◌, ◌+◌, ◌++◌, ◌∷◌, [], ℕ, List, All, IfErr, IfOk, IsTrue, OnErr, OnOk, length, reverse, true};
 ghost use Rattle.cls_table.specs.declared.tag.Tag.{Tag};
-ghost use Rattle.cls_table.specs.Batches.{HasNothing, IsBatchFor};
+ghost use Rattle.cls_table.specs.Batches.{Files, FilesEach, HasNothing, IsBatchFor, IsClaimBy, KeepsWork};
+ghost use Rattle.cls_table.specs.Lawful.{IsLarge};
+ghost use Rattle.cls_table.specs.Seen.{FiledSeen};
 
 use crate::claim::{Claim, ClaimAnswer, FileAnswer, Filed};
 use crate::table::Table;
@@ -39,8 +41,12 @@ pub enum Told {
     Work { free: u64 },
     /// All goals are taken, but some aren't filed: ask again. It comes too where no goal may be claimed.
     Again,
-    /// Nothing is left to do: all goals are filed, the closure is too large, or memory ran out.
-    NothingLeft,
+    /// All goals are filed.
+    Finished,
+    /// The closure is too large.
+    TooLarge,
+    /// Memory ran out, here or before: the table is stopped, or there is no room for claims.
+    NoMemory,
 }
 
 impl<E: Expand> Batch<E> {
@@ -80,7 +86,9 @@ impl<E: Expand> Batch<E> {
     pub fn expand<T: Gate>(&mut self, alloc: Global, by: &E, gate: &T) -> Result<(), OutOfMemory>
         requires { All (λ c. E.tag by.now ≡ c.tag.by) self.old.claims }
         ensures all { OnOk result (self.new.claims ≡ []) }
-        ensures tag { (t : Tag E.Tag E.Goal) → IsBatchFor t self.old → IsBatchFor t self.new }
+        ensures work { KeepsWork self.old self.new }
+        ensures batch { (t : Tag E.Tag E.Goal) (worker : ℕ)
+            → IsBatchFor t worker self.old → IsBatchFor t worker self.new }
     {
         self.spent.clear();
         self.filings.reserve(self.claims.len())?;
@@ -97,33 +105,20 @@ impl<E: Expand> Batch<E> {
         Ok(())
     }
 
-    // Files what was worked on. What isn't held stays at hand. A filing for which memory runs out is spent, and the
-    // table is stopped.
+    // Files what was worked on, the last one first. What isn't held stays at hand. Where memory runs out for a filing, it
+    // is spent and the table is stopped.
     pub(crate) fn file<L: Ledger>(&mut self, alloc: Global, table: &mut Table<E, L>)
-        requires { IsBatchFor table.old.tag self.old }
-        ensures batch { IsBatchFor table.old.tag self.new }
+        requires { All (λ f. f.claim.tag ≡ table.old.tag) self.old.filings }
+        ensures batch { (worker : ℕ)
+            → IsBatchFor table.old.tag worker self.old → IsBatchFor table.old.tag worker self.new }
         ensures claims { self.new.claims ≡ self.old.claims }
+        ensures files { (table.new.stopped ≡ true)
+            ⊎ FilesEach E.Goal.eq table.old (reverse self.old.filings) self.new.filings table.new }
         ensures tag { table.new.tag ≡ table.old.tag }
     {
         let mut others = Vec::new(alloc);
         while let Some(filed) = self.filings.pop() {
-            match table.file(alloc, filed) {
-                Ok(FileAnswer::Kept(goals)) => {
-                    // Where there is no memory to keep them, they are dropped here.
-                    let _ = self.spent.push(goals);
-                }
-                Ok(FileAnswer::TooLarge) => {}
-                Ok(FileAnswer::NotHeld(filed)) => {
-                    if let Err(full) = others.push(filed) {
-                        table.stop();
-                        full.value.spend();
-                    }
-                }
-                Err(filed) => {
-                    table.stop();
-                    filed.spend();
-                }
-            }
+            file_one(alloc, table, filed, &mut others, &mut self.spent);
         }
         std::mem::replace(&mut self.filings, others).destroy_empty();
     }
@@ -139,31 +134,40 @@ impl<E: Expand> Batch<E> {
     ) -> Told
         requires worker { worker ≤ table.old.tag.workers }
         requires part { 0 < share.old.parts }
-        requires batch { IsBatchFor table.old.tag self.old }
+        requires batch { IsBatchFor table.old.tag worker self.old }
         requires no_claims { self.old.claims ≡ [] }
-        ensures batch { IsBatchFor table.old.tag self.new }
+        ensures batch { IsBatchFor table.old.tag worker self.new }
+        ensures filings { self.new.filings ≡ self.old.filings }
+        ensures stopped { table.old.stopped ≡ true → result ≡ Told.NoMemory }
+        ensures large { result ≡ Told.TooLarge → IsLarge E.answers table.old.tag }
         ensures tag { table.new.tag ≡ table.old.tag }
         ensures parts { share.new.parts ≡ share.old.parts }
         ensures amount { share.new.amount ≡ share.old.amount + length self.new.claims }
         ensures most { length self.new.claims ≤ most }
     {
+        if table.stopped() {
+            return Told::NoMemory;
+        }
         let free = table.unclaimed();
         let count = u64::from(most).min((free / ROWS_FOR_ONE_CLAIM).max(1));
         let Ok(()) = self.claims.reserve(count as usize) else {
-            return Told::NothingLeft;
+            return Told::NoMemory;
         };
-        let mut told = Told::Again;
         for _ in 0..count {
             match claim_one(alloc, table, share, worker) {
                 Ok(claim) => self.claims.push_reserved(claim),
-                Err(why) => {
-                    told = why;
-                    break;
-                }
+                Err(why) => return self.told(free, why),
             }
         }
+        self.told(free, Told::Again)
+    }
+
+    // What the worker is told where so many rows were free: that there is work, or why it has none.
+    fn told(&self, free: u64, why: Told) -> Told
+        ensures { result ≡ Told.TooLarge → why ≡ Told.TooLarge }
+    {
         if self.claims.is_empty() {
-            told
+            why
         } else {
             Told::Work { free }
         }
@@ -178,6 +182,41 @@ impl<E: Expand> Batch<E> {
     }
 }
 
+// Files one filing. What isn't held is put behind the others. Where memory runs out, the filing is spent and the table is
+// stopped.
+fn file_one<E: Expand, L: Ledger>(
+    alloc: Global,
+    table: &mut Table<E, L>,
+    filed: Filed<E>,
+    others: &mut Vec<Filed<E>>,
+    spent: &mut Vec<Goals<E::Goal>>,
+)
+    requires { filed.claim.tag ≡ table.old.tag }
+    ensures files { (table.new.stopped ≡ true) ⊎ ((left : List (FiledSeen E.Tag E.Goal))
+        × Files E.Goal.eq table.old filed left table.new × (others.new.items ≡ others.old.items ++ left)) }
+    ensures others { (others.new.items ≡ others.old.items) ⊎ (others.new.items ≡ others.old.items ++ filed ∷ []) }
+    ensures stays_stopped { table.old.stopped ≡ true → table.new.stopped ≡ true }
+    ensures tag { table.new.tag ≡ table.old.tag }
+{
+    match table.file(alloc, filed) {
+        Ok(FileAnswer::Kept(goals)) => {
+            // Where there is no memory to keep them, they are dropped here.
+            let _ = spent.push(goals);
+        }
+        Ok(FileAnswer::TooLarge) => {}
+        Ok(FileAnswer::NotHeld(filed)) => {
+            if let Err(full) = others.push(filed) {
+                table.stop();
+                full.value.spend();
+            }
+        }
+        Err(filed) => {
+            table.stop();
+            filed.spend();
+        }
+    }
+}
+
 // Claims one goal for the worker. The Err says why there is none.
 fn claim_one<E: Expand, L: Ledger>(
     alloc: Global,
@@ -187,7 +226,8 @@ fn claim_one<E: Expand, L: Ledger>(
 ) -> Result<Claim<E>, Told>
     requires worker { worker ≤ table.old.tag.workers }
     requires part { 0 < share.old.parts }
-    ensures claim { IfOk result (λ c. c.tag ≡ table.old.tag) }
+    ensures claim { IfOk result (IsClaimBy table.old.tag worker) }
+    ensures large { IfErr result (λ told. told ≡ Told.TooLarge → IsLarge E.answers table.old.tag) }
     ensures tag { table.new.tag ≡ table.old.tag }
     ensures parts { share.new.parts ≡ share.old.parts }
     ensures one { OnOk result (share.new.amount ≡ share.old.amount + 1) }
@@ -196,9 +236,9 @@ fn claim_one<E: Expand, L: Ledger>(
     match table.claim(alloc, share, worker) {
         Ok(ClaimAnswer::Job(claim)) => Ok(claim),
         Ok(ClaimAnswer::Again) => Err(Told::Again),
-        Ok(ClaimAnswer::Finished) => Err(Told::NothingLeft),
-        Ok(ClaimAnswer::TooLarge) => Err(Told::NothingLeft),
-        Err(_) => Err(Told::NothingLeft),
+        Ok(ClaimAnswer::Finished) => Err(Told::Finished),
+        Ok(ClaimAnswer::TooLarge) => Err(Told::TooLarge),
+        Err(_) => Err(Told::NoMemory),
     }
 }
 

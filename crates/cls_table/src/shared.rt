@@ -31,9 +31,9 @@ pub struct Unfinished<E: Expand, L: Ledger> {
 impl<E: Expand, L: Ledger> SharedTable<E, L> {
     ghost use Rattle.cls_turn.specs.Seats.{id_of};
     ghost use Rattle.cls_core.specs.Machine.{AllFiled};
-    ghost use Rattle.cls_table.specs.Lawful.{IsLawfulTable, claims_in};
+    ghost use Rattle.cls_table.specs.Lawful.{IsLarge, IsLawfulTable, claims_in};
     ghost use Rattle.cls_table.specs.Tags.{tag_for};
-    ghost use Rattle.cls_table.specs.Batches.{HasNothing, IsBatchFor};
+    ghost use Rattle.cls_table.specs.Batches.{HasFiled, HasNothing, IsBatchFor};
     ghost use Rattle.cls_table.specs.Completing.{IsCompleteFor};
 
     /// A table with one free row, the goal, and the seat of the worker 0 with every part of the ledger. The only error
@@ -102,8 +102,9 @@ impl<E: Expand, L: Ledger> SharedTable<E, L> {
         seat.share.merge(share);
     }
 
-    /// Takes the turn once: files what the batch has worked on, and then claims at most so many goals for it, and fewer
-    /// where few rows are free. Where memory runs out for a filing, the table is stopped.
+    /// Takes the turn once: files what the batch has worked on, the last one first, and then claims at most so many goals for
+    /// it, and fewer where few rows are free. A filing whose claim isn't held stays at hand. Where memory runs out for a
+    /// filing, it is spent, the table is stopped, and `NoMemory` comes.
     pub fn exchange<R: Wait>(
         &self,
         rt: &R,
@@ -113,9 +114,12 @@ impl<E: Expand, L: Ledger> SharedTable<E, L> {
         most: u32,
     ) -> Told
         requires seat_of_this { seat.old.turn ≡ id_of self.now.turn }
-        requires batch { ForSome seat.old.tag (λ t. IsBatchFor t batch.old) }
+        requires batch { ForSome seat.old.tag (λ t. IsBatchFor t seat.old.worker batch.old) }
         requires no_claims { batch.old.claims ≡ [] }
-        ensures batch { ForSome seat.old.tag (λ t. IsBatchFor t batch.new) }
+        ensures batch { ForSome seat.old.tag (λ t. IsBatchFor t seat.old.worker batch.new) }
+        ensures filed { (result ≡ Told.NoMemory → ⊥)
+            → ForSome seat.old.tag (λ t. HasFiled E.Goal.eq E.answers t batch.old.filings batch.new.filings) }
+        ensures large { result ≡ Told.TooLarge → ForSome seat.old.tag (IsLarge E.answers) }
         ensures seat { seat.new ≡ record seat.old { amount = seat.old.amount + length batch.new.claims } }
         ensures most { length batch.new.claims ≤ most }
     {
@@ -125,6 +129,8 @@ impl<E: Expand, L: Ledger> SharedTable<E, L> {
             worker,
         } = seat;
         let mut table = self.turn.take(rt, seat);
+        // For the prover: what holds of the table.
+        table.facts();
         batch.file(alloc, &mut table);
         let told = batch.claim(alloc, &mut table, share, *worker, most);
         self.turn.put(seat, table);

@@ -50,10 +50,10 @@ fn round<E: Expand, L: Ledger, T: Gate, R: Wait>(
 ) -> (TableSeat<E, L>, Told)
     requires seat_of_table { seat.turn ≡ id_of table.now.turn }
     requires meaning { HasMeaning seat (E.tag by.now) }
-    requires batch { ForSome seat.tag (λ t. IsBatchFor t batch.old) }
+    requires batch { ForSome seat.tag (λ t. IsBatchFor t seat.worker batch.old) }
     requires no_claims { batch.old.claims ≡ [] }
     ensures after { IsAfterWork seat result.0 }
-    ensures batch { ForSome seat.tag (λ t. IsBatchFor t batch.new) }
+    ensures batch { ForSome result.0.tag (λ t. IsBatchFor t result.0.worker batch.new) }
     ensures no_claims { batch.new.claims ≡ [] }
 {
     let mut seat = seat;
@@ -62,7 +62,7 @@ fn round<E: Expand, L: Ledger, T: Gate, R: Wait>(
         Ok(()) => (seat, told),
         Err(_) => {
             table.stop(rt, &mut seat, batch);
-            (seat, Told::NothingLeft)
+            (seat, Told::NoMemory)
         }
     }
 }
@@ -81,10 +81,10 @@ fn rounds<E: Expand, L: Ledger, T: Gate, R: Wait>(
 ) -> (TableSeat<E, L>, bool)
     requires seat_of_table { seat.turn ≡ id_of table.now.turn }
     requires meaning { HasMeaning seat (E.tag by.now) }
-    requires batch { ForSome seat.tag (λ t. IsBatchFor t batch.old) }
+    requires batch { ForSome seat.tag (λ t. IsBatchFor t seat.worker batch.old) }
     requires no_claims { batch.old.claims ≡ [] }
     ensures after { IsAfterWork seat result.0 }
-    ensures batch { ForSome seat.tag (λ t. IsBatchFor t batch.new) }
+    ensures batch { ForSome result.0.tag (λ t. IsBatchFor t result.0.worker batch.new) }
     ensures no_claims { batch.new.claims ≡ [] }
 {
     let mut seat = seat;
@@ -99,7 +99,7 @@ fn rounds<E: Expand, L: Ledger, T: Gate, R: Wait>(
                 waits += 1;
                 yield_now();
             }
-            Told::NothingLeft => return (seat, false),
+            Told::Finished | Told::TooLarge | Told::NoMemory => return (seat, false),
         }
         if waits == MOST_WAITS {
             return (seat, false);
@@ -117,7 +117,7 @@ fn hand_in<E: Expand, L: Ledger, R: Wait>(
     batch: Batch<E>,
 )
     requires seat_of_table { seat.old.turn ≡ id_of table.now.turn }
-    requires batch { ForSome seat.old.tag (λ t. IsBatchFor t batch) }
+    requires batch { ForSome seat.old.tag (λ t. IsBatchFor t seat.old.worker batch) }
     requires no_claims { batch.claims ≡ [] }
     ensures { seat.new ≡ seat.old }
 {

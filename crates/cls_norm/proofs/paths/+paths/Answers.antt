@@ -7,11 +7,10 @@ use Rattle.cls_base.specs.Taxa.{Below, variance_of}
 use Rattle.cls_base.specs.declared.ty.Ty.{Ty}
 use Rattle.cls_base.specs.Taxonomies.{covariant, contravariant, invariant}
 use Rattle.cls_path.specs.Paths.{atom, inside, function, listed}
-use Rattle.cls_path.specs.NormalForms.{IsNormalForm}
 use Rattle.cls_path.proofs.TypeParts.{form_of_paths, omega_paths, name_paths, sealed_paths, arrow_paths}
 use Rattle.cls_norm.specs.PathLists.{or_else, PutsPathsOf}
 use Rattle.cls_norm.proofs.PathLists.{listed-map, listed-inside}
-use Rattle.cls_norm.proofs.Puts.{form_of_one, puts_none, puts_first, puts_one, puts_changed, puts_sides, puts_unit, puts_product, puts_meet}
+use Rattle.cls_norm.proofs.Puts.{form_of_one, puts_none, puts_first, puts_one, puts_changed, puts_no_arrow, puts_sides, puts_unit, puts_product, puts_meet}
 use Rattle.cls_norm.proofs.paths.+paths.Goals as goal
 
 pub form_of-returns-in-Bare : goal.form_of-returns-in-Bare
@@ -47,24 +46,30 @@ put_paths_of-returns-in_ok-push-in-Bare g t c =
     let p = c.in_ok-alone-in-Bare.field-0 in
     rw c.in-Bare.is (puts_one b v (constructor c.in-Bare.name.0 types.omega) p c.args.paths.now.items c.push.new.self.items c.in_ok-push-in-Bare.ensures.items c.in_ok-alone-in-Bare.ensures)
 
-pub put_paths_of-returns-in_ok-put_paths_of-in-Arrow : goal.put_paths_of-returns-in_ok-put_paths_of-in-Arrow
-put_paths_of-returns-in_ok-put_paths_of-in-Arrow g t c =
+pub put_arrow-returns-then-len-start : goal.put_arrow-returns-then-len-start
+put_arrow-returns-then-len-start g t c =
+    let b = Below (g.T.Taxa.is_below c.args.taxa.now) in
+    let v = g.T.Taxa.variance_of_name c.args.taxa.now in
+    let s = type_of c.args.source.now in
+    let u = type_of c.args.target.now in
+    puts_no_arrow b v s u c.args.paths.now.items c.put_paths_of.new.paths.items c.in_ok-put_paths_of.ensures (omega arith)
+
+pub put_arrow-returns : goal.put_arrow-returns
+put_arrow-returns g t c =
     let b = Below (g.T.Taxa.is_below c.args.taxa.now) in
     let v = g.T.Taxa.variance_of_name c.args.taxa.now in
     let one = g.met.T.Taxa.reflexive c.args.taxa.now in
     let through = g.met.T.Taxa.transitive c.args.taxa.now in
-    let s = type_of c.in-Arrow.sides.value.0 in
-    let u = type_of c.in-Arrow.sides.value.1 in
-    let l = listed c.in_ok-source-in-Arrow.source in
+    let s = type_of c.args.source.now in
+    let u = type_of c.args.target.now in
+    let l = listed c.in_ok-source.source in
     let old = c.args.paths.now.items in
     let mid = c.put_paths_of.new.paths.items in
     let new = c.set_source.new.paths.items in
-    let f : IsNormalForm b v s l = subst (λ (x : Ty × Ty). IsNormalForm b v (type_of x.0) l) {y = c.in-Arrow.sides.value} c.deref-in-Arrow.ensures c.in_ok-source-in-Arrow.ensures in
-    let k : PutsPathsOf b v u old mid = subst (λ (x : Ty × Ty). PutsPathsOf b v (type_of x.1) old mid) {y = c.in-Arrow.sides.value} c.deref-in-Arrow-2.ensures c.in_ok-put_paths_of-in-Arrow.ensures in
-    rw c.in-Arrow.is (on_ok_weaker c.set_source.result
-    (λ e. puts_changed b v u (arrow s u) (λ n. map (function l) n) c.len-start.result old mid new (omega arith) k e
-    (λ made h. rw (listed-map (function l) made) (arrow_paths b v one through s u l (listed made) f h)))
-    c.set_source.ensures)
+    on_ok_weaker c.set_source.result
+    (λ e. puts_changed b v u (arrow s u) (λ n. map (function l) n) c.len-start.result old mid new (omega arith) c.in_ok-put_paths_of.ensures e
+    (λ made h. rw (listed-map (function l) made) (arrow_paths b v one through s u l (listed made) c.in_ok-source.ensures h)))
+    c.set_source.ensures
 
 pub put_paths_of-returns-in_ok-put_paths_of-in-Meet : goal.put_paths_of-returns-in_ok-put_paths_of-in-Meet
 put_paths_of-returns-in_ok-put_paths_of-in-Meet g t c =

@@ -14,3 +14,6 @@ decreases-put_under_name g l = 3 * nodes (type_of l.argument.now) + 2
 
 abbrev pub decreases-put_product : goal.decreases-put_product
 decreases-put_product g l = 3 * (nodes (type_of l.first.now) + nodes (type_of l.second.now)) + 2
+
+abbrev pub decreases-put_arrow : goal.decreases-put_arrow
+decreases-put_arrow g l = 3 * (nodes (type_of l.source.now) + nodes (type_of l.target.now)) + 2

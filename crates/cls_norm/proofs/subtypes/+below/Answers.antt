@@ -1,7 +1,7 @@
-use Rattle.std.proofs.Common.{rules, ◌≡◌, refl, sym, ◌∙◌, ap, subst, ◌+◌, inl, inr, List, drop, arith, Bor, true, false}
+use Rattle.std.proofs.Common.{rules, ◌≡◌, refl, sym, ◌∙◌, ap, subst, ◌+◌, inl, inr, List, [], drop, arith, eq-eqb, Bor, true, false}
 use Rattle.std.proofs.lemmas.List.{drop_all}
-use Rattle.std.proofs.lemmas.Bool.{false≢true}
-use Rattle.cls_base.specs.Types.{nodes}
+use Rattle.std.proofs.lemmas.Bool.{eqb-true, false≢true}
+use Rattle.cls_base.specs.Types.{arrow, nodes, path_count}
 use Rattle.cls_base.specs.Ty.{type_of}
 use Rattle.cls_base.specs.Taxa.{Below, variance_of}
 use Rattle.cls_base.specs.Taxonomies.{covariant, contravariant, invariant}
@@ -9,10 +9,11 @@ use Rattle.cls_base.specs.declared.ty.Ty.{Ty}
 use Rattle.cls_path.specs.Laws.{IsPartialOrder}
 use Rattle.cls_path.specs.Paths.{Paths, none, sealed, PathsLe, empty, SomeLe, paths_of}
 use Rattle.cls_path.proofs.PathLaws.{derivations_are_decided}
-use Rattle.cls_norm.specs.Subtypes.{Adds, IsLacking, IsSealing, paths_of_all, nodes_of_all}
+use Rattle.cls_norm.specs.Subtypes.{Adds, IsSealing, paths_of_all, nodes_of_all}
+use Rattle.cls_norm.proofs.Pathless.{no_paths}
 use Rattle.cls_norm.proofs.Steps.{append_none, both, to_append_first, to_append_second, from_append}
-use Rattle.cls_norm.proofs.Parts.{drop_item, name_entered, name_passed, left_part, right_part, product_name, product_source, source_above, source_passed, arrow_name, arrow_left, arrow_right, none_added, le_append}
-use Rattle.cls_norm.proofs.Uppers.{nodes_at, not_covariant, parts_decide, parts_lack, sides_decide, sealed_upper, name_below, contra_decides, inv_decides, other_not_sealed, sealing_needs, some_at, none_at, nowhere, bare_upper}
+use Rattle.cls_norm.proofs.Parts.{drop_item, name_entered, name_passed, left_part, right_part, product_name, product_source, source_above, source_passed, arrow_name, arrow_left, arrow_right, none_added, pathless_passed, le_append}
+use Rattle.cls_norm.proofs.Uppers.{nodes_at, not_covariant, filled, unfilled, parts_decide, parts_lack, sides_decide, sealed_upper, name_below, contra_decides, inv_decides, other_not_sealed, sealing_needs, some_at, none_at, nowhere, bare_upper}
 use Rattle.cls_norm.proofs.subtypes.+below.Goals as goal
 
 no : {A : Type 0} → (A → ⊥) → (◌≡◌ false true → A) × (A → ◌≡◌ false true)
@@ -52,6 +53,19 @@ are_below_over-returns-in_ok-has_name_below-in-Contra g t c =
     let e = c.in_ok-has_name_below-in-Contra.ensures in
     let k = sealed_upper b v (v c.args.name.0) w x c.args.name.0 (paths_of v (type_of c.args.argument.now)) in
     ((λ h. k.0 (e.0 h)), (λ l. e.1 (k.1 l)))
+
+pub are_below_arrow-returns-then-is_pathless : goal.are_below_arrow-returns-then-is_pathless
+are_below_arrow-returns-then-is_pathless g t c =
+    let b = Below (g.T.Taxa.is_below c.args.taxa.now) in
+    let v = g.T.Taxa.variance_of_name c.args.taxa.now in
+    let x = paths_of_all v c.args.lowers.now in
+    let e = no_paths v (arrow (type_of c.args.source.now) (type_of c.args.target.now)) (c.is_pathless.ensures.0 c.if-is_pathless.true) in
+    yes (subst (λ (n : Paths). PathsLe b v x n) (sym e) empty)
+
+pub are_below_arrow-parts_are_below-requires : goal.are_below_arrow-parts_are_below-requires
+are_below_arrow-parts_are_below-requires g t c κs within =
+    let asked : path_count (type_of c.args.target.now) ≡ 0 → ⊥ = λ e. false≢true (sym c.if-is_pathless.false ∙ c.is_pathless.ensures.1 e) in
+    search rules
 
 pub are_below_product-returns-then-not-branch : goal.are_below_product-returns-then-not-branch
 are_below_product-returns-then-not-branch g t c =
@@ -260,16 +274,16 @@ is_name_below-returns-in-Omega-3 g t c =
     let d = c.args.name.0 in
     no (λ o. other_not_sealed b v (type_of c.args.lower.now) (elim c.in-Omega.is [ inl e ↦ rw e tt | inr e ↦ elim e [ inl r ↦ rw r.1 tt | inr r ↦ rw r.1 tt ] ]) d m o)
 
-pub parts_are_below-returns-then-lacks_part : goal.parts_are_below-returns-then-lacks_part
-parts_are_below-returns-then-lacks_part g t c =
+pub parts_are_below-returns-then-is_empty : goal.parts_are_below-returns-then-is_empty
+parts_are_below-returns-then-is_empty g t c =
     let b = Below (g.T.Taxa.is_below c.args.taxa.now) in
     let v = g.T.Taxa.variance_of_name c.args.taxa.now in
     let x = paths_of_all v c.args.lowers.now in
     let k = nodes_of_all c.args.lowers.now in
-    let n = paths_of v (type_of c.args.upper.now) in
-    let parts = c.in_ok-parts.parts.items in
-    let e = subst (λ (l : List (Bor Ty)). IsLacking c.args.step l) c.deref.ensures.value (c.lacks_part.ensures.0 c.if-lacks_part.true) in
-    no (λ l. parts_lack b v c.args.step x k parts n c.in_ok-parts.ensures e l)
+    let parts = c.in_ok-parts.parts in
+    let e = unfilled parts.items (sym parts.ok.0 ∙ eqb-true parts.len 0 (sym c.is_empty.ensures ∙ c.if-is_empty.true)) in
+    let a = subst (λ (l : List (Bor Ty)). Adds b v c.args.step x k [] l) e c.in_ok-parts.ensures in
+    no (λ l. parts_lack b v c.args.step x k (type_of c.args.upper.now) a c.requires.asked l)
 
 pub parts_are_below-returns : goal.parts_are_below-returns
 parts_are_below-returns g t c =
@@ -279,10 +293,11 @@ parts_are_below-returns g t c =
     let k = nodes_of_all c.args.lowers.now in
     let n = paths_of v (type_of c.args.upper.now) in
     let parts = c.in_ok-parts.parts.items in
-    let f : IsLacking c.args.step parts → ⊥ = λ l. false≢true (sym c.if-lacks_part.false ∙ c.lacks_part.ensures.1 (subst (λ (l : List (Bor Ty)). IsLacking c.args.step l) (sym c.deref.ensures.value) l)) in
+    let whole = c.in_ok-parts.parts in
+    let f = filled parts (λ l. false≢true (sym c.if-is_empty.false ∙ (c.is_empty.ensures ∙ eq-eqb whole.len 0 (whole.ok.0 ∙ l)))) in
     let a = parts_decide b v c.args.step x k parts n c.in_ok-parts.ensures f in
     let e = c.in_ok-are_below.ensures in
-    let s = c.deref-2.ensures.value in (
+    let s = c.deref.ensures.value in (
       (λ h. a.0 (subst (λ (l : List (Bor Ty)). PathsLe b v (paths_of_all v l) n) s (e.0 h))),
       (λ l. e.1 (subst (λ (y : List (Bor Ty)). PathsLe b v (paths_of_all v y) n) (sym s) (a.1 l))),
     )
@@ -370,6 +385,14 @@ put_parts-returns-in-Name-step g t c =
         | inr e ↦ rw (c.in-Arrow.is, e) (arrow_right b v s u old)
       ]
     ]
+
+pub put_parts-returns-then-is_pathless : goal.put_parts-returns-then-is_pathless
+put_parts-returns-then-is_pathless g t c =
+    let b = Below (g.T.Taxa.is_below c.args.taxa.now) in
+    let v = g.T.Taxa.variance_of_name c.args.taxa.now in
+    let e = ap (λ (s : Ty × Ty). path_count (type_of s.1)) c.deref-in-Arrow.ensures in
+    rw c.in-Arrow.is (pathless_passed b v c.args.step (type_of c.in-Arrow.sides.value.0) (type_of c.in-Arrow.sides.value.1) c.args.parts.now.items
+    (sym e ∙ c.is_pathless.ensures.0 c.if-is_pathless.true))
 
 pub put_parts-returns-in_ok-push-in-Source : goal.put_parts-returns-in_ok-push-in-Source
 put_parts-returns-in_ok-push-in-Source g t c =

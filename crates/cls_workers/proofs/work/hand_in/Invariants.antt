@@ -6,6 +6,6 @@ use Rattle.cls_workers.proofs.work.hand_in.Given as goal
 abbrev pub invariant-loop : goal.invariant-loop
 invariant-loop g l = record {
   same : l.seat ≡ l.initial.seat;
-  batch : ForSome l.seat.tag (λ t. IsBatchFor t l.batch);
+  batch : ForSome l.seat.tag (λ t. IsBatchFor t l.seat.worker l.batch);
   no_claims : l.batch.claims ≡ [];
 }

@@ -8,7 +8,7 @@ use Rattle.cls_workers.proofs.work.rounds.Given as goal
 abbrev pub invariant-loop : goal.invariant-loop
 invariant-loop g l = record {
   after : IsAfterWork l.fn.seat l.seat;
-  batch : ForSome l.fn.seat.tag (λ t. IsBatchFor t l.batch);
+  batch : ForSome l.seat.tag (λ t. IsBatchFor t l.seat.worker l.batch);
   no_claims : l.batch.claims ≡ [];
   few : l.waits < MOST_WAITS;
 }

@@ -1,7 +1,9 @@
-use Rattle.std.proofs.Common.{◌≡◌, None, Some, arith, ◌∙◌, ap}
+use Rattle.std.proofs.Common.{◌≡◌, ◌++◌, ◌∷◌, [], None, Some, arith, sym, ◌∙◌, ap, subst}
+use Rattle.std.proofs.lemmas.List.{append-nil}
 use Rattle.std.proofs.lemmas.List.Elements.{All-pop}
+use Rattle.cls_table.specs.Batches.{IsClaimBy}
 use Rattle.cls_table.specs.Seen.{ClaimSeen}
-use Rattle.cls_table.proofs.Batches.{claim-leaves, claim-comes, filing-comes}
+use Rattle.cls_table.proofs.Batches.{claim-leaves, claim-comes, filing-comes, work-goes, work-stays}
 use Rattle.cls_table.proofs.batch.Batch.expand.Goals as goal
 
 pub loop-claim-preserved : goal.loop-claim-preserved
@@ -13,17 +15,29 @@ loop-claim-preserved g c =
     let e = c.push_reserved.ensures in record {
       meant = (All-pop IsMeant _ _ (Some c.in-Some.claim) popped i.meant).0;
       room = omega (arith, i.room, c.in-Some.ensures.len, e.len, e.capacity);
-      same_tag = λ t was.
-          (let left = claim-leaves t _ _ _ (Some c.in-Some.claim) popped (i.same_tag t was) in
-          filing-comes t _ _ _ _ e.items (ap (λ x. x.tag) c.in-Ok.ensures.claim ∙ left.1) left.0);
+      work = work-goes c.args.self.now _ _ _ _ c.in-Some.claim c.in-Ok.filed popped e.items c.in-Ok.ensures.claim i.work;
+      for_one = λ t worker was.
+          (let left = claim-leaves t worker _ _ _ (Some c.in-Some.claim) popped (i.for_one t worker was) in
+          filing-comes t worker _ _ _ _ e.items (subst (λ (x : ClaimSeen g.row.E-Tag.Denot g.row.E-Goal.Denot). IsClaimBy t worker x) (sym c.in-Ok.ensures.claim) left.1) left.0);
     }
 
-pub returns-in-Err-clause-tag : goal.returns-in-Err-clause-tag
-returns-in-Err-clause-tag g c t was =
-    let left = claim-leaves t _ _ _ (Some c.in-Some.claim) c.in-Some.ensures.items
-    (c.loop-claim.invariant.same_tag t was) in
-    claim-comes t _ _ _ _ c.push_reserved-in-Err.ensures.items (ap (λ x. x.tag) c.in-Err.ensures.err ∙ left.1) left.0
+pub returns-in-Err-clause-work : goal.returns-in-Err-clause-work
+returns-in-Err-clause-work g c =
+    let back = c.push_reserved-in-Err.ensures.items in
+    work-stays c.args.self.now _ _ _
+    (c.in-Some.ensures.items ∙ (ap (λ (x : ClaimSeen g.row.E-Tag.Denot g.row.E-Goal.Denot). _ ++ x ∷ []) (sym c.in-Err.ensures.err) ∙ sym back))
+    c.loop-claim.invariant.work
 
-pub returns-clause-tag : goal.returns-clause-tag
-returns-clause-tag g c t was =
-    (claim-leaves t _ _ _ None c.in_default.ensures.items (c.loop-claim.invariant.same_tag t was)).0
+pub returns-in-Err-clause-batch : goal.returns-in-Err-clause-batch
+returns-in-Err-clause-batch g c t worker was =
+    let left = claim-leaves t worker _ _ _ (Some c.in-Some.claim) c.in-Some.ensures.items
+    (c.loop-claim.invariant.for_one t worker was) in
+    claim-comes t worker _ _ _ _ c.push_reserved-in-Err.ensures.items (subst (λ (x : ClaimSeen g.row.E-Tag.Denot g.row.E-Goal.Denot). IsClaimBy t worker x) (sym c.in-Err.ensures.err) left.1) left.0
+
+pub returns-clause-work : goal.returns-clause-work
+returns-clause-work g c =
+    work-stays c.args.self.now _ _ _ (c.in_default.ensures.items ∙ append-nil _) c.loop-claim.invariant.work
+
+pub returns-clause-batch : goal.returns-clause-batch
+returns-clause-batch g c t worker was =
+    (claim-leaves t worker _ _ _ None c.in_default.ensures.items (c.loop-claim.invariant.for_one t worker was)).0

@@ -1,0 +1,82 @@
+//! Types without what no path goes through.
+ghost use Rattle.std.specs.Prelude.{◌≡◌, ◌↔◌, IfOk, IsTrue};
+ghost use Rattle.cls_base.specs.Types.{omega, path_count};
+ghost use Rattle.cls_base.specs.Ty.{type_of};
+ghost use Rattle.cls_kind.specs.Pruned.{arrow_to, meet_of, pruned};
+
+use cls_base::{OutOfMemory, Ty};
+use std::alloc::Global;
+
+/// The type without what no path goes through. Where a type has no path, none of its parts is made.
+pub(crate) fn pruned(alloc: Global, ty: &Ty) -> Result<Ty, OutOfMemory>
+    ensures { IfOk result (λ whole. type_of whole ≡ pruned (type_of ty.now)) }
+{
+    match ty {
+        Ty::Omega => Ok(Ty::Omega),
+        Ty::Bare(name) => Ok(Ty::Bare(*name)),
+        Ty::Con(name, argument) => {
+            let argument = pruned(alloc, argument)?;
+            Ok(Ty::over(alloc, *name, argument)?)
+        }
+        Ty::Prod(sides) => {
+            let left = pruned(alloc, &sides.0)?;
+            let right = pruned(alloc, &sides.1)?;
+            Ok(Ty::Prod(Box::new(alloc, (left, right))?))
+        }
+        Ty::Arrow(sides) => {
+            if is_pathless(&sides.1) {
+                return Ok(Ty::Omega);
+            }
+            let source = pruned(alloc, &sides.0)?;
+            let target = pruned(alloc, &sides.1)?;
+            Ok(arrow_to(alloc, source, target)?)
+        }
+        Ty::Meet(sides) => {
+            let left = pruned(alloc, &sides.0)?;
+            let right = pruned(alloc, &sides.1)?;
+            Ok(meet_of(alloc, left, right)?)
+        }
+    }
+}
+
+/// The arrow between pruned types, of which the target isn't omega.
+#[tactic(auto, using(crate::proofs::Pruning::arrow_other))]
+pub(crate) fn arrow_to(alloc: Global, source: Ty, target: Ty) -> Result<Ty, OutOfMemory>
+    requires { type_of target ≡ omega → ⊥ }
+    ensures { IfOk result (λ whole. type_of whole ≡ arrow_to (type_of source) (type_of target)) }
+{
+    Ok(Ty::Arrow(Box::new(alloc, (source, target))?))
+}
+
+/// The intersection of pruned types. Omega is left out.
+#[tactic(auto, using(crate::proofs::Pruning::meet_first, crate::proofs::Pruning::meet_second, crate::proofs::Pruning::meet_other))]
+pub(crate) fn meet_of(alloc: Global, left: Ty, right: Ty) -> Result<Ty, OutOfMemory>
+    ensures { IfOk result (λ whole. type_of whole ≡ meet_of (type_of left) (type_of right)) }
+{
+    if is_omega(&left) {
+        return Ok(right);
+    }
+    if is_omega(&right) {
+        return Ok(left);
+    }
+    Ok(Ty::Meet(Box::new(alloc, (left, right))?))
+}
+
+/// Whether the type has no path.
+pub(crate) fn is_pathless(ty: &Ty) -> bool
+    ensures { IsTrue result ↔ (path_count (type_of ty.now) ≡ 0) }
+{
+    match ty {
+        Ty::Omega => true,
+        Ty::Bare(_) | Ty::Con(..) | Ty::Prod(..) => false,
+        Ty::Arrow(sides) => is_pathless(&sides.1),
+        Ty::Meet(sides) => is_pathless(&sides.0) && is_pathless(&sides.1),
+    }
+}
+
+/// Whether the type is omega.
+fn is_omega(ty: &Ty) -> bool
+    ensures { IsTrue result ↔ (type_of ty.now ≡ omega) }
+{
+    matches!(ty, Ty::Omega)
+}
