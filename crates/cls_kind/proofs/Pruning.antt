@@ -19,10 +19,6 @@ pub meet_omega : (s : ClosedType) → meet_of s types.omega ≡ s
 meet_omega types.omega = refl
 meet_omega s = refl
 
--- an arrow to what is pruned to omega
-pub omega_target : (s t u : ClosedType) → u ≡ pruned t → u ≡ types.omega → types.omega ≡ pruned (arrow s t)
-omega_target s t u e o = ap (λ (r : ClosedType). arrow_to (pruned s) r) (sym o ∙ e)
-
 arrow_count : (s t : ClosedType) → path_count (arrow_to s t) ≡ path_count t
 arrow_count s types.omega = refl
 arrow_count s t = refl
@@ -56,6 +52,20 @@ count-pruned (constructor c s) = let h = count-pruned s in omega arith
 count-pruned (product s t) = let h = count-pruned s in let k = count-pruned t in omega arith
 count-pruned (arrow s t) = arrow_count (pruned s) (pruned t) ∙ count-pruned t
 count-pruned (meet s t) = meet_count (pruned s) (pruned t) ∙ (λ i. count-pruned s i + count-pruned t i)
+
+-- a type without a path is pruned to omega, and no other one
+pub omega_pruned : (t : ClosedType) → path_count t ≡ 0 → pruned t ≡ types.omega
+omega_pruned types.omega h = refl
+omega_pruned (constructor c s) h = absurd (omega arith)
+omega_pruned (product s t) h = absurd (omega arith)
+omega_pruned (arrow s t) h = ap (λ (r : ClosedType). arrow_to (pruned s) r) (omega_pruned t h)
+omega_pruned (meet s t) h =
+    let e = omega_pruned s (omega arith) in
+    let f = omega_pruned t (omega arith) in
+    λ i. meet_of (e i) (f i)
+
+pub some_pruned : (t u : ClosedType) → u ≡ pruned t → (path_count t ≡ 0 → ⊥) → u ≡ types.omega → ⊥
+some_pruned t u e f o = f (sym (count-pruned t) ∙ ap path_count (sym e ∙ o))
 
 pub spread_pruned : (t : ClosedType) → spread (pruned t) ≡ spread t
 spread_pruned types.omega = refl

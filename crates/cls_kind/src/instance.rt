@@ -1,12 +1,13 @@
 //! One instance of a schema.
-ghost use Rattle.std.specs.Prelude.{◌≡◌, IfOk};
+ghost use Rattle.std.specs.Prelude.{◌≡◌, ◌↔◌, IfOk, IsTrue};
 ghost use Rattle.cls_base.specs.Schemas.{schema_of};
 ghost use Rattle.cls_base.specs.Ty as closed;
+ghost use Rattle.cls_base.specs.Types.{path_count};
 ghost use Rattle.cls_kind.specs.Instances.{instance_by, type_for};
 ghost use Rattle.cls_kind.specs.Pruned.{pruned};
 ghost use Rattle.cls_kind.specs.Ranges.{choice_in, capped_nodes, type_or_omega};
 
-use crate::pruned::{arrow_to, is_omega, meet_of, pruned};
+use crate::pruned::{arrow_to, meet_of, pruned};
 use cls_base::limits::MAX_INSTANCE_NODES;
 use cls_base::{OutOfMemory, Schema, Ty};
 use std::alloc::Global;
@@ -21,8 +22,8 @@ pub(crate) struct Chosen<'a> {
     pub ty: &'a Ty,
 }
 
-/// The schema with the type that is chosen for each variable in its place, without what no path goes through. Of an arrow to
-/// a type without a path the source isn't looked at, so what is made is no larger than its spread allows.
+/// The schema with the type that is chosen for each variable in its place, without what no path goes through. Where a part has
+/// no path, none of its parts is made: so what is made is no larger than its spread allows.
 pub(crate) fn fill(alloc: Global, schema: &Schema, chosen: &[Chosen<'_>]) -> Result<Ty, OutOfMemory>
     ensures { IfOk result (λ ty.
         closed.type_of ty ≡ pruned (instance_by (choice_in chosen.now) (schema_of schema.now))) }
@@ -40,11 +41,11 @@ pub(crate) fn fill(alloc: Global, schema: &Schema, chosen: &[Chosen<'_>]) -> Res
             Ok(Ty::Prod(Box::new(alloc, (left, right))?))
         }
         Schema::Arrow(sides) => {
-            let target = fill(alloc, &sides.1, chosen)?;
-            if is_omega(&target) {
+            if is_filled_pathless(&sides.1, chosen) {
                 return Ok(Ty::Omega);
             }
             let source = fill(alloc, &sides.0, chosen)?;
+            let target = fill(alloc, &sides.1, chosen)?;
             Ok(arrow_to(alloc, source, target)?)
         }
         Schema::Meet(sides) => {
@@ -55,6 +56,24 @@ pub(crate) fn fill(alloc: Global, schema: &Schema, chosen: &[Chosen<'_>]) -> Res
         Schema::Var(variable) => match type_of(chosen, variable.0) {
             Some(ty) => Ok(pruned(alloc, ty)?),
             None => Ok(Ty::Omega),
+        },
+    }
+}
+
+/// Whether the instance has no path.
+fn is_filled_pathless(schema: &Schema, chosen: &[Chosen<'_>]) -> bool
+    ensures { IsTrue result ↔ (path_count (instance_by (choice_in chosen.now) (schema_of schema.now)) ≡ 0) }
+{
+    match schema {
+        Schema::Omega => true,
+        Schema::Bare(_) | Schema::Con(..) | Schema::Prod(..) => false,
+        Schema::Arrow(sides) => is_filled_pathless(&sides.1, chosen),
+        Schema::Meet(sides) => {
+            is_filled_pathless(&sides.0, chosen) && is_filled_pathless(&sides.1, chosen)
+        }
+        Schema::Var(variable) => match type_of(chosen, variable.0) {
+            Some(ty) => ty.is_pathless(),
+            None => true,
         },
     }
 }

@@ -7,7 +7,7 @@ ghost use Rattle.cls_kind.specs.Pruned.{arrow_to, meet_of, pruned};
 use cls_base::{OutOfMemory, Ty};
 use std::alloc::Global;
 
-/// The type without what no path goes through. Of an arrow to such a type the source isn't looked at.
+/// The type without what no path goes through. Where a type has no path, none of its parts is made.
 pub(crate) fn pruned(alloc: Global, ty: &Ty) -> Result<Ty, OutOfMemory>
     ensures { IfOk result (λ whole. type_of whole ≡ pruned (type_of ty.now)) }
 {
@@ -24,11 +24,11 @@ pub(crate) fn pruned(alloc: Global, ty: &Ty) -> Result<Ty, OutOfMemory>
             Ok(Ty::Prod(Box::new(alloc, (left, right))?))
         }
         Ty::Arrow(sides) => {
-            let target = pruned(alloc, &sides.1)?;
-            if is_omega(&target) {
+            if sides.1.is_pathless() {
                 return Ok(Ty::Omega);
             }
             let source = pruned(alloc, &sides.0)?;
+            let target = pruned(alloc, &sides.1)?;
             Ok(arrow_to(alloc, source, target)?)
         }
         Ty::Meet(sides) => {
@@ -37,13 +37,6 @@ pub(crate) fn pruned(alloc: Global, ty: &Ty) -> Result<Ty, OutOfMemory>
             Ok(meet_of(alloc, left, right)?)
         }
     }
-}
-
-/// Whether the type is omega.
-pub(crate) fn is_omega(ty: &Ty) -> bool
-    ensures { IsTrue result ↔ (type_of ty.now ≡ omega) }
-{
-    matches!(ty, Ty::Omega)
 }
 
 /// The arrow between pruned types, of which the target isn't omega.
@@ -65,4 +58,11 @@ pub(crate) fn meet_of(alloc: Global, left: Ty, right: Ty) -> Result<Ty, OutOfMem
         return Ok(left);
     }
     Ok(Ty::Meet(Box::new(alloc, (left, right))?))
+}
+
+/// Whether the type is omega.
+fn is_omega(ty: &Ty) -> bool
+    ensures { IsTrue result ↔ (type_of ty.now ≡ omega) }
+{
+    matches!(ty, Ty::Omega)
 }
