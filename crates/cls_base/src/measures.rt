@@ -1,6 +1,6 @@
 //! The measures of types.
-ghost use Rattle.std.specs.Prelude.{◌≡◌, ◌<◌, ◌^◌, nat_lt, if◌then◌else◌};
-ghost use Rattle.cls_base.specs.Types.{nodes, spread, depth, open_at};
+ghost use Rattle.std.specs.Prelude.{◌≡◌, ◌↔◌, ◌<◌, ◌^◌, IsTrue, nat_lt, if◌then◌else◌};
+ghost use Rattle.cls_base.specs.Types.{nodes, path_count, spread, depth, open_at};
 ghost use Rattle.cls_base.specs.Ty.{type_of};
 ghost use Rattle.cls_base.specs.Measures.{capped, capped_weight, strength_of};
 
@@ -112,6 +112,18 @@ impl Ty {
                     .max(right.depth_at(Place::Factor));
                 place.round_meet() + inside
             }
+        }
+    }
+
+    /// Whether the type has no path. Its spread counts none of its parts then.
+    pub fn is_pathless(&self) -> bool
+        ensures { IsTrue result ↔ (path_count (type_of self.now) ≡ 0) }
+    {
+        match self {
+            Ty::Omega => true,
+            Ty::Bare(_) | Ty::Con(..) | Ty::Prod(..) => false,
+            Ty::Arrow(sides) => sides.1.is_pathless(),
+            Ty::Meet(sides) => sides.0.is_pathless() && sides.1.is_pathless(),
         }
     }
 

@@ -7,7 +7,7 @@ ghost use Rattle.cls_kind.specs.Instances.{instance_by, type_for};
 ghost use Rattle.cls_kind.specs.Pruned.{pruned};
 ghost use Rattle.cls_kind.specs.Ranges.{choice_in, capped_nodes, type_or_omega};
 
-use crate::pruned::{arrow_to, is_pathless, meet_of, pruned};
+use crate::pruned::{arrow_to, meet_of, pruned};
 use cls_base::limits::MAX_INSTANCE_NODES;
 use cls_base::{OutOfMemory, Schema, Ty};
 use std::alloc::Global;
@@ -72,7 +72,7 @@ fn is_filled_pathless(schema: &Schema, chosen: &[Chosen<'_>]) -> bool
             is_filled_pathless(&sides.0, chosen) && is_filled_pathless(&sides.1, chosen)
         }
         Schema::Var(variable) => match type_of(chosen, variable.0) {
-            Some(ty) => is_pathless(ty),
+            Some(ty) => ty.is_pathless(),
             None => true,
         },
     }

@@ -1,6 +1,6 @@
 //! Types without what no path goes through.
 ghost use Rattle.std.specs.Prelude.{◌≡◌, ◌↔◌, IfOk, IsTrue};
-ghost use Rattle.cls_base.specs.Types.{omega, path_count};
+ghost use Rattle.cls_base.specs.Types.{omega};
 ghost use Rattle.cls_base.specs.Ty.{type_of};
 ghost use Rattle.cls_kind.specs.Pruned.{arrow_to, meet_of, pruned};
 
@@ -24,7 +24,7 @@ pub(crate) fn pruned(alloc: Global, ty: &Ty) -> Result<Ty, OutOfMemory>
             Ok(Ty::Prod(Box::new(alloc, (left, right))?))
         }
         Ty::Arrow(sides) => {
-            if is_pathless(&sides.1) {
+            if sides.1.is_pathless() {
                 return Ok(Ty::Omega);
             }
             let source = pruned(alloc, &sides.0)?;
@@ -60,18 +60,6 @@ pub(crate) fn meet_of(alloc: Global, left: Ty, right: Ty) -> Result<Ty, OutOfMem
         return Ok(left);
     }
     Ok(Ty::Meet(Box::new(alloc, (left, right))?))
-}
-
-/// Whether the type has no path.
-pub(crate) fn is_pathless(ty: &Ty) -> bool
-    ensures { IsTrue result ↔ (path_count (type_of ty.now) ≡ 0) }
-{
-    match ty {
-        Ty::Omega => true,
-        Ty::Bare(_) | Ty::Con(..) | Ty::Prod(..) => false,
-        Ty::Arrow(sides) => is_pathless(&sides.1),
-        Ty::Meet(sides) => is_pathless(&sides.0) && is_pathless(&sides.1),
-    }
 }
 
 /// Whether the type is omega.

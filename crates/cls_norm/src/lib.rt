@@ -7,7 +7,6 @@
 
 mod fits;
 mod normals;
-mod pathless;
 mod paths;
 mod subtypes;
 mod types;

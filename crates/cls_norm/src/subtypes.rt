@@ -17,7 +17,6 @@ ghost use Rattle.cls_path.specs.Laws.{AreEquivalent};
 ghost use Rattle.cls_norm.specs.Subtypes.{Adds, Stands, IsAsked, IsEntered, IsSealing, Joins, paths_behind, paths_of_all, nodes_of_all};
 
 use crate::normals::normal;
-use crate::pathless::is_pathless;
 use crate::wide::{WIDE, are_below_wide};
 use cls_base::{Flat, Name, OutOfMemory, Taxa, Ty, Variance};
 use std::alloc::Global;
@@ -175,7 +174,7 @@ fn are_below_arrow<T: Taxa>(
         (paths_of_all (T.variance_of_name taxa.now) lowers.now)
         (paths_of (T.variance_of_name taxa.now) (arrow (type_of source.now) (type_of target.now)))) }
 {
-    if is_pathless(target) {
+    if target.is_pathless() {
         return Ok(true);
     }
     let step = Step::Source(source);
@@ -288,7 +287,7 @@ fn put_parts<'a, T: Taxa>(
             let (source, target) = &**sides;
             match step {
                 Step::Source(taken) => {
-                    if is_pathless(target) {
+                    if target.is_pathless() {
                         return Ok(());
                     }
                     if are_below(alloc, taxa, &[taken], source)? {
