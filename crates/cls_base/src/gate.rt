@@ -1,7 +1,7 @@
 /// Is told of each claim that a worker makes. It has no effect on any answer, and lets a test watch or hold up workers.
 pub trait Gate {
-    /// Called by a worker right after it was given a claim, and before it works on it. `nth` is the number of claims
-    /// that were made before this one.
+    /// Called by a worker right before it works on a goal that it has claimed. It may have claimed several at once. `nth` is
+    /// the number of claims that were made before this one.
     fn at_claim(&self, worker: u32, nth: u64);
 }
 

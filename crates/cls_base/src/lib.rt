@@ -8,8 +8,8 @@
 //!   alone, and [`Key`] what serves as a key of a table.
 //! - [`Rule`] is one way in which a goal can be met, with goals for arguments. [`Goals`] is a list of goals.
 //! - [`limits`] has the numbers that the language fixes.
-//! - [`Numbers`] is a list of numbers, [`NumberLists`] a list of such lists, and [`OutOfMemory`] what a call answers
-//!   that found no memory.
+//! - [`Numbers`] is a list of numbers, [`NumberLists`] a list of such lists, and [`start_of`] tells where one begins in its
+//!   column. [`OutOfMemory`] is what a call answers that found no memory.
 #![tactic(auto)]
 
 mod gate;
@@ -33,7 +33,7 @@ pub use gate::{Gate, OpenGate};
 pub use key::Key;
 pub use memory_sink::MemorySink;
 pub use memory_source::MemorySource;
-pub use number_lists::NumberLists;
+pub use number_lists::{NumberLists, start_of};
 pub use numbers::Numbers;
 pub use out_of_memory::OutOfMemory;
 pub use rule::{Goals, Rule};

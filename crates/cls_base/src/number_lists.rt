@@ -136,8 +136,9 @@ impl NumberLists {
     }
 }
 
-/// Where the list at the place begins, which is where the one before it ends.
-fn start_of(ends: &[u32], place: usize) -> usize
+/// Where the list at the place begins, which is where the one before it ends, for lists that stand one after another in one
+/// column. The ends are numbers of its items.
+pub fn start_of(ends: &[u32], place: usize) -> usize
     requires { place ≤ length ends.now }
     ensures { result ≡ slice_index (0 ∷ ends.now) place }
 {

@@ -4,7 +4,7 @@ ghost use Rattle.cls_base.specs.Cuts.{AreEnds, cut};
 ghost use Rattle.cls_base.specs.declared.rule.Rule.TheVariants.{Any, Head};
 ghost use Rattle.cls_rulebook.specs.Arguments.{arguments_in, map_rule};
 
-use cls_base::{Goals, Key, OutOfMemory};
+use cls_base::{Goals, Key, OutOfMemory, start_of};
 use cls_rulebook::NodeRules;
 use std::alloc::Global;
 use std::marker::Model;
@@ -166,16 +166,4 @@ fn part<'a, G>(goals: &'a [G], ends: &[u32], place: usize) -> &'a [G]
 {
     let start = start_of(ends, place);
     &goals[start..ends[place] as usize]
-}
-
-// Where the list at a place begins, which is where the one before it ends.
-fn start_of(ends: &[u32], place: usize) -> usize
-    requires { place ≤ length ends.now }
-    ensures { result ≡ slice_index (0 ∷ ends.now) place }
-{
-    if place == 0 {
-        0
-    } else {
-        ends[place - 1] as usize
-    }
 }

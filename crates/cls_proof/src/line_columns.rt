@@ -1,7 +1,7 @@
 //! Lines that are kept one after another in one column.
 ghost use Rattle.std.specs.Prelude.{◌≡◌, ◌<◌, ◌≤◌, ◌^◌, [], ◌∷◌, ◌++◌, length, slice_index, slice_index_or, OnOk};
 
-use cls_base::OutOfMemory;
+use cls_base::{OutOfMemory, start_of};
 use std::alloc::Global;
 use std::marker::Model;
 
@@ -145,17 +145,5 @@ impl ByteLines {
     {
         let start = start_of(self.ends.as_slice(), i);
         &self.column[start..self.ends[i] as usize]
-    }
-}
-
-/// Where the line at the place begins, which is where the one before it ends.
-fn start_of(ends: &[u32], place: usize) -> usize
-    requires { place ≤ length ends.now }
-    ensures { result ≡ slice_index (0 ∷ ends.now) place }
-{
-    if place == 0 {
-        0
-    } else {
-        ends[place - 1] as usize
     }
 }
