@@ -1,5 +1,5 @@
 //! Rules of a goal in flat columns.
-ghost use Rattle.std.specs.Prelude.{◌≡◌, ◌<◌, ◌≤◌, ◌↔◌, ℕ, [], ◌∷◌, ◌++◌, Some, Contains, IfOk, IsTrue, OnErr, OnOk, drop, length, map, slice_get, slice_index, slice_index_or};
+ghost use Rattle.std.specs.Prelude.{◌≡◌, ◌<◌, ◌≤◌, ◌↔◌, ℕ, [], ◌∷◌, ◌++◌, Some, Contains, IfOk, IsTrue, OnErr, OnOk, drop, length, map, slice_get, slice_index_or};
 ghost use Rattle.cls_base.specs.Cuts.{AreEnds, cut};
 ghost use Rattle.cls_base.specs.declared.rule.Rule.TheVariants.{Any, Head};
 ghost use Rattle.cls_rulebook.specs.Arguments.{arguments_in, map_rule};
