@@ -3,19 +3,22 @@ use Rattle.std.specs.Prelude.{ℕ, ◌≡◌, ◌↔◌, List, [], ◌∷◌, �
 use Rattle.std.specs.List.{AllZip}
 use Rattle.cls_base.specs.Types.{ClosedType, arrow, meet}
 use Rattle.cls_base.specs.Schemas.{OpenType}
+use Rattle.cls_base.specs.Subtyping.{Subtype}
+use Rattle.cls_base.specs.Taxonomies.{Chain}
 use Rattle.cls_base.specs.Terms.{Applicative, component, apply}
+use Rattle.cls_base.specs.Typing.{HasType}
 use Rattle.cls_base.specs.Spines.{spine}
 use Rattle.cls_base.specs.declared.rule.Rule.{Rule}
 use Rattle.cls_base.specs.declared.rule.Rule.TheVariants.{Head}
 use Rattle.cls_path.specs.Paths.{TypePath, Paths, more, type_of_path, type_of_paths, Suits, SuitsAll}
-use Rattle.cls_taxon.specs.Orders.{Declared}
+use Rattle.cls_taxon.specs.Orders.{Declared, IsOrder}
 use Rattle.cls_library.specs.declared.fault.LibraryFault.{LibraryFault}
 use Rattle.cls_library.specs.declared.fault.LibraryKind.TheVariants.{OutOfMemory}
-use Rattle.cls_library.specs.Libraries.{Library, IsLibrary, variances_in}
+use Rattle.cls_library.specs.Libraries.{Library, IsLibrary, below_in, variances_in}
 use Rattle.cls_library.specs.Reaching.{IsReachedBy}
 use Rattle.cls_library.specs.Rules.{IsRules}
 use Rattle.cls_library.specs.Refusals.{Adds, IsLibraryOf, RefusesAt}
-use Rattle.cls_library.specs.Typing.{HasTypeIn, HasTypeByInstances}
+use Rattle.cls_library.specs.Typing.{HasTypeIn, HasTypeByInstances, IsInstanceOf}
 
 -- a schema that is added to the library of a list makes the library of the longer list
 abbrev pub AddingMakesLibraries : Type 0
@@ -41,6 +44,19 @@ ReadingsAgree =
     (d : Declared) (kinds : List (ℕ × List ClosedType)) (schemas : List OpenType) (l : Library)
     → IsLibraryOf d kinds schemas l → (e : Applicative) (t : ClosedType)
     → HasTypeByInstances d kinds schemas e t ↔ HasTypeIn l e t
+
+-- if an order was declared, subtyping by the chains of its pairs is subtyping by what a lookup answers
+abbrev pub SubtypingIsByChains : Type 0
+SubtypingIsByChains =
+    (d : Declared) → IsOrder d → (s t : ClosedType)
+    → Subtype (Chain d.pairs) (variances_in d) s t ↔ Subtype (below_in d) (variances_in d) s t
+
+-- and a term has a type by the chains of its pairs and the instances of the schemas if and only if it has it by the library
+abbrev pub TypingIsByChains : Type 0
+TypingIsByChains =
+    (d : Declared) → IsOrder d → (kinds : List (ℕ × List ClosedType)) (schemas : List OpenType) (l : Library)
+    → IsLibraryOf d kinds schemas l → (e : Applicative) (t : ClosedType)
+    → HasType (Chain d.pairs) (variances_in d) (IsInstanceOf kinds schemas) e t ↔ HasTypeIn l e t
 
 -- an application has a type if and only if the function takes a type that the argument has to it
 abbrev pub ApplicationsAreGenerated : Type 0

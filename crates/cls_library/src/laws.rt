@@ -1,5 +1,5 @@
 //! What holds of all libraries, as calls that do nothing and promise the law.
-ghost use Rattle.cls_library.specs.Laws.{AddingMakesLibraries, LibrariesAreUnique, RefusalsAreExact, ReadingsAgree, ApplicationsAreGenerated, IntersectionsAreBoth, PathsAreReached, RulesAreTheTyping};
+ghost use Rattle.cls_library.specs.Laws.{AddingMakesLibraries, LibrariesAreUnique, RefusalsAreExact, ReadingsAgree, SubtypingIsByChains, TypingIsByChains, ApplicationsAreGenerated, IntersectionsAreBoth, PathsAreReached, RulesAreTheTyping};
 
 /// The library of a list of schemas, with a schema added, is that of the longer list.
 pub fn adding_makes_libraries()
@@ -19,6 +19,17 @@ pub fn refusals_are_exact()
 /// Typing by the instances of the schemas is typing by the one type of each component.
 pub fn readings_agree()
     ensures { ReadingsAgree }
+{}
+
+/// Subtyping by the chains of declared pairs of names is subtyping by what a lookup of two names answers, if the pairs are an
+/// order.
+pub fn subtyping_is_by_chains()
+    ensures { SubtypingIsByChains }
+{}
+
+/// A term has a type by the chains of declared pairs and the instances of the schemas if and only if it has it by the library.
+pub fn typing_is_by_chains()
+    ensures { TypingIsByChains }
 {}
 
 /// An application has a type if and only if the function takes some type of the argument to it.
