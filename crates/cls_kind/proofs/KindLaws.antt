@@ -9,8 +9,9 @@ use Rattle.indexmap.specs.IndexMap.{insert_entry}
 use Rattle.cls_base.specs.declared.ty.Ty.{Ty}
 use Rattle.cls_base.specs.Ty.{type_of}
 use Rattle.cls_base.specs.Types.{ClosedType}
-use Rattle.cls_kind.specs.Instances.{AreFull}
-use Rattle.cls_kind.specs.Kinds.{kind_of}
+use Rattle.cls_base.specs.Schemas.{OpenType}
+use Rattle.cls_kind.specs.Instances.{variables_of, AreFull}
+use Rattle.cls_kind.specs.Kinds.{kind_of, ranges_of, AreKnown}
 use Rattle.cls_kind.proofs.Counting.{full-first, full-rest}
 
 abbrev pub found_kind : Option (List ClosedType) → List ClosedType
@@ -65,3 +66,6 @@ pub full-ranges : (kinds : List (ℕ × List ClosedType)) (vs : List ℕ) → Al
 full-ranges kinds [] h k d l = absurd (omega arith)
 full-ranges kinds (v ∷ vs) h zero d l = h 0 v (omega arith)
 full-ranges kinds (v ∷ vs) h (suc k) d l = full-ranges kinds vs (λ j e m. h (suc j) e (omega arith)) k d (omega arith)
+
+pub full-known : (kinds rs : List (ℕ × List ClosedType)) (s : OpenType) → rs ≡ ranges_of kinds s → AreKnown kinds s → AreFull rs
+full-known kinds rs s e h = subst AreFull (sym e) (full-ranges kinds (variables_of s) h)

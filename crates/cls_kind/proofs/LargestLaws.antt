@@ -6,7 +6,7 @@ use Rattle.cls_base.specs.Types as types
 use Rattle.cls_base.specs.Types.{ClosedType}
 use Rattle.cls_base.specs.Schemas as schemas
 use Rattle.cls_base.specs.Schemas.{OpenType, constructor, product, arrow, meet, variable}
-use Rattle.cls_kind.specs.Instances.{choice_at, choices_from, count_of, instance_by, instance_of, type_for}
+use Rattle.cls_kind.specs.Instances.{choice_at, count_of, instance_by, instance_of, type_for}
 use Rattle.cls_kind.specs.Ranges.{AreLargest, HaveFewNodes, capped_nodes}
 use Rattle.cls_kind.proofs.ChoiceLaws as laws
 use Rattle.cls_kind.proofs.ChoiceLaws.{product-positive, quotient-within}

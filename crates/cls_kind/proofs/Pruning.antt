@@ -6,6 +6,10 @@ use Rattle.cls_kind.specs.Instances.{IsSmall}
 use Rattle.cls_kind.specs.Pruned.{arrow_to, meet_of, pruned}
 
 -- what the forms come to
+pub arrow_omega : (s t : ClosedType) → t ≡ types.omega → arrow_to s t ≡ t
+unfolding arrow_to
+arrow_omega s t e = ap (arrow_to s) e ∙ sym e
+
 pub arrow_other : (s t : ClosedType) → (t ≡ types.omega → ⊥) → arrow_to s t ≡ arrow s t
 unfolding arrow_to
 arrow_other s types.omega f = absurd (f refl)
@@ -68,21 +72,6 @@ count-pruned (constructor c s) = let h = count-pruned s in omega arith
 count-pruned (product s t) = let h = count-pruned s in let k = count-pruned t in omega arith
 count-pruned (arrow s t) = arrow_count (pruned s) (pruned t) ∙ count-pruned t
 count-pruned (meet s t) = meet_count (pruned s) (pruned t) ∙ (λ i. count-pruned s i + count-pruned t i)
-
--- a type without a path is pruned to omega, and no other one
-pub omega_pruned : (t : ClosedType) → path_count t ≡ 0 → pruned t ≡ types.omega
-unfolding arrow_to meet_of
-omega_pruned types.omega h = refl
-omega_pruned (constructor c s) h = absurd (omega arith)
-omega_pruned (product s t) h = absurd (omega arith)
-omega_pruned (arrow s t) h = ap (λ (r : ClosedType). arrow_to (pruned s) r) (omega_pruned t h)
-omega_pruned (meet s t) h =
-    let e = omega_pruned s (omega arith) in
-    let f = omega_pruned t (omega arith) in
-    λ i. meet_of (e i) (f i)
-
-pub some_pruned : (t u : ClosedType) → u ≡ pruned t → (path_count t ≡ 0 → ⊥) → u ≡ types.omega → ⊥
-some_pruned t u e f o = f (sym (count-pruned t) ∙ ap path_count (sym e ∙ o))
 
 pub spread_pruned : (t : ClosedType) → spread (pruned t) ≡ spread t
 spread_pruned types.omega = refl

@@ -1,13 +1,12 @@
 //! One instance of a schema.
-ghost use Rattle.std.specs.Prelude.{◌≡◌, ◌↔◌, IfOk, IsTrue};
+ghost use Rattle.std.specs.Prelude.{◌≡◌, IfOk};
 ghost use Rattle.cls_base.specs.Schemas.{schema_of};
 ghost use Rattle.cls_base.specs.Ty as closed;
-ghost use Rattle.cls_base.specs.Types.{path_count};
 ghost use Rattle.cls_kind.specs.Instances.{instance_by, type_for};
 ghost use Rattle.cls_kind.specs.Pruned.{pruned};
 ghost use Rattle.cls_kind.specs.Ranges.{choice_in, capped_nodes, type_or_omega};
 
-use crate::pruned::{arrow_to, meet_of, pruned};
+use crate::pruned::{is_omega, meet_of, pruned};
 use cls_base::limits::MAX_INSTANCE_NODES;
 use cls_base::{OutOfMemory, Schema, Ty};
 use std::alloc::Global;
@@ -22,8 +21,9 @@ pub(crate) struct Chosen<'a> {
     pub ty: &'a Ty,
 }
 
-/// The schema with the type that is chosen for each variable in its place, without what no path goes through. Where a part has
-/// no path, none of its parts is made: so what is made is no larger than its spread allows.
+/// The schema with the type that is chosen for each variable in its place, without what no path goes through. The target of an
+/// arrow comes first: where it has no path, the source isn't made.
+#[tactic(auto, using(crate::proofs::Pruning::arrow_omega, crate::proofs::Pruning::arrow_other))]
 pub(crate) fn fill(alloc: Global, schema: &Schema, chosen: &[Chosen<'_>]) -> Result<Ty, OutOfMemory>
     ensures { IfOk result (λ ty.
         closed.type_of ty ≡ pruned (instance_by (choice_in chosen.now) (schema_of schema.now))) }
@@ -33,7 +33,7 @@ pub(crate) fn fill(alloc: Global, schema: &Schema, chosen: &[Chosen<'_>]) -> Res
         Schema::Bare(name) => Ok(Ty::Bare(*name)),
         Schema::Con(name, argument) => {
             let argument = fill(alloc, argument, chosen)?;
-            Ok(Ty::over(alloc, *name, argument)?)
+            Ty::over(alloc, *name, argument)
         }
         Schema::Prod(sides) => {
             let left = fill(alloc, &sides.0, chosen)?;
@@ -41,39 +41,21 @@ pub(crate) fn fill(alloc: Global, schema: &Schema, chosen: &[Chosen<'_>]) -> Res
             Ok(Ty::Prod(Box::new(alloc, (left, right))?))
         }
         Schema::Arrow(sides) => {
-            if is_filled_pathless(&sides.1, chosen) {
-                return Ok(Ty::Omega);
+            let target = fill(alloc, &sides.1, chosen)?;
+            if is_omega(&target) {
+                return Ok(target);
             }
             let source = fill(alloc, &sides.0, chosen)?;
-            let target = fill(alloc, &sides.1, chosen)?;
-            Ok(arrow_to(alloc, source, target)?)
+            Ok(Ty::Arrow(Box::new(alloc, (source, target))?))
         }
         Schema::Meet(sides) => {
             let left = fill(alloc, &sides.0, chosen)?;
             let right = fill(alloc, &sides.1, chosen)?;
-            Ok(meet_of(alloc, left, right)?)
+            meet_of(alloc, left, right)
         }
         Schema::Var(variable) => match type_of(chosen, variable.0) {
-            Some(ty) => Ok(pruned(alloc, ty)?),
+            Some(ty) => pruned(alloc, ty),
             None => Ok(Ty::Omega),
-        },
-    }
-}
-
-/// Whether the instance has no path.
-fn is_filled_pathless(schema: &Schema, chosen: &[Chosen<'_>]) -> bool
-    ensures { IsTrue result ↔ (path_count (instance_by (choice_in chosen.now) (schema_of schema.now)) ≡ 0) }
-{
-    match schema {
-        Schema::Omega => true,
-        Schema::Bare(_) | Schema::Con(..) | Schema::Prod(..) => false,
-        Schema::Arrow(sides) => is_filled_pathless(&sides.1, chosen),
-        Schema::Meet(sides) => {
-            is_filled_pathless(&sides.0, chosen) && is_filled_pathless(&sides.1, chosen)
-        }
-        Schema::Var(variable) => match type_of(chosen, variable.0) {
-            Some(ty) => ty.is_pathless(),
-            None => true,
         },
     }
 }

@@ -106,6 +106,7 @@ impl Iterator for Instances<'_> {
 }
 
 /// The instance with this number, pruned. Its spread is that of the whole instance.
+#[tactic(auto, using(crate::proofs::Pruning::spread_pruned))]
 fn make(
     alloc: Global,
     schema: &Schema,

@@ -2,12 +2,13 @@
 ghost use Rattle.std.specs.Prelude.{◌≡◌, ◌↔◌, IfOk, IsTrue};
 ghost use Rattle.cls_base.specs.Types.{omega};
 ghost use Rattle.cls_base.specs.Ty.{type_of};
-ghost use Rattle.cls_kind.specs.Pruned.{arrow_to, meet_of, pruned};
+ghost use Rattle.cls_kind.specs.Pruned.{meet_of, pruned};
 
 use cls_base::{OutOfMemory, Ty};
 use std::alloc::Global;
 
-/// The type without what no path goes through. Where a type has no path, none of its parts is made.
+/// The type without what no path goes through. The target of an arrow comes first: where it has no path, the source isn't made.
+#[tactic(auto, using(crate::proofs::Pruning::arrow_omega, crate::proofs::Pruning::arrow_other))]
 pub(crate) fn pruned(alloc: Global, ty: &Ty) -> Result<Ty, OutOfMemory>
     ensures { IfOk result (λ whole. type_of whole ≡ pruned (type_of ty.now)) }
 {
@@ -16,7 +17,7 @@ pub(crate) fn pruned(alloc: Global, ty: &Ty) -> Result<Ty, OutOfMemory>
         Ty::Bare(name) => Ok(Ty::Bare(*name)),
         Ty::Con(name, argument) => {
             let argument = pruned(alloc, argument)?;
-            Ok(Ty::over(alloc, *name, argument)?)
+            Ty::over(alloc, *name, argument)
         }
         Ty::Prod(sides) => {
             let left = pruned(alloc, &sides.0)?;
@@ -24,28 +25,19 @@ pub(crate) fn pruned(alloc: Global, ty: &Ty) -> Result<Ty, OutOfMemory>
             Ok(Ty::Prod(Box::new(alloc, (left, right))?))
         }
         Ty::Arrow(sides) => {
-            if sides.1.is_pathless() {
-                return Ok(Ty::Omega);
+            let target = pruned(alloc, &sides.1)?;
+            if is_omega(&target) {
+                return Ok(target);
             }
             let source = pruned(alloc, &sides.0)?;
-            let target = pruned(alloc, &sides.1)?;
-            Ok(arrow_to(alloc, source, target)?)
+            Ok(Ty::Arrow(Box::new(alloc, (source, target))?))
         }
         Ty::Meet(sides) => {
             let left = pruned(alloc, &sides.0)?;
             let right = pruned(alloc, &sides.1)?;
-            Ok(meet_of(alloc, left, right)?)
+            meet_of(alloc, left, right)
         }
     }
-}
-
-/// The arrow between pruned types, of which the target isn't omega.
-#[tactic(auto, using(crate::proofs::Pruning::arrow_other))]
-pub(crate) fn arrow_to(alloc: Global, source: Ty, target: Ty) -> Result<Ty, OutOfMemory>
-    requires { type_of target ≡ omega → ⊥ }
-    ensures { IfOk result (λ whole. type_of whole ≡ arrow_to (type_of source) (type_of target)) }
-{
-    Ok(Ty::Arrow(Box::new(alloc, (source, target))?))
 }
 
 /// The intersection of pruned types. Omega is left out.
@@ -63,7 +55,7 @@ pub(crate) fn meet_of(alloc: Global, left: Ty, right: Ty) -> Result<Ty, OutOfMem
 }
 
 /// Whether the type is omega.
-fn is_omega(ty: &Ty) -> bool
+pub(crate) fn is_omega(ty: &Ty) -> bool
     ensures { IsTrue result ↔ (type_of ty.now ≡ omega) }
 {
     matches!(ty, Ty::Omega)

@@ -80,12 +80,12 @@ put_paths_of-returns-in_ok-put_paths_of-in-Meet g t c =
     let s = type_of c.in-Meet.sides.value.0 in
     let u = type_of c.in-Meet.sides.value.1 in
     let old = c.args.paths.now.items in
-    let mid = c.put_paths_of-in-Meet.new.paths.items in
-    let new = c.put_paths_of-in-Meet-2.new.paths.items in
+    let mid = c.put_paths_of.new.paths.items in
+    let new = c.put_paths_of-in-Meet.new.paths.items in
     let h : PutsPathsOf b v s old mid = subst (λ (x : Ty × Ty). PutsPathsOf b v (type_of x.0) old mid) {y = c.in-Meet.sides.value} c.deref-in-Meet.ensures c.in_ok-put_paths_of-in-Meet.ensures in
-    rw c.in-Meet.is (on_ok_weaker c.put_paths_of-in-Meet-2.result
+    rw c.in-Meet.is (on_ok_weaker c.put_paths_of-in-Meet.result
     (λ k. puts_meet b v one through s u old mid new h (subst (λ (x : Ty × Ty). PutsPathsOf b v (type_of x.1) mid new) {y = c.in-Meet.sides.value} c.deref-in-Meet-2.ensures k))
-    c.put_paths_of-in-Meet-2.ensures)
+    c.put_paths_of-in-Meet.ensures)
 
 pub put_product-returns-then-len-start : goal.put_product-returns-then-len-start
 put_product-returns-then-len-start g t c =
