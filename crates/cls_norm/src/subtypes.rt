@@ -174,7 +174,8 @@ fn are_below_arrow<T: Taxa>(
         (paths_of_all (T.variance_of_name taxa.now) lowers.now)
         (paths_of (T.variance_of_name taxa.now) (arrow (type_of source.now) (type_of target.now)))) }
 {
-    if target.is_pathless() {
+    let equals_omega = target.is_pathless();
+    if equals_omega {
         return Ok(true);
     }
     let step = Step::Source(source);

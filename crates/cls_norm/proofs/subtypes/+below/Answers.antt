@@ -54,17 +54,17 @@ are_below_over-returns-in_ok-has_name_below-in-Contra g t c =
     let k = sealed_upper b v (v c.args.name.0) w x c.args.name.0 (paths_of v (type_of c.args.argument.now)) in
     ((λ h. k.0 (e.0 h)), (λ l. e.1 (k.1 l)))
 
-pub are_below_arrow-returns-then-is_pathless : goal.are_below_arrow-returns-then-is_pathless
-are_below_arrow-returns-then-is_pathless g t c =
+pub are_below_arrow-returns-then-equals_omega : goal.are_below_arrow-returns-then-equals_omega
+are_below_arrow-returns-then-equals_omega g t c =
     let b = Below (g.T.Taxa.is_below c.args.taxa.now) in
     let v = g.T.Taxa.variance_of_name c.args.taxa.now in
     let x = paths_of_all v c.args.lowers.now in
-    let e = no_paths v (arrow (type_of c.args.source.now) (type_of c.args.target.now)) (c.is_pathless.ensures.0 c.if-is_pathless.true) in
+    let e = no_paths v (arrow (type_of c.args.source.now) (type_of c.args.target.now)) (c.is_pathless-equals_omega.ensures.0 c.if-equals_omega.true) in
     yes (subst (λ (n : Paths). PathsLe b v x n) (sym e) empty)
 
 pub are_below_arrow-parts_are_below-requires : goal.are_below_arrow-parts_are_below-requires
 are_below_arrow-parts_are_below-requires g t c κs within =
-    let asked : path_count (type_of c.args.target.now) ≡ 0 → ⊥ = λ e. false≢true (sym c.if-is_pathless.false ∙ c.is_pathless.ensures.1 e) in
+    let asked : path_count (type_of c.args.target.now) ≡ 0 → ⊥ = λ e. false≢true (sym c.if-equals_omega.false ∙ c.is_pathless-equals_omega.ensures.1 e) in
     search rules
 
 pub are_below_product-returns-then-not-branch : goal.are_below_product-returns-then-not-branch
