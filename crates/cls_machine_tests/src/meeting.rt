@@ -4,30 +4,22 @@ use std::sync::atomic::AtomicU64;
 use std::sync::atomic::Ordering::SeqCst;
 use std::thread::yield_now;
 
-/// Holds the maker of claim 2 until claim 3 is worked on, for so many turns at most, and keeps who made which claim.
+/// Holds the maker of claim 1 until claim 2 is made, for so many turns at most, and keeps who made which claim.
 #[derive(Drop)]
 pub struct Meeting {
-    third: AtomicU64,
+    second: AtomicU64,
     calls: AtomicU64,
     turns: u64,
-    makers: [AtomicU64; 7],
+    makers: [AtomicU64; 3],
 }
 
 impl Meeting {
     pub fn new(turns: u64) -> Meeting {
         Meeting {
-            third: AtomicU64::new(0),
+            second: AtomicU64::new(0),
             calls: AtomicU64::new(0),
             turns,
-            makers: [
-                AtomicU64::new(9),
-                AtomicU64::new(9),
-                AtomicU64::new(9),
-                AtomicU64::new(9),
-                AtomicU64::new(9),
-                AtomicU64::new(9),
-                AtomicU64::new(9),
-            ],
+            makers: [AtomicU64::new(9), AtomicU64::new(9), AtomicU64::new(9)],
         }
     }
 
@@ -46,15 +38,15 @@ impl Meeting {
 impl Gate for Meeting {
     fn at_claim(&self, worker: u32, nth: u64) {
         self.calls.fetch_add(1, SeqCst);
-        if nth < 7 {
+        if nth < 3 {
             self.makers[nth as usize].store(u64::from(worker), SeqCst);
         }
-        if nth == 3 {
-            self.third.store(1, SeqCst);
-        }
         if nth == 2 {
+            self.second.store(1, SeqCst);
+        }
+        if nth == 1 {
             for _ in 0..self.turns {
-                if self.third.load(SeqCst) == 1 {
+                if self.second.load(SeqCst) == 1 {
                     return;
                 }
                 yield_now();

@@ -4,7 +4,7 @@ ghost use Rattle.cls_workers.specs.Seats.{IsAfterWork, HasMeaning};
 
 use crate::heap::{Heap, Node};
 use cls_base::OpenGate;
-use cls_table::{Batch, Limits, SharedTable, TableSeat};
+use cls_table::{Batch, Limits, SharedTable, TableSeat, Wanted};
 use std::alloc::Global;
 use std::marker::Brand;
 use std::sync::Wait;
@@ -28,9 +28,17 @@ fn work_once<R: Wait, L: Ledger>(
 {
     let mut seat = seat;
     let mut batch = Batch::new(alloc);
-    table.exchange(rt, alloc, &mut seat, &mut batch, 1);
+    let one = Wanted {
+        most: 1,
+        below: u64::MAX,
+    };
+    table.exchange(rt, alloc, &mut seat, &mut batch, one);
     if batch.expand(alloc, heap, &OpenGate).is_ok() {
-        table.exchange(rt, alloc, &mut seat, &mut batch, 0);
+        let none = Wanted {
+            most: 0,
+            below: u64::MAX,
+        };
+        table.exchange(rt, alloc, &mut seat, &mut batch, none);
     }
     if !batch.is_empty() {
         table.stop(rt, &mut seat, &mut batch);

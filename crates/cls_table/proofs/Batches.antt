@@ -69,8 +69,16 @@ module _ {B G : Type 0} where
     );
   }
 
-  -- a claim that was handed back, or none that came
+  -- no claim came
   pub work-stays :
       (b : BatchSeen B G) (claims again : List (ClaimSeen B G)) (filings : List (FiledSeen B G)) → claims ≡ again
       → KeepsWork b (at_hand claims filings) → KeepsWork b (at_hand again filings)
   work-stays b claims again filings e h = subst (λ (l : List (ClaimSeen B G)). KeepsWork b (at_hand l filings)) e h
+
+  -- a claim that was handed back
+  pub work-again :
+      (b : BatchSeen B G) (claims rest again : List (ClaimSeen B G)) (filings : List (FiledSeen B G)) (c d : ClaimSeen B G)
+      → claims ≡ rest ++ c ∷ [] → again ≡ rest ++ d ∷ [] → d ≡ c → KeepsWork b (at_hand claims filings)
+      → KeepsWork b (at_hand again filings)
+  work-again b claims rest again filings c d e k same h =
+      work-stays b claims again filings (e ∙ (ap (λ (x : ClaimSeen B G). rest ++ x ∷ []) (sym same) ∙ sym k)) h

@@ -33,19 +33,29 @@ impl<E: Expand> Model for Batch<E> {
     ghost view = { λ b. record { claims = b.claims.items; filings = b.filings.items } };
 }
 
+/// What a worker wants of a holding.
+#[derive(Drop, Clone, Copy, Debug)]
+pub struct Wanted {
+    /// At most so many goals.
+    pub most: u32,
+    /// None if at least so many rows are free: others are to be started first.
+    pub below: u64,
+}
+
 /// What a worker that asks for goals is told.
 #[derive(Drop, Clone, Copy, Debug, PartialEq, Eq)]
 pub enum Told {
-    /// There are goals to work on. So many rows nobody had claimed before. That is a hint on how to share the work, and
-    /// nothing rests on it: others may claim and file right after.
-    Work { free: u64 },
+    /// There are goals to work on.
+    Work,
+    /// So many rows are free that others are to be started first: nothing was claimed.
+    Many,
     /// All goals are taken, but some aren't filed: ask again. It comes too where no goal may be claimed.
     Again,
     /// All goals are filed.
     Finished,
     /// The closure is too large.
     TooLarge,
-    /// Memory ran out, here or before: the table is stopped, or there is no room for claims.
+    /// Memory ran out, here or before: the table is stopped.
     NoMemory,
 }
 
@@ -123,14 +133,15 @@ impl<E: Expand> Batch<E> {
         std::mem::replace(&mut self.filings, others).destroy_empty();
     }
 
-    // Claims at most so many goals for the worker, and fewer where few rows are free, so that others find some, too.
+    // Claims what the worker wants, and fewer goals where few rows are free, so that others find some, too. Where memory
+    // runs out, the table is stopped.
     pub(crate) fn claim<L: Ledger>(
         &mut self,
         alloc: Global,
         table: &mut Table<E, L>,
         share: &mut Share<L>,
         worker: u32,
-        most: u32,
+        wanted: Wanted,
     ) -> Told
         requires worker { worker ≤ table.old.tag.workers }
         requires part { 0 < share.old.parts }
@@ -140,37 +151,34 @@ impl<E: Expand> Batch<E> {
         ensures filings { self.new.filings ≡ self.old.filings }
         ensures stopped { table.old.stopped ≡ true → result ≡ Told.NoMemory }
         ensures large { result ≡ Told.TooLarge → IsLarge E.answers table.old.tag }
+        ensures many { result ≡ Told.Many → self.new.claims ≡ [] }
         ensures tag { table.new.tag ≡ table.old.tag }
         ensures parts { share.new.parts ≡ share.old.parts }
         ensures amount { share.new.amount ≡ share.old.amount + length self.new.claims }
-        ensures most { length self.new.claims ≤ most }
+        ensures most { length self.new.claims ≤ wanted.most }
     {
         if table.stopped() {
             return Told::NoMemory;
         }
+        if table.large() {
+            return Told::TooLarge;
+        }
         let free = table.unclaimed();
-        let count = u64::from(most).min((free / ROWS_FOR_ONE_CLAIM).max(1));
+        if free >= wanted.below {
+            return Told::Many;
+        }
+        let count = u64::from(wanted.most).min((free / ROWS_FOR_ONE_CLAIM).max(1));
         let Ok(()) = self.claims.reserve(count as usize) else {
+            table.stop();
             return Told::NoMemory;
         };
         for _ in 0..count {
             match claim_one(alloc, table, share, worker) {
                 Ok(claim) => self.claims.push_reserved(claim),
-                Err(why) => return self.told(free, why),
+                Err(why) => return ends_with(&self.claims, why),
             }
         }
-        self.told(free, Told::Again)
-    }
-
-    // What the worker is told where so many rows were free: that there is work, or why it has none.
-    fn told(&self, free: u64, why: Told) -> Told
-        ensures { result ≡ Told.TooLarge → why ≡ Told.TooLarge }
-    {
-        if self.claims.is_empty() {
-            why
-        } else {
-            Told::Work { free }
-        }
+        ends_with(&self.claims, Told::Again)
     }
 
     // Spends all that is at hand.
@@ -217,7 +225,7 @@ fn file_one<E: Expand, L: Ledger>(
     }
 }
 
-// Claims one goal for the worker. The Err says why there is none.
+// Claims one goal for the worker. The Err says why there is none. Where memory runs out, the table is stopped.
 fn claim_one<E: Expand, L: Ledger>(
     alloc: Global,
     table: &mut Table<E, L>,
@@ -228,6 +236,7 @@ fn claim_one<E: Expand, L: Ledger>(
     requires part { 0 < share.old.parts }
     ensures claim { IfOk result (IsClaimBy table.old.tag worker) }
     ensures large { IfErr result (λ told. told ≡ Told.TooLarge → IsLarge E.answers table.old.tag) }
+    ensures few { IfErr result (λ told. told ≡ Told.Many → ⊥) }
     ensures tag { table.new.tag ≡ table.old.tag }
     ensures parts { share.new.parts ≡ share.old.parts }
     ensures one { OnOk result (share.new.amount ≡ share.old.amount + 1) }
@@ -238,8 +247,19 @@ fn claim_one<E: Expand, L: Ledger>(
         Ok(ClaimAnswer::Again) => Err(Told::Again),
         Ok(ClaimAnswer::Finished) => Err(Told::Finished),
         Ok(ClaimAnswer::TooLarge) => Err(Told::TooLarge),
-        Err(_) => Err(Told::NoMemory),
+        Err(_) => {
+            table.stop();
+            Err(Told::NoMemory)
+        }
     }
+}
+
+// That there is work, or why the worker has none.
+fn ends_with<E: Expand>(claims: &Vec<Claim<E>>, why: Told) -> Told
+    ensures large { result ≡ Told.TooLarge → why ≡ Told.TooLarge }
+    ensures many { result ≡ Told.Many → why ≡ Told.Many }
+{
+    if claims.is_empty() { why } else { Told::Work }
 }
 
 fn spend_claims<E: Expand>(claims: &mut Vec<Claim<E>>)

@@ -3,9 +3,9 @@
 //! - [`SharedTable`] is the table under a spin lock, and [`TableSeat`] a worker's handle on it. What is done with the
 //!   table while one seat has the lock is a holding.
 //! - [`Batch`] is what a worker has at hand between two holdings: goals that it has claimed, and goals that it has
-//!   worked on and not filed. [`SharedTable::exchange`] files the latter and claims several more at one holding. [`Told`]
-//!   is what it tells the worker: whether there is work. [`Batch::expand`] works on what was claimed.
-//!   [`SharedTable::stop`] stops the table where a worker is out of memory, and spends what is at hand.
+//!   worked on and not filed. [`SharedTable::exchange`] files the latter and claims several more at one holding, as
+//!   [`Wanted`] says. [`Told`] is what it tells the worker: whether there is work. [`Batch::expand`] works on what was
+//!   claimed. [`SharedTable::stop`] stops the table where a worker is out of memory, and spends what is at hand.
 //! - [`Table`] is the locked value: the rows, the history, the count of claims made, and two marks. [`Table::claim`],
 //!   [`Table::file`] and [`Table::stop`] are all that can happen to it, and say in full what it becomes.
 //!   [`Table::facts`] says what holds of it at any time.
@@ -27,7 +27,7 @@ mod shared;
 mod table;
 mod tag;
 
-pub use batch::{Batch, Told};
+pub use batch::{Batch, Told, Wanted};
 pub use claim::{Claim, ClaimAnswer, FileAnswer, Filed};
 pub use fault::ExpandFault;
 pub use limits::Limits;

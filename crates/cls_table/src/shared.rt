@@ -1,7 +1,7 @@
 ghost use Rattle.std.specs.Prelude.{◌≡◌, ◌<◌, ◌≤◌, ◌+◌, ◌-◌, [], Some, IfOk, IfErr, IfSome, length};
 ghost use Rattle.std.specs.Option.{ForSome};
 
-use crate::batch::{Batch, Told};
+use crate::batch::{Batch, Told, Wanted};
 use crate::limits::Limits;
 use crate::seat::TableSeat;
 use crate::table::Table;
@@ -102,16 +102,16 @@ impl<E: Expand, L: Ledger> SharedTable<E, L> {
         seat.share.merge(share);
     }
 
-    /// Takes the turn once: files what the batch has worked on, the last one first, and then claims at most so many goals for
-    /// it, and fewer where few rows are free. A filing whose claim isn't held stays at hand. Where memory runs out for a
-    /// filing, it is spent, the table is stopped, and `NoMemory` comes.
+    /// Takes the turn once: files what the batch has worked on, the last one first, and then claims what is wanted for it,
+    /// and fewer goals where few rows are free. A filing whose claim isn't held stays at hand. Where memory runs out, the
+    /// table is stopped. A filing for which it ran out is spent, and `NoMemory` comes.
     pub fn exchange<R: Wait>(
         &self,
         rt: &R,
         alloc: Global,
         seat: &mut TableSeat<E, L>,
         batch: &mut Batch<E>,
-        most: u32,
+        wanted: Wanted,
     ) -> Told
         requires seat_of_this { seat.old.turn ≡ id_of self.now.turn }
         requires batch { ForSome seat.old.tag (λ t. IsBatchFor t seat.old.worker batch.old) }
@@ -121,7 +121,8 @@ impl<E: Expand, L: Ledger> SharedTable<E, L> {
             → ForSome seat.old.tag (λ t. HasFiled E.Goal.eq E.answers t batch.old.filings batch.new.filings) }
         ensures large { result ≡ Told.TooLarge → ForSome seat.old.tag (IsLarge E.answers) }
         ensures seat { seat.new ≡ record seat.old { amount = seat.old.amount + length batch.new.claims } }
-        ensures most { length batch.new.claims ≤ most }
+        ensures many { result ≡ Told.Many → batch.new.claims ≡ [] }
+        ensures most { length batch.new.claims ≤ wanted.most }
     {
         let TableSeat {
             seat,
@@ -132,7 +133,7 @@ impl<E: Expand, L: Ledger> SharedTable<E, L> {
         // For the prover: what holds of the table.
         table.facts();
         batch.file(alloc, &mut table);
-        let told = batch.claim(alloc, &mut table, share, *worker, most);
+        let told = batch.claim(alloc, &mut table, share, *worker, wanted);
         self.turn.put(seat, table);
         told
     }

@@ -6,7 +6,7 @@ ghost use Rattle.cls_workers.specs.Seats.{HasMeaning, IsAfterWork};
 
 use cls_base::Gate;
 use cls_core::Expand;
-use cls_table::{Batch, SharedTable, TableSeat, Told};
+use cls_table::{Batch, SharedTable, TableSeat, Told, Wanted};
 use std::alloc::Global;
 use std::sync::Wait;
 use std::sync::ledger::Ledger;
@@ -30,11 +30,15 @@ const ROWS_FOR_ONE: u64 = 2;
 /// each.
 const ROWS_FOR_ANY: u64 = 4_096;
 
-/// Whether so many free rows are enough for the other workers to start, if there are any.
-fn are_worth(others: u32, free: u64) -> bool {
-    let others = u64::from(others);
-    others > 0
-        && (free >= ROWS_FOR_ANY || free >= others.saturating_pow(6).saturating_mul(ROWS_FOR_ONE))
+/// From so many free rows on the other workers are worth starting. It is more than there can be if there are none.
+fn rows_for(others: u32) -> u64 {
+    if others == 0 {
+        return u64::MAX;
+    }
+    let rows = u64::from(others)
+        .saturating_pow(6)
+        .saturating_mul(ROWS_FOR_ONE);
+    rows.min(ROWS_FOR_ANY)
 }
 
 /// One holding of the table, and the work on the goals that were claimed at it. A worker that runs out of memory stops
@@ -47,6 +51,7 @@ fn round<E: Expand, L: Ledger, T: Gate, R: Wait>(
     gate: &T,
     seat: TableSeat<E, L>,
     batch: &mut Batch<E>,
+    wanted: Wanted,
 ) -> (TableSeat<E, L>, Told)
     requires seat_of_table { seat.turn ≡ id_of table.now.turn }
     requires meaning { HasMeaning seat (E.tag by.now) }
@@ -57,7 +62,7 @@ fn round<E: Expand, L: Ledger, T: Gate, R: Wait>(
     ensures no_claims { batch.new.claims ≡ [] }
 {
     let mut seat = seat;
-    let told = table.exchange(rt, alloc, &mut seat, batch, MOST_CLAIMS);
+    let told = table.exchange(rt, alloc, &mut seat, batch, wanted);
     match batch.expand(alloc, by, gate) {
         Ok(()) => (seat, told),
         Err(_) => {
@@ -68,7 +73,7 @@ fn round<E: Expand, L: Ledger, T: Gate, R: Wait>(
 }
 
 /// Rounds, until nothing is left to do, there was no goal too often in a row, or there are enough free rows for
-/// `others` more workers, which it says. The seat is given back.
+/// `others` more workers, which it says. It leaves those rows free. The seat is given back.
 fn rounds<E: Expand, L: Ledger, T: Gate, R: Wait>(
     rt: &R,
     alloc: Global,
@@ -87,14 +92,18 @@ fn rounds<E: Expand, L: Ledger, T: Gate, R: Wait>(
     ensures batch { ForSome result.0.tag (λ t. IsBatchFor t result.0.worker batch.new) }
     ensures no_claims { batch.new.claims ≡ [] }
 {
+    let wanted = Wanted {
+        most: MOST_CLAIMS,
+        below: rows_for(others),
+    };
     let mut seat = seat;
     let mut waits = 0;
     for _ in rt.forever() {
-        let (back, told) = round(rt, alloc, table, by, gate, seat, batch);
+        let (back, told) = round(rt, alloc, table, by, gate, seat, batch, wanted);
         seat = back;
         match told {
-            Told::Work { free } if are_worth(others, free) => return (seat, true),
-            Told::Work { .. } => waits = 0,
+            Told::Work => waits = 0,
+            Told::Many => return (seat, true),
             Told::Again => {
                 waits += 1;
                 yield_now();
@@ -127,7 +136,11 @@ fn hand_in<E: Expand, L: Ledger, R: Wait>(
             batch.end();
             return;
         }
-        table.exchange(rt, alloc, seat, &mut batch, 0);
+        let nothing = Wanted {
+            most: 0,
+            below: u64::MAX,
+        };
+        table.exchange(rt, alloc, seat, &mut batch, nothing);
     }
     unreachable!()
 }

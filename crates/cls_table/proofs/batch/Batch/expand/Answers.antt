@@ -1,9 +1,9 @@
-use Rattle.std.proofs.Common.{◌≡◌, ◌++◌, ◌∷◌, [], None, Some, arith, sym, ◌∙◌, ap, subst}
+use Rattle.std.proofs.Common.{◌≡◌, None, Some, arith, sym, ◌∙◌, subst}
 use Rattle.std.proofs.lemmas.List.{append-nil}
 use Rattle.std.proofs.lemmas.List.Elements.{All-pop}
 use Rattle.cls_table.specs.Batches.{IsClaimBy}
 use Rattle.cls_table.specs.Seen.{ClaimSeen}
-use Rattle.cls_table.proofs.Batches.{claim-leaves, claim-comes, filing-comes, work-goes, work-stays}
+use Rattle.cls_table.proofs.Batches.{claim-leaves, claim-comes, filing-comes, work-again, work-goes, work-stays}
 use Rattle.cls_table.proofs.batch.Batch.expand.Goals as goal
 
 pub loop-claim-preserved : goal.loop-claim-preserved
@@ -23,10 +23,8 @@ loop-claim-preserved g c =
 
 pub returns-in-Err-clause-work : goal.returns-in-Err-clause-work
 returns-in-Err-clause-work g c =
-    let back = c.push_reserved-in-Err.ensures.items in
-    work-stays c.args.self.now _ _ _
-    (c.in-Some.ensures.items ∙ (ap (λ (x : ClaimSeen g.row.E-Tag.Denot g.row.E-Goal.Denot). _ ++ x ∷ []) (sym c.in-Err.ensures.err) ∙ sym back))
-    c.loop-claim.invariant.work
+    work-again c.args.self.now _ _ _ _ c.in-Some.claim c.in-Err.claim c.in-Some.ensures.items
+    c.push_reserved-in-Err.ensures.items c.in-Err.ensures.err c.loop-claim.invariant.work
 
 pub returns-in-Err-clause-batch : goal.returns-in-Err-clause-batch
 returns-in-Err-clause-batch g c t worker was =

@@ -58,7 +58,8 @@ pub returns-clause-filed : goal.returns-clause-filed
 returns-clause-filed g c memory tag has =
     let s = c.seat.invariant in
     let same = c.take-table.ensures.before s.tag s.knows ∙ tag-known _ _ _ _ _ s c.seat.view_is tag has in
-    let files = elim c.file.ensures.files [ inl stopped ↦ absurd (memory (c.claim-told.ensures.stopped stopped)) | inr h ↦ h ] in
+    let files : FilesEach g.E.Goal.PartialEq.eq c.take-table.result (reverse c.args.batch.now.filings) c.file.new.self.filings c.file.new.table =
+    elim c.file.ensures.files [ inl stopped ↦ absurd (memory (c.claim-told.ensures.stopped stopped)) | inr h ↦ h ] in
     record {
       before = c.take-table.result;
       after = c.file.new.table;
