@@ -13,7 +13,7 @@ from support import SOURCES
 import clsynth
 
 VERSION = clsynth.__version__
-DOCUMENTS = [TOP / "README.md", *sorted((TOP / "docs").glob("*.md")), TOP / "clients/python/README.md"]
+DOCUMENTS = ["README.md", "clients/python/README.md", *sorted(f"docs/{path.name}" for path in (TOP / "docs").glob("*.md"))]
 
 
 class Versions(unittest.TestCase):
@@ -33,8 +33,9 @@ class Versions(unittest.TestCase):
         self.assertEqual(heads[0], VERSION)
 
     def test_the_documents(self) -> None:
-        shown = {path.name: re.findall(r"clsynth[-_ ](\d+\.\d+\.\d+)", path.read_text()) for path in DOCUMENTS}
+        shown = {name: re.findall(r"clsynth[-_ ](\d+\.\d+\.\d+)", (TOP / name).read_text()) for name in DOCUMENTS}
         self.assertTrue(shown["README.md"])
+        self.assertTrue(shown["docs/INSTALL.md"])
         for name, versions in shown.items():
             self.assertLessEqual(set(versions), {VERSION}, name)
 
