@@ -1,4 +1,7 @@
-"""The blocks of a document that are run. One begins with ```cls or ```python, and those behind it that begin with ```output are what is written."""
+"""The blocks of a document that are run.
+
+One begins with ```cls or ```python, and those behind it that begin with ```output are what is written.
+"""
 
 from __future__ import annotations
 

@@ -28,9 +28,9 @@ The sum of the sources is the SHA-256 sum of a list of all files, which this com
 
     {list_of_sources} | sha256sum
 
-The kit has proved and built the program. Any kit with the same sum of its logic serves to check the proofs. The sum of the program is that of
-the file which the kit has built. In this release it stands without its table of symbols, which `strip` took away. What is loaded when it runs
-is the same.
+The kit has proved and built the program. Any kit with the same sum of its logic serves to check the proofs. The sum of the program is
+that of the file which the kit has built. In this release it stands without its table of symbols, which `strip` took away. What is loaded
+when it runs is the same.
 
 ## What it needs
 

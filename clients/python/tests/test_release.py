@@ -107,7 +107,8 @@ class Documents(unittest.TestCase):
         self.assertEqual(section(text, "## D"), "three\n")
 
     def test_rows_are_without_heads(self) -> None:
-        self.assertEqual(rows("| A | B |\n|---|---|\n| 1 | 2 |\n| 3 | 4 |\n\nwords\n\n| C |\n|---|\n| 5 |\n"), [["1", "2"], ["3", "4"], ["5"]])
+        text = "| A | B |\n|---|---|\n| 1 | 2 |\n| 3 | 4 |\n\nwords\n\n| C |\n|---|\n| 5 |\n"
+        self.assertEqual(rows(text), [["1", "2"], ["3", "4"], ["5"]])
 
     def test_notices_name_each_library_of_the_kit(self) -> None:
         stands_on = dict(line.split(":") for line in (TOP / "crates.txt").read_text().splitlines() if ":" in line)
