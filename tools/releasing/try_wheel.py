@@ -7,7 +7,7 @@ from collections.abc import Sequence
 from pathlib import Path
 
 from blocks import Block
-from releasing.commands import Missing, Refusal, written_by
+from releasing.commands import Refusal, written_by
 from releasing.steps import try_steps
 from releasing.trees import digest
 from releasing.wheels import python_that_has
@@ -17,11 +17,10 @@ FIND = "from clsynth.program import find_program; print(find_program())"
 
 def try_wheel(wheel: Path, program: Path, version: str, room: Path) -> str:
     """Tries a wheel of this version that has this program, and says what was tried."""
-    python = python_that_has("ensurepip, venv")
-    if not python:
-        raise Missing("no Python of 3.11 or later can make virtual environments: tools/people-setup installs one from Debian")
+    # This compares the files of the wheel with the sums that it tells of them.
+    written_by([python_that_has("wheel"), "-m", "wheel", "unpack", "--dest", room / "unpacked", wheel])
     place = room / "environment"
-    written_by([python, "-m", "venv", place])
+    written_by([python_that_has("ensurepip, venv"), "-m", "venv", place])
     # Nothing of the system is on the PATH, so a program that is installed there isn't found.
     environment = {"PATH": str(place / "bin"), "HOME": str(room), "PIP_CONFIG_FILE": os.devnull, "PIP_DISABLE_PIP_VERSION_CHECK": "1"}
     inside = {**environment, "CLSYNTH": "", "PYTHONPATH": ""}

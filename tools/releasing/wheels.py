@@ -32,7 +32,7 @@ def wheel_name(version: str, needs: Needs) -> str:
 
 def write_wheel(program: Path, needs: Needs, origin: Origin, file: Path) -> None:
     """Writes the wheel with a program."""
-    python = python_that_has("setuptools, wheel") or _missing("setuptools and wheel")
+    python = python_that_has("setuptools, wheel")
     with tempfile.TemporaryDirectory() as room:
         package = Path(room, "package")
         _copy_package(package)
@@ -43,17 +43,13 @@ def write_wheel(program: Path, needs: Needs, origin: Origin, file: Path) -> None
         _write_normalised(Path(room, built), origin.seconds, file)
 
 
-def python_that_has(modules: str) -> str | None:
-    """A Python of 3.11 or later that can import these modules: this one, or that of the system."""
+def python_that_has(modules: str) -> str:
+    """A Python of 3.11 or later that can import these modules: this one, or that of the system. Raises `Missing` if neither can."""
     asked = f"import sys, {modules}; sys.exit(sys.version_info < (3, 11))"
     for python in (sys.executable, "/usr/bin/python3"):
         if os.access(python, os.X_OK) and subprocess.run([python, "-c", asked], capture_output=True).returncode == 0:
             return python
-    return None
-
-
-def _missing(what: str) -> str:
-    raise Missing(f"no Python of 3.11 or later has {what}: tools/people-setup installs one from Debian")
+    raise Missing(f"no Python of 3.11 or later has {modules}: tools/people-setup installs one from Debian")
 
 
 def _copy_package(folder: Path) -> None:
