@@ -13,8 +13,6 @@ from pathlib import Path
 from documents import TOP
 from textmate import Grammar
 
-import clsynth
-
 EDITORS = TOP / "editors"
 GRAMMAR = EDITORS / "vscode/clsynth.tmLanguage.json"
 
@@ -89,7 +87,6 @@ class TextMate(unittest.TestCase):
 
     def test_the_extension(self) -> None:
         package = json.loads((EDITORS / "vscode/package.json").read_text())
-        self.assertEqual(package["version"], clsynth.__version__)
         (language,), (grammar,) = package["contributes"]["languages"], package["contributes"]["grammars"]
         self.assertEqual(grammar["scopeName"], Grammar(EDITORS / "vscode" / grammar["path"]).name)
         self.assertIn(".cls", language["extensions"])

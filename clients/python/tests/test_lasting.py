@@ -256,8 +256,10 @@ class Places(unittest.TestCase):
         with unittest.mock.patch.dict(os.environ, {"CLSYNTH": "", "PATH": "/nowhere"}), self.assertRaises(clsynth.ProgramNotFound) as missing:
             Session(CHAIN)
         self.assertIsInstance(missing.exception, FileNotFoundError)
-        for place in ("`program`: not given", "CLSYNTH: not set", "PATH: /nowhere", "clsynth/bin/clsynth", "tools/install PREFIX"):
-            self.assertIn(place, str(missing.exception))
+        for told in (
+            "`program`: not given", "CLSYNTH: not set", "PATH: /nowhere", "clsynth/bin/clsynth", "a release has it", "tools/install PREFIX"
+        ):
+            self.assertIn(told, str(missing.exception))
 
 
 if __name__ == "__main__":

@@ -12,15 +12,10 @@ from pathlib import Path
 from documents import TOP
 from support import PROGRAM
 
-import clsynth
-
 MANUAL = (TOP / "docs/clsynth.1").read_text()
 
 
 class Manual(unittest.TestCase):
-    def test_the_version_is_that_of_the_package(self) -> None:
-        self.assertIn(f'.TH CLSYNTH 1 "" "clsynth {clsynth.__version__}" "User commands"\n', MANUAL)
-
     def test_the_example(self) -> None:
         given, wanted = re.findall(r"^\.nf\n(.*?)^\.fi$", MANUAL.split(".SH EXAMPLES")[1], re.MULTILINE | re.DOTALL)
         script = given.replace("\\(aq", "'")

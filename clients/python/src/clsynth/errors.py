@@ -170,7 +170,8 @@ class ProgramNotFound(ClsynthError, FileNotFoundError):
 
 
 _HOW_TO_GET_ONE = (
-    "To get it: in a clone of the repository of clsynth, `tools/install PREFIX` puts it into PREFIX/bin. "
+    "To get it: a release has it, in the wheel and in the package of Debian. In a clone of the repository of clsynth, "
+    "`tools/install PREFIX` puts it into PREFIX/bin. "
     "Then put PREFIX/bin on the PATH, or set the variable CLSYNTH to PREFIX/bin/clsynth, or give its path as `program`."
 )
 
