@@ -173,11 +173,21 @@ class Errors(unittest.TestCase):
             left = chain.bytes_left
             with self.assertRaises(ValueError):
                 chain.inhabited("A\ninhabit B")
-            with self.assertRaises(ValueError):
-                chain.inhabited("\ud800")
             with self.assertRaises(clsynth.LineTooLong):
                 chain.verify("A" + " " * 70_000, "empty\nqed")
+            with self.assertRaises(clsynth.NotUtf8):
+                chain.verify("\ud800", "empty\nqed")
             self.assertEqual(chain.bytes_left, left)
+
+    def test_what_is_not_utf8_is_an_error_of_its_query(self) -> None:
+        with session(CHAIN) as chain:
+            for text in ("\ud800", "\udcff"):
+                with self.assertRaises(clsynth.NotUtf8):
+                    chain.inhabited(text)
+            self.assertTrue(chain.inhabited("A"))
+        with self.assertRaises(clsynth.RepositoryRefused) as refused:
+            session("comp x : A\ntext x = \udcff\n")
+        self.assertEqual(str(refused.exception), "line 2: utf8")
 
     def test_a_refused_repository(self) -> None:
         with self.assertRaises(clsynth.RepositoryRefused) as refused:

@@ -22,7 +22,7 @@ __all__ = [
     "ParseFault", "PlacedError", "ProcessFault", "ProgramNotFound", "QueryCancelled", "QueryError", "QueryStopped", "QueryTimeout",
     "RepositoryFault", "RepositoryLineTooLong", "RepositoryRefused", "RepositoryTooLong", "ReservedName", "SessionClosed", "Status",
     "SyntaxFault", "TooDeep", "TooManyComponents", "TooManyNodes", "TooManyTerms", "TypeTooDeep", "TypeTooLarge", "TypeTooLong",
-    "UnknownComponent", "UnknownInTerm", "VariableInKind", "VariableInQuery", "WideGoal",
+    "UnknownComponent", "UnknownInTerm", "UsageFault", "VariableInKind", "VariableInQuery", "WideGoal",
 ]
 
 
@@ -187,6 +187,20 @@ class ProcessFault(ClsynthError):
         return type(self), (self.code,)
 
 
+class UsageFault(ProcessFault):
+    """The program doesn't take the words of its command line. `words` are these, and the program before them."""
+
+    def __init__(self, words: Iterable[str]) -> None:
+        super().__init__(Status.USAGE.value)
+        self.words = tuple(words)
+        program, *others = self.words
+        told = f"It doesn't take the words `{' '.join(others)}`: `{program} --help` writes which ones it takes"
+        self.args = (f"{self}. {told if others else f'{program} was given no words, and seems to be another program'}",)
+
+    def __reduce__(self) -> tuple[Any, ...]:
+        return type(self), (self.words,)
+
+
 class SessionClosed(ClsynthError):
     """The session has ended."""
 
@@ -332,7 +346,7 @@ class TooManyTerms(QueryError):
     """More terms count for the page than the session allows."""
     word = "too-many-terms"
     advice = (
-        f"A session with a greater pool (at most {MAX_POOL:,}) lists more. A smaller max_size, or a narrower type, needs less. "
+        f"A session with a greater pool (at most {MAX_POOL:,}) lists more. Fewer terms at once, a smaller max_size or a narrower type need less. "
         "inhabited, sizes, grammar and certify have no such bound."
     )
 

@@ -6,10 +6,10 @@ import os
 import shutil
 import subprocess
 from contextlib import suppress
-from dataclasses import astuple, dataclass
+from dataclasses import dataclass
 from pathlib import Path
 
-from clsynth.errors import ProcessFault, ProgramNotFound, Status
+from clsynth.errors import ProcessFault, ProgramNotFound, Status, UsageFault
 from clsynth.limits import MAX_INPUT_BYTES
 
 __all__ = ["Options", "Program", "find_program"]
@@ -46,23 +46,35 @@ class Options:
     workers: int | None = None
     max_goals: int | None = None
     max_rules: int | None = None
-    pool: int | None = None
+    pool: int | str | None = None
+    others: tuple[str, ...] = ()
+    """Words that stand behind these options, as a program may take that has more of them."""
 
     def words(self) -> list[str]:
         """As the command line has them."""
-        names = ("--workers", "--max-goals", "--max-rules", "--pool")
-        return [word for name, value in zip(names, astuple(self)) if value is not None for word in (name, str(value))]
+        given = {"--workers": self.workers, "--max-goals": self.max_goals, "--max-rules": self.max_rules, "--pool": self.pool}
+        return [word for name, value in given.items() if value is not None for word in (name, str(value))] + list(self.others)
 
 
 class Program:
     """The process, its input and its output."""
 
     def __init__(self, words: list[str]) -> None:
-        self._process = subprocess.Popen(words, stdin=subprocess.PIPE, stdout=subprocess.PIPE)
+        self._words = words
+        try:
+            # In a group of its own: what the keyboard interrupts is the caller, and a program that waits for queries goes on waiting.
+            self._process = subprocess.Popen(words, stdin=subprocess.PIPE, stdout=subprocess.PIPE, process_group=0)
+        except OSError as error:
+            raise ProgramNotFound([f"{words[0]}: {error.strerror}"]) from None
         assert self._process.stdin and self._process.stdout
         self._input = self._process.stdin
         self._output = self._process.stdout
         self.bytes_left = MAX_INPUT_BYTES
+
+    @property
+    def has_ended(self) -> bool:
+        """Whether it ended by itself, or was killed from outside."""
+        return self._process.poll() is not None
 
     def send(self, piece: bytes) -> None:
         """Sends lines, of no more bytes than are left."""
@@ -103,7 +115,8 @@ class Program:
 
     def fault(self) -> ProcessFault:
         """Why the output ended too early."""
-        return ProcessFault(self._end())
+        code = self._end()
+        return UsageFault(self._words) if code == Status.USAGE.value else ProcessFault(code)
 
     def _end(self) -> int:
         with suppress(BrokenPipeError):

@@ -13,7 +13,7 @@ from dataclasses import dataclass
 from typing import Generic, Protocol, TypeVar
 
 from clsynth.certificates import Certificate, parse_certificate
-from clsynth.errors import LineTooLong, NoQed
+from clsynth.errors import LineTooLong, NoQed, NotUtf8
 from clsynth.grammars import Grammar, parse_grammar
 from clsynth.limits import MAX_LINE_BYTES, MAX_SIZE, MAX_TAKE
 from clsynth.replies import Event, Page, Sizes, Step, TermText, Verdict
@@ -102,9 +102,11 @@ def certify(goal: TypeLike) -> Query[Certificate]:
 def verify(goal: TypeLike, certificate: Certificate | str) -> Query[Verdict]:
     """Whether the certificate shows this of the type. If it is a text, its last line is `qed`, or `NoQed` is raised."""
     query = f"verify {goal}"
+    # A line that can't be read would open no certificate, and the lines behind it would be queries.
     if len(query.encode(errors="surrogatepass")) > MAX_LINE_BYTES:
-        # Such a line would open no certificate, and the lines behind it would be queries.
         raise LineTooLong(query)
+    if any("\ud800" <= character <= "\udfff" for character in query):
+        raise NotUtf8(query)
     lines = certificate.rstrip("\n").split("\n") if isinstance(certificate, str) else certificate.lines()
     ends = [number for number, line in enumerate(lines) if line.strip(" \t\r") == "qed"]
     if not ends:
