@@ -14,7 +14,8 @@ from unittest import mock
 
 from support import LISTS, PROGRAM, session
 
-from clsynth import Repository, SyntaxFault, view
+from clsynth import Repository, SyntaxFault
+from clsynth.command import main
 from clsynth.view.content import MOST_TERMS, content_of
 from clsynth.view.lacking import Makers
 
@@ -153,7 +154,7 @@ class Pages(unittest.TestCase):
 
     def run_main(self, *words: str) -> tuple[int, str, str]:
         with contextlib.redirect_stdout(io.StringIO()) as out, contextlib.redirect_stderr(io.StringIO()) as error:
-            status = view.main(list(words))
+            status = main(["view", *words])
         return status, out.getvalue(), error.getvalue()
 
     def write(self, text: str) -> str:
@@ -181,18 +182,21 @@ class Pages(unittest.TestCase):
     def test_what_goes_wrong_is_said_and_no_page_is_written(self) -> None:
         page = self.folder / "page.html"
         page.write_text("kept")
-        cases = {(self.write(LISTS), "Asc &"): "SyntaxFault", (str(self.folder / "none"), "Asc"): "No such file"}
-        for (repository, goal), wanted in cases.items():
+        refused = self.folder / "refused.cls"
+        refused.write_text("comp x A\n")
+        cases = {
+            (self.write(LISTS), "Asc &"): (7, "query:1:14: error: syntax: "), (str(self.folder / "none"), "Asc"): (3, "No such file"),
+            (str(refused), "Asc"): (2, ":1:8: error: syntax: "),
+        }
+        for (repository, goal), (wanted, told) in cases.items():
             status, out, error = self.run_main(repository, goal, "-o", str(page))
-            self.assertEqual((status, out, page.read_text()), (1, "", "kept"))
-            self.assertIn(wanted, error)
-        status, _, error = self.run_main(self.write("comp x A\n"), "A")
-        self.assertEqual((status, error), (1, "cls view: line 1: syntax 7\n"))
+            self.assertEqual((status, out, page.read_text()), (wanted, "", "kept"))
+            self.assertIn(told, error)
 
     def test_wrong_words(self) -> None:
         with self.assertRaises(SystemExit) as ended:
             self.run_main("only")
-        self.assertEqual(ended.exception.code, 2)
+        self.assertEqual(ended.exception.code, 1)
 
 
 if __name__ == "__main__":

@@ -10,7 +10,7 @@ from typing import TypedDict
 
 from clsynth.certificates import Block, Certificate, Empty, Inhabited, Member, Row
 from clsynth.errors import QueryError
-from clsynth.grammars import Goal, Grammar
+from clsynth.grammars import Grammar, Rule
 from clsynth.session import Session
 from clsynth.types import Arrow, Intersection, Type, intersection, omega
 from clsynth.view.lacking import Makers
@@ -76,26 +76,18 @@ def certificate_content(session: Session, certificate: Certificate, grammar: Gra
 def _rows(certificate: Inhabited, grammar: Grammar, arrows: _Arrows) -> Json:
     goals = {goal.type: goal for goal in grammar.goals}
     places = {row.type: place for place, row in enumerate(certificate.rows)}
-    return {"rows": [_row(row, goals[row.type], grammar, places, arrows) for row in certificate.rows]}
+    rules = {row.type: grammar.least_rule(goals[row.type]) for row in certificate.rows}
+    return {"rows": [_row(row, rules[row.type], grammar, places, arrows) for row in certificate.rows]}
 
 
-def _row(row: Row, goal: Goal, grammar: Grammar, places: dict[str, int], arrows: _Arrows) -> Json:
+def _row(row: Row, rule: Rule | None, grammar: Grammar, places: dict[str, int], arrows: _Arrows) -> Json:
+    """The row, which was made by this rule."""
     if row.positions:
         arrows.use(row.component, row.argument_count, row.positions)
     return {
         "type": row.type, "component": row.component, "count": row.argument_count, "positions": row.positions,
-        "arguments": [places[grammar.goals[argument].type] for argument in _first_arguments(row, goal, grammar)],
+        "arguments": [places[grammar.goals[argument].type] for argument in (rule.arguments if rule else ())],
     }
-
-
-def _first_arguments(row: Row, goal: Goal, grammar: Grammar) -> tuple[int, ...]:
-    """The arguments of the rule that the row was made by: the first one all of whose arguments have a lower rank."""
-    for rule in goal.rules:
-        ranks = [grammar.goals[argument].rank for argument in rule.arguments]
-        is_lower = all(rank is not None and goal.rank is not None and rank < goal.rank for rank in ranks)
-        if is_lower and rule.component == row.component and len(rule.arguments) == row.argument_count:
-            return rule.arguments
-    return ()
 
 
 class _Members:
