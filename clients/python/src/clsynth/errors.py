@@ -17,11 +17,11 @@ from typing import Any, ClassVar
 from clsynth.limits import MAX_INPUT_BYTES, MAX_POOL
 
 __all__ = [
-    "ERRORS", "AmbiguousType", "BadCertificate", "BadCost", "BadName", "BadTemplate", "ClosureTooLarge", "ClsynthError", "DuplicateName",
-    "EmptyKind", "InputFull", "KindTooLarge", "LimitExceeded", "LineTooLong", "MissingFunction", "NoQed", "NotUtf8", "NumberOutOfRange",
-    "ParseFault", "PlacedError", "ProcessFault", "ProgramNotFound", "QueryCancelled", "QueryError", "QueryStopped", "QueryTimeout",
-    "RepositoryFault", "RepositoryLineTooLong", "RepositoryRefused", "RepositoryTooLong", "ReservedName", "SessionClosed", "Status",
-    "SyntaxFault", "TooDeep", "TooManyComponents", "TooManyNodes", "TooManyTerms", "TypeTooDeep", "TypeTooLarge", "TypeTooLong",
+    "ERRORS", "AmbiguousType", "BadCertificate", "BadCost", "BadName", "BadReply", "BadTemplate", "ClosureTooLarge", "ClsynthError",
+    "DuplicateName", "EmptyKind", "InputFull", "KindTooLarge", "LimitExceeded", "LineTooLong", "MissingFunction", "NoQed", "NotUtf8",
+    "NumberOutOfRange", "ParseFault", "PlacedError", "ProcessFault", "ProgramNotFound", "QueryCancelled", "QueryError", "QueryStopped",
+    "QueryTimeout", "RepositoryFault", "RepositoryLineTooLong", "RepositoryRefused", "RepositoryTooLong", "ReservedName", "SessionClosed",
+    "Status", "SyntaxFault", "TooDeep", "TooManyComponents", "TooManyNodes", "TooManyTerms", "TypeTooDeep", "TypeTooLarge", "TypeTooLong",
     "UnknownComponent", "UnknownInTerm", "UsageFault", "VariableInKind", "VariableInQuery", "WideGoal",
 ]
 
@@ -181,7 +181,8 @@ class ProcessFault(ClsynthError):
     def __init__(self, code: int) -> None:
         self.code = code
         self.status = next((status for status in Status if status.value == code), None)
-        super().__init__(f"the program ended with status {code}" + (f", {self.status.name}" if self.status else ""))
+        named = f", {self.status.name}," if self.status else ""
+        super().__init__(f"the program ended with status {code}{named} before it had answered")
 
     def __reduce__(self) -> tuple[Any, ...]:
         return type(self), (self.code,)
@@ -199,6 +200,18 @@ class UsageFault(ProcessFault):
 
     def __reduce__(self) -> tuple[Any, ...]:
         return type(self), (self.words,)
+
+
+class BadReply(ClsynthError):
+    """What was written isn't a reply to the query: the program is another one than this package speaks with, or another version of it."""
+
+    def __init__(self, query: str, line: str) -> None:
+        super().__init__(f"{line[:200]!r} is no reply to the query: {query[:200]}")
+        self.query = query
+        self.line = line
+
+    def __reduce__(self) -> tuple[Any, ...]:
+        return type(self), (self.query, self.line)
 
 
 class SessionClosed(ClsynthError):

@@ -30,7 +30,7 @@ from clsynth.repository import Repository
 from clsynth.roles import Roles
 from clsynth.similar import SlipIndex
 from clsynth.survey import Survey, TypedLine
-from clsynth.tokens import BLANKS, text_of
+from clsynth.tokens import BLANKS, bytes_of, text_of
 from clsynth.transcripts import Input
 
 __all__ = ["RepositoryWarning", "input_of", "issue", "lint", "lint_input", "warnings_of"]
@@ -62,7 +62,7 @@ def input_of(repository: Repository | str, queries: Iterable[str | Query[Any]] =
         lines.append("end")
     for query in queries:
         lines += query.split("\n") if isinstance(query, str) else query.lines
-    return Input("\n".join(lines).encode(errors="surrogateescape"))
+    return Input(bytes_of("\n".join(lines)))
 
 
 def lint_input(given: Input) -> list[Diagnostic]:

@@ -4,15 +4,17 @@ from __future__ import annotations
 
 import os
 import shutil
+import signal
 import subprocess
 from contextlib import suppress
 from dataclasses import dataclass
 from pathlib import Path
+from typing import IO
 
 from clsynth.errors import ProcessFault, ProgramNotFound, Status, UsageFault
 from clsynth.limits import MAX_INPUT_BYTES
 
-__all__ = ["Options", "Program", "find_program"]
+__all__ = ["Options", "Program", "find_program", "kill", "started"]
 
 _NAME = "clsynth"
 _VARIABLE = "CLSYNTH"
@@ -56,16 +58,28 @@ class Options:
         return [word for name, value in given.items() if value is not None for word in (name, str(value))] + list(self.others)
 
 
+def started(words: list[str], given: int | IO[bytes]) -> subprocess.Popen[bytes]:
+    """The process of the program with these words, which reads what is given. Raises `ProgramNotFound` if it can't be run."""
+    try:
+        # In a group of its own: what the keyboard interrupts is the caller, and a program that waits for queries goes on waiting.
+        return subprocess.Popen(words, stdin=given, stdout=subprocess.PIPE, process_group=0)
+    except OSError as error:
+        raise ProgramNotFound([f"{words[0]}: {error.strerror}"]) from None
+
+
+def kill(process: subprocess.Popen[bytes]) -> None:
+    """Ends the process at once, and those that it started: the program may be run by a script."""
+    if process.poll() is None:
+        with suppress(ProcessLookupError):
+            os.killpg(process.pid, signal.SIGKILL)
+
+
 class Program:
     """The process, its input and its output."""
 
     def __init__(self, words: list[str]) -> None:
         self._words = words
-        try:
-            # In a group of its own: what the keyboard interrupts is the caller, and a program that waits for queries goes on waiting.
-            self._process = subprocess.Popen(words, stdin=subprocess.PIPE, stdout=subprocess.PIPE, process_group=0)
-        except OSError as error:
-            raise ProgramNotFound([f"{words[0]}: {error.strerror}"]) from None
+        self._process = started(words, subprocess.PIPE)
         assert self._process.stdin and self._process.stdout
         self._input = self._process.stdin
         self._output = self._process.stdout
@@ -106,11 +120,11 @@ class Program:
 
     def kill(self) -> None:
         """Ends the program at once. Another thread may call this: whoever reads finds the end of the output."""
-        self._process.kill()
+        kill(self._process)
 
     def abandon(self) -> None:
         """Ends the program at once, and frees what it held."""
-        self._process.kill()
+        kill(self._process)
         self._end()
 
     def fault(self) -> ProcessFault:

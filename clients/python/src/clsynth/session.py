@@ -16,16 +16,18 @@ import os
 import threading
 from collections.abc import Callable, Iterable, Iterator, Mapping, Sequence
 from contextlib import contextmanager
+from functools import cached_property
 from types import TracebackType
 from typing import Any, TypeVar
 
 from clsynth import queries
 from clsynth.certificates import Certificate
 from clsynth.errors import (
-    ERRORS, InputFull, ProcessFault, QueryCancelled, QueryError, QueryStopped, QueryTimeout, RepositoryRefused, RepositoryTooLong, SessionClosed,
-    TooManyTerms,
+    ERRORS, BadReply, InputFull, ProcessFault, QueryCancelled, QueryError, QueryStopped, QueryTimeout, RepositoryRefused, RepositoryTooLong,
+    SessionClosed, TooManyTerms,
 )
 from clsynth.evaluation import Functions
+from clsynth.explain import explain_error
 from clsynth.grammars import Grammar
 from clsynth.limits import MAX_INPUT_BYTES, MAX_SIZE
 from clsynth.lint import issue, warnings_of
@@ -37,6 +39,8 @@ from clsynth.queries import Query
 from clsynth.replies import Event, Page, Sizes, TermText, Verdict
 from clsynth.repository import Repository
 from clsynth.terms import Term, TermLike
+from clsynth.tokens import bytes_of
+from clsynth.transcripts import Input
 from clsynth.types import TypeLike
 
 __all__ = ["Session"]
@@ -73,6 +77,8 @@ class Session:
         max_goals: int | None = None, max_rules: int | None = None, pool: int | str | None = None, words: Sequence[str] = (),
         timeout: float | None = None, names: Iterable[str] = (), lint: bool = True,
     ) -> None:
+        if not isinstance(repository, Repository | str):
+            raise TypeError(f"a repository is a Repository or its text, as `Path.read_text` gives it, and no {type(repository).__name__}")
         self._words = [find_program(program), *Options(workers, max_goals, max_rules, pool, tuple(words)).words()]
         self._functions = repository.functions if isinstance(repository, Repository) else {}
         self._repository = _with_end(str(repository))
@@ -127,7 +133,10 @@ class Session:
             first = program.line()
             if first.startswith("error "):
                 raise self._error(query, first)
-            answer = query.read(first, program)
+            try:
+                answer = query.read(first, program)
+            except (ValueError, LookupError) as error:
+                raise BadReply(query.lines[0], first) from error
             self._numbering.add(query)
             return answer
 
@@ -278,17 +287,33 @@ class Session:
         for _ in (*self._numbering.lines(), _GREETING):
             first = program.line()
             if first.startswith("refused "):
-                _, line, fault = first.split(" ", 2)
-                raise RepositoryRefused(int(line), fault)
-            if first != "yes":
+                raise self._refusal(first)
+            if first.startswith("usage: "):
                 raise program.fault()
+            if first != "yes":
+                raise BadReply(_GREETING, first)
+
+    def _refusal(self, line: str) -> RepositoryRefused:
+        """The refusal that the line says, with an explanation that is shown where nobody catches it."""
+        _, number, *words = line.split(" ", 2)
+        if not (number.isascii() and number.isdigit() and words):
+            raise BadReply(_GREETING, line)
+        error = RepositoryRefused(int(number), words[0])
+        error.add_note(explain_error(error, self._input, "repository"))
+        return error
 
     def _error(self, query: Query[object], line: str) -> QueryError:
-        """The error that the line says."""
+        """The error that the line says, with an explanation that is shown where nobody catches it."""
         _, word, *detail = line.split(" ", 2)
-        error = ERRORS.get(word, QueryError)(query.lines[0], *detail)
+        error = ERRORS[word](query.lines[0], *detail) if word in ERRORS else QueryError(query.lines[0], " ".join([word, *detail]))
+        if not error.advice:
+            error.add_note(explain_error(error, self._input, "query"))
         self._numbering.add(query, error)
         return error
+
+    @cached_property
+    def _input(self) -> Input:
+        return Input(_bytes(*self._repository))
 
     def _abandon(self) -> None:
         program, self._program = self._program, None
@@ -338,7 +363,7 @@ def _timer(seconds: float | None, stop: Callable[[], None]) -> threading.Timer |
 
 def _bytes(*lines: str) -> bytes:
     # What isn't UTF-8 is left to the program, which says so.
-    return "".join(f"{line}\n" for line in lines).encode(errors="surrogatepass")
+    return bytes_of("".join(f"{line}\n" for line in lines))
 
 
 def _with_end(repository: str) -> list[str]:
