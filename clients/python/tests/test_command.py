@@ -76,6 +76,23 @@ class Words(Command):
         self.assertEqual((ran.returncode, ran.stdout), (1, ""))
         self.assertIn("CLSYNTH", ran.stderr)
 
+    def test_words_that_the_program_does_not_take(self) -> None:
+        for words in (["run"], ["run", "--json"], ["explain"]):
+            ran = self.cls(*words, "--pool", "unheard", FIRST)
+            self.assertEqual((ran.returncode, ran.stdout), (1, ""))
+            self.assertIn("It doesn't take the words `--pool unheard`", ran.stderr)
+        self.assertEqual(self.cls("list", "--pool", "unheard", FIRST, "Desc").returncode, 1)
+        newer = fake(self, f'[ "$*" = "--pool unbounded" ] || exit 1; exec {PROGRAM}')
+        self.assertEqual(self.cls("list", "--pool", "unbounded", FIRST, "Desc", "-n", "1", CLSYNTH=newer).stdout, "rev(sort(input))\n")
+
+    def test_a_file_that_is_no_program(self) -> None:
+        program = Path(fake(self, ""))
+        program.write_bytes(b"\x7fELF")
+        for words in (["run", FIRST], ["list", FIRST, "Desc"]):
+            ran = self.cls(*words, CLSYNTH=str(program))
+            self.assertEqual((ran.returncode, ran.stdout), (1, ""))
+            self.assertIn("Exec format error", ran.stderr)
+
     def test_no_file(self) -> None:
         ran = self.cls("run", "nothing.cls")
         self.assertEqual((ran.returncode, ran.stderr), (3, "cls: nothing.cls: No such file or directory\n"))

@@ -13,6 +13,7 @@ from typing import IO
 
 from clsynth.errors import ProcessFault, ProgramNotFound, Status, UsageFault
 from clsynth.limits import MAX_INPUT_BYTES
+from clsynth.tokens import text_of
 
 __all__ = ["Options", "Program", "find_program", "kill", "started"]
 
@@ -103,7 +104,7 @@ class Program:
         line = self._output.readline()
         if not line.endswith(b"\n"):
             raise self.fault()
-        return line[:-1].decode()
+        return text_of(line[:-1])
 
     def text(self, length: int) -> str:
         """The text of the next so many bytes, behind which a line feed stands."""
