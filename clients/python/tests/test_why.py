@@ -108,6 +108,13 @@ Not needed, since there is another way:
         comp sort : Liness -> Lines
         Did you mean Lines?""")
 
+    def test_what_a_function_is_given_is_not_made(self) -> None:
+        # `map` gives an `A` to `inc`, but there is no term that is one.
+        self.assertEqual(self.shown("comp map : (A -> B) -> C\ncomp inc : A -> B\n", "A"), """\
+no term has A
+A is wanted, and no component makes it
+    comp inc : A -> B""")
+
     def test_types_that_no_term_has_at_once(self) -> None:
         self.assertIn("    Int & Str, to which nothing leads", self.shown("comp x : Int\ncomp y : Str\n", "Int & Str").split("\n"))
 

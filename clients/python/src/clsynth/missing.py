@@ -10,18 +10,13 @@
 
 from __future__ import annotations
 
-from collections.abc import Iterator
 from dataclasses import dataclass
 
 from clsynth.certificates import Empty
 from clsynth.grammars import Goal, Grammar
-from clsynth.lint import input_of
+from clsynth.lacking import Lacking
 from clsynth.repository import Repository
-from clsynth.roles import Roles
 from clsynth.session import Session
-from clsynth.similar import SlipIndex
-from clsynth.survey import Survey, TypedLine
-from clsynth.tokens import text_of
 from clsynth.types import TypeLike
 
 __all__ = ["Lack", "Missing", "missing"]
@@ -88,21 +83,10 @@ def missing(session: Session, repository: Repository | str, goal: TypeLike) -> M
     if not isinstance(certificate, Empty):
         return Missing(str(goal), True)
     goals = _goals_on_the_way(session.grammar(goal))
-    way = [it.type for it in goals]
-    others = [member.type for member in certificate.members if member.type not in set(way)]
-    return Missing(str(goal), False, tuple(_lacks(repository, way, others)), goals)
-
-
-def _lacks(repository: Repository | str, way: list[str], others: list[str]) -> Iterator[Lack]:
-    """The constructors that these types want, and that nothing makes."""
-    survey = Survey(input_of(repository, [f"inhabit {type}" for type in (*way, *others)]))
-    roles = Roles(survey)
-    slips = SlipIndex(sorted(roles.had))
-    last_on_the_way = len(survey.given.repository) + len(way)
-    for name in roles.lacking():
-        asked = [by.line for by in roles.wanted[name] if by.word == "inhabit"]
-        if asked:
-            yield Lack(name, _users(survey, roles.wanted[name]), tuple(slips.near(name)), min(asked) <= last_on_the_way)
+    lacking = Lacking(repository, [member.type for member in certificate.members])
+    on_the_way = {name for it in goals for name in lacking.of(it.type)}
+    lacks = tuple(Lack(name, lacking.users(name), lacking.similar(name), name in on_the_way) for name in lacking.names)
+    return Missing(str(goal), False, lacks, goals)
 
 
 def _goals_on_the_way(grammar: Grammar) -> tuple[Goal, ...]:
@@ -114,9 +98,3 @@ def _goals_on_the_way(grammar: Grammar) -> tuple[Goal, ...]:
                 known.add(argument)
                 numbers.append(argument)
     return tuple(grammar.goals[number] for number in numbers)
-
-
-def _users(survey: Survey, wanted_by: list[TypedLine]) -> tuple[str, ...]:
-    """The lines of the components among what wants a constructor."""
-    lines = dict.fromkeys(by.line for by in wanted_by if by.word == "comp")
-    return tuple(text_of(survey.given.lines[line - 1]) for line in lines)

@@ -11,9 +11,9 @@ from typing import TypedDict
 from clsynth.certificates import Block, Certificate, Empty, Inhabited, Member, Row
 from clsynth.errors import QueryError
 from clsynth.grammars import Grammar, Rule
+from clsynth.lacking import Lacking
 from clsynth.session import Session
 from clsynth.types import Arrow, Intersection, Type, intersection, omega
-from clsynth.view.lacking import Makers
 
 __all__ = ["Json", "certificate_content"]
 
@@ -63,13 +63,13 @@ class _Arrows:
         return self._used
 
 
-def certificate_content(session: Session, certificate: Certificate, grammar: Grammar, makers: Makers) -> Json:
+def certificate_content(session: Session, certificate: Certificate, grammar: Grammar, lacking: Lacking) -> Json:
     """What the page shows of the certificate that the program made for the grammar's goal 0."""
     arrows = _Arrows(session)
     if isinstance(certificate, Inhabited):
         told = _rows(certificate, grammar, arrows)
     else:
-        told = _Members(session, certificate, grammar, arrows, makers).content()
+        told = _Members(session, certificate, grammar, arrows, lacking).content()
     return {**told, "arrows": arrows.used(), "lines": "\n".join(certificate.lines())}
 
 
@@ -93,14 +93,14 @@ def _row(row: Row, rule: Rule | None, grammar: Grammar, places: dict[str, int], 
 class _Members:
     """The members of a certificate, each with what blocks it."""
 
-    def __init__(self, session: Session, certificate: Empty, grammar: Grammar, arrows: _Arrows, makers: Makers) -> None:
+    def __init__(self, session: Session, certificate: Empty, grammar: Grammar, arrows: _Arrows, lacking: Lacking) -> None:
         self._session = session
         self._certificate = certificate
         self._grammar = grammar
         self._goals = {goal.type: goal for goal in grammar.goals}
         self._places = {member.type: place for place, member in enumerate(certificate.members)}
         self._arrows = arrows
-        self._makers = makers
+        self._lacking = lacking
 
     def content(self) -> Json:
         return {"members": [self._member(member) for member in self._certificate.members]}
@@ -108,7 +108,7 @@ class _Members:
     def _member(self, member: Member) -> Json:
         return {
             "type": member.type, "layers": [str(path) for path in _paths_of(Type.parse(member.type))],
-            "lacks": self._makers.lacking(member.type), "blocks": [self._block(member, block) for block in member.blocks],
+            "lacks": self._lacking.of(member.type), "blocks": [self._block(member, block) for block in member.blocks],
         }
 
     def _block(self, member: Member, block: Block) -> Json:
