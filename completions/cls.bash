@@ -38,12 +38,13 @@ _cls() {
         run) options="--json --strict $_cls_program_options" ;;
         explain | why | missing) options=$_cls_program_options ;;
         list) options="-n --text --after --max $_cls_program_options" ;;
-        check | view) options= ;;
+        view) options="-o $_cls_program_options" ;;
+        check) options= ;;
         *) return ;;
     esac
     if [[ $word == -* ]]; then
         _cls_offer "--help $options"
-    elif [[ $command == @(run|explain|check|view) ]] || ((COMP_CWORD == 2)); then
+    elif [[ $command == @(run|explain|check) ]] || ((COMP_CWORD == 2)); then
         _cls_files
     fi
 }

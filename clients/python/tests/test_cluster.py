@@ -18,7 +18,7 @@ from contextlib import contextmanager
 from pathlib import Path
 from typing import Any
 
-from support import CHAIN, LISTS, PROGRAM, SOURCES, fake, gated_program, not_tested, session, terms, wait_until
+from support import CHAIN, LISTS, PROGRAM, SOURCES, fake, freeze, gated_program, not_tested, session, terms, wait_until
 
 import clsynth
 from clsynth import Query, SessionPool, map_queries, queries
@@ -153,6 +153,29 @@ class Pools(unittest.TestCase):
 
         with SessionPool(CHAIN, 3, program=PROGRAM) as pool, ThreadPoolExecutor(3) as threads:
             self.assertEqual(len(set(threads.map(meet, [pool] * 3))), 3)
+
+    def test_an_error_of_the_caller_stops_what_is_asked(self) -> None:
+        with self.assertRaises(KeyError), SessionPool(CHAIN, 2, program=PROGRAM) as pool:
+            for lent in [pool._idle.get() for _ in range(2)]:
+                freeze(lent)
+                pool._idle.put(lent)
+            asked = [pool.submit(queries.inhabited("A")) for _ in range(10)]
+            wait_until(lambda: sum(answer.running() for answer in asked) == 2)
+            raise KeyError
+        self.assertEqual([answer.cancelled() for answer in asked], [False] * 2 + [True] * 8)
+        for answer in asked[:2]:
+            self.assertIsInstance(answer.exception(30), clsynth.QueryCancelled | clsynth.SessionClosed)
+        with self.assertRaises(clsynth.SessionClosed):
+            pool.ask(queries.inhabited("A"))
+
+    def test_a_program_that_was_killed(self) -> None:
+        with SessionPool(CHAIN, 2, program=PROGRAM) as pool:
+            with pool.session() as lent:
+                assert lent._program
+                lent._program.kill()
+                wait_until(lambda: lent._program and lent._program.has_ended)
+            answers = [pool.submit(queries.inhabited("A")) for _ in range(6)]
+            self.assertEqual([answer.result() for answer in answers], [True] * 6)
 
     def test_names_have_one_order(self) -> None:
         with SessionPool(LISTS, 2, program=PROGRAM, names=["Late", "Early"]) as pool:

@@ -52,8 +52,7 @@ class Words(Command):
         told = self.cls("--help").stdout
         for command in ("run", "explain", "check", "list", "why", "missing", "view"):
             self.assertIn(f"\n    {command} ", told)
-            if command != "view":
-                self.assertTrue(self.cls(command, "--help").stdout.startswith(f"usage: cls {command} "))
+            self.assertTrue(self.cls(command, "--help").stdout.startswith(f"usage: cls {command} "))
 
     def test_names_of_the_commands(self) -> None:
         scripts = tomllib.loads((SOURCES.parent / "pyproject.toml").read_text())["project"]["scripts"]
@@ -77,18 +76,26 @@ class Words(Command):
         self.assertEqual((ran.returncode, ran.stdout), (1, ""))
         self.assertIn("CLSYNTH", ran.stderr)
 
+    def test_words_that_the_program_does_not_take(self) -> None:
+        for words in (["run"], ["run", "--json"], ["explain"]):
+            ran = self.cls(*words, "--pool", "unheard", FIRST)
+            self.assertEqual((ran.returncode, ran.stdout), (1, ""))
+            self.assertIn("It doesn't take the words `--pool unheard`", ran.stderr)
+        self.assertEqual(self.cls("list", "--pool", "unheard", FIRST, "Desc").returncode, 1)
+        newer = fake(self, f'[ "$*" = "--pool unbounded" ] || exit 1; exec {PROGRAM}')
+        self.assertEqual(self.cls("list", "--pool", "unbounded", FIRST, "Desc", "-n", "1", CLSYNTH=newer).stdout, "rev(sort(input))\n")
+
+    def test_a_file_that_is_no_program(self) -> None:
+        program = Path(fake(self, ""))
+        program.write_bytes(b"\x7fELF")
+        for words in (["run", FIRST], ["list", FIRST, "Desc"]):
+            ran = self.cls(*words, CLSYNTH=str(program))
+            self.assertEqual((ran.returncode, ran.stdout), (1, ""))
+            self.assertIn("Exec format error", ran.stderr)
+
     def test_no_file(self) -> None:
         ran = self.cls("run", "nothing.cls")
         self.assertEqual((ran.returncode, ran.stderr), (3, "cls: nothing.cls: No such file or directory\n"))
-
-    def test_the_view_has_its_own_words(self) -> None:
-        # A module of this name is put before the package's own, and says what it was given.
-        (self.folder / "sitecustomize.py").write_text(
-            "import sys, types\nview = types.ModuleType('clsynth.view')\nview.main = lambda words: print(words) or 5\n"
-            "sys.modules['clsynth.view'] = view\n"
-        )
-        ran = self.cls("view", "--port", "80", "x.cls", PYTHONPATH=f"{self.folder}:{SOURCES}")
-        self.assertEqual((ran.returncode, ran.stdout), (5, "['--port', '80', 'x.cls']\n"))
 
 
 class Run(Command):

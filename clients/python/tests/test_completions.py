@@ -7,6 +7,7 @@ import subprocess
 import unittest
 
 from documents import TOP
+from support import not_tested
 
 BASH = """
 source {file}
@@ -44,6 +45,7 @@ class Bash(unittest.TestCase):
     def test_options(self) -> None:
         self.assertEqual(self.offered("_cls", "cls", "run", "--"), sorted("--help --json --strict --workers --max-goals --max-rules --pool".split()))
         self.assertEqual(self.offered("_cls", "cls", "list", "first.cls", "--ma"), ["--max", "--max-goals", "--max-rules"])
+        self.assertEqual(self.offered("_cls", "cls", "view", "first.cls", "A", "-"), sorted("--help -o --workers --max-goals --max-rules --pool".split()))
         self.assertEqual(self.offered("_cls", "cls", "run", "--pool", ""), [])
         self.assertEqual(self.offered("_clsynth", "clsynth", ""), sorted("--workers --max-goals --max-rules --pool generate".split()))
         self.assertEqual(self.offered("_clsynth", "clsynth", "--max"), ["--max-goals", "--max-rules"])
@@ -57,9 +59,10 @@ class Bash(unittest.TestCase):
         self.assertEqual(self.offered("_cls_check", "clsynth-check", "maze/rep"), ["maze/repository.cls"])
 
 
-@unittest.skipUnless(shutil.which("zsh"), "zsh isn't on the PATH")
 class Zsh(unittest.TestCase):
     def test_a_line(self) -> None:
+        if not shutil.which("zsh"):
+            not_tested(self, "completion in zsh: zsh isn't on the PATH")
         folder, examples = TOP / "completions", TOP / "examples"
         for typed, wanted in {r"cls ru\t--js\tfir\t": "GOT:run --json first.cls:", r"clsynth --po\t5 gen\t": "GOT:--pool 5 generate:"}.items():
             script = ZSH.replace("{folder}", str(folder)).replace("{examples}", str(examples)).replace("{typed}", typed)

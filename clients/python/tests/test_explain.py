@@ -99,6 +99,7 @@ class Remedies(unittest.TestCase):
             "comp y : B": "Put it before the line `end`.",
             "list A take 3 max 5": "`list TYPE max N take K [after TERM]`",
             "list A max 5 take 0": "`take` takes 1 to 10,000",
+            "list A & max 5 take 1": "The type before `max` isn't complete",
             "inhabit $a": "Write the type that is meant.",
             "verify A\nempty": "Put the line `qed`",
             "verify A\nempty\ninhabit A\nqed": "`inhabit` begins a query. Put the line `qed` before it",

@@ -6,6 +6,9 @@ import contextlib
 import math
 import os
 import pickle
+import signal
+import subprocess
+import sys
 import threading
 import time
 import unittest
@@ -14,7 +17,7 @@ from collections.abc import Iterator
 from pathlib import Path
 from random import Random
 
-from support import CHAIN, LISTS, PROGRAM, fake, freeze, session
+from support import CHAIN, LISTS, PROGRAM, SOURCES, fake, freeze, session
 
 import clsynth
 from clsynth import Session
@@ -200,6 +203,25 @@ class Stops(unittest.TestCase):
         asking.join(30)
         self.assertEqual(found, [clsynth.QueryCancelled])
 
+    def test_the_keyboard_interrupts_the_caller_alone(self) -> None:
+        asked = (
+            "import sys, time, clsynth\n"
+            f"session = clsynth.Session({CHAIN!r})\nprogram = session._program\n"
+            "try:\n    print('waits', flush=True)\n    time.sleep(60)\nexcept KeyboardInterrupt:\n"
+            "    print(session.inhabited('A'), session._program is program)\n    session.close()\n"
+        )
+        environment = {**os.environ, "CLSYNTH": PROGRAM, "PYTHONPATH": str(SOURCES)}
+        with subprocess.Popen([sys.executable, "-c", asked], stdout=subprocess.PIPE, text=True, env=environment, start_new_session=True) as process:
+            assert process.stdout
+            self.assertEqual(process.stdout.readline(), "waits\n")
+            os.killpg(process.pid, signal.SIGINT)
+            self.assertEqual(process.stdout.read(), "True True\n")
+
+    def test_what_a_script_started_is_ended_with_it(self) -> None:
+        with self.assertRaises(clsynth.QueryTimeout):
+            # The shell stays, and so does what it waits for, which holds the output.
+            Session(CHAIN, program=fake(self, "sleep 60; exit 0"), timeout=0.3)
+
     def test_threads_share_a_session(self) -> None:
         with session(CHAIN) as chain:
             found: list[list[clsynth.Term]] = []
@@ -223,7 +245,7 @@ class Errors(unittest.TestCase):
             clsynth.RepositoryRefused(2, "deep"), clsynth.ProcessFault(5), clsynth.ProgramNotFound(["here"]), clsynth.InputFull(5, 3),
             clsynth.QueryTimeout("inhabit A"), clsynth.SyntaxFault("inhabit", "8"), clsynth.TooManyTerms("list A max 1 take 1"),
             clsynth.ParseFault("f(", 2, "a component", 3), clsynth.MissingFunction(["f"]), clsynth.TooManyComponents("it", 1001, 1000),
-            clsynth.BadName("no"),
+            clsynth.BadName("no"), clsynth.UsageFault(["clsynth", "--new"]), clsynth.BadReply("inhabit A", "maybe"),
         ]
         for error in errors:
             with self.subTest(type(error).__name__):

@@ -2,15 +2,18 @@
 
 from __future__ import annotations
 
+import asyncio
 import random
 import time
 import unittest
 import warnings
+from collections.abc import Callable
+from concurrent.futures import ThreadPoolExecutor
 
 from documents import TOP
 from support import PROGRAM, session
 
-from clsynth import Repository, Session, queries
+from clsynth import AsyncSession, Repository, Session, SessionPool, map_queries, queries
 from clsynth.certificates import Empty
 from clsynth.diagnostics import Diagnostic, Severity
 from clsynth.lint import RepositoryWarning, lint, lint_input
@@ -197,6 +200,25 @@ class Sessions(unittest.TestCase):
         repository.component("f", "Imt -> B")
         with self.assertWarns(RepositoryWarning):
             session(repository, lint=True).close()
+
+    def test_several_sessions_warn_once(self) -> None:
+        def mapped(lint: bool) -> None:
+            with ThreadPoolExecutor(2) as executor:
+                list(map_queries(executor, self.TEXT, [queries.inhabited("B")] * 5, batch=1, program=PROGRAM, lint=lint))
+
+        async def asked(lint: bool) -> None:
+            async with AsyncSession(self.TEXT, program=PROGRAM, lint=lint):
+                pass
+
+        openings: list[Callable[[bool], None]] = [
+            lambda lint: SessionPool(self.TEXT, 2, program=PROGRAM, lint=lint).close(), mapped, lambda lint: asyncio.run(asked(lint)),
+        ]
+        for opening in openings:
+            for lint, count in ((True, 1), (False, 0)):
+                with warnings.catch_warnings(record=True) as caught:
+                    warnings.simplefilter("always", RepositoryWarning)
+                    opening(lint)
+                self.assertEqual([warning.filename for warning in caught], [__file__] * count)
 
     def test_it_can_be_told_not_to(self) -> None:
         with warnings.catch_warnings():

@@ -75,6 +75,7 @@ class Declarations(unittest.TestCase):
         refused(clsynth.VariableInKind, lambda it: it.component("y", [A, var("a")]))
         refused(clsynth.BadCost, lambda it: it.component("y", A, cost=0))
         refused(clsynth.BadCost, lambda it: it.component("y", A, cost=256))
+        refused(clsynth.BadCost, lambda it: it.component("y", A, cost=1.5))  # type: ignore[arg-type]
         refused(clsynth.ParseFault, lambda it: it.component("y", "A ->"))
         refused(clsynth.KindTooLarge, lambda it: it.kind("b", numbers(0, 4096)))
         refused(clsynth.TypeTooLong, lambda it: it.component("y", intersection(*["A"] * 342)))

@@ -6,11 +6,13 @@ import itertools
 import unittest
 import unittest.mock
 from collections.abc import Callable
+from pathlib import Path
+from typing import Any
 
-from support import CHAIN, LISTS, fake, session, terms
+from support import CHAIN, LISTS, PROGRAM, fake, session, terms, wait_until
 
 import clsynth
-from clsynth import Session, Step, Term, TermText, Verdict
+from clsynth import Goal, Grammar, Rule, Session, Step, Term, TermText, Verdict
 
 # One component that meets each of eleven paths in two ways: 2,048 covers.
 WIDE = "comp w : " + " & ".join(f"({side}{path} -> C{path})" for path in range(1, 12) for side in "AB") + "\n"
@@ -48,6 +50,17 @@ class Answers(unittest.TestCase):
                 self.assertEqual(list(chain.terms("A", page_size=size)), once.entries)
             self.assertEqual(list(chain.terms("A", max_size=3, after="x")), terms("f(x)", "f(f(x))"))
             self.assertEqual(list(chain.terms("B")), [])
+
+    def test_pages_for_which_too_many_terms_count_are_made_smaller(self) -> None:
+        # There are 63 terms of at most 6 components, and 127 of at most 7. A page counts those of the size of the term behind it too. So
+        # pages of 200 are refused, those of 20 end with number 60, one of 2 follows, and none of 1, since number 64 is of size 7.
+        with session("comp x : A\ncomp f : A -> A\ncomp g : A -> A\n", pool=100) as trees:
+            listed: list[Term] = []
+            with self.assertRaises(clsynth.TooManyTerms):
+                for term in trees.terms("A", page_size=200):
+                    listed.append(term)
+            self.assertEqual(len(listed), 62)
+            self.assertEqual(len(list(trees.terms("A", page_size=200, max_size=6))), 63)
 
     def test_iterators_go_side_by_side(self) -> None:
         with session(CHAIN) as chain:
@@ -99,6 +112,29 @@ class Grammars(unittest.TestCase):
         self.assertEqual([(goal.type, goal.rank) for goal in goals], [("C", 2), ("A", 1), ("B", None)])
         self.assertEqual(goals[0].rules, (clsynth.Rule("f", (1,)), clsynth.Rule("f", (2,))))
         self.assertEqual(goals[2].rules, ())
+
+    def test_a_term_of_least_height(self) -> None:
+        # To `D` lead g(g(x)), of height 3, and h(x, x, x), of height 2. `C` has no term but by `any`, since `f` takes what nothing makes.
+        repository = "comp x : A\ncomp g : (A -> B) & (B -> D)\ncomp h : A -> A -> A -> D\ncomp f : E -> C\n"
+        with session(repository) as asked:
+            self.assertEqual(asked.grammar("D").least_term(), Term.parse("h(x, x, x)"))
+            self.assertEqual(asked.grammar("B -> D").least_term(), Term.parse("g"))
+            self.assertEqual(asked.grammar("omega").least_term(), Term.parse("x"))
+            self.assertIsNone(asked.grammar("C").least_term())
+            grammar = asked.grammar("D")
+        self.assertEqual({goal.type: grammar.least_term(number) for number, goal in enumerate(grammar.goals)},
+                         dict(zip("DBA", terms("h(x, x, x)", "g(x)", "x"))))
+
+    def test_a_term_of_least_height_may_be_long(self) -> None:
+        with session("".join(f"comp f{step} : A{step} -> A{step + 1}\n" for step in range(900)) + "comp x : A0\n") as steps:
+            term = steps.grammar("A900").least_term()
+        assert term
+        self.assertEqual((term.length, term.depth), (901, 901))
+
+    def test_an_application_of_any_term(self) -> None:
+        function, argument = Goal("A -> B", 1, (Rule("f", ()),)), Goal("A", 1, (Rule("x", ()),))
+        made = Grammar((Goal("B", 2, (Rule(None, (1, 2)),)), function, argument))
+        self.assertEqual(made.least_term(), Term.parse("f(x)"))
 
     def test_the_rule_of_omega_has_no_component(self) -> None:
         with session("comp x : A\n") as one:
@@ -156,6 +192,28 @@ class Errors(unittest.TestCase):
                 self.assertTrue(chain.is_subtype("A & B", "B"), "the session goes on")
         self.assertEqual(set(clsynth.ERRORS) - set(queries), {"utf8", "no-qed"})
 
+    def test_what_is_no_type_and_no_term(self) -> None:
+        wrong: Any = None
+        with session(CHAIN) as chain:
+            asked: list[Callable[[], object]] = [
+                lambda: chain.inhabited(wrong), lambda: chain.page(wrong, 1), lambda: chain.verify(wrong, "empty\nqed"), lambda: chain.paths(wrong),
+                lambda: chain.has_type(wrong, "A"), lambda: chain.is_subtype("A", wrong), lambda: chain.page("A", 1, after=3),  # type: ignore
+                lambda: session(wrong), lambda: session(b"comp x : A\n"),  # type: ignore
+            ]
+            for ask in asked:
+                with self.assertRaises(TypeError):
+                    ask()
+
+    def test_where_nobody_catches_them_they_are_explained(self) -> None:
+        with session(CHAIN) as chain, self.assertRaises(clsynth.UnknownInTerm) as unknown:
+            chain.has_type("ff(x)", "A")
+        self.assertEqual(unknown.exception.__notes__, [
+            "query:1:7: error: token: this name in the term is none of a component\n    typed ff(x) : A\n          ^\n    Did you mean `f`?"
+        ])
+        with self.assertRaises(clsynth.RepositoryRefused) as refused:
+            session("# a comment\ncomp x A\n")
+        self.assertTrue(refused.exception.__notes__[0].startswith("repository:2:8: error: syntax: "))
+
     def test_what_they_tell(self) -> None:
         with session(CHAIN) as chain:
             with self.assertRaises(clsynth.SyntaxFault) as syntax:
@@ -173,11 +231,21 @@ class Errors(unittest.TestCase):
             left = chain.bytes_left
             with self.assertRaises(ValueError):
                 chain.inhabited("A\ninhabit B")
-            with self.assertRaises(ValueError):
-                chain.inhabited("\ud800")
             with self.assertRaises(clsynth.LineTooLong):
                 chain.verify("A" + " " * 70_000, "empty\nqed")
+            with self.assertRaises(clsynth.NotUtf8):
+                chain.verify("\ud800", "empty\nqed")
             self.assertEqual(chain.bytes_left, left)
+
+    def test_what_is_not_utf8_is_an_error_of_its_query(self) -> None:
+        with session(CHAIN) as chain:
+            for text in ("\ud800", "\udcff"):
+                with self.assertRaises(clsynth.NotUtf8):
+                    chain.inhabited(text)
+            self.assertTrue(chain.inhabited("A"))
+        with self.assertRaises(clsynth.RepositoryRefused) as refused:
+            session("comp x : A\ntext x = \udcff\n")
+        self.assertEqual(str(refused.exception), "line 2: utf8")
 
     def test_a_refused_repository(self) -> None:
         with self.assertRaises(clsynth.RepositoryRefused) as refused:
@@ -210,10 +278,51 @@ class Processes(unittest.TestCase):
             Session(CHAIN, program=fake(self, "kill -9 $$"))
         self.assertEqual((fault.exception.code, fault.exception.status), (-9, None))
 
-    def test_bad_options(self) -> None:
-        with self.assertRaises(clsynth.ProcessFault) as fault:
-            session(CHAIN, workers=65)
-        self.assertEqual(fault.exception.status, clsynth.Status.USAGE)
+    def test_words_that_the_program_does_not_take(self) -> None:
+        cases: list[tuple[dict[str, Any], str]] = [
+            ({"workers": 65}, "--workers 65"), ({"pool": "unheard"}, "--pool unheard"), ({"words": ["--x", "y"]}, "--x y"),
+        ]
+        for options, words in cases:
+            with self.assertRaises(clsynth.UsageFault) as fault:
+                session(CHAIN, **options)
+            self.assertEqual((fault.exception.status, fault.exception.words), (clsynth.Status.USAGE, (PROGRAM, *words.split())))
+            self.assertIn(f"It doesn't take the words `{words}`", str(fault.exception))
+
+    def test_words_that_are_passed_on(self) -> None:
+        with session(CHAIN, words=["--pool", "5"]) as chain, self.assertRaises(clsynth.TooManyTerms):
+            chain.page("A", 10)
+        newer = fake(self, f'[ "$*" = "--pool unbounded --new" ] || exit 1; exec {PROGRAM}')
+        with Session(CHAIN, program=newer, pool="unbounded", words=["--new"]) as chain:
+            self.assertTrue(chain.inhabited("A"))
+
+    def test_another_program(self) -> None:
+        for reply in ("yes\\nmaybe", "yes\\n\\377", "yes\\n", "refused x y", "refused 1", "hello"):
+            program = fake(self, f"printf '{reply}\\n'; exec cat >/dev/null")
+            with self.subTest(reply), self.assertRaises(clsynth.BadReply), Session(CHAIN, program=program) as asked:
+                asked.inhabited("A")
+        for reply in ("term f(", "text 3", "more of it"):
+            program = fake(self, f"printf 'yes\\n{reply}\\ndone\\n'; exec cat >/dev/null")
+            with self.subTest(reply), self.assertRaises(clsynth.BadReply), Session(CHAIN, program=program) as asked:
+                asked.page("A", 3)
+
+    def test_an_error_of_a_later_version(self) -> None:
+        program = fake(self, "printf 'yes\\nerror new 5 6\\n'; exec cat >/dev/null")
+        with self.assertRaises(clsynth.QueryError) as error, Session(CHAIN, program=program) as asked:
+            asked.inhabited("A")
+        self.assertEqual((type(error.exception), error.exception.detail), (clsynth.QueryError, "new 5 6"))
+
+    def test_a_program_that_can_not_be_run(self) -> None:
+        program = Path(fake(self, ""))
+        program.write_bytes(b"\x7fELF")
+        with self.assertRaisesRegex(clsynth.ProgramNotFound, "Exec format error"):
+            Session(CHAIN, program=program)
+
+    def test_a_program_that_ended_between_two_queries(self) -> None:
+        with session(CHAIN) as chain:
+            assert chain._program
+            chain._program.kill()
+            wait_until(lambda: chain._program and chain._program.has_ended)
+            self.assertTrue(chain.inhabited("A"))
 
     def test_a_closed_session(self) -> None:
         chain = session(CHAIN)

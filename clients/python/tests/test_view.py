@@ -14,9 +14,10 @@ from unittest import mock
 
 from support import LISTS, PROGRAM, session
 
-from clsynth import Repository, SyntaxFault, view
+from clsynth import Repository, SyntaxFault
+from clsynth.command import main
+from clsynth.lacking import Lacking
 from clsynth.view.content import MOST_TERMS, content_of
-from clsynth.view.lacking import Makers
 
 SHOP = """
 comp network : Up(Network)
@@ -31,8 +32,9 @@ def content(repository: str, goal: str, **options: Any) -> Any:
         return content_of(asked, Repository.parse(repository), goal, "name")
 
 
-def makers(text: str) -> Makers:
-    return Makers(Repository.parse(text))
+def lacking(repository: str, type: str) -> list[str]:
+    """What the type wants and nothing of the repository makes."""
+    return Lacking(repository, [type]).of(type)
 
 
 class Contents(unittest.TestCase):
@@ -115,33 +117,33 @@ class Certificates(unittest.TestCase):
         self.assertEqual((block["component"], [len(sets) for sets in block["layers"]]), ("f", [1, 0]))
 
 
-class Lacking(unittest.TestCase):
+class Lacks(unittest.TestCase):
     def test_a_misspelt_constructor(self) -> None:
         repository = "comp x : Int\ncomp f : Imt -> B\n"
-        self.assertEqual(makers(repository).lacking("Imt"), ["Imt"])
-        self.assertEqual(makers(repository).lacking("B & Int"), [])
+        self.assertEqual(lacking(repository, "Imt"), ["Imt"])
+        self.assertEqual(lacking(repository, "B & Int"), [])
         goals = content(repository, "B")["grammar"]["goals"]
         self.assertEqual([(goal["type"], goal["lacks"]) for goal in goals], [("B", []), ("Imt", ["Imt"])])
 
     def test_what_functions_take_is_not_made(self) -> None:
-        self.assertEqual(makers("comp f : A -> List(B) -> C\n").lacking("List(A) & C"), ["List", "A"])
-        self.assertEqual(makers("comp f : A -> C\n").lacking("A -> C"), [])
+        self.assertEqual(lacking("comp f : A -> List(B) -> C\n", "List(A) & C"), ["List", "A"])
+        self.assertEqual(lacking("comp f : A -> C\n", "A -> C"), [])
 
     def test_variables_make_what_their_kinds_have(self) -> None:
-        self.assertEqual(makers("kind a = A | B -> List(C)\ncomp f : $a\n").lacking("A & List(C) & B"), ["B"])
-        self.assertEqual(makers("kind a = A\ncomp f : $a -> B\n").lacking("A & B"), ["A"])
+        self.assertEqual(lacking("kind a = A | B -> List(C)\ncomp f : $a\n", "A & List(C) & B"), ["B"])
+        self.assertEqual(lacking("kind a = A\ncomp f : $a -> B\n", "A & B"), ["A"])
 
     def test_what_is_below_makes_what_is_above(self) -> None:
-        self.assertEqual(makers("sub Nat Int\nsub Int Num\ncomp x : Nat\n").lacking("Num & Int"), [])
-        self.assertEqual(makers("sub Nat Int\ncomp x : Int\n").lacking("Nat"), ["Nat"])
+        self.assertEqual(lacking("sub Nat Int\nsub Int Num\ncomp x : Nat\n", "Num & Int"), [])
+        self.assertEqual(lacking("sub Nat Int\ncomp x : Int\n", "Nat"), ["Nat"])
 
     def test_a_contravariant_constructor_needs_nothing_in_it(self) -> None:
         repository = "variance Sink contra\ncomp x : Sink(Int)\n"
-        self.assertEqual(makers(repository).lacking("Sink(Nat)"), [])
-        self.assertEqual(makers(repository).lacking("Int"), ["Int"])
+        self.assertEqual(lacking(repository, "Sink(Nat)"), [])
+        self.assertEqual(lacking(repository, "Int"), ["Int"])
 
     def test_products_need_both_parts(self) -> None:
-        self.assertEqual(makers("comp x : A * B\n").lacking("A * C"), ["C"])
+        self.assertEqual(lacking("comp x : A * B\n", "A * C"), ["C"])
 
 
 class Pages(unittest.TestCase):
@@ -153,7 +155,7 @@ class Pages(unittest.TestCase):
 
     def run_main(self, *words: str) -> tuple[int, str, str]:
         with contextlib.redirect_stdout(io.StringIO()) as out, contextlib.redirect_stderr(io.StringIO()) as error:
-            status = view.main(list(words))
+            status = main(["view", *words])
         return status, out.getvalue(), error.getvalue()
 
     def write(self, text: str) -> str:
@@ -181,18 +183,21 @@ class Pages(unittest.TestCase):
     def test_what_goes_wrong_is_said_and_no_page_is_written(self) -> None:
         page = self.folder / "page.html"
         page.write_text("kept")
-        cases = {(self.write(LISTS), "Asc &"): "SyntaxFault", (str(self.folder / "none"), "Asc"): "No such file"}
-        for (repository, goal), wanted in cases.items():
+        refused = self.folder / "refused.cls"
+        refused.write_text("comp x A\n")
+        cases = {
+            (self.write(LISTS), "Asc &"): (7, "query:1:14: error: syntax: "), (str(self.folder / "none"), "Asc"): (3, "No such file"),
+            (str(refused), "Asc"): (2, ":1:8: error: syntax: "),
+        }
+        for (repository, goal), (wanted, told) in cases.items():
             status, out, error = self.run_main(repository, goal, "-o", str(page))
-            self.assertEqual((status, out, page.read_text()), (1, "", "kept"))
-            self.assertIn(wanted, error)
-        status, _, error = self.run_main(self.write("comp x A\n"), "A")
-        self.assertEqual((status, error), (1, "cls view: line 1: syntax 7\n"))
+            self.assertEqual((status, out, page.read_text()), (wanted, "", "kept"))
+            self.assertIn(told, error)
 
     def test_wrong_words(self) -> None:
         with self.assertRaises(SystemExit) as ended:
             self.run_main("only")
-        self.assertEqual(ended.exception.code, 2)
+        self.assertEqual(ended.exception.code, 1)
 
 
 if __name__ == "__main__":

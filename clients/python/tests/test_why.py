@@ -97,12 +97,23 @@ Key is wanted, and no component makes it
 
     def test_a_circle(self) -> None:
         repository = "comp names : Lines\ncomp sort : Liness -> Lines\ncomp sign : Lines -> Key -> Signed\ncomp extract : Signed -> Key\n"
-        # `sort` isn't needed for lines, so that it takes what there isn't is no reason.
+        # `sort` isn't needed for lines, so that it takes what there isn't is no reason, though Liness is a member of the certificate.
         self.assertEqual(self.shown(repository, "Signed"), """\
 no term has Signed
-Each constructor is made. But what leads to one of these types takes another one of them:
+Each constructor on the way is made. But what leads to one of these types takes another one of them:
     Signed, by sign
-    Key, by extract""")
+    Key, by extract
+Not needed, since there is another way:
+    Liness is wanted, and no component makes it
+        comp sort : Liness -> Lines
+        Did you mean Lines?""")
+
+    def test_what_a_function_is_given_is_not_made(self) -> None:
+        # `map` gives an `A` to `inc`, but there is no term that is one.
+        self.assertEqual(self.shown("comp map : (A -> B) -> C\ncomp inc : A -> B\n", "A"), """\
+no term has A
+A is wanted, and no component makes it
+    comp inc : A -> B""")
 
     def test_types_that_no_term_has_at_once(self) -> None:
         self.assertIn("    Int & Str, to which nothing leads", self.shown("comp x : Int\ncomp y : Str\n", "Int & Str").split("\n"))

@@ -12,7 +12,7 @@ from __future__ import annotations
 
 import asyncio
 import os
-from collections.abc import AsyncIterator, Callable, Iterable, Mapping
+from collections.abc import AsyncIterator, Callable, Iterable, Mapping, Sequence
 from concurrent.futures import ThreadPoolExecutor
 from functools import partial
 from types import TracebackType
@@ -20,10 +20,12 @@ from typing import Any, TypeVar
 
 from clsynth import queries
 from clsynth.certificates import Certificate
-from clsynth.errors import SessionClosed
+from clsynth.errors import SessionClosed, TooManyTerms
 from clsynth.evaluation import Functions
 from clsynth.grammars import Grammar
 from clsynth.limits import MAX_SIZE
+from clsynth.lint import issue, warnings_of
+from clsynth.paging import Paging, term_paging, text_paging
 from clsynth.queries import Query
 from clsynth.replies import Event, Page, Sizes, TermText, Verdict
 from clsynth.repository import Repository
@@ -34,6 +36,7 @@ from clsynth.types import TypeLike
 __all__ = ["AsyncSession"]
 
 Answer = TypeVar("Answer")
+Entry = TypeVar("Entry")
 Result = TypeVar("Result")
 # While a thread begins its work, it can't be stopped: so many seconds later it is tried again.
 _PAUSE = 0.01
@@ -44,13 +47,14 @@ class AsyncSession:
 
     def __init__(
         self, repository: Repository | str, *, program: str | os.PathLike[str] | None = None, workers: int | None = None,
-        max_goals: int | None = None, max_rules: int | None = None, pool: int | None = None, timeout: float | None = None,
-        names: Iterable[str] = (),
+        max_goals: int | None = None, max_rules: int | None = None, pool: int | str | None = None, words: Sequence[str] = (),
+        timeout: float | None = None, names: Iterable[str] = (), lint: bool = True,
     ) -> None:
         self._open = partial(
-            Session, repository, program=program, workers=workers, max_goals=max_goals, max_rules=max_rules, pool=pool, timeout=timeout,
-            names=tuple(names),
+            Session, repository, program=program, workers=workers, max_goals=max_goals, max_rules=max_rules, pool=pool, words=words,
+            timeout=timeout, names=tuple(names), lint=False,
         )
+        self._linted = str(repository) if lint else ""
         self._functions = repository.functions if isinstance(repository, Repository) else {}
         self._turn = asyncio.Lock()
         self._thread = ThreadPoolExecutor(1, thread_name_prefix="clsynth")
@@ -59,9 +63,11 @@ class AsyncSession:
     async def __aenter__(self) -> AsyncSession:
         try:
             await self._run(self._start)
+            texts = await self._run(lambda: warnings_of(self._linted))
         except BaseException:
             await self.aclose()
             raise
+        issue(texts, stacklevel=2)
         return self
 
     async def __aexit__(self, kind: type[BaseException] | None, error: BaseException | None, trace: TracebackType | None) -> None:
@@ -115,24 +121,16 @@ class AsyncSession:
         self, goal: TypeLike, *, max_size: int = MAX_SIZE, page_size: int = 100, after: TermLike | None = None, timeout: float | None = None,
     ) -> AsyncIterator[Term]:
         """All terms of the type with at most 64 component occurrences, small ones first, from pages that are fetched one after another.
-        The time bound is that of a page."""
-        more = True
-        while more:
-            terms, more = await self.page(goal, page_size, max_size=max_size, after=after, timeout=timeout)
-            for term in terms:
-                yield term
-            after = terms[-1] if terms else after
+        The time bound is that of a page. Where too many terms count for a page, the following ones are smaller."""
+        async for term in self._entries(term_paging(goal, page_size, max_size, after), timeout):
+            yield term
 
     async def texts(
         self, goal: TypeLike, *, max_size: int = MAX_SIZE, page_size: int = 100, after: TermLike | None = None, timeout: float | None = None,
     ) -> AsyncIterator[TermText]:
         """The same, with the text of each term."""
-        more = True
-        while more:
-            entries, more = await self.text_page(goal, page_size, max_size=max_size, after=after, timeout=timeout)
-            for entry in entries:
-                yield entry
-            after = entries[-1].term if entries else after
+        async for entry in self._entries(text_paging(goal, page_size, max_size, after), timeout):
+            yield entry
 
     async def values(
         self, goal: TypeLike, functions: Mapping[str, object] | None = None, *, max_size: int = MAX_SIZE, page_size: int = 100,
@@ -162,6 +160,18 @@ class AsyncSession:
     async def history(self, goal: TypeLike, *, timeout: float | None = None) -> list[Event]:
         """Which worker claimed and filed which row of the closure. It may differ from run to run."""
         return await self.ask(queries.history(goal), timeout=timeout)
+
+    async def _entries(self, paging: Paging[Entry], timeout: float | None) -> AsyncIterator[Entry]:
+        while paging.has_more:
+            try:
+                page = await self.ask(paging.query, timeout=timeout)
+            except TooManyTerms:
+                if not paging.shrinks():
+                    raise
+            else:
+                paging.take(page)
+                for entry in page.entries:
+                    yield entry
 
     def _start(self) -> None:
         self._session = self._open()

@@ -11,12 +11,13 @@ it runs, this package and the program have to be there.
 from __future__ import annotations
 
 import os
-from collections.abc import Collection, Iterable, Iterator, Sequence
+from collections.abc import Callable, Collection, Iterable, Iterator, Sequence
 from concurrent.futures import BrokenExecutor, Executor, Future
-from dataclasses import dataclass
+from functools import partial
 from typing import TypeVar
 
 from clsynth.errors import ParseFault, ProcessFault, QueryError, RepositoryFault
+from clsynth.lint import issue, warnings_of
 from clsynth.numbering import Numbering, is_read
 from clsynth.queries import Query
 from clsynth.repository import Repository
@@ -25,12 +26,14 @@ from clsynth.session import Session
 __all__ = ["map_queries"]
 
 Answer = TypeVar("Answer")
+_Answers = list[Answer | QueryError]
+_Open = Callable[[], Session]
 
 
 def map_queries(
     executor: Executor, repository: Repository | str, queries: Iterable[Query[Answer]], *, batch: int = 16,
     program: str | os.PathLike[str] | None = None, workers: int | None = None, max_goals: int | None = None, max_rules: int | None = None,
-    pool: int | None = None, timeout: float | None = None,
+    pool: int | str | None = None, words: Sequence[str] = (), timeout: float | None = None, lint: bool = True,
 ) -> Iterator[Answer | QueryError]:
     """The answers to the queries, in their order and each once. For a query with an error it is the error, as a value.
 
@@ -41,19 +44,32 @@ def map_queries(
     that is lost is done again: a cluster does so by itself; where the executor is broken, as a pool of processes that lost one of them,
     what is left is done here; and where only the program was killed, the worker starts it once more.
 
-    The other arguments are those of `Session`. What stops a session, as `RepositoryRefused` or `QueryTimeout`, is raised.
+    The other arguments are those of `Session`. What `lint` warns of is issued here, once. What stops a session, as `RepositoryRefused` or
+    `QueryTimeout`, is raised.
     """
     if batch < 1:
         raise ValueError(f"a batch has at least one query, and not {batch}")
     asked = list(queries)
+    # This is sent to the workers.
+    opened = partial(
+        Session, str(repository), program=program, workers=workers, max_goals=max_goals, max_rules=max_rules, pool=pool, words=tuple(words),
+        timeout=timeout, names=_names(repository, asked), lint=False,
+    )
+    batches = [tuple(asked[place : place + batch]) for place in range(0, len(asked), batch)]
+    futures = [_submitted(executor, opened, some) for some in batches]
+    if lint:
+        issue(warnings_of(str(repository)), stacklevel=2)
+    return _in_order(opened, batches, futures)
+
+
+def _names(repository: Repository | str, asked: Iterable[Query[object]]) -> tuple[str, ...]:
+    """The names that the queries bring, in the order in which one session would come upon them."""
     names = Numbering()
     components = _components(repository)
     for query in asked:
         if is_read(query, components):
             names.add(query)
-    setting = _Setting(str(repository), program, workers, max_goals, max_rules, pool, timeout, tuple(names))
-    batches = [tuple(asked[place : place + batch]) for place in range(0, len(asked), batch)]
-    return _in_order(setting, batches, [_submitted(executor, setting, some) for some in batches])
+    return tuple(names)
 
 
 def _components(repository: Repository | str) -> Collection[str]:
@@ -64,68 +80,46 @@ def _components(repository: Repository | str) -> Collection[str]:
         return ()
 
 
-@dataclass(frozen=True)
-class _Setting:
-    """What a session is made of, to be sent to a worker."""
-
-    repository: str
-    program: str | os.PathLike[str] | None
-    workers: int | None
-    max_goals: int | None
-    max_rules: int | None
-    pool: int | None
-    timeout: float | None
-    names: tuple[str, ...]
-
-    def session(self) -> Session:
-        return Session(
-            self.repository, program=self.program, workers=self.workers, max_goals=self.max_goals, max_rules=self.max_rules, pool=self.pool,
-            timeout=self.timeout, names=self.names,
-        )
-
-
-def _submitted(executor: Executor, setting: _Setting, batch: Sequence[Query[Answer]]) -> Future[list[Answer | QueryError]] | None:
+def _submitted(executor: Executor, opened: _Open, batch: Sequence[Query[Answer]]) -> Future[_Answers[Answer]] | None:
     try:
-        return executor.submit(_answers, setting, batch)
+        return executor.submit(_answers, opened, batch)
     except BrokenExecutor:
         return None
 
 
 def _in_order(
-    setting: _Setting, batches: Sequence[Sequence[Query[Answer]]], futures: Sequence[Future[list[Answer | QueryError]] | None],
+    opened: _Open, batches: Sequence[Sequence[Query[Answer]]], futures: Sequence[Future[_Answers[Answer]] | None],
 ) -> Iterator[Answer | QueryError]:
     try:
         for batch, future in zip(batches, futures):
-            yield from _result(setting, batch, future)
+            yield from _result(opened, batch, future)
     finally:
         for future in futures:
             if future:
                 future.cancel()
 
 
-def _result(
-    setting: _Setting, batch: Sequence[Query[Answer]], future: Future[list[Answer | QueryError]] | None,
-) -> list[Answer | QueryError]:
+def _result(opened: _Open, batch: Sequence[Query[Answer]], future: Future[_Answers[Answer]] | None) -> _Answers[Answer]:
     try:
         if future:
             return future.result()
     except BrokenExecutor:
         pass
-    return _answers(setting, batch)
+    return _answers(opened, batch)
 
 
-def _answers(setting: _Setting, batch: Sequence[Query[Answer]]) -> list[Answer | QueryError]:
+def _answers(opened: _Open, batch: Sequence[Query[Answer]]) -> _Answers[Answer]:
     """What a worker does. If its program is killed from outside, as where memory runs out, it does so once more."""
     try:
-        return _answers_of_one_session(setting, batch)
+        return _answers_of_one_session(opened, batch)
     except ProcessFault as fault:
         if fault.code >= 0:
             raise
-    return _answers_of_one_session(setting, batch)
+    return _answers_of_one_session(opened, batch)
 
 
-def _answers_of_one_session(setting: _Setting, batch: Sequence[Query[Answer]]) -> list[Answer | QueryError]:
-    with setting.session() as session:
+def _answers_of_one_session(opened: _Open, batch: Sequence[Query[Answer]]) -> _Answers[Answer]:
+    with opened() as session:
         return [_answer(session, query) for query in batch]
 
 

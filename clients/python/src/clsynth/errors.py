@@ -17,12 +17,12 @@ from typing import Any, ClassVar
 from clsynth.limits import MAX_INPUT_BYTES, MAX_POOL
 
 __all__ = [
-    "ERRORS", "AmbiguousType", "BadCertificate", "BadCost", "BadName", "BadTemplate", "ClosureTooLarge", "ClsynthError", "DuplicateName",
-    "EmptyKind", "InputFull", "KindTooLarge", "LimitExceeded", "LineTooLong", "MissingFunction", "NoQed", "NotUtf8", "NumberOutOfRange",
-    "ParseFault", "PlacedError", "ProcessFault", "ProgramNotFound", "QueryCancelled", "QueryError", "QueryStopped", "QueryTimeout",
-    "RepositoryFault", "RepositoryLineTooLong", "RepositoryRefused", "RepositoryTooLong", "ReservedName", "SessionClosed", "Status",
-    "SyntaxFault", "TooDeep", "TooManyComponents", "TooManyNodes", "TooManyTerms", "TypeTooDeep", "TypeTooLarge", "TypeTooLong",
-    "UnknownComponent", "UnknownInTerm", "VariableInKind", "VariableInQuery", "WideGoal",
+    "ERRORS", "AmbiguousType", "BadCertificate", "BadCost", "BadName", "BadReply", "BadTemplate", "ClosureTooLarge", "ClsynthError",
+    "DuplicateName", "EmptyKind", "InputFull", "KindTooLarge", "LimitExceeded", "LineTooLong", "MissingFunction", "NoQed", "NotUtf8",
+    "NumberOutOfRange", "ParseFault", "PlacedError", "ProcessFault", "ProgramNotFound", "QueryCancelled", "QueryError", "QueryStopped",
+    "QueryTimeout", "RepositoryFault", "RepositoryLineTooLong", "RepositoryRefused", "RepositoryTooLong", "ReservedName", "SessionClosed",
+    "Status", "SyntaxFault", "TooDeep", "TooManyComponents", "TooManyNodes", "TooManyTerms", "TypeTooDeep", "TypeTooLarge", "TypeTooLong",
+    "UnknownComponent", "UnknownInTerm", "UsageFault", "VariableInKind", "VariableInQuery", "WideGoal",
 ]
 
 
@@ -182,10 +182,37 @@ class ProcessFault(ClsynthError):
     def __init__(self, code: int) -> None:
         self.code = code
         self.status = next((status for status in Status if status.value == code), None)
-        super().__init__(f"the program ended with status {code}" + (f", {self.status.name}" if self.status else ""))
+        named = f", {self.status.name}," if self.status else ""
+        super().__init__(f"the program ended with status {code}{named} before it had answered")
 
     def __reduce__(self) -> tuple[Any, ...]:
         return type(self), (self.code,)
+
+
+class UsageFault(ProcessFault):
+    """The program doesn't take the words of its command line. `words` are these, and the program before them."""
+
+    def __init__(self, words: Iterable[str]) -> None:
+        super().__init__(Status.USAGE.value)
+        self.words = tuple(words)
+        program, *others = self.words
+        told = f"It doesn't take the words `{' '.join(others)}`: `{program} --help` writes which ones it takes"
+        self.args = (f"{self}. {told if others else f'{program} was given no words, and seems to be another program'}",)
+
+    def __reduce__(self) -> tuple[Any, ...]:
+        return type(self), (self.words,)
+
+
+class BadReply(ClsynthError):
+    """What was written isn't a reply to the query: the program is another one than this package speaks with, or another version of it."""
+
+    def __init__(self, query: str, line: str) -> None:
+        super().__init__(f"{line[:200]!r} is no reply to the query: {query[:200]}")
+        self.query = query
+        self.line = line
+
+    def __reduce__(self) -> tuple[Any, ...]:
+        return type(self), (self.query, self.line)
 
 
 class SessionClosed(ClsynthError):
@@ -333,7 +360,7 @@ class TooManyTerms(QueryError):
     """More terms count for the page than the session allows."""
     word = "too-many-terms"
     advice = (
-        f"A session with a greater pool (at most {MAX_POOL:,}) lists more. A smaller max_size, or a narrower type, needs less. "
+        f"A session with a greater pool (at most {MAX_POOL:,}) lists more. Fewer terms at once, a smaller max_size or a narrower type need less. "
         "inhabited, sizes, grammar and certify have no such bound."
     )
 

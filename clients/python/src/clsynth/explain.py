@@ -16,7 +16,7 @@ from clsynth.errors import QueryError, RepositoryRefused
 from clsynth.explanations import ERRORS, REASONS, REFUSALS, Detail, Explanation
 from clsynth.forms import CERTIFICATE, QUERIES, REPOSITORY
 from clsynth.remedies import Case
-from clsynth.tokens import first_word, text_of
+from clsynth.tokens import bytes_of, first_word, text_of
 from clsynth.transcripts import Asked, Exchange, Fault, Input, exchanges
 
 __all__ = ["diagnose", "diagnose_line", "explain", "explain_error"]
@@ -27,19 +27,19 @@ _UNKNOWN = Explanation("docs/LANGUAGE.md of the program says what this is", "")
 def explain(session_text: str, reply: str, file: str = "input") -> str:
     """Explains each refusal and each error of a reply. The text is what was asked: a repository and queries. The reply is all that the
     program wrote for it. The answer is an empty text if nothing is wrong. `file` is the name that stands before the lines."""
-    text = _bytes(session_text)
+    text = bytes_of(session_text)
     given = Input(text)
-    found = (diagnose(given, exchange) for exchange in exchanges(text, _bytes(reply)))
+    found = (diagnose(given, exchange) for exchange in exchanges(text, bytes_of(reply)))
     return "\n".join(it.shown(file) for it in found if it)
 
 
-def explain_error(error: RepositoryRefused | QueryError, repository: str = "", file: str = "input") -> str:
+def explain_error(error: RepositoryRefused | QueryError, repository: str | Input = "", file: str = "input") -> str:
     """Explains what a session raised. The repository is that of the session. The line of a query is counted from 1 on its own."""
-    given = Input(_bytes(repository))
+    given = repository if isinstance(repository, Input) else Input(bytes_of(repository))
     if isinstance(error, RepositoryRefused):
         word, _, detail = error.words.partition(" ")
         return _of_repository(given, error.line, Fault(word, detail)).shown(file)
-    return _of_query(given, Asked(1, (_bytes(error.query),)), Fault(error.word, error.detail)).shown(file)
+    return _of_query(given, Asked(1, (bytes_of(error.query),)), Fault(error.word, error.detail)).shown(file)
 
 
 def diagnose(given: Input, exchange: Exchange) -> Diagnostic | None:
@@ -84,7 +84,3 @@ def _of_certificate(asked: Asked, number: int, fault: Fault) -> Diagnostic:
 def _diagnostic(case: Case) -> Diagnostic:
     words = f"{case.fault.word}: {case.explanation.says.replace('{}', case.fault.detail)}"
     return Diagnostic(Severity.ERROR, case.number, case.line, case.place, words, tuple(case.notes()))
-
-
-def _bytes(text: str) -> bytes:
-    return text.encode(errors="surrogateescape")

@@ -30,10 +30,10 @@ from clsynth.repository import Repository
 from clsynth.roles import Roles
 from clsynth.similar import SlipIndex
 from clsynth.survey import Survey, TypedLine
-from clsynth.tokens import BLANKS, text_of
+from clsynth.tokens import BLANKS, bytes_of, text_of
 from clsynth.transcripts import Input
 
-__all__ = ["RepositoryWarning", "input_of", "lint", "lint_input", "warn_of"]
+__all__ = ["RepositoryWarning", "input_of", "issue", "lint", "lint_input", "warnings_of"]
 
 _MOST_NAMES = 50_000
 """With more names no similar ones are looked for."""
@@ -62,7 +62,7 @@ def input_of(repository: Repository | str, queries: Iterable[str | Query[Any]] =
         lines.append("end")
     for query in queries:
         lines += query.split("\n") if isinstance(query, str) else query.lines
-    return Input("\n".join(lines).encode(errors="surrogateescape"))
+    return Input(bytes_of("\n".join(lines)))
 
 
 def lint_input(given: Input) -> list[Diagnostic]:
@@ -71,14 +71,15 @@ def lint_input(given: Input) -> list[Diagnostic]:
         return _sorted(_Lint(given).all())
 
 
-def warn_of(repository: str, stacklevel: int) -> None:
-    """Issues each warning about the repository as one of Python."""
-    for text in _warnings(repository):
+def issue(texts: Iterable[str], stacklevel: int) -> None:
+    """Issues each text as a warning of Python."""
+    for text in texts:
         warnings.warn(text, RepositoryWarning, stacklevel + 1)
 
 
 @lru_cache(maxsize=4)
-def _warnings(repository: str) -> tuple[str, ...]:
+def warnings_of(repository: str) -> tuple[str, ...]:
+    """The warnings about a repository as a session issues them: the first ones, and how many others there are."""
     with _without_collector():
         found = _sorted(_Lint(input_of(repository)).warnings())
     texts = [it.shown("repository") for it in found[:_MOST_WARNINGS]]

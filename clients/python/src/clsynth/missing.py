@@ -1,4 +1,4 @@
-"""What is missing where no term has a type: the constructors that are wanted on the way to it and that nothing makes.
+"""What is missing where no term has a type: the constructors that the members of its certificate want and that nothing makes.
 
     print(missing(session, repository, "B").shown())
 
@@ -12,14 +12,11 @@ from __future__ import annotations
 
 from dataclasses import dataclass
 
+from clsynth.certificates import Empty
 from clsynth.grammars import Goal, Grammar
-from clsynth.lint import input_of
+from clsynth.lacking import Lacking
 from clsynth.repository import Repository
-from clsynth.roles import Roles
 from clsynth.session import Session
-from clsynth.similar import SlipIndex
-from clsynth.survey import Survey, TypedLine
-from clsynth.tokens import text_of
 from clsynth.types import TypeLike
 
 __all__ = ["Lack", "Missing", "missing"]
@@ -37,6 +34,9 @@ class Lack:
     """The lines of the components that take it. It may be none: then it is asked for alone."""
     similar: tuple[str, ...]
     """Constructors that may be had and are written much like it."""
+    is_on_the_way: bool
+    """Whether a member wants it to which a way leads from the type by members alone. What the other members want isn't needed, since there
+    is another way."""
 
 
 @dataclass(frozen=True)
@@ -47,22 +47,24 @@ class Missing:
     is_inhabited: bool
     """Whether some term has the type. Then nothing is missing."""
     lacks: tuple[Lack, ...] = ()
+    """The constructors that members of the certificate want and that nothing makes."""
     goals: tuple[Goal, ...] = ()
-    """The goals without terms on the way to it: each rule of one has another one among its arguments."""
+    """The members on the way, as goals: each rule of one has another one among its arguments."""
 
     def shown(self) -> str:
         """The same in words."""
         if self.is_inhabited:
             return f"some term has {self.goal}"
-        lines = [f"no term has {self.goal}"]
-        for lack in self.lacks:
-            lines.append(f"{lack.constructor} is wanted, and no component makes it")
-            lines += [f"    {line}" for line in lack.wanted_by]
-            lines += [f"    Did you mean {' or '.join(lack.similar)}?"] if lack.similar else []
-        return "\n".join(lines if self.lacks else [*lines, *self._goal_lines()])
+        needed = [lack for lack in self.lacks if lack.is_on_the_way]
+        others = [lack for lack in self.lacks if not lack.is_on_the_way]
+        lines = [f"no term has {self.goal}", *([] if needed else self._goal_lines())]
+        lines += [line for lack in needed for line in _lack_lines(lack)]
+        lines += ["Not needed, since there is another way:"] if others else []
+        lines += [f"    {line}" for lack in others for line in _lack_lines(lack)]
+        return "\n".join(lines)
 
     def _goal_lines(self) -> list[str]:
-        lines = ["Each constructor is made. But what leads to one of these types takes another one of them:"]
+        lines = ["Each constructor on the way is made. But what leads to one of these types takes another one of them:"]
         for goal in self.goals[:_MOST_GOALS]:
             components = dict.fromkeys(rule.component or "any term" for rule in goal.rules)
             lines.append(f"    {goal.type}, by {', '.join(components)}" if components else f"    {goal.type}, to which nothing leads")
@@ -70,23 +72,24 @@ class Missing:
         return [*lines, *([f"    {others} more"] if others > 0 else [])]
 
 
+def _lack_lines(lack: Lack) -> list[str]:
+    similar = [f"    Did you mean {' or '.join(lack.similar)}?"] if lack.similar else []
+    return [f"{lack.constructor} is wanted, and no component makes it", *(f"    {line}" for line in lack.wanted_by), *similar]
+
+
 def missing(session: Session, repository: Repository | str, goal: TypeLike) -> Missing:
-    """What is missing for the type. The repository is that of the session. Raises the errors of `Session.grammar`."""
-    grammar = session.grammar(goal)
-    if grammar.goals[0].rank is not None:
+    """What is missing for the type. The repository is that of the session. Raises the errors of `Session.certify`."""
+    certificate = session.certify(goal)
+    if not isinstance(certificate, Empty):
         return Missing(str(goal), True)
-    goals = _empty_goals(grammar)
-    survey = Survey(input_of(repository, [f"inhabit {it.type}" for it in goals]))
-    roles = Roles(survey)
-    slips = SlipIndex(sorted(roles.had))
-    lacks = tuple(
-        Lack(name, _users(survey, roles.wanted[name]), tuple(slips.near(name)))
-        for name in roles.lacking() if any(by.word == "inhabit" for by in roles.wanted[name])
-    )
+    goals = _goals_on_the_way(session.grammar(goal))
+    lacking = Lacking(repository, [member.type for member in certificate.members])
+    on_the_way = {name for it in goals for name in lacking.of(it.type)}
+    lacks = tuple(Lack(name, lacking.users(name), lacking.similar(name), name in on_the_way) for name in lacking.names)
     return Missing(str(goal), False, lacks, goals)
 
 
-def _empty_goals(grammar: Grammar) -> tuple[Goal, ...]:
+def _goals_on_the_way(grammar: Grammar) -> tuple[Goal, ...]:
     """The goals without terms to which rules lead from the first goal by such goals alone."""
     numbers, known = [0], {0}
     for number in numbers:
@@ -95,9 +98,3 @@ def _empty_goals(grammar: Grammar) -> tuple[Goal, ...]:
                 known.add(argument)
                 numbers.append(argument)
     return tuple(grammar.goals[number] for number in numbers)
-
-
-def _users(survey: Survey, wanted_by: list[TypedLine]) -> tuple[str, ...]:
-    """The lines of the components among what wants a constructor."""
-    lines = dict.fromkeys(by.line for by in wanted_by if by.word == "comp")
-    return tuple(text_of(survey.given.lines[line - 1]) for line in lines)

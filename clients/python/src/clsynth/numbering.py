@@ -14,9 +14,10 @@ from itertools import islice
 from clsynth.errors import (
     BadCertificate, BadName, ClosureTooLarge, NoQed, ParseFault, QueryError, TooManyTerms, TypeTooDeep, TypeTooLarge, WideGoal,
 )
-from clsynth.limits import MAX_LINE_BYTES, MAX_NAME_BYTES, MAX_NODES, MAX_PARENTHESES
+from clsynth.limits import MAX_NAME_BYTES, MAX_NODES, MAX_PARENTHESES
 from clsynth.queries import Query
 from clsynth.terms import Term
+from clsynth.tokens import bytes_of, can_be_read
 from clsynth.types import Type, open_parentheses
 
 __all__ = ["Numbering", "is_read"]
@@ -66,7 +67,7 @@ def is_read(query: Query[object], components: Container[str]) -> bool:
     """Whether the program reads the first line of the query, so that its names get numbers. It is told without the program, by the names
     of the components."""
     line = query.lines[0]
-    if len(line.encode(errors="surrogatepass")) > MAX_LINE_BYTES or open_parentheses(line) > MAX_PARENTHESES:
+    if not can_be_read(bytes_of(line)) or open_parentheses(line) > MAX_PARENTHESES:
         return False
     try:
         types = [Type.parse(type) for type in query.types]

@@ -4,15 +4,18 @@ from __future__ import annotations
 
 import os
 import shutil
+import signal
 import subprocess
 from contextlib import suppress
-from dataclasses import astuple, dataclass
+from dataclasses import dataclass
 from pathlib import Path
+from typing import IO
 
-from clsynth.errors import ProcessFault, ProgramNotFound, Status
+from clsynth.errors import ProcessFault, ProgramNotFound, Status, UsageFault
 from clsynth.limits import MAX_INPUT_BYTES
+from clsynth.tokens import text_of
 
-__all__ = ["Options", "Program", "find_program"]
+__all__ = ["Options", "Program", "find_program", "kill", "started"]
 
 _NAME = "clsynth"
 _VARIABLE = "CLSYNTH"
@@ -46,23 +49,47 @@ class Options:
     workers: int | None = None
     max_goals: int | None = None
     max_rules: int | None = None
-    pool: int | None = None
+    pool: int | str | None = None
+    others: tuple[str, ...] = ()
+    """Words that stand behind these options, as a program may take that has more of them."""
 
     def words(self) -> list[str]:
         """As the command line has them."""
-        names = ("--workers", "--max-goals", "--max-rules", "--pool")
-        return [word for name, value in zip(names, astuple(self)) if value is not None for word in (name, str(value))]
+        given = {"--workers": self.workers, "--max-goals": self.max_goals, "--max-rules": self.max_rules, "--pool": self.pool}
+        return [word for name, value in given.items() if value is not None for word in (name, str(value))] + list(self.others)
+
+
+def started(words: list[str], given: int | IO[bytes]) -> subprocess.Popen[bytes]:
+    """The process of the program with these words, which reads what is given. Raises `ProgramNotFound` if it can't be run."""
+    try:
+        # In a group of its own: what the keyboard interrupts is the caller, and a program that waits for queries goes on waiting.
+        return subprocess.Popen(words, stdin=given, stdout=subprocess.PIPE, process_group=0)
+    except OSError as error:
+        raise ProgramNotFound([f"{words[0]}: {error.strerror}"]) from None
+
+
+def kill(process: subprocess.Popen[bytes]) -> None:
+    """Ends the process at once, and those that it started: the program may be run by a script."""
+    if process.poll() is None:
+        with suppress(ProcessLookupError):
+            os.killpg(process.pid, signal.SIGKILL)
 
 
 class Program:
     """The process, its input and its output."""
 
     def __init__(self, words: list[str]) -> None:
-        self._process = subprocess.Popen(words, stdin=subprocess.PIPE, stdout=subprocess.PIPE)
+        self._words = words
+        self._process = started(words, subprocess.PIPE)
         assert self._process.stdin and self._process.stdout
         self._input = self._process.stdin
         self._output = self._process.stdout
         self.bytes_left = MAX_INPUT_BYTES
+
+    @property
+    def has_ended(self) -> bool:
+        """Whether it ended by itself, or was killed from outside."""
+        return self._process.poll() is not None
 
     def send(self, piece: bytes) -> None:
         """Sends lines, of no more bytes than are left."""
@@ -77,7 +104,7 @@ class Program:
         line = self._output.readline()
         if not line.endswith(b"\n"):
             raise self.fault()
-        return line[:-1].decode()
+        return text_of(line[:-1])
 
     def text(self, length: int) -> str:
         """The text of the next so many bytes, behind which a line feed stands."""
@@ -94,16 +121,17 @@ class Program:
 
     def kill(self) -> None:
         """Ends the program at once. Another thread may call this: whoever reads finds the end of the output."""
-        self._process.kill()
+        kill(self._process)
 
     def abandon(self) -> None:
         """Ends the program at once, and frees what it held."""
-        self._process.kill()
+        kill(self._process)
         self._end()
 
     def fault(self) -> ProcessFault:
         """Why the output ended too early."""
-        return ProcessFault(self._end())
+        code = self._end()
+        return UsageFault(self._words) if code == Status.USAGE.value else ProcessFault(code)
 
     def _end(self) -> int:
         with suppress(BrokenPipeError):

@@ -13,12 +13,13 @@ from dataclasses import dataclass
 from typing import Generic, Protocol, TypeVar
 
 from clsynth.certificates import Certificate, parse_certificate
-from clsynth.errors import LineTooLong, NoQed
+from clsynth.errors import LineTooLong, NoQed, NotUtf8
 from clsynth.grammars import Grammar, parse_grammar
 from clsynth.limits import MAX_LINE_BYTES, MAX_SIZE, MAX_TAKE
 from clsynth.replies import Event, Page, Sizes, Step, TermText, Verdict
 from clsynth.terms import Term, TermLike
-from clsynth.types import TypeLike
+from clsynth.tokens import bytes_of, can_be_read
+from clsynth.types import Type, TypeLike
 
 __all__ = [
     "Query", "Reader", "certify", "grammar", "has_type", "history", "inhabited", "is_subtype", "page", "paths", "sizes", "text_page", "verify",
@@ -44,7 +45,8 @@ class Query(Generic[Answer]):
     lines: tuple[str, ...]
     """What is sent. Behind the first line stands a certificate, if there are others."""
     read: Callable[[str, Reader], Answer]
-    """Reads the reply to its end. It is given the first line, which is no error, and what the others are read from."""
+    """Reads the reply to its end. It is given the first line, which is no error, and what the others are read from. A `ValueError` or a
+    `LookupError` says that it is no such reply."""
     types: tuple[str, ...] = ()
     """The types in its first line. Where the program reads the line, their constructors get numbers, by which it orders types."""
     certificate_types: tuple[str, ...] = ()
@@ -61,22 +63,26 @@ class Query(Generic[Answer]):
 
 def is_subtype(lower: TypeLike, upper: TypeLike) -> Query[bool]:
     """Whether the first type is a subtype of the second."""
-    return Query((f"sub {lower} <= {upper}",), _is_yes, (str(lower), str(upper)))
+    types = _type(lower), _type(upper)
+    return Query((f"sub {types[0]} <= {types[1]}",), _is_yes, types)
 
 
 def paths(component: str) -> Query[list[str]]:
     """The paths of a component: the parts whose intersection is its type."""
+    if not isinstance(component, str):
+        raise TypeError(f"{component!r} is no name of a component")
     return Query((f"paths {component}",), _paths)
 
 
 def has_type(term: TermLike, goal: TypeLike) -> Query[bool]:
     """Whether the term has the type."""
-    return Query((f"typed {term} : {goal}",), _is_yes, (str(goal),), terms=(str(term),))
+    type, asked = _type(goal), _term(term)
+    return Query((f"typed {asked} : {type}",), _is_yes, (type,), terms=(asked,))
 
 
 def inhabited(goal: TypeLike) -> Query[bool]:
     """Whether some term has the type."""
-    return Query((f"inhabit {goal}",), _is_inhabited, (str(goal),))
+    return _of_type("inhabit", goal, _is_inhabited)
 
 
 def page(goal: TypeLike, take: int, *, max_size: int = MAX_SIZE, after: TermLike | None = None) -> Query[Page[Term]]:
@@ -91,45 +97,67 @@ def text_page(goal: TypeLike, take: int, *, max_size: int = MAX_SIZE, after: Ter
 
 def grammar(goal: TypeLike) -> Query[Grammar]:
     """The tree grammar of the terms of the type."""
-    return Query((f"grammar {goal}",), _grammar, (str(goal),))
+    return _of_type("grammar", goal, _grammar)
 
 
 def certify(goal: TypeLike) -> Query[Certificate]:
     """A certificate that some term has the type, or that none has."""
-    return Query((f"certify {goal}",), _certificate, (str(goal),))
+    return _of_type("certify", goal, _certificate)
 
 
 def verify(goal: TypeLike, certificate: Certificate | str) -> Query[Verdict]:
     """Whether the certificate shows this of the type. If it is a text, its last line is `qed`, or `NoQed` is raised."""
-    query = f"verify {goal}"
-    if len(query.encode(errors="surrogatepass")) > MAX_LINE_BYTES:
-        # Such a line would open no certificate, and the lines behind it would be queries.
+    type = _type(goal)
+    query = f"verify {type}"
+    # A line that can't be read would open no certificate, and the lines behind it would be queries.
+    piece = bytes_of(query)
+    if len(piece) > MAX_LINE_BYTES:
         raise LineTooLong(query)
+    if not can_be_read(piece):
+        raise NotUtf8(query)
     lines = certificate.rstrip("\n").split("\n") if isinstance(certificate, str) else certificate.lines()
     ends = [number for number, line in enumerate(lines) if line.strip(" \t\r") == "qed"]
     if not ends:
         raise NoQed(query)
     if ends[0] != len(lines) - 1:
         raise ValueError("lines stand behind the end of the certificate")
-    return Query((query, *lines), _verdict, (str(goal),), tuple(_type_of(line) for line in lines if line.strip()))
+    return Query((query, *lines), _verdict, (type,), tuple(_type_of(line) for line in lines if line.strip()))
 
 
 def sizes(goal: TypeLike) -> Query[Sizes]:
     """How large the terms of the type are. All terms count, also those that are too long for a page."""
-    return Query((f"finite {goal}",), _sizes, (str(goal),))
+    return _of_type("finite", goal, _sizes)
 
 
 def history(goal: TypeLike) -> Query[list[Event]]:
     """Which worker claimed and filed which row of the closure. It may differ from run to run."""
-    return Query((f"audit {goal}",), _history, (str(goal),))
+    return _of_type("audit", goal, _history)
 
 
 def _listing(
     word: str, goal: TypeLike, take: int, max_size: int, after: TermLike | None, read: Callable[[str, Reader], Answer],
 ) -> Query[Answer]:
-    line = f"{word} {goal} max {max_size} take {take}" + ("" if after is None else f" after {after}")
+    type, terms = _type(goal), () if after is None else (_term(after),)
+    line = " ".join([f"{word} {type} max {max_size} take {take}", *(f"after {term}" for term in terms)])
     is_in_range = 1 <= max_size <= MAX_SIZE and 1 <= take <= MAX_TAKE
-    return Query((line,), read, (str(goal),) if is_in_range else (), terms=() if after is None else (str(after),))
+    return Query((line,), read, (type,) if is_in_range else (), terms=terms)
+
+
+def _of_type(word: str, goal: TypeLike, read: Callable[[str, Reader], Answer]) -> Query[Answer]:
+    type = _type(goal)
+    return Query((f"{word} {type}",), read, (type,))
+
+
+def _type(goal: TypeLike) -> str:
+    if not isinstance(goal, str | Type):
+        raise TypeError(f"{goal!r} is no type")
+    return str(goal)
+
+
+def _term(term: TermLike) -> str:
+    if not isinstance(term, str | Term):
+        raise TypeError(f"{term!r} is no term")
+    return str(term)
 
 
 def _type_of(line: str) -> str:
@@ -152,11 +180,11 @@ def _up_to(last: str, first: str, reader: Reader) -> Iterator[str]:
 
 
 def _is_yes(first: str, reader: Reader) -> bool:
-    return first == "yes"
+    return ("no", "yes").index(first) == 1
 
 
 def _is_inhabited(first: str, reader: Reader) -> bool:
-    return first == "inhabited"
+    return ("uninhabited", "inhabited").index(first) == 1
 
 
 def _paths(first: str, reader: Reader) -> list[str]:
@@ -191,7 +219,7 @@ def _certificate(first: str, reader: Reader) -> Certificate:
 
 def _verdict(first: str, reader: Reader) -> Verdict:
     word, *told = first.split(" ")
-    return Verdict(True) if word == "accepted" else Verdict(False, int(told[0]), told[1])
+    return Verdict(True) if ("refused", "accepted").index(word) else Verdict(False, int(told[0]), told[1])
 
 
 def _sizes(first: str, reader: Reader) -> Sizes:

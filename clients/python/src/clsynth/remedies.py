@@ -39,10 +39,10 @@ class Case:
         """The tokens of the line."""
         return tokens_of(self.line)
 
-    @cached_property
+    @property
     def declared(self) -> Declared:
         """What the repository declares."""
-        return Declared(self.given.repository)
+        return self.given.declared
 
     @cached_property
     def misfit(self) -> Misfit | None:
@@ -110,6 +110,8 @@ def _of_token(case: Case, found: Misfit) -> str:
         if len(text) > MAX_NAME_BYTES:
             return f"A name has at most {MAX_NAME_BYTES} bytes, and this one has {len(text)}."
         return "A name has letters of ASCII, digits and `_`, and begins with no digit."
+    if found.token and found.token.kind == "number" and case.tokens[case.tokens.index(found.token) - 1].text == "max":
+        return "The type before `max` isn't complete, so that `max` is a constructor in it."
     return _OF_SIGNS.get((case.forms == REPOSITORY, text), _OF_SIGNS.get((None, text), ""))
 
 

@@ -83,8 +83,8 @@ class Repository:
             raise DuplicateName(f"the component {name!r} is declared already")
         if len(self._components) == MAX_COMPONENTS:
             raise TooManyComponents("the repository", MAX_COMPONENTS + 1, MAX_COMPONENTS)
-        if cost is not None and not 1 <= cost <= MAX_COST:
-            raise BadCost(f"the cost of {name!r} is {cost}, and may be from 1 to {MAX_COST}")
+        if cost is not None and not (isinstance(cost, int) and 1 <= cost <= MAX_COST):
+            raise BadCost(f"the cost of {name!r} is {cost!r}, and may be a whole number from 1 to {MAX_COST}")
         what = f"the component {name!r}"
         kinds: dict[str, list[Type]] = {}
         if not isinstance(type, Type | str):
@@ -93,7 +93,7 @@ class Repository:
         lines = [*(_kind_line(kind, types) for kind, types in kinds.items()), f"comp {name} : {_checked(declared, what)}"]
         template = None if text is None else check_template(text)
         lines += [] if template is None else [f"text {name} = {template}"]
-        lines += [] if cost is None else [f"cost {name} {cost}"]
+        lines += [] if cost is None else [f"cost {name} {cost:d}"]
         self._declare(lines)
         self._kinds.update((kind, tuple(types)) for kind, types in kinds.items())
         self._components[name] = Component(name, declared, 1 if cost is None else cost, template, call)
@@ -212,6 +212,8 @@ class Repository:
 def _listed(types: Types | str) -> list[Type]:
     if isinstance(types, str):
         types = types.split("|")
+    if not isinstance(types, Iterable):
+        raise TypeError(f"{types!r} is no type, and not several")
     return [as_type(type) for type in (types.values() if isinstance(types, Mapping) else types)]
 
 

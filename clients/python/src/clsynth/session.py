@@ -14,31 +14,39 @@ from __future__ import annotations
 import math
 import os
 import threading
-from collections.abc import Callable, Iterable, Iterator, Mapping
+from collections.abc import Callable, Iterable, Iterator, Mapping, Sequence
 from contextlib import contextmanager
+from functools import cached_property
 from types import TracebackType
 from typing import Any, TypeVar
 
 from clsynth import queries
 from clsynth.certificates import Certificate
-from clsynth.errors import ERRORS, InputFull, ProcessFault, QueryCancelled, QueryError, QueryStopped, QueryTimeout, RepositoryRefused
-from clsynth.errors import RepositoryTooLong, SessionClosed
+from clsynth.errors import (
+    ERRORS, BadReply, InputFull, ProcessFault, QueryCancelled, QueryError, QueryStopped, QueryTimeout, RepositoryRefused, RepositoryTooLong,
+    SessionClosed, TooManyTerms,
+)
 from clsynth.evaluation import Functions
+from clsynth.explain import explain_error
 from clsynth.grammars import Grammar
 from clsynth.limits import MAX_INPUT_BYTES, MAX_SIZE
-from clsynth.lint import warn_of
+from clsynth.lint import issue, warnings_of
 from clsynth.names import check_name
 from clsynth.numbering import Numbering
+from clsynth.paging import Paging, term_paging, text_paging
 from clsynth.program import Options, Program, find_program
 from clsynth.queries import Query
 from clsynth.replies import Event, Page, Sizes, TermText, Verdict
 from clsynth.repository import Repository
 from clsynth.terms import Term, TermLike
+from clsynth.tokens import bytes_of
+from clsynth.transcripts import Input
 from clsynth.types import TypeLike
 
 __all__ = ["Session"]
 
 Answer = TypeVar("Answer")
+Entry = TypeVar("Entry")
 # Nothing is written for a repository in order, so a query is asked to which the reply is `yes`.
 _GREETING = "sub omega <= omega"
 
@@ -47,11 +55,13 @@ class Session:
     """A running program that has read a repository.
 
     The program is found as `find_program` says. The line `end` may be left out of the repository. `workers`, `max_goals`, `max_rules` and
-    `pool` are options of the program. `timeout` bounds each query, in seconds, with the start of a new program if there is one.
+    `pool` are options of the program, and `words` are further words of its command line, for a program that has more options. One that
+    doesn't take them raises `UsageFault`. `timeout` bounds each query, in seconds, with the start of a new program if there is one.
 
     A program takes 1,048,576 bytes of input. Where a query has no room any more, a new program is started, which reads the repository
     again and answers as the old one would have. One is also started for the query after one that was stopped by its time bound, by
-    `cancel` or by an exception, and after the program ended by itself. A `Repository` is read once: what is declared later isn't in it.
+    `cancel` or by an exception, and after the program ended by itself. The text of a `Repository` is taken once: what is declared later
+    isn't in it.
 
     Where a grammar or a certificate has constructors that the repository hasn't, its text depends on which of them came first. `names`
     count as if they had come before the first query, in this order. A new program is told the names that came before, until they take
@@ -64,10 +74,12 @@ class Session:
 
     def __init__(
         self, repository: Repository | str, *, program: str | os.PathLike[str] | None = None, workers: int | None = None,
-        max_goals: int | None = None, max_rules: int | None = None, pool: int | None = None, timeout: float | None = None,
-        names: Iterable[str] = (), lint: bool = True,
+        max_goals: int | None = None, max_rules: int | None = None, pool: int | str | None = None, words: Sequence[str] = (),
+        timeout: float | None = None, names: Iterable[str] = (), lint: bool = True,
     ) -> None:
-        self._words = [find_program(program), *Options(workers, max_goals, max_rules, pool).words()]
+        if not isinstance(repository, Repository | str):
+            raise TypeError(f"a repository is a Repository or its text, as `Path.read_text` gives it, and no {type(repository).__name__}")
+        self._words = [find_program(program), *Options(workers, max_goals, max_rules, pool, tuple(words)).words()]
         self._functions = repository.functions if isinstance(repository, Repository) else {}
         self._repository = _with_end(str(repository))
         self._numbering = Numbering(map(check_name, names))
@@ -79,7 +91,7 @@ class Session:
         with self._under_way(_GREETING, timeout) as attempt:
             self._program_for(0, attempt)
         if lint:
-            warn_of(str(repository), stacklevel=2)
+            issue(warnings_of(str(repository)), stacklevel=2)
 
     def __enter__(self) -> Session:
         return self
@@ -88,9 +100,9 @@ class Session:
         if kind is None:
             self.close()
             return
+        self._is_closed = True
         self.cancel()
         with self._turn:
-            self._is_closed = True
             self._abandon()
 
     def close(self) -> None:
@@ -121,7 +133,10 @@ class Session:
             first = program.line()
             if first.startswith("error "):
                 raise self._error(query, first)
-            answer = query.read(first, program)
+            try:
+                answer = query.read(first, program)
+            except (ValueError, LookupError) as error:
+                raise BadReply(query.lines[0], first) from error
             self._numbering.add(query)
             return answer
 
@@ -157,22 +172,15 @@ class Session:
         self, goal: TypeLike, *, max_size: int = MAX_SIZE, page_size: int = 100, after: TermLike | None = None, timeout: float | None = None,
     ) -> Iterator[Term]:
         """All terms of the type with at most 64 component occurrences, small ones first, from pages that are fetched one after another.
-        Other queries may be asked meanwhile. The time bound is that of a page."""
-        more = True
-        while more:
-            terms, more = self.page(goal, page_size, max_size=max_size, after=after, timeout=timeout)
-            yield from terms
-            after = terms[-1] if terms else after
+        Other queries may be asked meanwhile. The time bound is that of a page. Where too many terms count for a page, the following ones
+        are smaller, and `TooManyTerms` is raised if they count for a page of one term."""
+        return self._entries(term_paging(goal, page_size, max_size, after), timeout)
 
     def texts(
         self, goal: TypeLike, *, max_size: int = MAX_SIZE, page_size: int = 100, after: TermLike | None = None, timeout: float | None = None,
     ) -> Iterator[TermText]:
         """The same, with the text of each term."""
-        more = True
-        while more:
-            entries, more = self.text_page(goal, page_size, max_size=max_size, after=after, timeout=timeout)
-            yield from entries
-            after = entries[-1].term if entries else after
+        return self._entries(text_paging(goal, page_size, max_size, after), timeout)
 
     def values(
         self, goal: TypeLike, functions: Mapping[str, object] | None = None, *, max_size: int = MAX_SIZE, page_size: int = 100,
@@ -203,14 +211,26 @@ class Session:
         """Which worker claimed and filed which row of the closure. It may differ from run to run."""
         return self.ask(queries.history(goal), timeout=timeout)
 
+    def _entries(self, paging: Paging[Entry], timeout: float | None) -> Iterator[Entry]:
+        while paging.has_more:
+            try:
+                page = self.ask(paging.query, timeout=timeout)
+            except TooManyTerms:
+                if not paging.shrinks():
+                    raise
+            else:
+                paging.take(page)
+                yield from page.entries
+
     @contextmanager
     def _under_way(self, query: str, timeout: float | None) -> Iterator[_Attempt]:
         """Lets other threads stop what is done. If it ends in the middle of a reply, the program is given up."""
         attempt = _Attempt()
         with self._turn:
+            # In this order: whoever closes the session stops the attempt, or the attempt sees that it is closed.
+            self._attempt = attempt
             if self._is_closed:
                 raise SessionClosed("the session has ended")
-            self._attempt = attempt
             timer = _timer(self._timeout if timeout is None else timeout, lambda: attempt.stop(QueryTimeout))
             try:
                 yield attempt
@@ -231,6 +251,8 @@ class Session:
         """A program with room for so many bytes."""
         if self._program and size > self._program.bytes_left:
             self._make_room(size)
+            self._abandon()
+        if self._program and self._program.has_ended:
             self._abandon()
         if self._program:
             attempt.begin(self._program)
@@ -265,17 +287,33 @@ class Session:
         for _ in (*self._numbering.lines(), _GREETING):
             first = program.line()
             if first.startswith("refused "):
-                _, line, fault = first.split(" ", 2)
-                raise RepositoryRefused(int(line), fault)
-            if first != "yes":
+                raise self._refusal(first)
+            if first.startswith("usage: "):
                 raise program.fault()
+            if first != "yes":
+                raise BadReply(_GREETING, first)
+
+    def _refusal(self, line: str) -> RepositoryRefused:
+        """The refusal that the line says, with an explanation that is shown where nobody catches it."""
+        _, number, *words = line.split(" ", 2)
+        if not (number.isascii() and number.isdigit() and words):
+            raise BadReply(_GREETING, line)
+        error = RepositoryRefused(int(number), words[0])
+        error.add_note(explain_error(error, self._input, "repository"))
+        return error
 
     def _error(self, query: Query[object], line: str) -> QueryError:
-        """The error that the line says."""
+        """The error that the line says, with an explanation that is shown where nobody catches it."""
         _, word, *detail = line.split(" ", 2)
-        error = ERRORS.get(word, QueryError)(query.lines[0], *detail)
+        error = ERRORS[word](query.lines[0], *detail) if word in ERRORS else QueryError(query.lines[0], " ".join([word, *detail]))
+        if not error.advice:
+            error.add_note(explain_error(error, self._input, "query"))
         self._numbering.add(query, error)
         return error
+
+    @cached_property
+    def _input(self) -> Input:
+        return Input(_bytes(*self._repository))
 
     def _abandon(self) -> None:
         program, self._program = self._program, None
@@ -324,7 +362,8 @@ def _timer(seconds: float | None, stop: Callable[[], None]) -> threading.Timer |
 
 
 def _bytes(*lines: str) -> bytes:
-    return "".join(f"{line}\n" for line in lines).encode()
+    # What isn't UTF-8 is left to the program, which says so.
+    return bytes_of("".join(f"{line}\n" for line in lines))
 
 
 def _with_end(repository: str) -> list[str]:

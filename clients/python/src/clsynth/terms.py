@@ -36,9 +36,13 @@ class Term:
 
     def __post_init__(self) -> None:
         length, depth = 1, 0
-        for argument in self.arguments:
-            length += argument.length
-            depth = max(depth, argument.depth)
+        try:
+            for argument in self.arguments:
+                length += argument.length
+                depth = max(depth, argument.depth)
+        except AttributeError:
+            raise TypeError(f"{argument!r} is no term") from None
+        object.__setattr__(self, "arguments", tuple(self.arguments))
         object.__setattr__(self, "length", length)
         object.__setattr__(self, "depth", depth + 1)
         object.__setattr__(self, "_hash", hash((self.component, *[argument._hash for argument in self.arguments])))

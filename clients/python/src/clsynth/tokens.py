@@ -7,7 +7,7 @@ from dataclasses import dataclass
 
 from clsynth.limits import MAX_LINE_BYTES, MAX_NAME_BYTES
 
-__all__ = ["BLANKS", "Token", "byte_of", "can_be_read", "character_of", "first_word", "is_alone", "is_skipped", "lines_of", "text_of", "tokens_of"]
+__all__ = ["BLANKS", "Token", "byte_of", "bytes_of", "can_be_read", "character_of", "first_word", "is_alone", "is_skipped", "lines_of", "text_of", "tokens_of"]
 
 _TOKEN = re.compile(r"(?P<name>[A-Za-z_][A-Za-z0-9_]*)|(?P<number>[0-9]+)|(?P<sign>->|<=|[&*(),$:=|])|(?P<bad>[^ \t\r])", re.ASCII)
 _FIRST = re.compile(r"[ \t\r]*([A-Za-z_][A-Za-z0-9_]*)", re.ASCII)
@@ -43,14 +43,22 @@ def text_of(line: bytes) -> str:
     return line.decode(errors="surrogateescape")
 
 
+def bytes_of(text: str) -> bytes:
+    """The bytes of the text, of which `text_of` made it. Of what isn't UTF-8 in another way some bytes are made that aren't either."""
+    try:
+        return text.encode(errors="surrogateescape")
+    except UnicodeEncodeError:
+        return text.encode(errors="surrogatepass")
+
+
 def byte_of(line: str, character: int) -> int:
     """The byte of the line at which the character begins."""
-    return len(line[:character].encode(errors="surrogateescape"))
+    return len(bytes_of(line[:character]))
 
 
 def character_of(line: str, byte: int) -> int:
     """The character of the line at which the byte stands."""
-    return len(text_of(line.encode(errors="surrogateescape")[:byte]))
+    return len(text_of(bytes_of(line)[:byte]))
 
 
 def can_be_read(line: bytes) -> bool:

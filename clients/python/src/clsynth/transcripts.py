@@ -4,9 +4,11 @@ from __future__ import annotations
 
 from collections.abc import Iterator
 from dataclasses import dataclass
+from functools import cached_property
 from io import BytesIO
 from typing import Protocol
 
+from clsynth.declarations import Declared
 from clsynth.explanations import REFUSALS
 from clsynth.tokens import can_be_read, first_word, is_alone, is_skipped, lines_of, text_of
 
@@ -102,6 +104,11 @@ class Input:
         """The lines of the repository. Without a line `end` these are all lines."""
         return self.lines if self.end is None else self.lines[: self.end + 1]
 
+    @cached_property
+    def declared(self) -> Declared:
+        """What the repository declares."""
+        return Declared(self.repository)
+
     def queries(self) -> Iterator[Asked]:
         """The queries in turn."""
         place = len(self.repository)
@@ -123,8 +130,10 @@ def exchanges(text: bytes, output: bytes) -> list[Exchange]:
 
 
 def read_replies(given: Input, output: Output) -> Iterator[Exchange]:
-    """The replies in turn, as they come. They end early if the program does."""
+    """The replies in turn, as they come. They end early if the program does, and there is none if it doesn't take its words."""
     first = output.readline()
+    if first.startswith(b"usage: "):
+        return
     if first.startswith(b"refused ") and first.split()[2].decode() in REFUSALS:
         yield Exchange(None, (first.removesuffix(b"\n"),))
         return

@@ -15,10 +15,7 @@ __all__ = ["session_of", "show_missing", "show_why"]
 
 def session_of(given: Namespace, repository: str) -> Session:
     """A session with the options that are given. `cls check` warns, so it doesn't."""
-    options = options_of(given)
-    return Session(
-        repository, workers=options.workers, max_goals=options.max_goals, max_rules=options.max_rules, pool=options.pool, lint=False,
-    )
+    return Session(repository, words=options_of(given).words(), lint=False)
 
 
 def show_why(given: Namespace) -> int:

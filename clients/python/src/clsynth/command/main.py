@@ -6,7 +6,6 @@ import os
 import sys
 from argparse import ArgumentParser, Namespace, RawDescriptionHelpFormatter
 from collections.abc import Callable, Sequence
-from importlib import import_module
 
 from clsynth._version import __version__
 from clsynth.command.asking import show_missing, show_why
@@ -16,6 +15,7 @@ from clsynth.command.options import Parser, add_program_options, number, size
 from clsynth.command.run import explain, run
 from clsynth.command.sources import repository_in
 from clsynth.command.statuses import FOUND, INTERRUPTED, READ_FAULT, REFUSED, USAGE, WRITE_FAULT
+from clsynth.command.viewing import write_page
 from clsynth.errors import ClsynthError, ProcessFault, ProgramNotFound, QueryError, RepositoryRefused
 from clsynth.explain import explain_error
 from clsynth.limits import MAX_SIZE
@@ -33,11 +33,7 @@ _REPOSITORY = "a file with a repository; queries behind it are left out"
 
 def main(arguments: Sequence[str] | None = None) -> int:
     """Runs `cls`, and answers its status."""
-    words = list(sys.argv[1:] if arguments is None else arguments)
-    if words[:1] == ["view"]:
-        # Its words are its own, so they aren't read here.
-        return _guarded(lambda: _view(words[1:]), Namespace())
-    given = _parser().parse_args(words)
+    given = _parser().parse_args(arguments)
     return _guarded(lambda: _command_of(given)(given), given)
 
 
@@ -56,7 +52,7 @@ _CHECK = "Warn of what is wanted and made by nothing, of what is of no use, and 
 _LIST = "List terms of a type, small ones first."
 _WHY = "Say whether a term has a type, and if not, which part of it lacks what."
 _MISSING = "Say which constructors are wanted and made by nothing, if no term has a type."
-_VIEW = "Show answers in a browser. `cls view --help` says how."
+_VIEW = "Write a page for a browser that shows what is known of a type."
 
 
 def _parser() -> ArgumentParser:
@@ -84,7 +80,10 @@ def _parser() -> ArgumentParser:
     lacking = add("missing", _MISSING, show_missing)
     _add_repository(lacking)
     _add_type(lacking)
-    commands.add_parser("view", description=_VIEW, help=_VIEW, add_help=False)
+    showing = add("view", _VIEW, write_page)
+    showing.add_argument("-o", "--output", metavar="PAGE", help="the file that is written; standard output if it isn't given")
+    _add_repository(showing)
+    _add_type(showing)
     return parser
 
 
@@ -125,11 +124,6 @@ def _add_type(parser: ArgumentParser) -> None:
 def _command_of(given: Namespace) -> Callable[[Namespace], int]:
     call: Callable[[Namespace], int] = given.call
     return call
-
-
-def _view(words: list[str]) -> int:
-    status: int = import_module("clsynth.view").main(words)
-    return status
 
 
 def _guarded(command: Callable[[], int], given: Namespace) -> int:

@@ -35,16 +35,21 @@ size = number(MAX_SIZE)
 """Reads a size of terms."""
 
 
+def pool(text: str) -> int | str:
+    """Reads a number of terms. A word is left to the program, which may have one for no bound at all."""
+    return text if text.isalpha() else number(MAX_POOL)(text)
+
+
 def add_program_options(parser: ArgumentParser) -> None:
     """The options of the program."""
     group = parser.add_argument_group("options of the program")
-    for name, greatest, what in (
-        ("--workers", 64, "the workers that work out a closure"),
-        ("--max-goals", 20_000, "the goals that a closure may have"),
-        ("--max-rules", 1_000_000, "the rules that a closure may have"),
-        ("--pool", MAX_POOL, "the terms that may count for a page"),
+    for name, greatest, read, what in (
+        ("--workers", 64, number(64), "the workers that work out a closure"),
+        ("--max-goals", 20_000, number(20_000), "the goals that a closure may have"),
+        ("--max-rules", 1_000_000, number(1_000_000), "the rules that a closure may have"),
+        ("--pool", MAX_POOL, pool, "the terms that may count for a page"),
     ):
-        group.add_argument(name, type=number(greatest), metavar="N", help=f"{what}, from 1 to {greatest:,}")
+        group.add_argument(name, type=read, metavar="N", help=f"{what}, from 1 to {greatest:,}")
 
 
 def options_of(given: Namespace) -> Options:

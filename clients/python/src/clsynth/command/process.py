@@ -2,12 +2,12 @@
 
 from __future__ import annotations
 
-import subprocess
 import tempfile
 from collections.abc import Iterator
 
 from clsynth.command.sources import Sources
-from clsynth.program import Options, find_program
+from clsynth.errors import Status, UsageFault
+from clsynth.program import Options, find_program, kill, started
 from clsynth.transcripts import Exchange, read_replies
 
 __all__ = ["END_WORDS", "Run"]
@@ -22,7 +22,8 @@ END_WORDS = {
 
 
 class Run:
-    """The program over the text of some files. `status` is that of the program, once all replies were taken."""
+    """The program over the text of some files. `status` is that of the program, once all replies were taken. Raises `UsageFault` if the
+    program doesn't take the words of the options."""
 
     def __init__(self, sources: Sources, options: Options) -> None:
         self._sources = sources
@@ -34,13 +35,15 @@ class Run:
         with tempfile.TemporaryFile() as given:
             given.write(self._sources.text)
             given.seek(0)
-            with subprocess.Popen(self._words, stdin=given, stdout=subprocess.PIPE) as process:
+            with started(self._words, given) as process:
                 assert process.stdout
                 try:
                     yield from read_replies(self._sources.input, process.stdout)
                     process.stdout.read()
                 except BaseException:
                     # Whoever takes the replies has stopped.
-                    process.kill()
+                    kill(process)
                     raise
                 self.status = process.wait()
+                if self.status == Status.USAGE.value:
+                    raise UsageFault(self._words)

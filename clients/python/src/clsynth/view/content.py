@@ -6,11 +6,11 @@ from collections.abc import Callable, Iterable
 
 from clsynth.errors import ClosureTooLarge, QueryError, TooManyTerms, TypeTooLarge, WideGoal
 from clsynth.grammars import Goal, Grammar
+from clsynth.lacking import Lacking
 from clsynth.replies import Page, Sizes, TermText
 from clsynth.repository import Repository
 from clsynth.session import Session
 from clsynth.types import TypeLike
-from clsynth.view.lacking import Makers
 from clsynth.view.proofs import Json, certificate_content
 
 __all__ = ["MOST_TERMS", "content_of"]
@@ -32,20 +32,20 @@ def content_of(session: Session, repository: Repository, goal: TypeLike, name: s
 
 
 def _answered(session: Session, repository: Repository, goal: TypeLike) -> Json:
-    makers = Makers(repository)
     try:
         grammar = session.grammar(goal)
     except _Bound as error:
         told = _error(error)
         return {"grammar": told, "terms": told, "certificate": told, "components": {}, "kinds": {}, "inhabited": "", "sizes": ""}
+    lacking = Lacking(repository, [it.type for it in grammar.goals if it.rank is None])
     return {
         "inhabited": "No term has the type." if grammar.goals[0].rank is None else "Some term has the type.",
         "sizes": _sizes(session.sizes(goal)),
-        "grammar": {"goals": [_goal(it, makers) for it in grammar.goals]},
+        "grammar": {"goals": [_goal(it, lacking) for it in grammar.goals]},
         "components": {it: str(repository.components[it].type) for it in _components(grammar)},
         "kinds": {it: _kinds(repository, it) for it in _components(grammar)},
         "terms": _or_error(lambda: _terms(session, repository, goal)),
-        "certificate": _or_error(lambda: certificate_content(session, session.certify(goal), grammar, makers)),
+        "certificate": _or_error(lambda: certificate_content(session, session.certify(goal), grammar, lacking)),
     }
 
 
@@ -75,9 +75,9 @@ def _kinds(repository: Repository, component: str) -> list[str]:
     return told
 
 
-def _goal(goal: Goal, makers: Makers) -> Json:
+def _goal(goal: Goal, lacking: Lacking) -> Json:
     return {
-        "type": goal.type, "rank": goal.rank, "lacks": makers.lacking(goal.type) if goal.rank is None else [],
+        "type": goal.type, "rank": goal.rank, "lacks": lacking.of(goal.type) if goal.rank is None else [],
         "rules": [{"component": rule.component, "arguments": rule.arguments} for rule in goal.rules],
     }
 

@@ -10,10 +10,10 @@ from typing import TypedDict
 
 from clsynth.certificates import Block, Certificate, Empty, Inhabited, Member, Row
 from clsynth.errors import QueryError
-from clsynth.grammars import Goal, Grammar
+from clsynth.grammars import Grammar, Rule
+from clsynth.lacking import Lacking
 from clsynth.session import Session
 from clsynth.types import Arrow, Intersection, Type, intersection, omega
-from clsynth.view.lacking import Makers
 
 __all__ = ["Json", "certificate_content"]
 
@@ -63,52 +63,44 @@ class _Arrows:
         return self._used
 
 
-def certificate_content(session: Session, certificate: Certificate, grammar: Grammar, makers: Makers) -> Json:
+def certificate_content(session: Session, certificate: Certificate, grammar: Grammar, lacking: Lacking) -> Json:
     """What the page shows of the certificate that the program made for the grammar's goal 0."""
     arrows = _Arrows(session)
     if isinstance(certificate, Inhabited):
         told = _rows(certificate, grammar, arrows)
     else:
-        told = _Members(session, certificate, grammar, arrows, makers).content()
+        told = _Members(session, certificate, grammar, arrows, lacking).content()
     return {**told, "arrows": arrows.used(), "lines": "\n".join(certificate.lines())}
 
 
 def _rows(certificate: Inhabited, grammar: Grammar, arrows: _Arrows) -> Json:
     goals = {goal.type: goal for goal in grammar.goals}
     places = {row.type: place for place, row in enumerate(certificate.rows)}
-    return {"rows": [_row(row, goals[row.type], grammar, places, arrows) for row in certificate.rows]}
+    rules = {row.type: grammar.least_rule(goals[row.type]) for row in certificate.rows}
+    return {"rows": [_row(row, rules[row.type], grammar, places, arrows) for row in certificate.rows]}
 
 
-def _row(row: Row, goal: Goal, grammar: Grammar, places: dict[str, int], arrows: _Arrows) -> Json:
+def _row(row: Row, rule: Rule | None, grammar: Grammar, places: dict[str, int], arrows: _Arrows) -> Json:
+    """The row, which was made by this rule."""
     if row.positions:
         arrows.use(row.component, row.argument_count, row.positions)
     return {
         "type": row.type, "component": row.component, "count": row.argument_count, "positions": row.positions,
-        "arguments": [places[grammar.goals[argument].type] for argument in _first_arguments(row, goal, grammar)],
+        "arguments": [places[grammar.goals[argument].type] for argument in (rule.arguments if rule else ())],
     }
-
-
-def _first_arguments(row: Row, goal: Goal, grammar: Grammar) -> tuple[int, ...]:
-    """The arguments of the rule that the row was made by: the first one all of whose arguments have a lower rank."""
-    for rule in goal.rules:
-        ranks = [grammar.goals[argument].rank for argument in rule.arguments]
-        is_lower = all(rank is not None and goal.rank is not None and rank < goal.rank for rank in ranks)
-        if is_lower and rule.component == row.component and len(rule.arguments) == row.argument_count:
-            return rule.arguments
-    return ()
 
 
 class _Members:
     """The members of a certificate, each with what blocks it."""
 
-    def __init__(self, session: Session, certificate: Empty, grammar: Grammar, arrows: _Arrows, makers: Makers) -> None:
+    def __init__(self, session: Session, certificate: Empty, grammar: Grammar, arrows: _Arrows, lacking: Lacking) -> None:
         self._session = session
         self._certificate = certificate
         self._grammar = grammar
         self._goals = {goal.type: goal for goal in grammar.goals}
         self._places = {member.type: place for place, member in enumerate(certificate.members)}
         self._arrows = arrows
-        self._makers = makers
+        self._lacking = lacking
 
     def content(self) -> Json:
         return {"members": [self._member(member) for member in self._certificate.members]}
@@ -116,7 +108,7 @@ class _Members:
     def _member(self, member: Member) -> Json:
         return {
             "type": member.type, "layers": [str(path) for path in _paths_of(Type.parse(member.type))],
-            "lacks": self._makers.lacking(member.type), "blocks": [self._block(member, block) for block in member.blocks],
+            "lacks": self._lacking.of(member.type), "blocks": [self._block(member, block) for block in member.blocks],
         }
 
     def _block(self, member: Member, block: Block) -> Json:
