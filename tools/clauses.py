@@ -11,7 +11,10 @@ from definitions import WORD, Scope, scope_of
 
 SKIPPED = re.compile(r'//[^\n]*|"(?:\\.|[^"\\])*"|\'(?:\\.|[^\'\\])\'')
 FILE_USES = re.compile(r"^ghost use[^;]*;", re.MULTILINE)
-ITEM = re.compile(r"^( *)(?:#\[[^\]]*\]\s*)*(pub(?:\(crate\))? )?(impl|trait|fn)\b\s*(<(?:[^<>]|<[^<>]*>)*>)?((?:[^{;\[]|\[[^\]]*\])*)", re.MULTILINE)
+# The start of the line, `pub`, the kind of the item, and its head behind the generic parameters.
+ITEM = re.compile(
+    r"^( *)(?:#\[[^\]]*\]\s*)*(pub(?:\(crate\))? )?(impl|trait|fn)\b\s*(?:<(?:[^<>]|<[^<>]*>)*>)?((?:[^{;\[]|\[[^\]]*\])*)", re.MULTILINE
+)
 CLAUSE = re.compile(r"(?:requires|ensures)(?:\s+\w+)?\s*$")
 BRACE = re.compile(r"[{}]")
 MEMBER = re.compile(r"ghost (\w+)\s*([:=])\s*\{")
@@ -83,13 +86,13 @@ def file_clauses(file: str, text: str, surface: Surface, is_public: bool) -> Ite
     for item in (it for it in ITEM.finditer(text) if not it[1]):
         if item[3] != "fn":
             yield from block_clauses(file, text, item, scope, surface, is_public)
-        elif item[2] == "pub " and (is_public or first_word(item[5]) in surface.names):
+        elif item[2] == "pub " and (is_public or first_word(item[4]) in surface.names):
             yield from (Clause(file, it, scope) for it in clauses_of(text, item))
 
 
 def block_clauses(file: str, text: str, block: re.Match[str], scope: Scope, surface: Surface, is_public: bool) -> Iterator[Clause]:
     """The clauses of a trait or an impl, if its name is public, with what stands there of members."""
-    of_trait, _, name = block[5].rpartition(" for ")
+    of_trait, _, name = block[4].rpartition(" for ")
     trait = first_word(name if block[3] == "trait" else of_trait)
     if not is_public and first_word(name) not in surface.names or trait in surface.hidden_traits:
         return

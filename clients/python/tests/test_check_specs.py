@@ -73,7 +73,8 @@ class Clauses(unittest.TestCase):
             self.assertIs(is_cited(model), wanted, member)
 
     def test_members_of_traits(self) -> None:
-        trait = "pub trait Orders {\n    ghost below: { Self → Type 0 };\n    ghost law: { P };\n    fn f(&self)\n        ensures { below self };\n}\n"
+        members = "    ghost below: { Self → Type 0 };\n    ghost law: { P };\n"
+        trait = f"pub trait Orders {{\n{members}    fn f(&self)\n        ensures {{ below self }};\n}}\n"
         for member, wanted in {"below": True, "law": False}.items():
             given = f"impl Orders for Shown {{\n    ghost use Rattle.a.specs.Goal.{{Means}};\n    ghost {member} = {{ Means }};\n}}\n"
             self.assertIs(is_cited(trait + given), wanted, member)
@@ -88,13 +89,15 @@ class Definitions(unittest.TestCase):
     def test_what_a_cited_definition_names_is_cited(self) -> None:
         uses = "use Rattle.a.specs.Second.{Part, Other}\n"
         second = "abbrev pub Part : Type 0\nPart = Unit {0}\n\nabbrev pub Other : Type 0\nOther = Unit {0}\n"
-        self.assertEqual(ways({"First": uses + "abbrev pub Means : Type 0\nMeans = Part\n", "Second": second}, self.CALL), {"First", "Second"})
+        first = uses + "abbrev pub Means : Type 0\nMeans = Part\n"
+        self.assertEqual(ways({"First": first, "Second": second}, self.CALL), {"First", "Second"})
         beside = uses + DEFINITION + "abbrev pub Beside : Type 0\nBeside = Part\n"
         self.assertEqual(ways({"First": beside, "Second": second}, self.CALL), {"First"})
 
     def test_by_constructors_fields_and_aliases(self) -> None:
         second = "pub data Either : Type 0 where\n  left : Either\n\npub record Pair : Type 0 where\n  pub both other : Either\n"
-        for uses, named in (("Second.{left}", "left"), ("Second as parts", "parts.left"), ("Second.{both}", "x.both"), ("Second as parts", "parts.Pair")):
+        cases = {"Second.{left}": "left", "Second as parts": "parts.left", "Second.{both}": "x.both", "Second as halves": "halves.Pair"}
+        for uses, named in cases.items():
             first = f"use Rattle.a.specs.{uses}\nabbrev pub Means : Type 0\nMeans = {named}\n"
             self.assertEqual(ways({"First": first, "Second": second}, self.CALL), {"First", "Second"}, uses)
 
