@@ -1,6 +1,7 @@
 //! Paths and normal forms of types: the exact test of subtyping.
 //!
-//! - [`Path`] is a type without intersections on its way to its end, and [`Form`] its seven kinds.
+//! - [`Path`] is a type without intersections on its way to its end, and [`Form`] its seven kinds, two of which are kept
+//!   in two ways.
 //! - [`ArrowSource`] is what a path of functions takes, as the path keeps it.
 //! - [`Nf`] is an intersection of paths, strictly sorted at every depth. It serves as a key of a table.
 //! - `specs/` defines paths, the paths of a type, when a path is below another, the order of paths, and normal forms.
