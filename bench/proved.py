@@ -3,27 +3,13 @@ import os
 import re
 import shutil
 import subprocess
+import sys
 import tempfile
 
 TOP = os.path.dirname(os.path.dirname(os.path.abspath(__file__)))
+sys.path.append(os.path.join(TOP, "tools"))
 
-
-def dependencies():
-    """Each crate of the repository with what it stands on, lowest first, as crates.txt has them."""
-    with open(os.path.join(TOP, "crates.txt")) as file:
-        return {name: names.split() for name, names in (line.split(":") for line in file if ":" in line)}
-
-
-def closure(crates, stands_on):
-    """These crates of the repository and those below them, lowest first."""
-    wanted = set()
-    waiting = list(crates)
-    while waiting:
-        crate = waiting.pop()
-        if crate in stands_on and crate not in wanted:
-            wanted.add(crate)
-            waiting += stands_on[crate]
-    return [crate for crate in stands_on if crate in wanted]
+from crates import closure, dependencies
 
 
 def lay_out(folder, name, crates, source, files=None):

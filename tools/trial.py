@@ -1,8 +1,8 @@
 """Runs of clsynth that one `rt try` does, without proofs.
 
 `rt try` keeps no file, runs a program only on an input which is there before, and takes half a second to start one of this size. So a small
-program does many runs by the one call that clsynth makes, `run`, over sources and sinks in memory. Each run is noted first, then they are done
-together, and then each is answered. A run that goes on by the replies can't be noted, nor one with a word that isn't UTF-8.
+program does many runs by the one call that clsynth makes, `run`, over sources and sinks in memory. Each run is noted first, then they are
+done together, and then each is answered. A run that goes on by the replies can't be noted, nor one with a word that isn't UTF-8.
 """
 
 from __future__ import annotations

@@ -1,4 +1,4 @@
--- The piece that bytes begin with, as the code finds it.
+-- internal: the piece that bytes begin with, as the code finds it
 use Rattle.std.specs.Prelude.{ℕ, ◌+◌, Bool, false, ◌&&◌, ◌==◌, min, nat_lt, List, [], ◌∷◌, Option, None, Some, take, drop, if◌then◌else◌}
 use Rattle.std.specs.List.{prefix_len}
 use Rattle.cls_base.specs.Limits.{max_hole}

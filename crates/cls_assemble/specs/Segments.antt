@@ -1,4 +1,4 @@
--- The pieces of a template, from the fields of its struct.
+-- internal: the pieces of a template, from the fields of its struct
 use Rattle.std.specs.Prelude.{ℕ, List, [], ◌∷◌, ◌++◌, map, string_bytes}
 use Rattle.cls_assemble.specs.declared.piece.Piece.{Piece}
 use Rattle.cls_assemble.specs.declared.piece.Piece.TheVariants.{Byte, Hole}

@@ -1,4 +1,4 @@
--- Where the texts of arguments stand in the text that is made.
+-- internal: where the texts of arguments stand in the text that is made
 use Rattle.std.specs.Prelude.{ℕ, ◌≡◌, ◌-◌, ◌≤◌, List, [], Option, Some, None, length, take, drop, slice_index_or, IsUtf8}
 use Rattle.cls_assemble.specs.declared.text.Span.{Span}
 

@@ -1,4 +1,4 @@
--- How far a text is read.
+-- internal: how far a text is read
 use Rattle.std.specs.Prelude.{ℕ, List, take}
 use Rattle.std.specs.Str.{IsCharBoundary}
 use Rattle.cls_assemble.specs.declared.piece.Piece.{Piece}

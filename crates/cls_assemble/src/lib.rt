@@ -7,6 +7,9 @@
 //! - [`laws`] says that a text is read in one way, and how long a filled template is.
 //!
 //! A term is gone down by calls that nest as deep as the term.
+//!
+//! Inside, `scan` finds the piece that a text begins with, and `template` reads a text piece by piece. `length` tells
+//! how long the text of a term is, and `text` writes it, each argument once: where a hole has it again it is copied.
 #![tactic(auto)]
 
 mod fault;

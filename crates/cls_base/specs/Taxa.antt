@@ -11,6 +11,7 @@ variance_of Co = taxonomies.covariant
 variance_of Contra = taxonomies.contravariant
 variance_of Inv = taxonomies.invariant
 
+-- Proofs of the laws of `Flat`, kept here since those of an `impl` are cited from specs/.
 pub flat_reflexive : (a : ℕ) → IsTrue (a == a)
 flat_reflexive a = Prim.search (comparing, rules)
 

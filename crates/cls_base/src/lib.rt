@@ -1,4 +1,5 @@
-//! The ground that every other crate of clsynth stands on.
+//! The ground that every other crate of clsynth stands on. A file has the type of its name, but for `measures`, which has the
+//! measures of closed types, and `sure`, which has the source and the sink that never fail.
 //!
 //! - [`Ty`] is a closed type with its order and measures, [`Schema`] a type that may have variables, and [`Name`] the
 //!   number of a name. What types, terms, subtyping, typing and pages mean is defined in `specs/`.

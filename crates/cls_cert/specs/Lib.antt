@@ -1,4 +1,4 @@
--- To be read and believed: Conditions, Making and Laws. Building says the same of the code's parts.
+-- Begin with Making, which says which certificate is made. Building says the same of the code's parts.
 pub mod Building
 pub mod Conditions
 pub mod Laws

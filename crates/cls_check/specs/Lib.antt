@@ -1,5 +1,4 @@
--- To be read and believed: Checking, which says when a certificate is accepted, Arguments, Firsts, Verdicts and Laws. The
--- other modules say the same of the code's tables, or serve the prover.
+-- Begin with Checking, which says when a certificate is accepted.
 pub mod Arguments
 pub mod Asking
 pub mod Checking

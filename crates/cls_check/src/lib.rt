@@ -4,6 +4,15 @@
 //! - [`check`] accepts a certificate for a goal, or names the first row or member that fails a test, with the [`Reason`].
 //! - `specs/` defines when a certificate is accepted and when it is refused. [`laws`] says that an accepted one is true by
 //!   the typing rules, whoever made it.
+//!
+//! Inside, `typed` goes down a term: `asked` is what a term is asked for, and `reaching` finds which arrows of its head
+//! lead there, and which of these are `kept` since the arguments have their sources.
+//!
+//! `checking` takes a certificate apart. `rows` tests its rows: `targets` looks whether arrows lead to a goal, and
+//! `argument` makes the intersections of what they take. `members` tests its members: `layers` looks at the form of
+//! their blocks, and `steps` goes from one layer of sets to the next. There `lack` says what one set of positions lacks
+//! of another, for those sets that the index of `near` finds. `goals` is the table of the goals that are known, `place`
+//! a component with a number of arguments, and `positions` looks at sets of positions.
 #![tactic(auto)]
 
 mod argument;

@@ -1,4 +1,4 @@
--- Lists that go on behind others.
+-- internal: lists that go on behind others
 use Rattle.std.specs.Prelude.{◌≡◌, List, ◌++◌}
 
 -- the second list begins with the first

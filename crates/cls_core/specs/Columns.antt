@@ -1,4 +1,4 @@
--- Answers whose rules stand in columns.
+-- internal: answers whose rules stand in columns
 use Rattle.std.specs.Prelude.{ℕ, List, Option, Some, None}
 use Rattle.cls_base.specs.declared.rule.Rule.{Rule}
 use Rattle.cls_core.specs.declared.answer.Answer.{Answer}

@@ -1,4 +1,4 @@
--- The facts that the core keeps of its columns and counts, and those that finished rows keep.
+-- internal: the facts that the core keeps of its columns and counts, and those that finished rows keep
 use Rattle.std.specs.Prelude.{◌≡◌, ◌+◌, ◌<◌, ◌≤◌, ◌^◌, ℕ, List, length}
 use Rattle.cls_core.specs.declared.entry.Entry.{Entry}
 use Rattle.cls_core.specs.Rows.{Machine}

@@ -11,6 +11,10 @@
 //!   and [`Core::read`] copies it out of one.
 //! - [`laws`] holds what is true of every history: which goals it reaches, and that the rows of a complete history
 //!   depend on the start goal alone, but for their order.
+//!
+//! Inside, `machine` has the rows and the two events, and `numbering` gives the goals of an answer the numbers of rows,
+//! which puts new goals behind the others. `goal_rules` keeps rules over goals in flat columns, and `node_answer` an
+//! answer in numbers. `state` says how far a row has come, and `copying` copies rows.
 #![tactic(auto)]
 
 mod answer;

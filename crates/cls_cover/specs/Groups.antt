@@ -1,4 +1,4 @@
--- The positions of a family in groups of equal rows.
+-- internal: the positions of a family in groups of equal rows
 use Rattle.std.specs.Prelude.{ℕ, ◌≡◌, ◌↔◌, List, [], ◌∷◌, ◌++◌, slice_index_or}
 use Rattle.cls_cover.specs.Members.{Member, Differ}
 

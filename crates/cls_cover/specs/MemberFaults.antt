@@ -1,4 +1,4 @@
--- The causes of a fault, over membership as a data family.
+-- internal: the causes of a fault, over membership as a data family
 use Rattle.std.specs.Prelude.{ℕ, ◌<◌, ◌≤◌, List, length, take}
 use Rattle.cls_cover.specs.MemberCovers.{HaveMoreSets}
 use Rattle.cls_cover.specs.declared.minimal.CoverFault.{CoverFault}

@@ -1,4 +1,4 @@
--- internal: what the faults of lower crates become.
+-- What the faults of lower crates become.
 use Rattle.cls_table.specs.declared.fault.ExpandFault.{ExpandFault}
 use Rattle.cls_table.specs.declared.fault.ExpandFault.TheVariants as expand
 use Rattle.cls_enum.specs.declared.fault.PageFault.{PageFault}

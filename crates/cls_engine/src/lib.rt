@@ -5,6 +5,10 @@
 //!   query.
 //! - [`Options`] bound its work, [`Verdict`] is what it finds of a certificate, and [`EngineFault`] is why a query
 //!   isn't answered.
+//!
+//! Inside, `engine` has the goal of a type, and `closure` the grammar of a goal, which `closing` has the workers find.
+//! `recents` has the grammars of the last goals. `compare`, `questions`, `sizes`, `listing` and `verify` answer the
+//! queries. `library_expander` is an expander that owns its library, so that a memo can be kept beside it.
 #![tactic(auto)]
 
 mod closing;

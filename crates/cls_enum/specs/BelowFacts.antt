@@ -1,4 +1,4 @@
--- There is at most one proof that numbers are below a bound.
+-- internal: there is at most one proof that numbers are below a bound
 use Rattle.std.specs.Prelude.{ℕ, List, [], ◌∷◌}
 use Rattle.std.specs.Coded.{×_prop, Unit-prop, le_prop}
 use Rattle.cls_base.specs.Lists.{AreBelow}

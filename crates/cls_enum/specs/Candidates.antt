@@ -1,4 +1,4 @@
--- The terms that a rule makes of those in cells, the lists of the terms of a node of one size.
+-- internal: the terms that a rule makes of those in cells, the lists of the terms of a node of one size
 use Rattle.std.specs.Prelude.{ℕ, zero, suc, ◌≡◌, ◌+◌, ◌-◌, ◌≤◌, nat_le, nat_eq, List, [], ◌∷◌, ◌++◌, if◌then◌else◌, ◌&&◌}
 use Rattle.std.specs.List.{flat_map}
 use Rattle.cls_base.specs.Limits.{max_term_length}

@@ -1,4 +1,4 @@
--- Tables of cells.
+-- internal: tables of cells
 use Rattle.std.specs.Prelude.{ℕ, ◌+◌, ◌*◌, nat_lt, List, [], map, if◌then◌else◌, slice_index_or}
 use Rattle.cls_base.specs.Terms.{Applicative}
 use Rattle.cls_term.specs.Banks.{at}

@@ -1,4 +1,4 @@
--- Enumerations: how far the terms of a page are made, as it is kept.
+-- internal: how far the terms of a page are made, as it is kept
 use Rattle.std.specs.Prelude.{ℕ, List}
 use Rattle.cls_enum.specs.PageRequests.{request_of}
 use Rattle.cls_enum.specs.Faults.{IfTooMany}

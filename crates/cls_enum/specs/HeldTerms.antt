@@ -1,4 +1,4 @@
--- What is at hand while terms are found, and what is found with it.
+-- internal: what is at hand while terms are found, and what is found with it
 use Rattle.std.specs.Prelude.{ℕ, ◌-◌, List, map}
 use Rattle.std.specs.List.{flat_map}
 use Rattle.cls_base.specs.Terms.{Applicative, apply}

@@ -1,4 +1,4 @@
--- What a page is asked for, as it is kept while the page is made.
+-- internal: what a page is asked for, as it is kept while the page is made
 use Rattle.std.specs.Prelude.{option_copied}
 use Rattle.cls_base.specs.Pages.{Request}
 use Rattle.cls_enum.specs.Requests.{request}

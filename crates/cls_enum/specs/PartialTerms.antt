@@ -1,4 +1,4 @@
--- Terms that lack some arguments.
+-- internal: terms that lack some arguments
 use Rattle.std.specs.Prelude.{◌≡◌, List, length}
 use Rattle.cls_base.specs.Terms.{Applicative, length_of}
 use Rattle.cls_term.specs.Banks.{term_by}

@@ -1,4 +1,4 @@
--- Rules as they are kept while a page is made.
+-- internal: rules as they are kept while a page is made
 use Rattle.std.specs.Prelude.{ℕ, zero, suc, ◌≡◌, ◌≤◌, ◌<◌, ◌+◌, ◌-◌, ◌⊎◌, List, [], ◌∷◌, ◌++◌, length, map, nat_le, if◌then◌else◌, slice_index, slice_index_or}
 use Rattle.std.specs.List.{flat_map}
 use Rattle.cls_base.specs.Limits.{max_term_length}

@@ -8,6 +8,13 @@
 //! start first. The terms of one size of a node are found as spines over the numbers of a bank of terms, then put
 //! into the bank, which has each term once, and sorted by their codes. A lower bound on the length prunes what leads
 //! to no term that is short enough.
+//!
+//! Inside, `plan` has the rules with their costs, `find` and `fill` find the spines over a bank that doesn't change
+//! meanwhile, `make` puts them into the bank and sorts them by code, `due` compares with the cursor, `bounds` cuts off
+//! what leads to no term that is short enough, and `paging` goes from size to size. What travels together is in
+//! `page_request`; `enumeration`, the terms that are made so far, with the step that makes those of one node and size;
+//! `held`, the bank and the `cells` while terms are found; and `partial_term`, a head with the arguments that it has so
+//! far.
 #![tactic(auto)]
 
 mod bounds;

@@ -1,4 +1,4 @@
--- internal: a goal has one answer
+-- internal: a goal has one answer. Proofs, kept here since the laws of an `impl` are cited from specs/.
 use Rattle.std.proofs.Common.{ℕ, ◌≡◌, refl, sym, ◌∙◌, subst, ap, List, [], ◌∷◌, Option, Some}
 use Rattle.std.specs.Prelude.{map}
 use Rattle.std.specs.List.{AllZip}

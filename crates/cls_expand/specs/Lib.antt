@@ -1,4 +1,4 @@
--- To be read and believed: Answers, Laws and Memos. The other modules follow the code or serve the prover.
+-- Begin with Answers.
 pub mod Answers
 pub mod Determined
 pub mod Laws

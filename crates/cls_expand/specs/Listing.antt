@@ -1,4 +1,5 @@
--- internal: lists of rules: what stands for the first time, and the way from a rule of the definition back to one of the program.
+-- internal: what stands for the first time in a list of rules, and the way from a rule of the definition back to one of the
+-- program. Proofs, on which Typings, Determined and Readiness stand.
 use Rattle.std.proofs.Common.{ℕ, ◌≡◌, refl, sym, ◌∙◌, subst, ap, ◌⊎◌, inl, inr, List, [], ◌∷◌, ◌++◌, Contains}
 use Rattle.std.specs.Prelude.{map}
 use Rattle.std.specs.List.{AllZip}

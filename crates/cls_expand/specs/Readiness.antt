@@ -1,4 +1,5 @@
--- internal: the arguments of an answer can be worked on again
+-- internal: the arguments of an answer can be worked on again. Proofs, kept here since the laws of an `impl` are cited from
+-- specs/.
 use Rattle.std.proofs.Common.{ℕ, suc, ◌≡◌, ◌≤◌, ◌<◌, refl, sym, ◌∙◌, subst, ap, ◌⊎◌, inl, inr, List, [], ◌∷◌, ◌++◌, length, get_or, arith}
 use Rattle.std.specs.Prelude.{map}
 use Rattle.cls_base.specs.declared.rule.Rule.{Rule}

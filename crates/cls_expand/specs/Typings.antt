@@ -1,4 +1,5 @@
--- internal: the answers of goals are the rules of the typing, that is, a term has the type of a goal if and only if it fits one of its rules.
+-- internal: the answers of goals are the rules of the typing, that is, a term has the type of a goal if and only if it fits one
+-- of its rules. Proofs, kept here since the laws of an `impl` are cited from specs/.
 use Rattle.std.proofs.Common.{ℕ, ◌≡◌, refl, sym, ◌∙◌, subst, ap, List, [], ◌∷◌, ◌++◌, length, Contains, arith}
 use Rattle.std.specs.Prelude.{map, ◌≢◌}
 use Rattle.std.specs.List.{AllZip}

@@ -6,6 +6,12 @@
 //! - [`laws`] ties rules to typing.
 //! - [`Memo`] holds the answers of goals, and [`Store`] is one that holds each goal once. [`Stored`] is an expander that
 //!   asks a memo before it works on a goal.
+//!
+//! Inside, `expander` goes from place to place, each a component and a number of arguments, as a `Finder` of
+//! `cls_library` finds them for the goal. `arguments` makes the arguments of the rule of a cover, and `cover_rules`
+//! puts these rules last, each once: equal ones are looked for among those of one place alone, by the `spine` of each.
+//! `stored` asks a `memo` first; a `store` is one, in which `naming` puts goals in place of the numbers of an answer,
+//! `renumbering` other numbers, and `additions` has what the store lacks.
 #![tactic(auto)]
 
 mod additions;

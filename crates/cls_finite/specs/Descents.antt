@@ -1,4 +1,4 @@
--- How terms are measured: a descent from node 0 by steps to nodes that aren't done, and the sizes of those that are.
+-- internal: how terms are measured, by a descent from node 0 by steps to nodes that aren't done, and the sizes of those that are
 use Rattle.std.specs.Prelude.{ℕ, ◌≡◌, ◌<◌, ◌+◌, min, max, Bool, IsTrue, List, [], ◌∷◌, ◌++◌, Option, Some, None, Contains, take, length, slice_get, slice_set, replicate, if◌then◌else◌}
 use Rattle.std.specs.List.{sum_by}
 use Rattle.cls_base.specs.declared.rule.Rule.{Rule}

@@ -1,5 +1,4 @@
--- To be read and believed: Answers, Finiteness, Walks. Internal: Descents and Outcomes, which are how the code measures
--- terms.
+-- Begin with Finiteness and Walks.
 pub mod Answers
 pub mod Descents
 pub mod Finiteness

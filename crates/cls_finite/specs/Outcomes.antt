@@ -1,4 +1,4 @@
--- What a round of the descent leads to. Internal.
+-- internal: what a round of the descent leads to
 use Rattle.std.specs.Prelude.{ℕ, ◌<◌, Bool, List, []}
 use Rattle.cls_base.specs.declared.rule.Rule.{Rule}
 use Rattle.cls_base.specs.Languages.{IsGenerated}

@@ -1,4 +1,4 @@
--- How ranks become known: from the least on, each by a rule whose arguments are known.
+-- internal: how ranks become known, from the least on, each by a rule whose arguments are known
 use Rattle.std.specs.Prelude.{ℕ, suc, ◌≡◌, ◌≢◌, ◌+◌, ◌^◌, ◌≤◌, ◌<◌, List, [], ◌∷◌, ◌++◌, length, take, replicate, Option, Some, None, slice_get, slice_set, slice_index_or, Contains}
 use Rattle.cls_base.specs.declared.rule.Rule.{Rule}
 use Rattle.cls_base.specs.Languages.{NodeRule, rules_at}

@@ -1,5 +1,4 @@
--- To be read and believed: Faults, Grammars, GrammarTexts, Meanings, Ranks, Trimming. Internal: Climbs, WaitingLists and
--- Numberings, which are how the code finds ranks and numbers.
+-- Begin with Grammars and Ranks.
 pub mod Climbs
 pub mod Faults
 pub mod Grammars

@@ -1,4 +1,4 @@
--- Numbers in the order in which they were added, with the place of each. Internal.
+-- internal: numbers in the order in which they were added, with the place of each
 use Rattle.std.specs.Prelude.{ℕ, ◌≡◌, ◌<◌, ◌^◌, List, Option, Some, None, Contains, length, slice_get}
 use Rattle.cls_base.specs.Lists.{AreDistinct}
 

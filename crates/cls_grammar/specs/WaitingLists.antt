@@ -1,4 +1,4 @@
--- Linked lists of the rules that wait: each link has the number of links among which the rest of its list stands. Internal.
+-- internal: linked lists of the rules that wait. Each link has the number of links among which the rest of its list stands.
 use Rattle.std.specs.Prelude.{ℕ, zero, suc, ◌≡◌, ◌≤◌, List, [], ◌∷◌, length, map, slice_get, slice_index_or, Some}
 use Rattle.cls_grammar.specs.declared.waiting.Waiting.{Waiting}
 use Rattle.cls_grammar.specs.declared.waiting.Link.{Link}

@@ -4,6 +4,11 @@
 //!   answers of each goal.
 //! - [`productive`] says of each node of any rule book whether it has a derivation tree.
 //! - [`laws`] says what the languages of a grammar's goals are.
+//!
+//! Inside, `numbering` numbers the rows breadth first, by an array of places. `ranking` finds ranks from the least on:
+//! a rule waits for one argument at a time, in linked lists that `waiting` keeps in two columns, and of each node a
+//! rule without arguments goes first. This is unit propagation of Horn clauses (Dowling and Gallier 1984). `trimming`
+//! and `printing` go over the rows once, and `columns` has what is known of each goal.
 #![tactic(auto)]
 
 mod columns;

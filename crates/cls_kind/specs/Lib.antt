@@ -1,4 +1,4 @@
--- To be read and believed: Instances, Kinds, Pruned, Faults and Laws. The other modules follow the code or serve the prover.
+-- Begin with Instances.
 pub mod Faults
 pub mod Instances
 pub mod Kinds

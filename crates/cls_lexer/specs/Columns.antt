@@ -1,4 +1,4 @@
--- Texts that stand one after another in one column of bytes, with the place of each.
+-- internal: texts that stand one after another in one column of bytes, with the place of each
 use Rattle.std.specs.Prelude.{⊤, ℕ, ◌≤◌, List, [], ◌∷◌, map}
 use Rattle.std.specs.List.{slice_range}
 use Rattle.std.specs.Str.{IsCharBoundary}

@@ -1,4 +1,4 @@
--- What a line and a piece keep of their bytes.
+-- internal: what a line and a piece keep of their bytes
 use Rattle.std.specs.Prelude.{ℕ, List}
 use Rattle.std.specs.Cow.{cow_str_bytes, cow_slice_items}
 use Rattle.cls_lexer.specs.declared.line.Content.{Content}

@@ -1,5 +1,4 @@
--- To be read and believed: Lines, Skipped, Characters, Spelling, Numerals, Names and Words. Tokens scans as the code does; laws
--- say by Spelling what it comes to.
+-- Begin with Lines and Spelling. Tokens scans as the code does; laws say by Spelling what it comes to.
 pub mod Characters
 pub mod Columns
 pub mod Contents

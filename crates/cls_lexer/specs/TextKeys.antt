@@ -1,4 +1,4 @@
--- What a text is looked up by: a short one is a number, and a long one is itself.
+-- internal: what a text is looked up by. A short one is a number, and a long one is itself.
 use Rattle.std.specs.Prelude.{ℕ, Bool, false, ◌≡◌, ◌<◌, ◌≤◌, ◌==◌, ◌+◌, ◌*◌, List, [], ◌∷◌, String, length, string_bytes}
 use Rattle.std.specs.Hash as fed
 use Rattle.std.specs.List.{AllZip}

@@ -4,6 +4,12 @@
 //! - [`tokens`] gives the [`Token`]s of a line, each with its text and its place. [`Numeral`] is a number as it is written.
 //! - [`Names`] numbers texts in the order in which they first came.
 //! - [`laws`] holds what is true of every text, line and token.
+//!
+//! Inside, `piece` tests bytes that came together for UTF-8 once, and finds their line feeds. `line_reader` keeps what
+//! came since the last line feed, and `line` says whether a line can be read, is skipped, or is a text. `scan` cuts a
+//! line into tokens in one pass, by the `characters` that a token begins and goes on with; `token` and `numeral` are
+//! what it gives. `names` has the texts of names in one column, `texts`, and looks them up by a `text_key`, which is a
+//! number for a short text.
 #![tactic(auto)]
 
 mod characters;

@@ -1,4 +1,4 @@
--- Rule books that tests make by hand.
+-- internal: rule books that tests make by hand
 use Rattle.std.specs.Prelude.{ℕ, nat_lt, Bool, true, ◌&&◌, List, [], ◌∷◌}
 use Rattle.cls_base.specs.declared.rule.Rule.{Rule}
 use Rattle.cls_rulebook.specs.Arguments.{arguments_in}

@@ -1,4 +1,4 @@
--- Terms that a page may be asked for behind.
+-- internal: terms that a page may be asked for behind
 use Rattle.std.specs.Prelude.{ℕ, ◌<◌, ◌^◌, List, length, slice_index_or}
 use Rattle.cls_base.specs.Terms.{Applicative, component, length_of}
 

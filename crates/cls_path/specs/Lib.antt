@@ -1,5 +1,4 @@
--- To be read and believed: Paths, NormalForms and Laws. The other modules follow the code or serve the prover. What is
--- proved of them ties them to these three.
+-- Begin with Paths and NormalForms. What is proved of the other modules ties them to these.
 pub mod Falls
 pub mod Feed
 pub mod Groups

@@ -1,4 +1,4 @@
--- internal: the order of paths as the code computes it
+-- The order of paths as the code computes it.
 use Rattle.std.specs.Prelude.{List}
 use Rattle.std.specs.declared.cmp.Ordering.{Ordering}
 use Rattle.std.specs.declared.cmp.Ordering.TheVariants.{Less, Equal, Greater}

@@ -1,4 +1,4 @@
--- internal: the path that a form stands for, the paths of a list, and what an arrow takes, wherever their parts lie
+-- The path that a form stands for, the paths of a list, and what an arrow takes, wherever their parts lie.
 use Rattle.std.specs.Prelude.{List, [], ◌∷◌}
 use Rattle.cls_path.specs.Paths.{TypePath, atom, inside, unit, left, right, function, sealed, Paths, none, more, listed}
 use Rattle.cls_path.specs.declared.path.Form.{Form}

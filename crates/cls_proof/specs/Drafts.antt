@@ -1,4 +1,4 @@
--- Internal: certificates that are read up to some line, and which statements may come next.
+-- internal: certificates that are read up to some line, and which statements may come next
 use Rattle.std.specs.Prelude.{ℕ, ◌≡◌, Bool, true, false, List, [], ◌∷◌, ◌++◌, Option, Some, None, MatchOption, map}
 use Rattle.std.specs.List.{flat_map}
 use Rattle.cls_proof.specs.declared.draft.Draft.{Draft}

@@ -1,5 +1,4 @@
--- To be read and believed: Certificates, Texts, Statements, Forms, Reading, ReadOnce, RoundTrips, and Seen, which says how a
--- value is seen as a certificate. The other modules say the same of its parts, are marked internal, or serve the prover.
+-- Begin with Certificates and Texts. Seen says how a value is seen as a certificate.
 pub mod BlockColumns
 pub mod Blocks
 pub mod Certificates

@@ -1,4 +1,4 @@
--- Internal: what the code's forms of lines and statements say.
+-- internal: what the code's forms of lines and statements say
 use Rattle.std.specs.Prelude.{ℕ, ◌≡◌, ◌<◌, List, length}
 use Rattle.cls_base.specs.Ty.{type_of}
 use Rattle.cls_lexer.specs.Names.{number_of, with_texts}

@@ -5,6 +5,14 @@
 //! - [`print_certificate`] gives the lines of a certificate, and [`read_certificate`] reads them from [`HeldLines`].
 //! - [`laws`] holds what is true of all lines.
 //! - `specs/` defines certificates and their lines. What one must meet is defined where it is checked.
+//!
+//! Inside, `statement_form` reads a line by its form, `reading` gives what it means by the tables of names, and `draft`
+//! is the state machine that takes statements one after another; `lines` keeps the lines in chunks of 64 KiB, and
+//! `read` goes over them once and lets each `chunk` go behind its last line. `print` writes them. `row` keeps the rows
+//! of a certificate in columns, so that one takes 28 bytes and 4 for each position. `member`, `block`, `layer` and
+//! `sets` do the same for members: a column for each of the four, in which each entry tells where its part of the next
+//! column begins, and a last one of positions. Only the last member grows. `positions` is a set of positions of arrows,
+//! which takes no memory of its own where it has up to four, as nearly all have.
 #![tactic(auto)]
 
 mod block;

@@ -35,7 +35,8 @@ pub(crate) enum ReadLine {
     Says(Statement),
 }
 
-/// Reads a line. The constructors of its type are numbered. The tokens of the line may stand in `room`, whatever it has.
+/// Reads a line. The constructors of its type are numbered. The buffer `room` may be reused for the tokens of the
+/// line; its content is ignored.
 pub(crate) fn read_line<'p>(
     alloc: Global,
     names: &mut Names,

@@ -1,4 +1,4 @@
--- Internal: both types of a comparison, built over their words.
+-- internal: both types of a comparison, built over their words
 use Rattle.std.specs.Prelude.{ℕ, ◌≡◌, ◌*◌, ◌<◌, ◌≤◌, Bool, true, false, List, length, IsTrue}
 use Rattle.cls_base.specs.Limits.{max_type_nodes, max_type_depth}
 use Rattle.cls_base.specs.Types.{ClosedType}

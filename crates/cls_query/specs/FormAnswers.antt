@@ -1,4 +1,4 @@
--- Internal: what the code's forms of queries say.
+-- internal: what the code's forms of queries say
 use Rattle.std.specs.Prelude.{ℕ, ◌≤◌, List, Option, Some, None}
 use Rattle.std.specs.Option.{option_map}
 use Rattle.std.proofs.Common.{inl, inr}

@@ -1,5 +1,4 @@
--- To be read and believed: QueryForms, Queries, QueryErrors, ReadQueries and Readable. Comparisons, FormAnswers and Steps say what
--- parts of the code answer, and Laws states what is true of every line.
+-- Begin with QueryForms, Queries and QueryErrors.
 pub mod Comparisons
 pub mod FormAnswers
 pub mod Laws

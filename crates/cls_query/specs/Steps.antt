@@ -1,4 +1,4 @@
--- Internal: the errors by the steps of the code that test for them.
+-- internal: the errors by the steps of the code that test for them
 use Rattle.std.specs.Prelude.{ℕ, List, [], ◌∷◌, Result, Ok, Err, IfSome}
 use Rattle.cls_base.specs.Firsts.{Cause, First, IsSilent}
 use Rattle.cls_query.specs.declared.fault.LineFault.{LineFault}

@@ -7,6 +7,11 @@
 //! - [`laws`] holds what is true of every line.
 //!
 //! The table of forms stands in `specs/QueryForms`, and the errors in their order in `specs/QueryErrors`.
+//!
+//! Inside, `comparison` reads a line with `sub` in one pass, where both its types can be built. Any other line is read
+//! by `form`, a table of forms; `checks` has the errors that come after the form, in their order, `greatest` finds the
+//! greatest number of a component in a term, `build` makes the query and numbers its names, and `reader` puts these
+//! together.
 #![tactic(auto)]
 
 mod build;

@@ -16,8 +16,8 @@ use cls_lexer::{Line, Names, TextFault, Token};
 use std::alloc::Global;
 
 /// The query that the line is. Its types and terms have the numbers that the tables give their names. New names of
-/// constructors are numbered in the order of the line's tokens. After any error the table is as before. The tokens may stand in
-/// `room`, whatever it has.
+/// constructors are numbered in the order of the line's tokens. After any error the table is as before. The buffer `room`
+/// may be reused for the tokens; its content is ignored.
 ///
 /// The error is the first that applies, in the order of [`LineFault`].
 pub fn read_query<'a, 'p>(

@@ -1,4 +1,4 @@
--- Internal: what the parts of the code are asked and answer.
+-- internal: what the parts of the code are asked and answer
 use Rattle.std.specs.Prelude.{ℕ, ◌≡◌, List, [], ◌∷◌, Option, None, Some}
 use Rattle.cls_lexer.specs.Skipped.{IsSkipped}
 use Rattle.cls_query.specs.Queries.{Listing}

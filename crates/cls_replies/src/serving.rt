@@ -98,7 +98,7 @@ impl Serving {
     }
 
     /// Takes the next line, and gives what is written for it. After an error, which is out of memory, no further line is
-    /// to be fed. The tokens of the line may stand in `room`, whatever it has.
+    /// to be fed. The buffer `room` may be reused for the tokens of the line; its content is ignored.
     // Not inlined: a frame is cleared whenever its function is called, and this one's is large.
     #[inline(never)]
     pub fn feed<'p, R: Threads + Wait + Sync, G: Gate + Sync>(
@@ -137,7 +137,7 @@ impl Serving {
         }
     }
 
-    /// An empty text, in the room that is kept.
+    /// An empty text, for which the buffer that is kept is reused.
     pub(crate) fn empty_text(&mut self, alloc: Global) -> String
         ensures empty { string_bytes result ≡ [] }
         ensures same { self.new ≡ self.old }

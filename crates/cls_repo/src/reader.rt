@@ -58,7 +58,7 @@ impl RepoReader {
     /// Takes the next line, and says whether it is the line `end`, after which no further line is to be fed.
     ///
     /// The fault is the first one of the line, in the order in which [`FaultKind`] lists them, or out of memory. After
-    /// it the reader is as before. The tokens of the line may stand in `room`, whatever it has.
+    /// it the reader is as before. The buffer `room` may be reused for the tokens of the line; its content is ignored.
     pub fn feed<'p>(
         &mut self,
         alloc: Global,

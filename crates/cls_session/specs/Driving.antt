@@ -1,4 +1,4 @@
--- How the lines of the input are answered one after another.
+-- internal: how the lines of the input are answered one after another
 use Rattle.std.specs.Prelude.{ℕ, ◌≡◌, ◌⊎◌, List, [], ◌∷◌, ◌++◌, length, Result, Ok, Err}
 use Rattle.std.specs.Io.KnownBytes.{Appends}
 use Rattle.cls_base.specs.Outside.{SinkSeen, Fills, HasRisen, Holds}

@@ -1,4 +1,4 @@
--- What a session's answers mean.
+-- internal: what a session's answers mean
 use Rattle.std.specs.Prelude.{ℕ, ◌≡◌, List, [], ◌∷◌, ◌++◌, true, false, None, Some, string_bytes}
 use Rattle.cls_base.specs.Firsts.{First, IsSilent}
 use Rattle.cls_engine.specs.declared.options.Options.{Options}

@@ -1,4 +1,4 @@
--- Internal: what the code keeps that reads the words of a command line.
+-- internal: what the code keeps that reads the words of a command line
 use Rattle.std.specs.Prelude.{ℕ, ◌≡◌, List, ◌∷◌, Option, None, Some, unwrap_or}
 use Rattle.cls_lexer.specs.Numerals.{number_value}
 use Rattle.cls_engine.specs.declared.options.Options.{Options}

@@ -1,4 +1,4 @@
--- What a session holds after the lines that it was fed.
+-- internal: what a session holds after the lines that it was fed
 use Rattle.std.specs.Prelude.{ℕ, ◌≡◌, List, [], length, false, Option, None, Some}
 use Rattle.cls_engine.specs.declared.options.Options.{Options}
 use Rattle.cls_engine.specs.Options.{AreInRange}

@@ -90,7 +90,7 @@ impl Session {
     }
 
     /// Takes the next line and answers it. After a refusal or an error, which is out of memory, no further line is to be fed.
-    /// The tokens of the line may stand in `room`, whatever it has.
+    /// The buffer `room` may be reused for the tokens of the line; its content is ignored.
     pub fn feed<'p, R: Threads + Wait + Sync, G: Gate + Sync>(
         &mut self,
         rt: &R,

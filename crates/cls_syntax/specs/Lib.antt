@@ -1,6 +1,5 @@
--- To be read and believed: TypeTexts, TermTexts, TypeSchemas, ClosedTypes, TypePrinting, Roles, Forms, GoodForms, LineGrammars,
--- Faults, SyntaxFaults, Depths and RoundTrips. Laws tie LineReading and Fronts to them; Readings, Stops, TokenTexts, Spelled..
--- and MeasuredTypes say what the code's values mean. The other modules are marked internal: they follow the code.
+-- Begin with TypeTexts, TermTexts, Forms and LineGrammars. Laws tie LineReading and Fronts to them; Readings, Stops,
+-- TokenTexts, Spelled.. and MeasuredTypes say what the code's values mean.
 pub mod ClosedTypes
 pub mod Depths
 pub mod Faults

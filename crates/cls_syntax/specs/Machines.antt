@@ -1,4 +1,4 @@
--- internal: machines that read words from the left, one by one
+-- Machines that read words from the left, one by one.
 use Rattle.std.specs.Prelude.{Bool, List, [], ◌∷◌, Option, Some, None, Result, Ok, Err}
 use Rattle.cls_lexer.specs.Words.{Word}
 use Rattle.cls_syntax.specs.Faults.{Stop, stop}

@@ -1,4 +1,4 @@
--- internal: what words are to the machines of types and terms
+-- What words are to the machines of types and terms.
 use Rattle.std.specs.Prelude.{Bool, true, false, List, [], ◌∷◌}
 use Rattle.cls_lexer.specs.declared.token.TokenKind.TheVariants as kinds
 use Rattle.cls_syntax.specs.declared.sort.Sort.{Sort}

@@ -1,4 +1,4 @@
--- internal: words that are the whole of a type, of a term or of a list of types
+-- Words that are the whole of a type, of a term or of a list of types.
 use Rattle.std.specs.Prelude.{Bool, true, false, List, [], ◌∷◌, Result, Ok, Err}
 use Rattle.cls_lexer.specs.declared.token.TokenKind.{TokenKind}
 use Rattle.cls_lexer.specs.Words.{Word}

@@ -1,4 +1,4 @@
--- internal: how a term is read from the front of a list of words
+-- How a term is read from the front of a list of words.
 use Rattle.std.specs.Prelude.{ℕ, Bool, true, false, List, [], ◌∷◌, Option, Some, None, Result}
 use Rattle.cls_lexer.specs.declared.token.TokenKind.TheVariants.{Open, Close, Comma}
 use Rattle.cls_lexer.specs.Words.{Word, name, sign}

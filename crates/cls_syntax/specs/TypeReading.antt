@@ -1,4 +1,4 @@
--- internal: how a type is read from the front of a list of words. That it is read exactly is a law of forms.
+-- How a type is read from the front of a list of words. That it is read exactly is a law of forms.
 use Rattle.std.specs.Prelude.{ℕ, Bool, true, false, List, [], ◌∷◌, Option, Some, None, Result}
 use Rattle.cls_lexer.specs.declared.token.TokenKind.TheVariants.{To, And, Times, Open, Close, Dollar}
 use Rattle.cls_lexer.specs.Words.{Word, omega, name, sign}

@@ -9,6 +9,16 @@
 //! - [`read_schema`] and [`read_type`] read a text that is one type, and [`print_type`] prints a type, [`write_type`] at the
 //!   end of a text.
 //! - [`laws`] holds what is true of every form of line and of every type.
+//!
+//! Inside, `type_shape` and `term_shape` recognise a type or a term in one pass with no memory, as state machines that
+//! count parentheses. `schema_builder` builds a type that was recognised, by operator precedence (the shunting yard of
+//! Dijkstra, 1961) over the stack of `waiting_stack`, and `tree` has the trees that it builds: schemas, or the closed
+//! types of `measured`, which know their measures. `type_builder` builds closed types, also over tokens that may spell
+//! none. `interning` numbers the names of what is built, and `depth` counts open parentheses.
+//!
+//! In `specs/`, `Forms` has the forms of lines and their parts, `Roles` which names may stand where, `LineReading` and
+//! `LineGrammars` how a line is read, and `Faults` what the place of a fault is. A line of an own form is a constant of
+//! type `Form` in the specs of the crate that knows it, and a short function over the cursor; `Reads` is its contract.
 #![tactic(auto)]
 
 mod cursor;

@@ -1,4 +1,4 @@
--- What becomes of a machine when a worker files a row.
+-- internal: what becomes of a machine when a worker files a row
 use Rattle.std.specs.Prelude.{◌≡◌, ℕ, Bool, [], ◌∷◌, ◌++◌}
 use Rattle.cls_core.specs.Arguments.{arguments_of}
 use Rattle.cls_core.specs.Machine.{filed}

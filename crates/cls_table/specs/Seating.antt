@@ -1,4 +1,4 @@
--- What a seat at a table is and knows.
+-- internal: what a seat at a table is and knows
 use Rattle.std.specs.Prelude.{◌<◌, ◌≤◌, ℕ}
 use Rattle.cls_turn.specs.Seats.{Knows}
 use Rattle.cls_turn.specs.declared.seat.TurnSeat.{TurnSeat}

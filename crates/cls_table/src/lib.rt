@@ -14,6 +14,10 @@
 //!   worker. A seat knows the tag of its table, which stays.
 //!
 //! The claims made are counted in a ledger. Its book lies in the table, and each seat has a share of it.
+//!
+//! Inside, `table` is the locked value over `progress`, which has the rows and the history; `shared` is the table under
+//! the lock, `seat` a worker's handle on it, and `batch` what a worker has at hand between two holdings. `claim` has
+//! what must be spent, and `origin` the tag as it lies in a table and in claims.
 #![tactic(auto)]
 
 mod batch;

@@ -1,4 +1,4 @@
--- The rule of the spin lock, which is one word and one slot, and what a seat knows after each step.
+-- internal: the rule of the spin lock, which is one word and one slot, and what a seat knows after each step
 use Rattle.std.specs.Prelude.{◌≡◌, ◌≢◌, ℕ, List, ◌∷◌, Option, Some, slice_index, length}
 use mathlib.Core.Option.{some}
 use lib.ListN.{get_elem?}

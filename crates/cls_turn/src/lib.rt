@@ -11,6 +11,9 @@
 //! The lock is one word and one slot of an `atomic_table`. The word is 0 if the lock is free, and 1 if a seat has it.
 //! Taking is one compare-and-exchange of the word from 0 to 1, which takes the slot with the value in it. Putting is
 //! one store of 0, which gives the slot back. The lock isn't fair: nothing says that a seat is ever served.
+//!
+//! Inside, `rule` is what each step of the lock does to the views, `turn` takes and puts by these steps, and `seat`,
+//! `view` and `known` have the types of their names.
 #![tactic(auto)]
 
 mod known;

@@ -1,4 +1,4 @@
--- A walk from size to size, and the page that it ends with.
+-- internal: a walk from size to size, and the page that it ends with
 use Rattle.std.specs.Prelude.{ℕ, ◌≡◌, ◌+◌, ◌<◌, List, length, map, Option, IfSome}
 use Rattle.cls_base.specs.Terms.{Applicative, size_of, code_of}
 use Rattle.cls_base.specs.declared.rule.Rule.{Rule}

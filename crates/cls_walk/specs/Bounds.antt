@@ -1,4 +1,4 @@
--- Tables of the bounds of the numbers of terms, and what a bound tells.
+-- internal: tables of the bounds of the numbers of terms, and what a bound tells
 use Rattle.std.specs.Prelude.{ℕ, ◌≡◌, ◌≤◌, List}
 use Rattle.cls_base.specs.declared.rule.Rule.{Rule}
 use Rattle.cls_walk.specs.Counts.{up_below, lo_below}

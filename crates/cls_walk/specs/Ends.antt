@@ -1,4 +1,4 @@
--- Where the sizes of the terms that may stand on a page end.
+-- internal: where the sizes of the terms that may stand on a page end
 use Rattle.std.specs.Prelude.{ℕ, ◌≡◌, ◌≤◌, ◌<◌, ◌⊎◌, List, Contains}
 use Rattle.cls_base.specs.Limits.{max_term_length}
 use Rattle.cls_base.specs.Terms.{Applicative, length_of, size_of}

@@ -1,4 +1,4 @@
--- Exact numbers of terms, counted size after size, until they tell the page.
+-- internal: exact numbers of terms, counted size after size, until they tell the page
 use Rattle.std.specs.Prelude.{ℕ, ◌≡◌, ◌+◌, ◌<◌, ◌≤◌, ◌⊎◌, ◌↔◌, List, [], length, map, Contains, option_copied}
 use Rattle.cls_base.specs.Languages.{IsGenerated}
 use Rattle.cls_base.specs.Lists.{AreDistinct}

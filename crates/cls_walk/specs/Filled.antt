@@ -1,4 +1,4 @@
--- Codes that begin as the forms of nodes say, their sizes, and the least sizes of nodes.
+-- internal: codes that begin as the forms of nodes say, their sizes, and the least sizes of nodes
 use Rattle.std.specs.Prelude.{ℕ, ◌≡◌, ◌+◌, ◌≤◌, List, [], ◌∷◌, ◌++◌, length, slice_index, slice_index_or}
 use Rattle.cls_enum.specs.Members.{IsIn}
 use Rattle.cls_walk.specs.Counts.{HeadRule}

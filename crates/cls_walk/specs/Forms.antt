@@ -1,4 +1,4 @@
--- Forms: with which component a term of a node begins, and of which nodes its arguments are.
+-- internal: with which component a term of a node begins, and of which nodes its arguments are
 use Rattle.std.specs.Prelude.{ℕ, ◌≡◌, ◌<◌, ◌≤◌, ◌⊎◌, List, [], ◌∷◌, ◌++◌, length}
 use Rattle.cls_base.specs.Terms.{Applicative}
 use Rattle.cls_base.specs.Spines.{codes_of}

@@ -1,4 +1,4 @@
--- Aims that the code adds to a list, and levels from one on.
+-- internal: aims that the code adds to a list, and levels from one on
 use Rattle.std.specs.Prelude.{ℕ, ◌+◌, nat_eq, List, [], ◌∷◌, ◌++◌, map, slice_index_or, if◌then◌else◌}
 use Rattle.cls_walk.specs.FrameAims.{Aim, AreThinned}
 use Rattle.cls_walk.specs.FrameBegins.{aim_of}

@@ -1,4 +1,4 @@
--- Aims: of which nodes the next argument can be, each with a size that what is awaited behind it can come to.
+-- internal: of which nodes the next argument can be, each with a size that what is awaited behind it can come to
 use Rattle.std.specs.Prelude.{ℕ, zero, suc, ◌≡◌, ◌+◌, ◌-◌, ◌<◌, ◌≤◌}
 use Rattle.std.specs.Prelude.{nat_eq, nat_le, List, [], ◌∷◌, length, map, if◌then◌else◌}
 use Rattle.std.specs.List.{flat_map}

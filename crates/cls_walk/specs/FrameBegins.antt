@@ -1,4 +1,4 @@
--- The places that an opening begins, by the head rules of the node of an aim.
+-- internal: the places that an opening begins, by the head rules of the node of an aim
 use Rattle.std.specs.Prelude.{ℕ, ◌≡◌, ◌⊎◌, ◌+◌, ◌≤◌, ◌<◌, List, [], length, map, slice_index, slice_index_or, Vec}
 use Rattle.std.specs.Global.{Global}
 use Rattle.cls_enum.specs.Members.{IsIn}

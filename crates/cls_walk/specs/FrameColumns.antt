@@ -1,4 +1,4 @@
--- Columns of places, of rules and of aims, and how the code's are seen.
+-- internal: columns of places, of rules and of aims, and how the code's are seen
 use Rattle.std.specs.Prelude.{ℕ, ◌≡◌, ◌⊎◌, List, [], map, slice_index_or, Vec}
 use Rattle.std.specs.Global.{Global}
 use Rattle.cls_base.specs.declared.rule.Rule.{Rule}

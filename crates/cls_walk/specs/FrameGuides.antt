@@ -1,4 +1,4 @@
--- What a walk over frames goes by is right for a book.
+-- internal: what a walk over frames goes by is right for a book
 use Rattle.std.specs.Prelude.{ℕ, ◌+◌, List, slice_index}
 use Rattle.cls_base.specs.declared.rule.Rule.{Rule}
 use Rattle.cls_walk.specs.Counts.{HeadRule}

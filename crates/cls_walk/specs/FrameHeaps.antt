@@ -1,4 +1,4 @@
--- The frames of the code: marks, and the places in one column.
+-- internal: the frames of the code, which are marks, and the places in one column
 use Rattle.std.specs.Prelude.{ℕ, zero, suc, ◌≡◌, ◌+◌, ◌-◌, ◌≤◌, ◌<◌, List, [], ◌∷◌, length, map, take, drop, slice_index_or}
 use Rattle.cls_base.specs.declared.rule.Rule.{Rule}
 use Rattle.cls_walk.specs.FrameColumns.{place_of, AreRules}

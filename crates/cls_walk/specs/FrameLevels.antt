@@ -1,4 +1,4 @@
--- The levels of the code: the aims of all levels of all stacks in one column.
+-- internal: the levels of the code, which are the aims of all levels of all stacks in one column
 use Rattle.std.specs.Prelude.{ℕ, zero, suc, ◌≡◌, ◌-◌, ◌≤◌, List, [], ◌∷◌, length, map, take, drop, slice_index, slice_index_or}
 use Rattle.cls_walk.specs.FrameBegins.{aim_of}
 use Rattle.cls_walk.specs.declared.aims.Levels as levels

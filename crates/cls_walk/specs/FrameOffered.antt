@@ -1,4 +1,4 @@
--- Which openings head rules offer by an aim, and that they are gathered.
+-- internal: which openings head rules offer by an aim, and that they are gathered
 use Rattle.std.specs.Prelude.{ℕ, ◌+◌, ◌<◌, ◌≤◌, List, length, map, slice_index_or}
 use Rattle.cls_enum.specs.Members.{IsIn}
 use Rattle.cls_walk.specs.Counts.{HeadRule}

@@ -1,4 +1,4 @@
--- The frame of an opening on a stack of the code.
+-- internal: the frame of an opening on a stack of the code
 use Rattle.std.specs.Prelude.{ℕ, ◌≡◌, List, ◌∷◌}
 use Rattle.cls_base.specs.declared.rule.Rule.{Rule}
 use Rattle.cls_walk.specs.FrameAims.{Aim, AreOffered}

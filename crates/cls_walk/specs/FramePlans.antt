@@ -1,4 +1,4 @@
--- Stacks of the code that are ready for the walk to go on with.
+-- internal: stacks of the code that are ready for the walk to go on with
 use Rattle.std.specs.Prelude.{ℕ, ◌≡◌, ◌+◌, ◌<◌, ◌≤◌, ◌⊎◌, true, false, List, [], ◌∷◌, length, slice_index_or}
 use Rattle.cls_base.specs.declared.rule.Rule.{Rule}
 use Rattle.cls_term.specs.Costs.{cost_of}

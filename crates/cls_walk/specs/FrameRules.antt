@@ -1,4 +1,4 @@
--- The rules of a book by their kinds, and the least sizes by them, as the code makes them.
+-- internal: the rules of a book by their kinds, and the least sizes by them, as the code makes them
 use Rattle.std.specs.Prelude.{ℕ, ◌≡◌, ◌+◌, ◌<◌, ◌≤◌, nat_eq, List, [], ◌∷◌, length, map, slice_index, slice_index_or, if◌then◌else◌, Vec}
 use Rattle.std.specs.Global.{Global}
 use Rattle.std.specs.List.{flat_map}

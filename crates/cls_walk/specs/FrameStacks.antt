@@ -1,4 +1,4 @@
--- Stacks of frames that share what is below, in one column: each frame stands on an earlier one or on none.
+-- internal: stacks of frames that share what is below, in one column. Each frame stands on an earlier one or on none.
 use Rattle.std.specs.Prelude.{ℕ, ◌≡◌, ◌+◌, ◌-◌, ◌≤◌, List, [], ◌∷◌, ◌++◌, take, drop, slice_index_or}
 use Rattle.cls_walk.specs.Frames.{Place, Frame}
 

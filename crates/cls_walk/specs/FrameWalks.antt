@@ -1,4 +1,4 @@
--- What a walk over frames lists.
+-- internal: what a walk over frames lists
 use Rattle.std.specs.Prelude.{ℕ, ◌≡◌, ◌-◌, ◌≤◌, List, ◌∷◌, Option}
 use Rattle.cls_base.specs.declared.rule.Rule.{Rule}
 use Rattle.cls_walk.specs.Frames.{Frame, ListsBy}

@@ -1,4 +1,4 @@
--- Frames: terms that are begun. The walk reads a code from the left; a frame is a component with those of its arguments
+-- internal: terms that are begun. The walk reads a code from the left; a frame is a component with those of its arguments
 -- that are read, and says of which nodes the whole can be, and of which nodes the arguments that are still to come.
 use Rattle.std.specs.Prelude.{ℕ, zero, suc, ◌≡◌, ◌+◌, ◌-◌, ◌*◌, ◌≤◌}
 use Rattle.std.specs.Prelude.{◌⊎◌, nat_eq, List, [], ◌∷◌, ◌++◌, length, map, if◌then◌else◌}

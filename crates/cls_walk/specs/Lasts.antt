@@ -1,4 +1,4 @@
--- How far the head rules of a node are known to be in order.
+-- internal: how far the head rules of a node are known to be in order
 use Rattle.std.specs.Prelude.{◌≡◌, ◌<◌, ◌≤◌, ◌⊎◌, List, length}
 use Rattle.cls_enum.specs.Members.{IsIn}
 use Rattle.cls_walk.specs.Counts.{HeadRule}

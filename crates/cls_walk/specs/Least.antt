@@ -1,4 +1,4 @@
--- The least sizes of nodes, as they are raised.
+-- internal: the least sizes of nodes, as they are raised
 use Rattle.std.specs.Prelude.{ℕ, ◌≡◌, ◌+◌, ◌≤◌, List, slice_index}
 use Rattle.cls_enum.specs.Members.{IsIn}
 use Rattle.cls_walk.specs.Counts.{HeadRule}

@@ -1,4 +1,4 @@
--- How codes begin: with a component and its number of arguments.
+-- internal: how codes begin, with a component and its number of arguments
 use Rattle.std.specs.Prelude.{ℕ, ◌≡◌, ◌<◌, ◌≤◌, ◌⊎◌, List, length, take, slice_index_or, Option, None, Some, IfSome}
 use Rattle.cls_walk.specs.declared.opening.Opening.{Opening}
 

@@ -1,4 +1,4 @@
--- There is at most one proof that head rules are in order.
+-- internal: there is at most one proof that head rules are in order
 use Rattle.std.specs.Prelude.{ℕ, ◌≡◌, ◌<◌, true, Bool, List, [], ◌∷◌}
 use mathlib.Core.Logic.{inl, inr}
 use mathlib.Core.Path.{subst}

@@ -1,4 +1,4 @@
--- A listing that ends a page: the due terms up to a size in their order, or the first of them.
+-- internal: a listing that ends a page, of the due terms up to a size in their order, or the first of them
 use Rattle.std.specs.Prelude.{ℕ, ◌≡◌, ◌<◌, ◌⊎◌, List}
 use Rattle.cls_base.specs.Terms.{Applicative, size_of, code_of, Before}
 use Rattle.cls_base.specs.Pages.{Rises}

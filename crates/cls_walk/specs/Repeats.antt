@@ -1,4 +1,4 @@
--- The forms of a node whose only pair of nodes, if it has any, applies its own terms.
+-- internal: the forms of a node whose only pair of nodes, if it has any, applies its own terms
 use Rattle.std.specs.Prelude.{ℕ, zero, suc, ◌≡◌, List, [], ◌∷◌, ◌++◌, Option, None, Some}
 use Rattle.std.specs.List.{flat_map}
 use Rattle.cls_base.specs.declared.rule.Rule.{Rule}

@@ -1,4 +1,4 @@
--- Runs of head rules, as they are kept while the rules of a node are counted.
+-- internal: runs of head rules, as they are kept while the rules of a node are counted
 use Rattle.std.specs.Prelude.{ℕ, ◌≡◌, ◌+◌, List}
 use Rattle.cls_walk.specs.Counts.{HeadRule, run}
 use Rattle.cls_walk.specs.Tables.{capped}

@@ -1,4 +1,4 @@
--- What forms come to, as it is kept beside them.
+-- internal: what forms come to, as it is kept beside them
 use Rattle.std.specs.Prelude.{ℕ, ◌≡◌, List, map}
 use Rattle.cls_walk.specs.Counts.{HeadRule}
 use Rattle.cls_walk.specs.Filled.{form_size}

@@ -1,4 +1,4 @@
--- The numbers of ways of one size, each capped.
+-- internal: the numbers of ways of one size, each capped
 use Rattle.std.specs.Prelude.{ℕ, ◌≡◌, Bool, List, slice_index}
 use Rattle.cls_base.specs.declared.rule.Rule.{Rule}
 use Rattle.cls_base.specs.Languages.{rules_at}

@@ -1,4 +1,4 @@
--- Stretches of a listing, in which the codes of the terms of one node stand.
+-- internal: stretches of a listing, in which the codes of the terms of one node stand
 use Rattle.std.specs.Prelude.{ℕ, ◌≡◌, ◌+◌, List, [], ◌∷◌, ◌++◌, length, map, take, slice_index_or, Option, None, Some, Bool, true}
 use Rattle.cls_term.specs.Costs.{cost_of}
 use Rattle.cls_walk.specs.Filled.{code_size, IsFilled, needs}

@@ -1,4 +1,4 @@
--- Tables of numbers by size and node, as they are kept: a number that is too great for its type stands as the
+-- internal: tables of numbers by size and node, as they are kept. A number that is too great for its type stands as the
 -- greatest that isn't.
 use Rattle.std.specs.Prelude.{ℕ, ◌≡◌, ◌-◌, ◌^◌, ◌<◌, min, List, [], length, slice_index, slice_index_or}
 use Rattle.cls_walk.specs.Counts.{ways}

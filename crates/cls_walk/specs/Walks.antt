@@ -1,4 +1,4 @@
--- What a walk over codes lists.
+-- internal: what a walk over codes lists
 use Rattle.std.specs.Prelude.{ℕ, ◌≡◌, ◌<◌, ◌≤◌, Bool, true, false, List, ◌∷◌, ◌++◌, length, map}
 use Rattle.cls_base.specs.Terms.{Precedes}
 use Rattle.cls_term.specs.Costs.{cost_of}

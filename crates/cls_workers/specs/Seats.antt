@@ -1,4 +1,4 @@
--- What becomes of a worker's seat.
+-- internal: what becomes of a worker's seat
 use Rattle.std.specs.Prelude.{◌≡◌, ◌≤◌, ◌<◌, ◌+◌, ◌^◌, ℕ}
 use Rattle.std.specs.Option.{ForSome}
 use Rattle.cls_table.specs.Seen.{SeatSeen}

@@ -6,6 +6,8 @@
 //!
 //! A worker takes the lock of the table once for several goals. It files what it has done and claims what it does next,
 //! and then works on its claims while others have the lock.
+//!
+//! Inside, `run` starts and joins workers, and `work` is what each does.
 #![tactic(auto)]
 
 mod run;

@@ -6,4 +6,4 @@ pub exchange-requires-then-is_ok-clause-batch : goal.exchange-requires-then-is_o
 exchange-requires-then-is_ok-clause-batch g c tag is =
     let same = c.exchange.ensures.seat in
     let was = c.exchange.ensures.batch tag (sym (ap (λ s. s.tag) same) ∙ is) in
-    subst (λ (w : ℕ). IsBatchFor tag w c.expand.new.batch) (sym (ap (λ s. s.worker) same)) (c.expand.ensures.batch tag c.args.seat.worker was)
+    subst (λ (w : ℕ). IsBatchFor tag w c.expand.new.self) (sym (ap (λ s. s.worker) same)) (c.expand.ensures.batch tag c.args.seat.worker was)
