@@ -1,5 +1,5 @@
 //! Tests of whole runs over sources and sinks in memory: where reads and writes fail, how the input may be cut into pieces,
-//! and how the output is. There is nothing here but tests. What a run writes for its input is tested by the rows under
+//! how the output is, and that several workers take part. There is nothing here but tests. What a run writes for its input is tested by the rows under
 //! `tests/`.
 #![tactic(auto)]
 
@@ -13,3 +13,5 @@ mod outside;
 mod pieces;
 #[cfg(test)]
 mod streaming;
+#[cfg(test)]
+mod workers;

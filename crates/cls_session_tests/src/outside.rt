@@ -1,6 +1,6 @@
 ghost use Rattle.std.specs.Prelude.{◌<◌};
 
-use cls_base::{MemorySink, MemorySource, Numbers, OpenGate};
+use cls_base::{Gate, MemorySink, MemorySource, Numbers, OpenGate};
 use cls_session::{Status, run};
 use std::alloc::Global;
 use std::sync::Wait;
@@ -34,6 +34,18 @@ pub fn outcome<R: Threads + Wait + Sync>(
     input: &[u8],
     outside: &Outside,
 ) -> Result<(Status, String), Fail> {
+    outcome_under(rt, alloc, words, input, outside, &OpenGate)
+}
+
+/// The same of a run that tells the gate of its claims.
+pub fn outcome_under<R: Threads + Wait + Sync, G: Gate + Sync>(
+    rt: &R,
+    alloc: Global,
+    words: &[&str],
+    input: &[u8],
+    outside: &Outside,
+    gate: &G,
+) -> Result<(Status, String), Fail> {
     let mut owned = Vec::new(alloc);
     for word in words {
         owned.push(String::from_str(alloc, word)?)?;
@@ -48,7 +60,7 @@ pub fn outcome<R: Threads + Wait + Sync>(
         owned.as_slice(),
         &mut source,
         &mut sink,
-        &OpenGate,
+        gate,
     );
     let output = String::from_str(alloc, str::from_utf8(sink.held())?)?;
     Ok((status, output))
