@@ -114,7 +114,7 @@ from pathlib import Path
 
 from clsynth import Session
 
-functions = {"names": ["b", "a", "b"], "sort": sorted, "uniq": lambda lines: list(dict.fromkeys(lines)), "reverse": lambda lines: lines[::-1]}
+functions = {"names": ["b", "a", "b"], "sort": sorted, "uniq": lambda it: list(dict.fromkeys(it)), "reverse": lambda it: it[::-1]}
 with Session(Path("lines.cls").read_text()) as session:
     print(*session.values("Unique", functions, max_size=4), sep="\n")
 PYTHON
