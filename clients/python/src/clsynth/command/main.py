@@ -6,6 +6,7 @@ import os
 import sys
 from argparse import ArgumentParser, Namespace, RawDescriptionHelpFormatter
 from collections.abc import Callable, Sequence
+from io import TextIOWrapper
 
 from clsynth._version import __version__
 from clsynth.command.asking import show_missing, show_why
@@ -128,6 +129,9 @@ def _command_of(given: Namespace) -> Callable[[Namespace], int]:
 
 def _guarded(command: Callable[[], int], given: Namespace) -> int:
     """The status of a command. What it can't do is said on standard error."""
+    if isinstance(sys.stdout, TextIOWrapper):
+        # Characters that the terminal or the file can't have are written as numbers.
+        sys.stdout.reconfigure(errors="backslashreplace")
     try:
         return command()
     except KeyboardInterrupt:
