@@ -11,7 +11,7 @@ from typing import Protocol
 
 from clsynth.declarations import Declared
 from clsynth.explanations import REFUSALS
-from clsynth.tokens import can_be_read, first_word, is_alone, is_skipped, lines_of, text_of
+from clsynth.tokens import first_word, is_alone, is_skipped, lines_of, text_of
 
 __all__ = ["Asked", "Exchange", "Fault", "Input", "exchanges", "fault_of", "read_replies"]
 
