@@ -12,9 +12,7 @@ import sys
 import tempfile
 import threading
 import unittest
-from collections.abc import Iterator
 from concurrent.futures import Executor, Future, ProcessPoolExecutor, ThreadPoolExecutor
-from contextlib import contextmanager
 from pathlib import Path
 from typing import Any
 

@@ -45,7 +45,8 @@ class Bash(unittest.TestCase):
     def test_options(self) -> None:
         self.assertEqual(self.offered("_cls", "cls", "run", "--"), sorted("--help --json --strict --workers --max-goals --max-rules --pool".split()))
         self.assertEqual(self.offered("_cls", "cls", "list", "first.cls", "--ma"), ["--max", "--max-goals", "--max-rules"])
-        self.assertEqual(self.offered("_cls", "cls", "view", "first.cls", "A", "-"), sorted("--help -o --workers --max-goals --max-rules --pool".split()))
+        options = "--help -o --workers --max-goals --max-rules --pool".split()
+        self.assertEqual(self.offered("_cls", "cls", "view", "first.cls", "A", "-"), sorted(options))
         self.assertEqual(self.offered("_cls", "cls", "run", "--pool", ""), [])
         self.assertEqual(self.offered("_clsynth", "clsynth", ""), sorted("--workers --max-goals --max-rules --pool generate".split()))
         self.assertEqual(self.offered("_clsynth", "clsynth", "--max"), ["--max-goals", "--max-rules"])

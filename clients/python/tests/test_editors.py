@@ -11,6 +11,7 @@ import unittest
 from pathlib import Path
 
 from documents import TOP
+from support import not_tested
 from textmate import Grammar
 
 EDITORS = TOP / "editors"
@@ -108,8 +109,11 @@ qall!
 """
 
 
-@unittest.skipUnless(shutil.which("vim"), "vim isn't on the PATH")
 class Vim(unittest.TestCase):
+    def setUp(self) -> None:
+        if not shutil.which("vim"):
+            not_tested(self, "colours in Vim: vim isn't on the PATH")
+
     def groups(self, text: str) -> tuple[str, list[list[str]]]:
         """The type of a file with this text, and what each byte of each line is linked to."""
         with tempfile.TemporaryDirectory() as folder:

@@ -2,10 +2,11 @@
 
 from __future__ import annotations
 
+import re
 import subprocess
 import unittest
 
-from documents import tables, words
+from documents import LANGUAGE, tables, words
 from support import PROGRAM, session
 
 from clsynth.errors import QueryError, RepositoryRefused
@@ -28,6 +29,12 @@ class Tables(unittest.TestCase):
         self.assertEqual(words(of_queries), list(ERRORS))
         reasons = [cells for head in ("| Reason | The test of a row |", "| Reason | The test of a member |") for cells in tables(head)]
         self.assertEqual([word for cells in reasons for word in words(cells)] + ["goal"], list(REASONS))
+
+    def test_each_word_that_stands_elsewhere_in_it_is_explained(self) -> None:
+        shown = re.findall(r"^(?:error|refused \d+) ([a-z0-9-]+)|`(?:error|refused \d+) ([a-z0-9-]+)", LANGUAGE, re.MULTILINE)
+        found = {block or code for block, code in shown}
+        self.assertIn("too-many-terms", found)
+        self.assertLessEqual(found, {*REFUSALS, *ERRORS, *REASONS})
 
     def test_each_has_a_sentence(self) -> None:
         for explanations in (REFUSALS, ERRORS, REASONS):

@@ -211,7 +211,8 @@ class Stops(unittest.TestCase):
             "    print(session.inhabited('A'), session._program is program)\n    session.close()\n"
         )
         environment = {**os.environ, "CLSYNTH": PROGRAM, "PYTHONPATH": str(SOURCES)}
-        with subprocess.Popen([sys.executable, "-c", asked], stdout=subprocess.PIPE, text=True, env=environment, start_new_session=True) as process:
+        words = [sys.executable, "-c", asked]
+        with subprocess.Popen(words, stdout=subprocess.PIPE, text=True, env=environment, start_new_session=True) as process:
             assert process.stdout
             self.assertEqual(process.stdout.readline(), "waits\n")
             os.killpg(process.pid, signal.SIGINT)

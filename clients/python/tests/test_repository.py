@@ -11,7 +11,7 @@ from pathlib import Path
 from support import CHAIN, session, terms
 
 import clsynth
-from clsynth import Repository, Type, constructor, intersection, numbers, pairs, steps, var
+from clsynth import Repository, constructor, intersection, numbers, pairs, steps, var
 
 TOP = Path(__file__).resolve().parents[3]
 A, B, C, At, Asc, Int, List = map(constructor, ["A", "B", "C", "At", "Asc", "Int", "List"])

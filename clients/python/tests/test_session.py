@@ -196,9 +196,10 @@ class Errors(unittest.TestCase):
         wrong: Any = None
         with session(CHAIN) as chain:
             asked: list[Callable[[], object]] = [
-                lambda: chain.inhabited(wrong), lambda: chain.page(wrong, 1), lambda: chain.verify(wrong, "empty\nqed"), lambda: chain.paths(wrong),
-                lambda: chain.has_type(wrong, "A"), lambda: chain.is_subtype("A", wrong), lambda: chain.page("A", 1, after=3),  # type: ignore
-                lambda: session(wrong), lambda: session(b"comp x : A\n"),  # type: ignore
+                lambda: chain.inhabited(wrong), lambda: chain.page(wrong, 1), lambda: chain.verify(wrong, "empty\nqed"),
+                lambda: chain.paths(wrong), lambda: chain.has_type(wrong, "A"), lambda: chain.has_type("x", wrong),
+                lambda: chain.is_subtype("A", wrong), lambda: chain.page("A", 1, after=3),  # type: ignore[arg-type]
+                lambda: session(wrong), lambda: session(b"comp x : A\n"),  # type: ignore[arg-type]
             ]
             for ask in asked:
                 with self.assertRaises(TypeError):

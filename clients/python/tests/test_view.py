@@ -65,9 +65,10 @@ class Contents(unittest.TestCase):
 
     def test_where_a_page_is_refused_it_has_fewer_terms(self) -> None:
         # With 255 terms of at most 8 components, 200 of them need more than 100 terms. 20 need the 31 of at most 5, and the page holds those.
+        # Two need the 3 of at most 2 components, and so does one.
         repository = "comp x : A\ncomp f : A -> A\ncomp g : A -> A\n"
         self.assertEqual(len(content(repository, "A", pool=100)["terms"]["entries"]), 20)
-        self.assertEqual(len(content(repository, "A", pool=10)["terms"]["entries"]), 1)
+        self.assertEqual(len(content(repository, "A", pool=10)["terms"]["entries"]), 2)
         self.assertEqual(content(repository, "A", pool=1)["terms"]["error"], "too-many-terms")
 
     def test_errors_of_bounds_stand_in_the_page(self) -> None:

@@ -12,7 +12,7 @@ import sys
 import unittest
 from pathlib import Path
 
-from support import PROGRAM, SOURCES
+from support import PROGRAM, SOURCES, not_tested
 
 HERE = Path(__file__).resolve().parent
 PACKAGES = "chromium, chromium-driver and python3-selenium"
@@ -31,11 +31,7 @@ class InABrowser(unittest.TestCase):
         python = python_with_selenium()
         missing = [name for name in ("chromium", "chromedriver") if not shutil.which(name)] + ([] if python else ["selenium"])
         if missing or python is None:
-            told = f"the page wasn't tried in a browser: {', '.join(missing)} missing ({PACKAGES} of Debian have them)"
-            print(f"\nSKIPPED: {told}", file=sys.stderr)
-            if os.environ.get("CI") == "true":
-                self.fail(told)
-            self.skipTest(told)
+            not_tested(self, f"the page in a browser: {', '.join(missing)} missing ({PACKAGES} of Debian have them)")
         environment = {**os.environ, "CLSYNTH": PROGRAM, "PYTHONPATH": f"{SOURCES}:{HERE}", "PYTHONDONTWRITEBYTECODE": "1"}
         ran = subprocess.run([python, "-m", "unittest", "in_browser"], cwd=HERE, env=environment, capture_output=True, text=True)
         self.assertEqual(ran.returncode, 0, ran.stderr)

@@ -54,7 +54,7 @@ class AsyncSession:
             Session, repository, program=program, workers=workers, max_goals=max_goals, max_rules=max_rules, pool=pool, words=words,
             timeout=timeout, names=tuple(names), lint=False,
         )
-        self._linted = str(repository) if lint else ""
+        self._lint = partial(warnings_of, str(repository)) if lint else None
         self._functions = repository.functions if isinstance(repository, Repository) else {}
         self._turn = asyncio.Lock()
         self._thread = ThreadPoolExecutor(1, thread_name_prefix="clsynth")
@@ -63,7 +63,7 @@ class AsyncSession:
     async def __aenter__(self) -> AsyncSession:
         try:
             await self._run(self._start)
-            texts = await self._run(lambda: warnings_of(self._linted))
+            texts = await self._run(self._lint) if self._lint else ()
         except BaseException:
             await self.aclose()
             raise

@@ -360,7 +360,7 @@ class TooManyTerms(QueryError):
     """More terms count for the page than the session allows."""
     word = "too-many-terms"
     advice = (
-        f"A session with a greater pool (at most {MAX_POOL:,}) lists more. Fewer terms at once, a smaller max_size or a narrower type need less. "
+        f"A session with a greater pool (at most {MAX_POOL:,}) lists more. Fewer terms, a smaller max_size or a narrower type need less. "
         "inhabited, sizes, grammar and certify have no such bound."
     )
 

@@ -66,8 +66,8 @@ def _of_repository(given: Input, number: int, fault: Fault) -> Diagnostic:
 
 def _of_query(given: Input, asked: Asked, fault: Fault) -> Diagnostic:
     explanation = ERRORS.get(fault.word, _UNKNOWN)
-    if explanation.detail is Detail.LINE and int(fault.detail) < len(asked.lines):
-        place = int(fault.detail)
+    place = int(fault.detail) if explanation.detail is Detail.LINE and fault.detail.isdecimal() else len(asked.lines)
+    if place < len(asked.lines):
         return _diagnostic(Case(given, asked.line + place, text_of(asked.lines[place]), fault, explanation, CERTIFICATE))
     return _diagnostic(Case(given, asked.line, asked.text, fault, explanation, QUERIES))
 

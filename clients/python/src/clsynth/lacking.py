@@ -31,7 +31,7 @@ class Lacking:
                 self._by_type[types[line - first]].append(name)
         lacking = {name for names in self._by_type.values() for name in names}
         self.names = [name for name in self._roles.wanted if name in lacking]
-        """The constructors that the types want and nothing makes, in the order in which they come in the repository, and then in the types."""
+        """The constructors that the types want and nothing makes, as they come in the repository, and then in the types."""
 
     def of(self, type: str) -> list[str]:
         """The constructors that this one of the types wants and nothing makes, each once."""

@@ -27,7 +27,8 @@ class Paging(Generic[Entry]):
     ) -> None:
         self._page_of = page_of
         self._term_of = term_of
-        self._size = size
+        self.size = size
+        """How many terms the next page has at most."""
         self._after = after
         self.has_more = True
         """Whether a further page follows."""
@@ -35,7 +36,7 @@ class Paging(Generic[Entry]):
     @property
     def query(self) -> Query[Page[Entry]]:
         """The query for the next page."""
-        return self._page_of(self._size, self._after)
+        return self._page_of(self.size, self._after)
 
     def take(self, page: Page[Entry]) -> None:
         """Goes on behind this page."""
@@ -45,8 +46,8 @@ class Paging(Generic[Entry]):
 
     def shrinks(self) -> bool:
         """Makes the next pages smaller, since fewer terms count for them. It can't be done if they have one term each."""
-        can_shrink = self._size > 1
-        self._size = max(1, self._size // _FEWER)
+        can_shrink = self.size > 1
+        self.size = max(1, self.size // _FEWER)
         return can_shrink
 
 

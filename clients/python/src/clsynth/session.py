@@ -182,6 +182,18 @@ class Session:
         """The same, with the text of each term."""
         return self._entries(text_paging(goal, page_size, max_size, after), timeout)
 
+    def pages(self, paging: Paging[Entry], *, timeout: float | None = None) -> Iterator[Page[Entry]]:
+        """The pages of a listing in turn, as the module `paging` makes it, each when it is asked for."""
+        while paging.has_more:
+            try:
+                page = self.ask(paging.query, timeout=timeout)
+            except TooManyTerms:
+                if not paging.shrinks():
+                    raise
+            else:
+                paging.take(page)
+                yield page
+
     def values(
         self, goal: TypeLike, functions: Mapping[str, object] | None = None, *, max_size: int = MAX_SIZE, page_size: int = 100,
         after: TermLike | None = None, timeout: float | None = None,
@@ -212,15 +224,7 @@ class Session:
         return self.ask(queries.history(goal), timeout=timeout)
 
     def _entries(self, paging: Paging[Entry], timeout: float | None) -> Iterator[Entry]:
-        while paging.has_more:
-            try:
-                page = self.ask(paging.query, timeout=timeout)
-            except TooManyTerms:
-                if not paging.shrinks():
-                    raise
-            else:
-                paging.take(page)
-                yield from page.entries
+        return (entry for page in self.pages(paging, timeout=timeout) for entry in page.entries)
 
     @contextmanager
     def _under_way(self, query: str, timeout: float | None) -> Iterator[_Attempt]:

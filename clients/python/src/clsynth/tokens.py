@@ -7,7 +7,10 @@ from dataclasses import dataclass
 
 from clsynth.limits import MAX_LINE_BYTES, MAX_NAME_BYTES
 
-__all__ = ["BLANKS", "Token", "byte_of", "bytes_of", "can_be_read", "character_of", "first_word", "is_alone", "is_skipped", "lines_of", "text_of", "tokens_of"]
+__all__ = [
+    "BLANKS", "Token", "byte_of", "bytes_of", "can_be_read", "character_of", "first_word", "is_alone", "is_skipped", "lines_of", "text_of",
+    "tokens_of",
+]
 
 _TOKEN = re.compile(r"(?P<name>[A-Za-z_][A-Za-z0-9_]*)|(?P<number>[0-9]+)|(?P<sign>->|<=|[&*(),$:=|])|(?P<bad>[^ \t\r])", re.ASCII)
 _FIRST = re.compile(r"[ \t\r]*([A-Za-z_][A-Za-z0-9_]*)", re.ASCII)

@@ -2,6 +2,7 @@
 
 from __future__ import annotations
 
+import re
 from collections.abc import Iterator
 from dataclasses import dataclass
 from functools import cached_property
@@ -10,7 +11,7 @@ from typing import Protocol
 
 from clsynth.declarations import Declared
 from clsynth.explanations import REFUSALS
-from clsynth.tokens import can_be_read, first_word, is_alone, is_skipped, lines_of, text_of
+from clsynth.tokens import first_word, is_alone, is_skipped, lines_of, text_of
 
 __all__ = ["Asked", "Exchange", "Fault", "Input", "exchanges", "fault_of", "read_replies"]
 
@@ -18,6 +19,9 @@ _LAST_LINES = {
     "list": ("more", "done"), "texts": ("more", "done"), "paths": ("done",), "grammar": ("done",), "audit": ("done",), "certify": ("qed",),
 }
 """With which line the reply to a query of several lines ends."""
+
+_REFUSED = re.compile(rb"refused [0-9]+ ([a-z0-9-]+)")
+"""Behind the number stands the word of a refusal of the repository, or that of a reason why a certificate is refused."""
 
 
 class Output(Protocol):
@@ -134,7 +138,8 @@ def read_replies(given: Input, output: Output) -> Iterator[Exchange]:
     first = output.readline()
     if first.startswith(b"usage: "):
         return
-    if first.startswith(b"refused ") and first.split()[2].decode() in REFUSALS:
+    refused = _REFUSED.match(first)
+    if refused and refused[1].decode() in REFUSALS:
         yield Exchange(None, (first.removesuffix(b"\n"),))
         return
     for asked in given.queries():

@@ -4,12 +4,13 @@ from __future__ import annotations
 
 import sys
 from argparse import Namespace
-from collections.abc import Iterator
+from typing import Any
 
 from clsynth.command.asking import session_of
 from clsynth.command.progress import Progress
 from clsynth.command.sources import repository_in
-from clsynth.session import Session
+from clsynth.paging import Paging, term_paging, text_paging
+from clsynth.replies import TermText
 from clsynth.terms import Term
 
 __all__ = ["list_terms"]
@@ -21,33 +22,32 @@ _PAGE = 500
 def list_terms(given: Namespace) -> int:
     """Prints the terms, or their texts, each on a line of its own."""
     progress = Progress(given.count)
+    paging = _paging(given)
+    left = given.count
     with session_of(given, repository_in(given)) as session:
-        for page in _pages(session, given):
+        for page in session.pages(paging):
             progress.clear()
-            sys.stdout.write("".join(f"{line}\n" for line in page))
-            sys.stdout.flush()
-            progress.add(len(page))
+            _print(page.entries)
+            progress.add(len(page.entries))
+            left -= len(page.entries)
+            if not left:
+                break
+            paging.size = min(paging.size, left)
     progress.clear()
     return 0
 
 
-def _tell_long(terms: list[Term]) -> None:
-    for term in terms:
-        print(f"cls: the text of {term} has more than 65,536 bytes", file=sys.stderr)
+def _paging(given: Namespace) -> Paging[Any]:
+    words = given.type, min(given.count, _PAGE), given.max, given.after
+    if given.text:
+        return text_paging(*words)
+    return term_paging(*words)
 
 
-def _pages(session: Session, given: Namespace) -> Iterator[list[str]]:
-    """The lines of each page."""
-    left, after, has_more = given.count, given.after, True
-    while left and has_more:
-        take = min(left, _PAGE)
-        if given.text:
-            entries, has_more = session.text_page(given.type, take, max_size=given.max, after=after)
-            terms = [entry.term for entry in entries]
-            yield [entry.text for entry in entries if entry.text is not None]
-            _tell_long([entry.term for entry in entries if entry.text is None])
-        else:
-            terms, has_more = session.page(given.type, take, max_size=given.max, after=after)
-            yield [str(term) for term in terms]
-        left -= len(terms)
-        after = terms[-1] if terms else after
+def _print(entries: list[Term | TermText]) -> None:
+    texts = [entry.text if isinstance(entry, TermText) else str(entry) for entry in entries]
+    sys.stdout.write("".join(f"{text}\n" for text in texts if text is not None))
+    sys.stdout.flush()
+    for entry in entries:
+        if isinstance(entry, TermText) and entry.text is None:
+            print(f"cls: the text of {entry.term} has more than 65,536 bytes", file=sys.stderr)

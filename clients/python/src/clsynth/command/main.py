@@ -6,6 +6,7 @@ import os
 import sys
 from argparse import ArgumentParser, Namespace, RawDescriptionHelpFormatter
 from collections.abc import Callable, Sequence
+from io import TextIOWrapper
 
 from clsynth._version import __version__
 from clsynth.command.asking import show_missing, show_why
@@ -24,8 +25,8 @@ __all__ = ["check_main", "main"]
 
 _STATUSES = """\
 The status is that of the program: 0 if all is well, 1 for words of no form and if there is no program, 2 if the repository is refused,
-3 if a file can't be read, 4 if nobody takes the output, 5 if memory runs out, 6 if the input is too long; and 7 if a query has an error or
-there is something to warn of. The program is what the variable CLSYNTH of the environment names, or else `clsynth` on the PATH."""
+3 if a file can't be read or written, 4 if nobody takes the output, 5 if memory runs out, 6 if the input is too long; and 7 if a query has
+an error or there is something to warn of. The program is what the variable CLSYNTH of the environment names, or else `clsynth` on the PATH."""
 
 _FILE = "a file, or - for standard input"
 _REPOSITORY = "a file with a repository; queries behind it are left out"
@@ -128,6 +129,9 @@ def _command_of(given: Namespace) -> Callable[[Namespace], int]:
 
 def _guarded(command: Callable[[], int], given: Namespace) -> int:
     """The status of a command. What it can't do is said on standard error."""
+    if isinstance(sys.stdout, TextIOWrapper):
+        # Characters that the terminal or the file can't have are written as numbers.
+        sys.stdout.reconfigure(errors="backslashreplace")
     try:
         return command()
     except KeyboardInterrupt:

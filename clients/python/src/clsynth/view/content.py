@@ -7,7 +7,9 @@ from collections.abc import Callable, Iterable
 from clsynth.errors import ClosureTooLarge, QueryError, TooManyTerms, TypeTooLarge, WideGoal
 from clsynth.grammars import Goal, Grammar
 from clsynth.lacking import Lacking
-from clsynth.replies import Page, Sizes, TermText
+from clsynth.limits import MAX_SIZE
+from clsynth.paging import text_paging
+from clsynth.replies import Sizes
 from clsynth.repository import Repository
 from clsynth.session import Session
 from clsynth.types import TypeLike
@@ -18,8 +20,6 @@ __all__ = ["MOST_TERMS", "content_of"]
 MOST_TERMS = 200
 """How many terms stand in a page."""
 
-# A page of fewer terms may be answered where one of many has `too-many-terms`.
-_FEWER_TERMS = (MOST_TERMS, MOST_TERMS // 10, 1)
 _SHOWN_CHOICES = 6
 # What the type is answered with if it is right and over a bound. Another error says that the type itself is wrong.
 _Bound = (ClosureTooLarge, TooManyTerms, TypeTooLarge, WideGoal)
@@ -92,15 +92,6 @@ def _sizes(sizes: Sizes) -> str:
 
 def _terms(session: Session, repository: Repository, goal: TypeLike) -> Json:
     costs = repository.costs
-    page = _page(session, goal)
+    page = next(session.pages(text_paging(goal, MOST_TERMS, MAX_SIZE, None)))
     entries = [{"term": str(entry.term), "size": entry.term.size(costs), "text": entry.text} for entry in page.entries]
     return {"entries": entries, "more": page.more}
-
-
-def _page(session: Session, goal: TypeLike) -> Page[TermText]:
-    for take in _FEWER_TERMS[:-1]:
-        try:
-            return session.text_page(goal, take)
-        except TooManyTerms:
-            continue
-    return session.text_page(goal, _FEWER_TERMS[-1])
