@@ -40,7 +40,7 @@ if ! { $python -m venv --system-site-packages --without-pip env && env/bin/pytho
     exit 0
 fi
 # A copy, since pip leaves files in the folder that it installs, and takes those that it has left.
-cp -r "$top/clients/python" package
+cp -rL "$top/clients/python" package
 rm -rf package/build package/src/*.egg-info
 env/bin/python -m pip install --no-index --no-build-isolation --no-warn-script-location ./package >seen 2>&1 || { cat seen && exit 1; }
 PATH=$folder/env/bin:$PATH
