@@ -127,14 +127,14 @@ def faults(case: Case, run: Run) -> list[str]:
     return found
 
 
-def report(program: str, case: Case) -> bool:
-    """Prints a line for the input, and says whether its run is within its bound or open."""
+def report(program: str, case: Case) -> str:
+    """Prints a line for the input, and says whether its run is within its bound, open or over."""
     run = least_run(program, case)
     wrong = faults(case, run)
-    verdict = f"{'open' if case.open_seconds else 'OVER'}: {', '.join(wrong)}" if wrong else "within"
+    verdict = ("open" if case.open_seconds else "over") if wrong else "within"
     taken = f"{run.seconds:7.3f} s of {case.seconds:5.2f}{run.mebibytes:8.1f} MiB of {case.mebibytes:3}"
-    print(f"{case.name:<54}{taken}   {verdict}", flush=True)
-    return not wrong or case.open_seconds > 0
+    print(f"{case.name:<54}{taken}  {verdict} {', '.join(wrong)}", flush=True)
+    return verdict
 
 
 def main() -> int:
@@ -142,8 +142,9 @@ def main() -> int:
     parser.add_argument("program", nargs="?", default=str(TOP / "crates/clsynth/out/clsynth"))
     parser.add_argument("--only", metavar="TEXT", default="")
     options = parser.parse_args()
-    chosen = [case for case in cases() if options.only in case.name]
-    return 0 if all([report(options.program, case) for case in chosen]) else 1
+    verdicts = [report(options.program, case) for case in cases() if options.only in case.name]
+    print(", ".join(f"{verdicts.count(verdict)} {verdict}" for verdict in ("within", "open", "over")))
+    return 1 if "over" in verdicts else 0
 
 
 if __name__ == "__main__":

@@ -15,6 +15,7 @@ import random
 import sys
 from collections.abc import Callable, Iterator
 from dataclasses import dataclass
+from functools import partial
 from pathlib import Path
 
 import hostile_inputs as make
@@ -83,6 +84,7 @@ def of_lines() -> Iterator[Input]:
     yield Input("names of 48 bytes", "`sub` of 20,000 new names, 1 MiB", long_names)
     yield Input("a number of 65,500 digits", "`list`, 1 MiB", lambda: make.filled(ONE, f"list A max {'0' * 65_499}1 take 1"))
     yield Input("64 parentheses", "`sub` of 60 invariant names, 1 MiB", lambda: comparison(nested("A & B"), nested("B & A")))
+    yield Input("64 parentheses", "`typed` of 60 functions by 4,096 instances, 1 MiB", nested_terms)
     yield Input("1,024 nodes of a type", "`sub` of two times 100 arrows, 1 MiB", wide_comparison)
     yield Input("spread 16,384", "`sub` of types of spread 13,119, 1 MiB", lambda: comparison(spread(), spread()))
     both = f"R({spread()})", f"R(({spread()}) & omega)"
@@ -105,6 +107,13 @@ def long_arrows(components: int) -> str:
 
 def heavy_components(components: int) -> str:
     return "".join(f"comp x{number} : {spread()}\n" for number in range(components)) + "end\n"
+
+
+def nested_terms() -> str:
+    """Terms of 61 occurrences over functions between all of 64 names."""
+    kinds = make.choice("a", make.numbered("n", 64)) + make.choice("b", make.numbered("n", 64))
+    repository = f"{kinds}comp f : $a -> $b\ncomp x : {make.meet(make.numbered('n', 64))}\nend\n"
+    return make.filled(repository, f"typed {'f(' * 60}x{')' * 60} : n0")
 
 
 def of_repositories() -> Iterator[Input]:
@@ -144,15 +153,17 @@ def of_closures() -> Iterator[Input]:
     yield Input("1,024 covers", "`certify` of it, 1 component", lambda: make.chained(1, "certify", "N -> "))
     for components, options in ((4, ""), (19, "--max-goals 20000")):
         goals = f"{1_024 * components + 1:,} goals"
-        yield Input(goals, "`inhabit`", lambda n=components: goals_and_rules(n, "inhabit"), options)
-        yield Input(goals, "of 341 long names, `inhabit`", lambda n=components: make.long_goals("inhabit", n), options)
-        yield Input(goals, "the same, `grammar`", lambda n=components: make.long_goals("grammar", n), options)
-        yield Input(goals, "the same, `certify`", lambda n=components: make.long_goals("certify", n), options)
+        yield Input(goals, "`inhabit`", partial(goals_and_rules, components, "inhabit"), options)
+        yield Input(goals, "of 341 long names, `inhabit`", partial(make.long_goals, "inhabit", components), options)
+        yield Input(goals, "the same, `grammar`", partial(make.long_goals, "grammar", components), options)
+        yield Input(goals, "the same, `certify`", partial(make.long_goals, "certify", components), options)
     for components, options in ((194, ""), (750, words)):
         rules = f"{1_024 * components + 1:,} rules"
-        yield Input(rules, "of 1 argument, `inhabit`", lambda n=components: many_rules(n, 1, "inhabit"), options)
-        yield Input(rules, "of 32 arguments, `inhabit`", lambda n=components: many_rules(n, 32, "inhabit"), options)
-        yield Input(rules, "the same, `grammar`", lambda n=components: many_rules(n, 32, "grammar"), options)
+        yield Input(rules, "of 1 argument, `inhabit`", partial(many_rules, components, 1, "inhabit"), options)
+        yield Input(rules, "of 32 arguments, `inhabit`", partial(many_rules, components, 32, "inhabit"), options)
+        yield Input(rules, "the same, `grammar`", partial(many_rules, components, 32, "grammar"), options)
+    turns = "inhabit X\ninhabit Y\n" * 10
+    yield Input("204,801 rules", "of 32 arguments, two goals, 20 times in turn", lambda: make.two_large_goals(200) + turns, words)
     yield Input("`error too-large`", "5,000 goals", lambda: make.too_large() + "inhabit X\n")
     yield Input("`error too-large`", "20,000 goals", lambda: make.too_large() + "inhabit X\n", words)
 
@@ -173,24 +184,27 @@ def of_pages() -> Iterator[Input]:
     ten = plain(10).removesuffix("end\n")
     yield Input("max 1024, take 10000", "`list omega`, 10 components", lambda: page(ten, "omega"))
     yield Input("max 1024, take 10000", "a rule of 32 arguments", lambda: page(wide_rule("B -> B")))
+    costs = "".join(f"cost {name} {cost}\n" for name, cost in (("x", 255), ("y", 254), ("f", 253), ("g", 251)))
+    unary = f"comp x : A\ncomp y : A\ncomp f : A -> A -> A\ncomp g : A -> A\n{costs}"
+    yield Input("cost 255", "four components with costs of 251 to 255", lambda: page(unary))
     yield Input("200,000 terms of the pool", "a rule of 32 arguments", lambda: page(wide_rule("B")))
     yield Input("1,000,000 terms of the pool", "the same", lambda: page(wide_rule("B")), pool)
     yield Input("65,536 bytes of a text", "10,000 texts of 65,000 bytes", lambda: make.long_texts(10_000))
-    yield Input("65,536 bytes of a line", "1,000 texts by templates of 21,000 holes", lambda: make.many_holes(1_000), pool)
-    yield Input("65,536 bytes of a line", "10,000 texts by the same", lambda: make.many_holes(10_000), pool)
+    yield Input("holes of a template", "1,000 texts by templates of 21,000 holes", lambda: make.many_holes(1_000), pool)
+    yield Input("holes of a template", "10,000 texts by the same", lambda: make.many_holes(10_000), pool)
     yield Input("32 arguments", "`typed`, 245,760 paths of one head", lambda: make.arguments_of_one_head(60))
     yield Input("32 arguments", "the same, ten queries", lambda: make.arguments_of_one_head(60, 10))
     yield Input("1 MiB of a certificate", "74,000 equal sets, 44,000 members", make.equal_sets)
     yield Input("1 MiB of a certificate", "50,000 sets that hold one of 90,000", make.equal_layers)
     yield Input("1 MiB of a certificate", "equal rows behind 13,000 others", make.equal_rows)
     yield Input("1 MiB of a certificate", "55,000 members of the head of 245,760 paths", lambda: make.members_of_one_head(60, 55_000))
-    yield Input("64 workers", "19,457 goals", lambda: goals_and_rules(19, "inhabit"), "--max-goals 20000 --workers 64")
+    yield Input("64 workers", "19,457 goals, `inhabit`", lambda: goals_and_rules(19, "inhabit"), "--max-goals 20000 --workers 64")
     yield Input("`generate 300`", "", lambda: "", "generate 300")
 
 
 def row(it: Input, run: Run, seconds: int) -> str:
     words = f"`{it.words}`" if it.words else ""
-    time = f"over {seconds} s" if run.end == "signal 24" else f"{run.seconds:.3f} s" if run.seconds < 1 else f"{run.seconds:.1f} s"
+    time = f"over {seconds} s" if run.end.startswith("signal") else f"{run.seconds:.3f} s" if run.seconds < 1 else f"{run.seconds:.1f} s"
     written = f"{run.written / 1e6:.1f} MB" if run.written >= 100_000 else f"{run.written} B"
     return f"| {it.limit} | {it.what} | {words} | {time} | {run.mebibytes:.0f} MiB | {written} |"
 
@@ -206,7 +220,7 @@ def main() -> int:
         if options.only in f"{it.limit} {it.what}":
             run = measure(options.program, tuple(it.words.split()), it.make(), Bounds(seconds=options.seconds))
             print(row(it, run, options.seconds), flush=True)
-            is_well = is_well and run.end in ("status 0", "signal 24")
+            is_well = is_well and (run.end == "status 0" or run.end.startswith("signal"))
     return 0 if is_well else 1
 
 

@@ -27,7 +27,7 @@ class Run:
 
 @dataclass(frozen=True)
 class Bounds:
-    """A run is ended by the system if it takes more: seconds of processors, ten times as many by the clock, and address space.
+    """A run is ended by the system if it takes more: seconds of processors, 50 times as many by the clock, and address space.
 
     If `processors` has some, the run has these alone."""
 
@@ -48,7 +48,7 @@ def measure(program: str, words: tuple[str, ...], text: str, bounds: Bounds = Bo
     with tempfile.TemporaryFile() as source, tempfile.NamedTemporaryFile() as report:
         source.write(text.encode())
         source.seek(0)
-        timed = ["timeout", "-s", "KILL", str(10 * bounds.seconds), "/usr/bin/time", "-f", "%M", "-o", report.name, program, *words]
+        timed = ["timeout", "-s", "KILL", str(50 * bounds.seconds), "/usr/bin/time", "-f", "%M", "-o", report.name, program, *words]
         child = subprocess.Popen(timed, stdin=source, stdout=subprocess.PIPE, preexec_fn=limit)
         written, tail, digest = drain(child)
         _, status, used = os.wait4(child.pid, 0)
