@@ -134,10 +134,6 @@ def plain(components: int) -> str:
 # Closures
 
 
-def with_words(goals: int, rules: int) -> str:
-    return f"--max-goals {goals} --max-rules {rules}"
-
-
 def goals_and_rules(components: int, query: str) -> str:
     return make.many_goals(components) + f"end\n{query} X\n"
 
@@ -146,8 +142,7 @@ def many_rules(components: int, arguments: int, query: str) -> str:
     return make.two_large_goals(components, arguments) + f"{query} X\n"
 
 
-def of_closures() -> Iterator[Input]:
-    words = with_words(20_000, 1_000_000)
+def of_goals() -> Iterator[Input]:
     yield Input("1,024 covers", "`inhabit`, 341 paths, 1 component", lambda: make.chained(1, "inhabit"))
     yield Input("1,024 covers", "the same, 10 components", lambda: make.chained(10, "inhabit"))
     yield Input("1,024 covers", "`certify` of it, 1 component", lambda: make.chained(1, "certify", "N -> "))
@@ -157,6 +152,12 @@ def of_closures() -> Iterator[Input]:
         yield Input(goals, "of 341 long names, `inhabit`", partial(make.long_goals, "inhabit", components), options)
         yield Input(goals, "the same, `grammar`", partial(make.long_goals, "grammar", components), options)
         yield Input(goals, "the same, `certify`", partial(make.long_goals, "certify", components), options)
+    yield Input("`error too-large`", "5,000 goals", lambda: make.too_large() + "inhabit X\n")
+    yield Input("`error too-large`", "20,000 goals", lambda: make.too_large() + "inhabit X\n", "--max-goals 20000")
+
+
+def of_rules() -> Iterator[Input]:
+    words = "--max-rules 1000000"
     for components, options in ((194, ""), (750, words)):
         rules = f"{1_024 * components + 1:,} rules"
         yield Input(rules, "of 1 argument, `inhabit`", partial(many_rules, components, 1, "inhabit"), options)
@@ -164,8 +165,6 @@ def of_closures() -> Iterator[Input]:
         yield Input(rules, "the same, `grammar`", partial(many_rules, components, 32, "grammar"), options)
     turns = "inhabit X\ninhabit Y\n" * 10
     yield Input("204,801 rules", "of 32 arguments, two goals, 20 times in turn", lambda: make.two_large_goals(200) + turns, words)
-    yield Input("`error too-large`", "5,000 goals", lambda: make.too_large() + "inhabit X\n")
-    yield Input("`error too-large`", "20,000 goals", lambda: make.too_large() + "inhabit X\n", words)
 
 
 # Pages, terms and certificates
@@ -216,7 +215,7 @@ def main() -> int:
     parser.add_argument("--only", metavar="TEXT", default="")
     options = parser.parse_args()
     is_well = True
-    for it in (*of_lines(), *of_repositories(), *of_closures(), *of_pages()):
+    for it in (*of_lines(), *of_repositories(), *of_goals(), *of_rules(), *of_pages()):
         if options.only in f"{it.limit} {it.what}":
             run = measure(options.program, tuple(it.words.split()), it.make(), Bounds(seconds=options.seconds))
             print(row(it, run, options.seconds), flush=True)
