@@ -146,7 +146,7 @@ def of_goals() -> Iterator[Input]:
     yield Input("1,024 covers", "`inhabit`, 341 paths, 1 component", lambda: make.chained(1, "inhabit"))
     yield Input("1,024 covers", "the same, 10 components", lambda: make.chained(10, "inhabit"))
     yield Input("1,024 covers", "`certify` of it, 1 component", lambda: make.chained(1, "certify", "N -> "))
-    for components, options in ((4, ""), (19, "--max-goals 20000")):
+    for components, options in ((1, "--max-goals 1025"), (4, ""), (19, "--max-goals 20000")):
         goals = f"{1_024 * components + 1:,} goals"
         yield Input(goals, "`inhabit`", partial(goals_and_rules, components, "inhabit"), options)
         yield Input(goals, "of 341 long names, `inhabit`", partial(make.long_goals, "inhabit", components), options)
@@ -158,7 +158,7 @@ def of_goals() -> Iterator[Input]:
 
 def of_rules() -> Iterator[Input]:
     words = "--max-rules 1000000"
-    for components, options in ((194, ""), (750, words)):
+    for components, options in ((19, "--max-rules 20000"), (194, ""), (750, words)):
         rules = f"{1_024 * components + 1:,} rules"
         yield Input(rules, "of 1 argument, `inhabit`", partial(many_rules, components, 1, "inhabit"), options)
         yield Input(rules, "of 32 arguments, `inhabit`", partial(many_rules, components, 32, "inhabit"), options)
@@ -201,11 +201,29 @@ def of_pages() -> Iterator[Input]:
     yield Input("`generate 300`", "", lambda: "", "generate 300")
 
 
+TABLES = {
+    "Lines": of_lines,
+    "Repositories": of_repositories,
+    "Goals": of_goals,
+    "Rules": of_rules,
+    "Pages, terms and certificates": of_pages,
+}
+
+
 def row(it: Input, run: Run, seconds: int) -> str:
-    words = f"`{it.words}`" if it.words else ""
-    time = f"over {seconds} s" if run.end.startswith("signal") else f"{run.seconds:.3f} s" if run.seconds < 1 else f"{run.seconds:.1f} s"
-    written = f"{run.written / 1e6:.1f} MB" if run.written >= 100_000 else f"{run.written} B"
-    return f"| {it.limit} | {it.what} | {words} | {time} | {run.mebibytes:.0f} MiB | {written} |"
+    what = ", ".join(part for part in (it.what, f"`{it.words}`" if it.words else "") if part)
+    time = f"{run.seconds:.3f} s" if run.seconds < 1 else f"{run.seconds:.1f} s"
+    if run.end.startswith("signal"):
+        time = f"over {seconds} s"
+    written = f"{run.written / 1e6:.1f} MB" if run.written >= 100_000 else f"{run.written} bytes"
+    return f"| {it.limit} | {what} | {time} | {run.mebibytes:.0f} MiB | {written} |"
+
+
+def measured(program: str, it: Input, seconds: int) -> bool:
+    """Prints the row, and says whether the run ended with status 0 or was ended since it took too long."""
+    run = measure(program, tuple(it.words.split()), it.make(), Bounds(seconds=seconds))
+    print(row(it, run, seconds), flush=True)
+    return run.end == "status 0" or run.end.startswith("signal")
 
 
 def main() -> int:
@@ -215,11 +233,11 @@ def main() -> int:
     parser.add_argument("--only", metavar="TEXT", default="")
     options = parser.parse_args()
     is_well = True
-    for it in (*of_lines(), *of_repositories(), *of_goals(), *of_rules(), *of_pages()):
-        if options.only in f"{it.limit} {it.what}":
-            run = measure(options.program, tuple(it.words.split()), it.make(), Bounds(seconds=options.seconds))
-            print(row(it, run, options.seconds), flush=True)
-            is_well = is_well and (run.end == "status 0" or run.end.startswith("signal"))
+    for title, inputs in TABLES.items():
+        chosen = [it for it in inputs() if options.only in f"{it.limit} {it.what}"]
+        if chosen:
+            print(f"\n## {title}\n\n| Limit | Input | Time | Memory | Written |\n|---|---|---|---|---|", flush=True)
+        is_well = all([measured(options.program, it, options.seconds) for it in chosen]) and is_well
     return 0 if is_well else 1
 
 
