@@ -1,5 +1,5 @@
 #!/usr/bin/env python3
-"""Measures what an input costs that reaches a limit of the language or of an option: the rows of the tables of docs/LIMITS.md.
+"""Measures what an input costs that reaches a limit of the language or of an option, and prints it as tables of a document.
 
     bench/limits.py [PROGRAM] [--seconds N] [--only TEXT]
 
