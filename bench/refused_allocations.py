@@ -10,6 +10,7 @@ worker may have done the work. It needs cc and the C library of GNU, whose mallo
 import collections
 import os
 import re
+import shutil
 import subprocess
 import sys
 import tempfile
@@ -73,6 +74,9 @@ def compile_library(room):
 
 
 def main(program, source=None, *words):
+    if not shutil.which("cc"):
+        print("skipped: cc isn't on the PATH")
+        return 1 if os.environ.get("CI") == "true" else 0
     with tempfile.TemporaryDirectory() as room:
         compile_library(room)
         source, words = (source, words or ("--workers", "1")) if source else input_in(room)
