@@ -93,7 +93,7 @@ def main(program, source=None, *words):
     print(f"{count} allocations, each refused once: " + ", ".join(f"{n} times {what}" for what, n in sorted(ends.items())))
     if wrong:
         print("wrong at:", *wrong[:20])
-    return 1 if wrong else 0
+    return 1 if wrong or not count else 0
 
 
 if __name__ == "__main__":
