@@ -2,8 +2,11 @@
 
 from __future__ import annotations
 
-from collections.abc import Iterator
+import re
+from collections.abc import Callable, Iterator
+from dataclasses import replace
 
+import every_form
 from row import REFUSED, Row, stored
 
 FIRST_EXAMPLE = b"comp x : A\ncomp y : B\nend\nlist omega max 2 take 10\n"
@@ -57,11 +60,18 @@ QUERY_CUTS = [
     (33, 34, "error syntax {length}\n"),
 ]
 
+# The last line of a reply to the front of a query, and the whole of such a reply. No front is answered `inhabited`.
+LAST_LINE = rb"(?:error .*|yes|no|uninhabited|done|more|qed|finite \d+)\n"
+ONE_REPLY = re.compile(rb"(?:(?!" + LAST_LINE + rb").*\n)*" + LAST_LINE)
+SOME_REPLY = b"some reply\n"
+
 
 def rows() -> Iterator[Row]:
     yield from cuts_of_the_first_example()
-    yield from cuts_of_a_library()
+    yield from cuts_of_a_repository("a_library", library_and_query()[0])
     yield from cuts_of_a_query()
+    yield from cuts_of_a_repository("every_form", every_form.REPOSITORY)
+    yield from cuts_of_every_query()
 
 
 def cuts_of_the_first_example() -> Iterator[Row]:
@@ -77,17 +87,16 @@ def first_bytes(length: int, wanted: str, status: int) -> Row:
     return Row(f"ends/first_{length}_bytes_of_the_first_example", FIRST_EXAMPLE[:length], wanted.encode(), status)
 
 
-def cuts_of_a_library() -> Iterator[Row]:
+def cuts_of_a_repository(name: str, repository: bytes) -> Iterator[Row]:
     """Its line `end` isn't whole. If the last line is, `end` is missing, and else that line has a fault of some kind or is whole too."""
-    library, _ = library_and_query()
-    for length in range(len(library) - 1):
-        front = library[:length]
-        name = f"ends/first_{length}_bytes_of_a_library"
+    for length in range(len(repository) - 1):
+        front = repository[:length]
+        row = f"ends/first_{length}_bytes_of_{name}"
         lines = len(front.splitlines())
         if not front or front.endswith(b"\n"):
-            yield Row(name, front, f"refused {lines} no-end\n".encode(), REFUSED)
+            yield Row(row, front, f"refused {lines} no-end\n".encode(), REFUSED)
         else:
-            yield Row(name, front, f"refused {lines}".encode(), REFUSED, seen=refused_line)
+            yield Row(row, front, f"refused {lines}".encode(), REFUSED, seen=refused_line)
 
 
 def refused_line(output: bytes) -> bytes:
@@ -107,3 +116,25 @@ def cuts_of_a_query() -> Iterator[Row]:
 def library_and_query() -> tuple[bytes, bytes]:
     library, end, query = stored(LISTS, ".in").partition(b"\nend\n")
     return library + end, query
+
+
+def cuts_of_every_query() -> Iterator[Row]:
+    """The whole queries have their replies. One that lacks its line feed alone has its own, and the front of one has some reply."""
+    for length in range(len(every_form.REPOSITORY), len(every_form.INPUT) + 1):
+        replies, rest = every_form.answered(length)
+        row = Row(f"ends/first_{length}_bytes_of_every_form", every_form.INPUT[:length], replies, 0, every_form.WORDS, every_form.seen)
+        if not rest or rest.startswith(b"#"):
+            yield row
+        elif every_form.answered(length + 1)[1]:
+            yield replace(row, wanted=replies + SOME_REPLY, seen=some_reply_behind(replies))
+        else:
+            yield replace(row, wanted=every_form.answered(length + 1)[0])
+
+
+def some_reply_behind(replies: bytes) -> Callable[[bytes], bytes]:
+    def seen(output: bytes) -> bytes:
+        text = every_form.seen(output)
+        last = text.removeprefix(replies)
+        return replies + SOME_REPLY if text.startswith(replies) and ONE_REPLY.fullmatch(last) else text
+
+    return seen
