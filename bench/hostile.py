@@ -54,8 +54,8 @@ def cases() -> Iterator[Case]:
 def types_without_paths() -> Iterator[Case]:
     """What has no path weighs nothing, and has to cost next to nothing."""
     for place, (text, last_line) in make.towers(60).items():
-        yield Case(f"a tower of 60 arrows before omega: {place}", text, last_line, 0.01, 10, open_seconds=1)
-    yield Case("244 components of 4,096 instances without paths", make.weightless_instances(244), "", 0.3, 20, open_seconds=2)
+        yield Case(f"a tower of 60 arrows before omega: {place}", text, last_line, 0.01, 10)
+    yield Case("244 components of 4,096 instances without paths", make.weightless_instances(244), "", 0.5, 20)
 
 
 def long_replies() -> Iterator[Case]:
@@ -83,7 +83,7 @@ def repeated_queries() -> Iterator[Case]:
     goals = make.many_goals() + "end\n"
     yield Case("20 times grammar of 19,457 goals", goals + "grammar X\n" * 20, "done", 0.5, 60, MOST_GOALS, open_seconds=2)
     turns = "inhabit X\nlist X max 9 take 9\nfinite X\ngrammar X\ncertify X\n" * 4
-    yield Case("five queries of 19,457 goals, four times in turn", goals + turns, "qed", 0.5, 60, MOST_GOALS, open_seconds=2)
+    yield Case("five queries of 19,457 goals, four times in turn", goals + turns, "qed", 0.5, 60, MOST_GOALS)
     two = make.two_large_goals(200) + "inhabit X\ninhabit Y\n" * 3
     yield Case("two goals of 204,800 rules of 32 arguments, in turn", two, "uninhabited", 2.5, 220, MOST_RULES, open_seconds=3)
     two = make.dense() + "inhabit n0\ninhabit n1\n" * 50
@@ -97,7 +97,7 @@ def libraries() -> Iterator[Case]:
 
 
 def heads_and_covers() -> Iterator[Case]:
-    yield Case("4 components with 1,024 covers of 341 paths", make.chained(4, "inhabit"), "inhabited", 1.6, 40, open_seconds=3)
+    yield Case("4 components with 1,024 covers of 341 paths", make.chained(4, "inhabit"), "inhabited", 1.6, 40)
     yield Case("typed, twice 32 arguments of one head", make.arguments_of_one_head(16, 2), "yes", 0.3, 60, open_seconds=2)
     yield Case("inhabit, 500 goals of the head of 65,536 paths", make.goals_of_one_head(16, 500), "uninhabited", 1, 60, open_seconds=2)
     yield Case("a page of 1,000 texts by 300,000 holes each", make.many_holes(1_000), "more", 0.6, 40, MOST_TERMS, open_seconds=2)
