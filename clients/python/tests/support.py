@@ -56,6 +56,11 @@ def gated_program(folder: Path, early: int) -> str:
     return str(script)
 
 
+def take_interrupts() -> None:
+    """For a process that is to be started: an interrupt reaches it, also where the tests ignore that, as behind `&` in a script."""
+    signal.signal(signal.SIGINT, signal.SIG_DFL)
+
+
 def wait_until(holds: Callable[[], object]) -> None:
     for _ in range(1_200):
         if holds():

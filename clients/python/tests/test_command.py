@@ -15,7 +15,7 @@ from pathlib import Path
 from typing import Any
 
 from documents import TOP
-from support import PROGRAM, SOURCES, fake
+from support import PROGRAM, SOURCES, fake, take_interrupts
 
 import clsynth
 
@@ -156,7 +156,10 @@ class Run(Command):
     def test_replies_come_while_others_are_worked_out(self) -> None:
         program = fake(self, "echo yes\nsleep 60\n")
         words = [sys.executable, "-m", "clsynth", "run", self.file("slow.cls", "end\nsub A <= A\ninhabit A\n")]
-        with subprocess.Popen(words, cwd=self.folder, env={**self.environment, "CLSYNTH": program}, stdout=subprocess.PIPE) as process:
+        started = subprocess.Popen(
+            words, cwd=self.folder, env={**self.environment, "CLSYNTH": program}, stdout=subprocess.PIPE, preexec_fn=take_interrupts
+        )
+        with started as process:
             assert process.stdout
             self.assertEqual(process.stdout.readline(), b"yes\n")
             process.send_signal(signal.SIGINT)

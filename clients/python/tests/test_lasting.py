@@ -17,7 +17,7 @@ from collections.abc import Iterator
 from pathlib import Path
 from random import Random
 
-from support import CHAIN, LISTS, PROGRAM, SOURCES, fake, freeze, session
+from support import CHAIN, LISTS, PROGRAM, SOURCES, fake, freeze, session, take_interrupts
 
 import clsynth
 from clsynth import Session
@@ -212,7 +212,10 @@ class Stops(unittest.TestCase):
         )
         environment = {**os.environ, "CLSYNTH": PROGRAM, "PYTHONPATH": str(SOURCES)}
         words = [sys.executable, "-c", asked]
-        with subprocess.Popen(words, stdout=subprocess.PIPE, text=True, env=environment, start_new_session=True) as process:
+        started = subprocess.Popen(
+            words, stdout=subprocess.PIPE, text=True, env=environment, start_new_session=True, preexec_fn=take_interrupts
+        )
+        with started as process:
             assert process.stdout
             self.assertEqual(process.stdout.readline(), "waits\n")
             os.killpg(process.pid, signal.SIGINT)
