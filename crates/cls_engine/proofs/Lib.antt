@@ -6,6 +6,7 @@ pub mod Finiteness
 pub mod Goals
 pub mod Keeping
 pub mod Languages
+pub mod Outcomes
 pub mod Pages
 pub mod Verdicts
 pub mod Widths
