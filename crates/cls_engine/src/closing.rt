@@ -109,8 +109,8 @@ impl Engine {
         self.keep_outcome(alloc, goal, outcome);
     }
 
-    /// Works out the closure of the goal, unless it is kept why it isn't made. Keeps its answers, or why it isn't made, for
-    /// later queries.
+    /// Works out the closure of the goal, unless it is kept why it isn't made. Keeps its answers, or why it isn't made,
+    /// for later queries.
     pub(crate) fn close<R: Threads + Wait + Sync, T: Gate + Sync>(
         &mut self,
         rt: &R,

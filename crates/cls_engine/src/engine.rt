@@ -27,8 +27,8 @@ use std::marker::Model;
 /// Answers queries by a library that it owns, with workers and within bounds. It is seen as the library, the costs of
 /// the components and the options.
 ///
-/// It keeps the answers of the goals of earlier queries, and of the goals that it was asked for last the grammars, whether
-/// terms have them, and the faults: if a query has such a goal again, nothing is worked out anew.
+/// It keeps the answers of the goals of earlier queries, the grammars of the goals that it was asked for last, and what
+/// came of the last goals that it worked on: if a query has such a goal again, nothing is worked out anew.
 pub struct Engine {
     pub(crate) expander: LibraryExpander,
     pub(crate) costs: Numbers,
@@ -37,7 +37,7 @@ pub struct Engine {
     pub(crate) store: Store<LibraryExpander>,
     // The grammars of the goals of the last queries.
     pub(crate) recents: Recents,
-    // What came of the goals of the last queries.
+    // What came of the last goals that were worked on.
     pub(crate) outcomes: Outcomes,
 }
 

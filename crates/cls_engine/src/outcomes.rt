@@ -1,4 +1,4 @@
-//! What came of the goals that were asked for last: whether terms have them, or why their closures aren't made.
+//! What came of the last goals that were worked on: whether terms have them, or why their closures aren't made.
 ghost use Rattle.std.specs.Prelude.{◌≡◌, ◌⊎◌, [], Some, Contains, IfSome, IfErr, IsTrue};
 ghost use Rattle.cls_engine.specs.declared.fault.EngineFault.TheVariants.{OutOfMemory};
 ghost use Rattle.cls_engine.specs.declared.outcomes.Decided.{Decided as DecidedSeen};
@@ -76,8 +76,8 @@ impl Decided {
     }
 }
 
-/// What came of the goals that were asked for last, the latest at the end: of at most 64 goals. An outcome is far smaller
-/// than a grammar, so it stays known of a goal when its grammar is dropped.
+/// What came of the last goals that were worked on, the latest at the end: of at most 64 goals. An outcome is far
+/// smaller than a grammar, so it may be kept longer than the goal's grammar.
 #[derive(Drop)]
 pub(crate) struct Outcomes {
     pub(crate) kept: Vec<Decided>,
@@ -133,7 +133,8 @@ impl Outcomes {
         drop(self.kept.remove(0));
     }
 
-    /// Keeps what came of the goal, and drops the oldest outcome if there are too many. If memory runs out it isn't kept.
+    /// Keeps what came of the goal, and drops the oldest outcome if there are too many. If memory runs out it isn't
+    /// kept.
     pub(crate) fn put(&mut self, alloc: Global, goal: &Nf, outcome: Outcome)
         ensures { (d : DecidedSeen) → Contains self.new.kept.items d
             → Contains self.old.kept.items d ⊎ ((d.goal ≡ goal.now) × (d.outcome ≡ outcome)) }
