@@ -1,12 +1,12 @@
 pub mod Causes
 pub mod Certifying
 pub mod Completions
+pub mod Deciding
 pub mod Faulting
 pub mod Finiteness
 pub mod Goals
 pub mod Keeping
 pub mod Languages
-pub mod Outcomes
 pub mod Pages
 pub mod Verdicts
 pub mod Widths

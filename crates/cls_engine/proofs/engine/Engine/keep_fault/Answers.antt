@@ -1,4 +1,4 @@
-use Rattle.cls_engine.proofs.Outcomes.{outcome-of}
+use Rattle.cls_engine.proofs.Deciding.{outcome-of}
 use Rattle.cls_engine.proofs.engine.Engine.keep_fault.Goals as goal
 
 pub keep_outcome-requires : goal.keep_outcome-requires

@@ -1,7 +1,7 @@
 use Rattle.std.proofs.Common.{subst, sym}
 use Rattle.cls_engine.specs.Engines.{EngineSeen}
 use Rattle.cls_engine.specs.Outcomes.{IsOutcome}
-use Rattle.cls_engine.proofs.Outcomes.{more-decided}
+use Rattle.cls_engine.proofs.Deciding.{more-decided}
 use Rattle.cls_engine.proofs.engine.Engine.keep_outcome.Goals as goal
 
 pub invariant_of-self : goal.invariant_of-self

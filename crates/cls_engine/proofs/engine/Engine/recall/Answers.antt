@@ -2,7 +2,7 @@ use Rattle.std.proofs.Common.{subst}
 use Rattle.std.specs.Prelude.{IfErr}
 use Rattle.cls_engine.specs.Closing.{IsClosingFault}
 use Rattle.cls_engine.specs.Engines.{EngineSeen}
-use Rattle.cls_engine.proofs.Outcomes.{fault-known}
+use Rattle.cls_engine.proofs.Deciding.{fault-known}
 use Rattle.cls_engine.proofs.engine.Engine.recall.Goals as goal
 
 pub returns : goal.returns

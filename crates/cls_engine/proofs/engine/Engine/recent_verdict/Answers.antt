@@ -2,7 +2,7 @@ use Rattle.std.proofs.Common.{subst}
 use Rattle.std.specs.Prelude.{IfSome}
 use Rattle.cls_engine.specs.Engines.{EngineSeen}
 use Rattle.cls_engine.specs.Outcomes.{IsVerdictOn}
-use Rattle.cls_engine.proofs.Outcomes.{verdict-known}
+use Rattle.cls_engine.proofs.Deciding.{verdict-known}
 use Rattle.cls_engine.proofs.engine.Engine.recent_verdict.Goals as goal
 
 pub returns : goal.returns

@@ -3,7 +3,7 @@ use Rattle.std.proofs.lemmas.Result.{IfErr-weaker}
 use Rattle.cls_engine.specs.declared.fault.EngineFault.{EngineFault}
 use Rattle.cls_engine.specs.declared.fault.EngineFault.TheVariants.{OutOfMemory}
 use Rattle.cls_engine.specs.Outcomes.{fault_in, HasFault}
-use Rattle.cls_engine.proofs.Outcomes.{fault-at}
+use Rattle.cls_engine.proofs.Deciding.{fault-at}
 use Rattle.cls_engine.proofs.outcomes.Outcomes.recall.Goals as goal
 
 pub returns : goal.returns

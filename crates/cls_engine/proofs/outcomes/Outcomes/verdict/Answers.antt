@@ -1,4 +1,4 @@
-use Rattle.cls_engine.proofs.Outcomes.{outcome-at}
+use Rattle.cls_engine.proofs.Deciding.{outcome-at}
 use Rattle.cls_engine.proofs.outcomes.Outcomes.verdict.Goals as goal
 
 pub returns : goal.returns
