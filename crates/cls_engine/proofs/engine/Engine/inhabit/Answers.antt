@@ -1,8 +1,8 @@
 use Rattle.cls_base.specs.Ty.{type_of}
 use Rattle.cls_engine.specs.Closing.{IsKnownOf}
+use Rattle.cls_engine.proofs.Deciding.{verdict-on}
 use Rattle.cls_engine.proofs.Faulting.{known-silent, silent-of}
 use Rattle.cls_engine.proofs.Languages.{inhabited}
-use Rattle.cls_engine.proofs.Deciding.{verdict-on}
 use Rattle.cls_engine.proofs.engine.Engine.inhabit.Goals as goal
 
 pub returns-clause-exact : goal.returns-clause-exact
