@@ -27,12 +27,15 @@ use Rattle.cls_replies.specs.Serving.{Serving}
 use Rattle.cls_replies.specs.Texts.{verdict_text}
 use Rattle.cls_session.specs.Transcripts.{IsAnswered}
 use Rattle.cls_session.proofs.OneTranscript.{answered_apart}
-use Rattle.cls_existence.specs.FedBack.{fed_back, AreAccepted, CertificatesAreAccepted}
+use Rattle.cls_existence.specs.FedBack.{IsCertificateWithin, fed_back, AreAccepted, CertificatesAreAccepted}
+use Rattle.cls_existence.proofs.AskedNames.{goal_known}
+use Rattle.cls_existence.proofs.CertificateNames.{certificate_sayable}
 use Rattle.cls_existence.proofs.ConstructorNames.{names_apart}
 use Rattle.cls_existence.proofs.HeldLines.{replied, alone}
 use Rattle.cls_existence.proofs.Openings.{answered_can}
 use Rattle.cls_existence.proofs.QedLines.{EndWithQed, printed_end}
 use Rattle.cls_existence.proofs.SameType.{asks_opens, same_type}
+use Rattle.cls_existence.proofs.ServingNames.{session_called}
 
 -- a type that the engine can work on can be compared
 one_spread : (t goal : ClosedType) → t ≡ goal → IsSpread t → IsSpread goal
@@ -45,12 +48,15 @@ can_compare lib o goal silent f (inl ((t, stands, spread), e)) = elim (Contains-
 ]
 can_compare lib o goal silent f (inr (none, h)) = h
 
-module _ (decide : CertificatesDecide) (o : Options) (lines : List (List ℕ)) (before : List ℕ) (s : Serving) (answered : IsAnswered o lines before s) (free : s.held ≡ []) (goal : ClosedType) (c : Certificate) (silent : AreSilent (faults_of s.engine (certify goal))) (certified : IsCertified s.engine.library goal c) (sayable : IsCertificateSayable s.names s.components c) (line : List ℕ) (asks : Asks s line (verify goal) s) where
+module _ (decide : CertificatesDecide) (o : Options) (lines : List (List ℕ)) (before : List ℕ) (s : Serving) (answered : IsAnswered o lines before s) (free : s.held ≡ []) (goal : ClosedType) (c : Certificate) (silent : AreSilent (faults_of s.engine (certify goal))) (certified : IsCertified s.engine.library goal c) (within : IsCertificateWithin s.names s.components c) (line : List ℕ) (asks : Asks s line (verify goal) s) where
   abbrev printed : List (List ℕ)
   printed = lines_of (certificate_text s.names s.components c)
 
   accepts : Accepts s.engine.library goal c
   accepts = (decide s.engine.library (answered_can o lines before s answered).library s.engine.options goal silent c certified).0
+
+  sayable : IsCertificateSayable s.names s.components c
+  sayable = certificate_sayable s (session_called o lines before s answered) goal (goal_known s s line goal asks) c certified accepts within
 
   says : SaysCertificate s.names s.names s.components printed c
   says = printed_read s.names s.components c (names_apart o lines before s answered) sayable

@@ -1,6 +1,6 @@
 -- The same text behind `certify` and behind `verify` is read as the same type, and a line that asks for a verification opens a
 -- certificate.
-use Rattle.std.proofs.Common.{ℕ, ◌≡◌, ◌+◌, ◌≤◌, ◌<◌, Bool, true, false, List, [], ◌∷◌, ◌++◌, length, drop, refl, sym, ◌∙◌, ap, subst, inl, inr, arith, codes}
+use Rattle.std.proofs.Common.{ℕ, ◌≡◌, ◌⊎◌, ◌+◌, ◌≤◌, ◌<◌, Bool, true, false, List, [], ◌∷◌, ◌++◌, length, drop, refl, sym, ◌∙◌, ap, subst, inl, inr, arith, codes}
 use Rattle.std.specs.Prelude.{IsUtf8, Some, position, find, decimal, if◌then◌else◌}
 use Rattle.std.specs.List.{list_any}
 use Rattle.std.specs.Str.{bytes_eq, is_utf8}
@@ -104,34 +104,47 @@ module _ (type : List ℕ) where
 abbrev as_certify : Values goal_form → LineOf query_rows
 as_certify v = inr (inr (inr (inr (inr (inr (inl v))))))
 
-abbrev as_verify : Values goal_form → LineOf query_rows
+abbrev pub as_verify : Values goal_form → LineOf query_rows
 as_verify v = inr (inr (inr (inr (inr (inr (inr (inl v)))))))
 
 abbrev is_certify : Query → Bool
 is_certify (certify t) = true
 is_certify _ = false
 
-module _ (tables : Tables) (goal : ClosedType) where
-  abbrev AskedBy : LineOf query_rows → Type 0
-  AskedBy said = certify goal ≡ query_of tables said
+abbrev is_verify : Query → Bool
+is_verify (verify t) = true
+is_verify _ = false
 
-  asked_so : (said : LineOf query_rows) → AskedBy said → true ≡ is_certify (query_of tables said)
-  asked_so said e = ap is_certify e
+module _ (tables : Tables) where
+  -- which of the two a line of the table is, if it is one of them
+  abbrev pub OneOfTwo : LineOf query_rows → Type 0
+  OneOfTwo said =
+      ((v : Values goal_form) × (said ≡ as_certify v)) ⊎ (((v : Values goal_form) × (said ≡ as_verify v))
+      ⊎ ((is_certify (query_of tables said) ≡ false) × (is_verify (query_of tables said) ≡ false)))
 
-  -- the one line of the table that asks so
-  certify_said : (said : LineOf query_rows) → AskedBy said → (v : Values goal_form) × (said ≡ as_certify v)
-  certify_said (inl v) e = absurd (true≢false (asked_so (inl v) e))
-  certify_said (inr (inl v)) e = absurd (true≢false (asked_so (inr (inl v)) e))
-  certify_said (inr (inr (inl v))) e = absurd (true≢false (asked_so (inr (inr (inl v))) e))
-  certify_said (inr (inr (inr (inl v)))) e = absurd (true≢false (asked_so (inr (inr (inr (inl v)))) e))
-  certify_said (inr (inr (inr (inr (inl v))))) e = absurd (true≢false (asked_so (inr (inr (inr (inr (inl v))))) e))
-  certify_said (inr (inr (inr (inr (inr (inl v)))))) e = absurd (true≢false (asked_so (inr (inr (inr (inr (inr (inl v)))))) e))
-  certify_said (inr (inr (inr (inr (inr (inr (inl v))))))) e = (v, refl)
-  certify_said (inr (inr (inr (inr (inr (inr (inr (inl v)))))))) e = absurd (true≢false (asked_so (as_verify v) e))
-  certify_said (inr (inr (inr (inr (inr (inr (inr (inr (inl v))))))))) e = absurd (true≢false (asked_so (inr (inr (inr (inr (inr (inr (inr (inr (inl v))))))))) e))
-  certify_said (inr (inr (inr (inr (inr (inr (inr (inr (inr (inl v)))))))))) e = absurd (true≢false (asked_so (inr (inr (inr (inr (inr (inr (inr (inr (inr (inl v)))))))))) e))
-  certify_said (inr (inr (inr (inr (inr (inr (inr (inr (inr (inr (inl v))))))))))) e = absurd (true≢false (asked_so (inr (inr (inr (inr (inr (inr (inr (inr (inr (inr (inl v))))))))))) e))
-  certify_said (inr (inr (inr (inr (inr (inr (inr (inr (inr (inr (inr v))))))))))) e = absurd v
+  pub one_of_two : (said : LineOf query_rows) → OneOfTwo said
+  one_of_two (inl v) = inr (inr (refl, refl))
+  one_of_two (inr (inl v)) = inr (inr (refl, refl))
+  one_of_two (inr (inr (inl v))) = inr (inr (refl, refl))
+  one_of_two (inr (inr (inr (inl v)))) = inr (inr (refl, refl))
+  one_of_two (inr (inr (inr (inr (inl v))))) = inr (inr (refl, refl))
+  one_of_two (inr (inr (inr (inr (inr (inl v)))))) = inr (inr (refl, refl))
+  one_of_two (inr (inr (inr (inr (inr (inr (inl v))))))) = inl (v, refl)
+  one_of_two (inr (inr (inr (inr (inr (inr (inr (inl v)))))))) = inr (inl (v, refl))
+  one_of_two (inr (inr (inr (inr (inr (inr (inr (inr (inl v))))))))) = inr (inr (refl, refl))
+  one_of_two (inr (inr (inr (inr (inr (inr (inr (inr (inr (inl v)))))))))) = inr (inr (refl, refl))
+  one_of_two (inr (inr (inr (inr (inr (inr (inr (inr (inr (inr (inl v))))))))))) = inr (inr (refl, refl))
+  one_of_two (inr (inr (inr (inr (inr (inr (inr (inr (inr (inr (inr v))))))))))) = absurd v
+
+  certify_said : (goal : ClosedType) (said : LineOf query_rows) → certify goal ≡ query_of tables said → OneOfTwo said → (v : Values goal_form) × (said ≡ as_certify v)
+  certify_said goal said e (inl p) = p
+  certify_said goal said e (inr (inl (v, same))) = absurd (true≢false (ap is_certify e ∙ ap (λ (d : LineOf query_rows). is_certify (query_of tables d)) same))
+  certify_said goal said e (inr (inr n)) = absurd (true≢false (ap is_certify e ∙ n.0))
+
+  pub verify_said : (goal : ClosedType) (said : LineOf query_rows) → verify goal ≡ query_of tables said → OneOfTwo said → (v : Values goal_form) × (said ≡ as_verify v)
+  verify_said goal said e (inl (v, same)) = absurd (true≢false (ap is_verify e ∙ ap (λ (d : LineOf query_rows). is_verify (query_of tables d)) same))
+  verify_said goal said e (inr (inl p)) = p
+  verify_said goal said e (inr (inr n)) = absurd (true≢false (ap is_verify e ∙ n.1))
 
 certify_goal : (a b : ClosedType) → certify a ≡ certify b → a ≡ b
 certify_goal a b e = cc
@@ -200,7 +213,7 @@ module _ (type : List ℕ) (v : Values goal_form) where
 -- THE TWO LINES, one after the other
 module _ (s m : Serving) (type : List ℕ) (goal : ClosedType) (asks : Asks s (certifying type) (certify goal) m) where
   said : (v : Values goal_form) × (asks.0.said ≡ as_certify v)
-  said = certify_said (with_query (tables_in s) asks.0.said) goal asks.0.said asks.0.asked
+  said = certify_said (with_query (tables_in s) asks.0.said) goal asks.0.said asks.0.asked (one_of_two (with_query (tables_in s) asks.0.said) asks.0.said)
 
   abbrev line_of : LineOf query_rows
   line_of = as_certify said.0
