@@ -1,7 +1,8 @@
--- What a repository declares names by number what stands in its tables, and each name there is one of the language.
+-- What a repository declares names by number what stands in its tables. Each name there is one of the language, and no two
+-- constructors have one name.
 use Rattle.std.proofs.Common.{ℕ, zero, suc, ◌≡◌, ◌+◌, ◌≤◌, ◌<◌, true, false, List, [], ◌∷◌, ◌++◌, length, map, refl, sym, ◌∙◌, ap, subst, inl, inr, Option, Some, None, arith, length-append}
 use Rattle.std.specs.Prelude.{if◌then◌else◌}
-use Rattle.std.specs.List.{list_any, AllByRecursion}
+use Rattle.std.specs.List.{list_any, AllByRecursion, IsDistinct}
 use Rattle.std.specs.Str.{bytes_eq}
 use Rattle.cls_base.specs.Types as types
 use Rattle.cls_base.specs.Types.{ClosedType}
@@ -19,6 +20,7 @@ use Rattle.cls_syntax.specs.TypeSchemas.{type_schema, meet_schema, product_schem
 use Rattle.cls_syntax.specs.TypeTexts.{TypeText, MeetText, ProductText, AtomText, TypeList, last, more, only_meet, arrow, only_product, meet, only_atom, product, named, applied, variable, inside}
 use Rattle.cls_syntax.specs.TypeTexts as grammar
 use Rattle.cls_syntax.proofs.ReadTypes.{AllGood, AllHeld, Below, below_of, held_by, line_proper}
+use Rattle.cls_proof.proofs.ReadCertificates.{distinct_all}
 use Rattle.cls_query.proofs.Numbering.{named_both, grown_texts}
 use Rattle.cls_assemble.specs.declared.piece.Piece.TheVariants.{Byte}
 use Rattle.cls_lexer.specs.Numerals.{number_value}
@@ -151,6 +153,7 @@ module _ (names : List (List ℕ)) where
 
 -- DRAFTS
 pub record IsNamed (d : Draft) : Type 0 where
+  pub apart : IsDistinct bytes_eq d.names
   pub proper : AreProper d.names
   pub called : AreProper d.component_names
   pub typed : AllByRecursion (λ (c : Component). SchemaHas (Below d.names) c.schema) d.components
@@ -167,6 +170,7 @@ with_named d line said says h =
     let K : ℕ → Type 0 = Below d.names in
     let L : ℕ → Type 0 = Below (with_texts d.names (new_names said)) in
     record {
+      apart = distinct_all d.names (new_names said) h.apart;
       proper = grown_proper d.names (new_names said) h.proper (parts_proper (parts_of said) (said_words line said says));
       called = h.called;
       typed = components_to K L (below_more d.names (new_names said)) d.components h.typed;
@@ -182,13 +186,14 @@ changed_typed K (suc i) f (c ∷ cs) g h = (h.0, changed_typed K i f cs g h.1)
 declared_named : (d : Draft) (n : ℕ) (line : List ℕ) (said : Directive) (new : Draft) → LineSays line said → Declares d n line said new → IsNamed d → IsNamed new
 declared_named d n line (directive.sub a b) new says e h =
     let w = with_named d line (directive.sub a b) says h in
-    subst IsNamed (sym e) record { proper = w.proper; called = w.called; typed = w.typed; ranged = w.ranged }
+    subst IsNamed (sym e) record { apart = w.apart; proper = w.proper; called = w.called; typed = w.typed; ranged = w.ranged }
 declared_named d n line (directive.kind x ts) new says (us, choices, e) h =
     let said = directive.kind x ts in
     let w = with_named d line said says h in
     let names : List (List ℕ) = with_texts d.names (new_names said) in
     let held : AllHeld names (new_names said) = held_by d.names (new_names said) names refl in
     subst IsNamed (sym e) record {
+      apart = w.apart;
       proper = w.proper;
       called = w.called;
       typed = w.typed;
@@ -204,6 +209,7 @@ declared_named d n line (directive.comp x t) new says e h =
     let schema = type_spelled after.names v t (parts_known after.names v (type_parts t) [] held).0 in
     let c : Component = record { schema = type_schema (number_of after.names) v t; line = n; template = map Byte x; cost = 1 } in
     subst IsNamed (sym e) record {
+      apart = w.apart;
       proper = w.proper;
       called = each_both IsProperName d.component_names (x ∷ []) w.called (words.1.0, tt);
       typed = each_both (λ (c : Component). SchemaHas (Below after.names) c.schema) d.components (c ∷ []) w.typed (schema, tt);
@@ -212,6 +218,7 @@ declared_named d n line (directive.comp x t) new says e h =
 declared_named d n line (directive.text x ws) new says (pieces, template, e) h =
     let change : Component → Component = λ c. record c { template = pieces } in
     subst IsNamed (sym e) record {
+      apart = h.apart;
       proper = h.proper;
       called = h.called;
       typed = changed_typed (Below d.names) (number_of d.component_names x) change d.components (λ c k. k) h.typed;
@@ -221,6 +228,7 @@ declared_named d n line directive.end new says e h = subst IsNamed (sym e) h
 declared_named d n line (directive.cost x digits) new says e h =
     let change : Component → Component = λ c. record c { cost = number_value digits } in
     subst IsNamed (sym e) record {
+      apart = h.apart;
       proper = h.proper;
       called = h.called;
       typed = changed_typed (Below d.names) (number_of d.component_names x) change d.components (λ c k. k) h.typed;
@@ -228,7 +236,7 @@ declared_named d n line (directive.cost x digits) new says e h =
     }
 declared_named d n line (directive.variance c word) new says e h =
     let w = with_named d line (directive.variance c word) says h in
-    subst IsNamed (sym e) record { proper = w.proper; called = w.called; typed = w.typed; ranged = w.ranged }
+    subst IsNamed (sym e) record { apart = w.apart; proper = w.proper; called = w.called; typed = w.typed; ranged = w.ranged }
 
 taken_named : (old : Reading) (line : List ℕ) (new : Reading) → Takes old line new → IsNamed old.draft → IsNamed new.draft
 taken_named old line new (skipped s e) h = subst (λ (r : Reading). IsNamed r.draft) (sym e) h
@@ -240,8 +248,12 @@ all_named old [] new e h = subst (λ (r : Reading). IsNamed r.draft) (sym e) h
 all_named old (line ∷ lines) new (next, t, inl (over, e)) h = subst (λ (r : Reading). IsNamed r.draft) (sym e) (taken_named old line next t h)
 all_named old (line ∷ lines) new (next, t, inr (going, rest)) h = all_named next lines new rest (taken_named old line next t h)
 
+none_apart : IsDistinct bytes_eq no_reading.draft.names
+unfolding IsDistinct
+none_apart = tt
+
 pub repository_named : (repository : List (List ℕ)) (end : List ℕ) (d : Draft) → IsRepository repository end d → IsNamed d
 repository_named repository end d h =
-    let none : IsNamed no_reading.draft = record { proper = tt; called = tt; typed = tt; ranged = tt } in
+    let none : IsNamed no_reading.draft = record { apart = none_apart; proper = tt; called = tt; typed = tt; ranged = tt } in
     let before = all_named no_reading repository h.before h.taken.taken none in
     subst IsNamed (sym h.declares) (taken_named h.before end h.reading h.ends before)

@@ -30,12 +30,11 @@ use Rattle.cls_session.proofs.OneTranscript.{answered_apart}
 use Rattle.cls_existence.specs.FedBack.{IsCertificateWithin, fed_back, AreAccepted, CertificatesAreAccepted}
 use Rattle.cls_existence.proofs.AskedNames.{goal_known}
 use Rattle.cls_existence.proofs.CertificateNames.{certificate_sayable}
-use Rattle.cls_existence.proofs.ConstructorNames.{names_apart}
 use Rattle.cls_existence.proofs.HeldLines.{replied, alone}
 use Rattle.cls_existence.proofs.Openings.{answered_can}
 use Rattle.cls_existence.proofs.QedLines.{EndWithQed, printed_end}
 use Rattle.cls_existence.proofs.SameType.{asks_opens, same_type}
-use Rattle.cls_existence.proofs.ServingNames.{session_called}
+use Rattle.cls_existence.proofs.ServingNames.{IsCalled, session_called}
 
 -- a type that the engine can work on can be compared
 one_spread : (t goal : ClosedType) → t ≡ goal → IsSpread t → IsSpread goal
@@ -55,11 +54,14 @@ module _ (decide : CertificatesDecide) (o : Options) (lines : List (List ℕ)) (
   accepts : Accepts s.engine.library goal c
   accepts = (decide s.engine.library (answered_can o lines before s answered).library s.engine.options goal silent c certified).0
 
+  called : IsCalled s
+  called = session_called o lines before s answered
+
   sayable : IsCertificateSayable s.names s.components c
-  sayable = certificate_sayable s (session_called o lines before s answered) goal (goal_known s s line goal asks) c certified accepts within
+  sayable = certificate_sayable s called goal (goal_known s s line goal asks) c certified accepts within
 
   says : SaysCertificate s.names s.names s.components printed c
-  says = printed_read s.names s.components c (names_apart o lines before s answered) sayable
+  says = printed_read s.names s.components c called.apart sayable
 
   verified : Verified s line printed (verdict_text Accepted) s
   verified = answering.Verified.asked goal s asks (answering.Verifies.read c says refl (answering.Judges.judged (can_compare s.engine.library s.engine.options goal silent) Accepted accepts refl))

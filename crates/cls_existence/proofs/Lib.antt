@@ -7,7 +7,6 @@ pub mod BookSizes
 pub mod CertificateNames
 pub mod Classical
 pub mod Closures
-pub mod ConstructorNames
 pub mod DraftNames
 pub mod FedBack
 pub mod Firsts

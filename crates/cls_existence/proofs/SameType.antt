@@ -1,6 +1,6 @@
 -- The same text behind `certify` and behind `verify` is read as the same type, and a line that asks for a verification opens a
 -- certificate.
-use Rattle.std.proofs.Common.{ℕ, ◌≡◌, ◌⊎◌, ◌+◌, ◌≤◌, ◌<◌, Bool, true, false, List, [], ◌∷◌, ◌++◌, length, drop, refl, sym, ◌∙◌, ap, subst, inl, inr, arith, codes}
+use Rattle.std.proofs.Common.{ℕ, ◌≡◌, ◌⊎◌, ◌+◌, ◌≤◌, ◌<◌, Bool, true, false, List, [], ◌∷◌, ◌++◌, length, length-append, drop, refl, sym, ◌∙◌, ap, subst, inl, inr, arith, codes}
 use Rattle.std.specs.Prelude.{IsUtf8, Some, position, find, decimal, if◌then◌else◌}
 use Rattle.std.specs.List.{list_any}
 use Rattle.std.specs.Str.{bytes_eq, is_utf8}
@@ -89,13 +89,25 @@ module _ (type : List ℕ) where
   verify_words : words_of verifying ≡ name (codes "verify") ∷ words_from 0 type
   verify_words = words_are verifying ∙ (words_cut (codes "verify") type 0 (omega arith) ∙ ap (λ (ws : List Word). ws ++ words_from 0 type) at_verify)
 
+  -- the word `certify` has a letter more
+  certify_length : length certifying ≡ 8 + length type
+  certify_length =
+      let front : length (codes "certify ") ≡ 8 = refl in
+      length-append (codes "certify ") type ∙ ap (λ (n : ℕ). n + length type) front
+
+  verify_length : length verifying ≡ 7 + length type
+  verify_length =
+      let front : length (codes "verify ") ≡ 7 = refl in
+      length-append (codes "verify ") type ∙ ap (λ (n : ℕ). n + length type) front
+
   shorter : length certifying ≤ max_line_bytes → length verifying ≤ max_line_bytes
-  shorter h = omega (arith, h)
+  shorter h = omega (arith, h, certify_length, verify_length)
 
   verify_utf8 : IsUtf8 certifying → IsUtf8 verifying
   verify_utf8 u =
       let low : 32 < 128 = omega arith in
-      let at : IsUtf8 (drop 8 certifying) = IsUtf8-drop certifying 8 u (IsCharBoundary-after_ascii certifying 7 u (omega arith) low) in
+      let long : 7 < length certifying = omega (arith, certify_length) in
+      let at : IsUtf8 (drop 8 certifying) = IsUtf8-drop certifying 8 u (IsCharBoundary-after_ascii certifying 7 u long low) in
       let first : IsUtf8 (codes "verify ") = plain_utf8 (codes "verify ") (plain_append (codes "verify") (32 ∷ []) (plain_name (codes "verify") (refl, refl, omega arith, refl)) ((omega arith, omega arith), tt)) in
       IsUtf8-append (codes "verify ") type first at
 

@@ -1,7 +1,9 @@
--- What a session answers by names by number what stands in its tables, and each name there is one of the language.
+-- What a session answers by names by number what stands in its tables. Each name there is one of the language, and no two
+-- constructors have one name.
 use Rattle.std.proofs.Common.{ℕ, suc, ◌≡◌, Bool, true, false, List, [], ◌∷◌, ◌++◌, length, map, refl, sym, ◌∙◌, ap, subst, codes}
 use Rattle.std.specs.Prelude.{if◌then◌else◌}
-use Rattle.std.specs.List.{AllByRecursion}
+use Rattle.std.specs.List.{AllByRecursion, IsDistinct}
+use Rattle.std.specs.Str.{bytes_eq}
 use Rattle.std.proofs.lemmas.List.{length-map, map-append}
 use Rattle.cls_base.specs.Types.{ClosedType}
 use Rattle.cls_base.specs.Schemas.{OpenType}
@@ -25,6 +27,7 @@ use Rattle.cls_proof.specs.Forms.{certificate_rows, greatest_number, Written, li
 use Rattle.cls_proof.specs.Forms as written
 use Rattle.cls_proof.specs.Reading.{Says, no_statement, one_statement, LinesSay}
 use Rattle.cls_proof.specs.Statements.{Statement, statements_of}
+use Rattle.cls_proof.proofs.ReadCertificates.{distinct_all}
 use Rattle.cls_query.specs.Queries.{Query, verify, row_parts}
 use Rattle.cls_query.specs.QueryForms.{query_rows}
 use Rattle.cls_query.proofs.RowParts.{words_of_parts}
@@ -45,6 +48,7 @@ use Rattle.cls_existence.proofs.Openings.{repository_sound}
 use Rattle.cls_existence.proofs.PathNames.{PathsHave, paths_to}
 
 pub record IsCalled (s : Serving) : Type 0 where
+  pub apart : IsDistinct bytes_eq s.names
   pub proper : AreProper s.names
   pub called : AreProper s.components
   pub counted : length s.components ≡ length s.engine.library.components
@@ -61,6 +65,7 @@ as_many d kinds (one_component is more) = ap (λ (n : ℕ). suc n) (as_many d ki
 
 opened_called : (o : Options) (d : Draft) (s : Serving) → IsNamed d → IsSound d → Serves o d s → IsCalled s
 opened_called o d s h sound is = record {
+  apart = subst (λ (ts : List (List ℕ)). IsDistinct bytes_eq ts) (sym is.same_names) h.apart;
   proper = subst (λ (ts : List (List ℕ)). AreProper ts) (sym is.same_names) h.proper;
   called = subst (λ (ts : List (List ℕ)). AreProper ts) (sym is.same_components) h.called;
   counted =
@@ -74,6 +79,7 @@ opened_called o d s h sound is = record {
 with_called : (s : Serving) (xs : List (List ℕ)) (m : Serving) → m ≡ with_names s m.names → m.names ≡ with_texts s.names xs → AreProper xs → IsCalled s → IsCalled m
 with_called s xs m e numbered proper h =
     let grown : IsCalled (with_names s (with_texts s.names xs)) = record {
+      apart = distinct_all s.names xs h.apart;
       proper = grown_proper s.names xs h.proper proper;
       called = h.called;
       counted = h.counted;
@@ -133,7 +139,7 @@ same_called : (s m : Serving) → m ≡ s → IsCalled s → IsCalled m
 same_called s m e h = subst IsCalled (sym e) h
 
 held_called : (s : Serving) (held : List (List ℕ)) → IsCalled s → IsCalled (holding s held)
-held_called s held h = record { proper = h.proper; called = h.called; counted = h.counted; known = h.known }
+held_called s held h = record { apart = h.apart; proper = h.proper; called = h.called; counted = h.counted; known = h.known }
 
 verifies_called : (s : Serving) (goal : ClosedType) (certificate : List (List ℕ)) (text : List ℕ) (m : Serving) → Verifies s goal certificate text m → IsCalled s → IsCalled m
 verifies_called s goal certificate text m (answering.Verifies.bad fault ws is w t e) h = same_called s m e h
