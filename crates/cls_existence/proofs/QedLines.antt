@@ -102,11 +102,11 @@ module _ (names components : List (List ℕ)) where
   -- the lines before the last one
   lines_before : (c : Certificate) → (before : List (List ℕ)) × (lines_of (certificate_text names components c) ≡ before ++ codes "qed" ∷ [])
   lines_before c =
-      let (raw, e) = front_ends c in (
-        lines_of (raw ++ 10 ∷ []),
+      let f = front_ends c in (
+        lines_of (f.0 ++ 10 ∷ []),
         ap lines_of (text_is c)
-        ∙ (ap (λ (bs : List ℕ). lines_of (bs ++ line (codes "qed"))) e
-        ∙ (lines_both raw (line (codes "qed")) ∙ ap (λ (ls : List (List ℕ)). lines_of (raw ++ 10 ∷ []) ++ ls) qed_line)),
+        ∙ (ap (λ (bs : List ℕ). lines_of (bs ++ line (codes "qed"))) f.1
+        ∙ (lines_both f.0 (line (codes "qed")) ∙ ap (λ (ls : List (List ℕ)). lines_of (f.0 ++ 10 ∷ []) ++ ls) qed_line)),
       )
 
 -- WHICH LINES ARE `qed`
