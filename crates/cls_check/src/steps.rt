@@ -24,7 +24,7 @@ use cls_proof::{LayerRef, LayersRef, Sets};
 use std::alloc::Global;
 
 /// Whether the layers lead from the empty set to sets that are all blocked. There is a layer for each path of the goal.
-/// The sets that are known are blocked, and those that are found to be become known, here and below.
+/// Sets that are found blocked become known.
 pub(crate) fn is_walked(
     alloc: Global,
     lib: &Library,
@@ -172,7 +172,7 @@ fn all_blocked(
     Ok(true)
 }
 
-/// Whether the set is blocked. So equal sets are looked at once.
+/// Whether the set is blocked. Equal ones are looked at once.
 fn is_known_blocked(
     alloc: Global,
     lib: &Library,
