@@ -53,12 +53,7 @@ impl KnownSets {
     }
 
     /// Whether the set at the place is one of them. The only error is out of memory.
-    pub fn has(
-        &self,
-        alloc: Global,
-        place: Place,
-        positions: &[u32],
-    ) -> Result<bool, OutOfMemory>
+    pub fn has(&self, alloc: Global, place: Place, positions: &[u32]) -> Result<bool, OutOfMemory>
         ensures { IfOk result (λ has. IsTrue has ↔ Contains self.now (key_of place positions.now)) }
     {
         let set = PlacedSet::new(alloc, place, positions)?;
@@ -66,12 +61,7 @@ impl KnownSets {
     }
 
     /// Puts the set at the place among them. The only error is out of memory.
-    pub fn put(
-        &mut self,
-        alloc: Global,
-        place: Place,
-        positions: &[u32],
-    ) -> Result<(), OutOfMemory>
+    pub fn put(&mut self, alloc: Global, place: Place, positions: &[u32]) -> Result<(), OutOfMemory>
         ensures { OnOk result ((k : SetKey) → Contains self.new k
             ↔ (Contains self.old k ⊎ (k ≡ key_of place positions.now))) }
     {
