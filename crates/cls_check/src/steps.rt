@@ -1,5 +1,5 @@
 //! The way from one layer of sets to the next.
-ghost use Rattle.std.specs.Prelude.{◌+◌, ◌<◌, ◌≡◌, ◌↔◌, ◌⊎◌, All, length, [], ◌∷◌, IfOk, IsTrue};
+ghost use Rattle.std.specs.Prelude.{◌+◌, ◌<◌, ◌≡◌, ◌↔◌, ◌⊎◌, All, length, [], ◌∷◌, IfOk, IsTrue, OnOk};
 ghost use Rattle.cls_base.specs.Lists.{AreBelow};
 ghost use Rattle.cls_path.specs.Paths.{listed, Suits, SuitsAll};
 ghost use Rattle.cls_library.specs.Families.{IsFamilyIn};
@@ -9,10 +9,11 @@ ghost use Rattle.cls_check.specs.Goals.{AllSuit};
 ghost use Rattle.cls_check.specs.Layers.{AllBelow, AllMet};
 ghost use Rattle.cls_check.specs.Near.{AreIndexed};
 ghost use Rattle.cls_check.specs.Places.{Stands, arrows_in};
-ghost use Rattle.cls_check.specs.Tests.{AllStep, IsStopped, IsWalked, sets_at};
+ghost use Rattle.cls_check.specs.Tests.{AllStep, AreStopped, IsStopped, IsWalked, sets_at};
 
 use crate::argument::arguments;
 use crate::goals::Goals;
+use crate::known::KnownSets;
 use crate::lack::all_met;
 use crate::near::{Index, index_of};
 use crate::place::Place;
@@ -23,31 +24,36 @@ use cls_proof::{LayerRef, LayersRef, Sets};
 use std::alloc::Global;
 
 /// Whether the layers lead from the empty set to sets that are all blocked. There is a layer for each path of the goal.
+/// Sets that are found blocked become known.
 pub(crate) fn is_walked(
     alloc: Global,
     lib: &Library,
     goals: &Goals,
+    known: &mut KnownSets,
     place: Place,
     goal: &Nf,
     layers: &LayersRef,
 ) -> Result<bool, OutOfMemory>
     requires place { Stands lib.now place }
     requires goals { AllSuit lib.now goals.now }
+    requires known { AreStopped lib.now goals.now known.old }
     requires suits { SuitsAll (variances_in lib.now.taxonomy) (listed goal.now) }
     requires as_many { length layers.now ≡ path_total (listed goal.now) }
     requires within { All (AllBelow (length (arrows_in lib.now place))) layers.now }
-    ensures { IfOk result (λ walked. IsTrue walked ↔ IsWalked lib.now goals.now place (listed goal.now) layers.now) }
+    ensures walked { IfOk result (λ walked. IsTrue walked
+        ↔ IsWalked lib.now goals.now place (listed goal.now) layers.now) }
+    ensures known { OnOk result (AreStopped lib.now goals.now known.new) }
 {
     let start = only_empty(alloc)?;
     for (step, path) in goal.paths().iter().enumerate() {
         let sets = sets_at(&start, layers, step);
         let layer = layers.get(step);
-        if !all_step(alloc, lib, goals, place, path, &sets, &layer)? {
+        if !all_step(alloc, lib, goals, known, place, path, &sets, &layer)? {
             return Ok(false);
         }
     }
     let last = sets_at(&start, layers, layers.len());
-    Ok(all_blocked(alloc, lib, goals, place, &last)?)
+    Ok(all_blocked(alloc, lib, goals, known, place, &last)?)
 }
 
 /// The empty set alone.
@@ -76,6 +82,7 @@ fn all_step(
     alloc: Global,
     lib: &Library,
     goals: &Goals,
+    known: &mut KnownSets,
     place: Place,
     path: &Path,
     sets: &LayerRef,
@@ -83,10 +90,13 @@ fn all_step(
 ) -> Result<bool, OutOfMemory>
     requires place { Stands lib.now place }
     requires goals { AllSuit lib.now goals.now }
+    requires known { AreStopped lib.now goals.now known.old }
     requires suits { Suits (variances_in lib.now.taxonomy) path.now }
     requires within { AllBelow (length (arrows_in lib.now place)) sets.now }
     requires layer { AllBelow (length (arrows_in lib.now place)) layer.now }
-    ensures { IfOk result (λ step. IsTrue step ↔ AllStep lib.now goals.now place path.now sets.now layer.now) }
+    ensures step { IfOk result (λ step. IsTrue step
+        ↔ AllStep lib.now goals.now place path.now sets.now layer.now) }
+    ensures known { OnOk result (AreStopped lib.now goals.now known.new) }
 {
     if sets.len() == 0 {
         return Ok(true);
@@ -99,7 +109,7 @@ fn all_step(
     let index = index_of(alloc, layer, place.arrows(lib).len())?;
     for i in 0..sets.len() {
         let set = sets.get(i);
-        if !is_settled(alloc, lib, goals, place, path, leading, layer, &index, set)? {
+        if !is_settled(alloc, lib, goals, known, place, path, leading, layer, &index, set)? {
             return Ok(false);
         }
     }
@@ -111,6 +121,7 @@ fn is_settled(
     alloc: Global,
     lib: &Library,
     goals: &Goals,
+    known: &mut KnownSets,
     place: Place,
     path: &Path,
     family: &[u32],
@@ -120,19 +131,21 @@ fn is_settled(
 ) -> Result<bool, OutOfMemory>
     requires place { Stands lib.now place }
     requires goals { AllSuit lib.now goals.now }
+    requires known { AreStopped lib.now goals.now known.old }
     requires family { IsFamilyIn lib.now.taxonomy (arrows_in lib.now place) path.now family.now }
     requires layer { AllBelow (length (arrows_in lib.now place)) layer.now }
     requires index { AreIndexed (length (arrows_in lib.now place)) layer.now (length layer.now)
         index.now.under.items index.now.small }
     requires set { AreBelow (length (arrows_in lib.now place)) set.now }
-    ensures { IfOk result (λ settled. IsTrue settled
+    ensures settled { IfOk result (λ settled. IsTrue settled
         ↔ (IsStopped lib.now goals.now place set.now ⊎ AllMet family.now layer.now set.now)) }
+    ensures known { OnOk result (AreStopped lib.now goals.now known.new) }
 {
     let count = place.arrows(lib).len();
     if all_met(alloc, family, layer, index, set, count)? {
         return Ok(true);
     }
-    is_blocked(alloc, lib, goals, place, set)
+    is_known_blocked(alloc, lib, goals, known, place, set)
 }
 
 /// Whether each of the sets is blocked.
@@ -140,19 +153,48 @@ fn all_blocked(
     alloc: Global,
     lib: &Library,
     goals: &Goals,
+    known: &mut KnownSets,
     place: Place,
     sets: &LayerRef,
 ) -> Result<bool, OutOfMemory>
     requires place { Stands lib.now place }
     requires goals { AllSuit lib.now goals.now }
+    requires known { AreStopped lib.now goals.now known.old }
     requires within { AllBelow (length (arrows_in lib.now place)) sets.now }
-    ensures { IfOk result (λ blocked. IsTrue blocked ↔ All (IsStopped lib.now goals.now place) sets.now) }
+    ensures blocked { IfOk result (λ blocked. IsTrue blocked ↔ All (IsStopped lib.now goals.now place) sets.now) }
+    ensures known { OnOk result (AreStopped lib.now goals.now known.new) }
 {
     for i in 0..sets.len() {
-        if !is_blocked(alloc, lib, goals, place, sets.get(i))? {
+        if !is_known_blocked(alloc, lib, goals, known, place, sets.get(i))? {
             return Ok(false);
         }
     }
+    Ok(true)
+}
+
+/// Whether the set is blocked. Equal ones are looked at once.
+fn is_known_blocked(
+    alloc: Global,
+    lib: &Library,
+    goals: &Goals,
+    known: &mut KnownSets,
+    place: Place,
+    set: &[u32],
+) -> Result<bool, OutOfMemory>
+    requires place { Stands lib.now place }
+    requires goals { AllSuit lib.now goals.now }
+    requires known { AreStopped lib.now goals.now known.old }
+    requires within { AreBelow (length (arrows_in lib.now place)) set.now }
+    ensures blocked { IfOk result (λ blocked. IsTrue blocked ↔ IsStopped lib.now goals.now place set.now) }
+    ensures known { OnOk result (AreStopped lib.now goals.now known.new) }
+{
+    if known.has(alloc, place, set)? {
+        return Ok(true);
+    }
+    if !is_blocked(alloc, lib, goals, place, set)? {
+        return Ok(false);
+    }
+    known.put(alloc, place, set)?;
     Ok(true)
 }
 
