@@ -105,8 +105,8 @@ module _ (names components : List (List ℕ)) where
       let f = front_ends c in (
         lines_of (f.0 ++ 10 ∷ []),
         ap lines_of (text_is c)
-        ∙ (ap (λ (bs : List ℕ). lines_of (bs ++ line (codes "qed"))) f.1
-        ∙ (lines_both f.0 (line (codes "qed")) ∙ ap (λ (ls : List (List ℕ)). lines_of (f.0 ++ 10 ∷ []) ++ ls) qed_line)),
+            ∙ (ap (λ (bs : List ℕ). lines_of (bs ++ line (codes "qed"))) f.1
+            ∙ (lines_both f.0 (line (codes "qed")) ∙ ap (λ (ls : List (List ℕ)). lines_of (f.0 ++ 10 ∷ []) ++ ls) qed_line)),
       )
 
 -- WHICH LINES ARE `qed`
