@@ -18,7 +18,7 @@ use Rattle.cls_proof.specs.Certificates.{ProofRow, Block, Member, Certificate}
 use Rattle.cls_proof.specs.Forms.{certificate_rows, Written, line_of}
 use Rattle.cls_proof.specs.Forms as written
 use Rattle.cls_proof.specs.Reading.{Means, SaysStatement, Says, no_statement, one_statement, LinesSay, SaysCertificate}
-use Rattle.cls_proof.specs.Statements.{Statement, inhabited, row, empty, member, block, layer, set, qed, layer_statements, block_statements, member_statements, statements_of, is_qed}
+use Rattle.cls_proof.specs.Statements.{Statement, inhabited, row, empty, set, qed, layer_statements, block_statements, member_statements, statements_of, is_qed}
 use Rattle.cls_proof.specs.Texts.{numbers_text, line, set_text, layer_text, block_text, row_text, member_text, certificate_text}
 use Rattle.cls_proof.proofs.PlainBytes.{plain_name, plain_utf8}
 use Rattle.cls_proof.proofs.SaidLines.{say_last}
