@@ -18,7 +18,7 @@ use Rattle.cls_proof.specs.Certificates.{ProofRow, Block, Member, Certificate}
 use Rattle.cls_proof.specs.Forms.{certificate_rows, Written, line_of}
 use Rattle.cls_proof.specs.Forms as written
 use Rattle.cls_proof.specs.Reading.{Means, SaysStatement, Says, no_statement, one_statement, LinesSay, SaysCertificate}
-use Rattle.cls_proof.specs.Statements.{Statement, inhabited, row, empty, member, block, layer, set, qed, layer_statements, block_statements, member_statements, statements_of, is_qed}
+use Rattle.cls_proof.specs.Statements.{Statement, inhabited, row, empty, set, qed, layer_statements, block_statements, member_statements, statements_of, is_qed}
 use Rattle.cls_proof.specs.Texts.{numbers_text, line, set_text, layer_text, block_text, row_text, member_text, certificate_text}
 use Rattle.cls_proof.proofs.PlainBytes.{plain_name, plain_utf8}
 use Rattle.cls_proof.proofs.SaidLines.{say_last}
@@ -105,8 +105,8 @@ module _ (names components : List (List ℕ)) where
       let f = front_ends c in (
         lines_of (f.0 ++ 10 ∷ []),
         ap lines_of (text_is c)
-        ∙ (ap (λ (bs : List ℕ). lines_of (bs ++ line (codes "qed"))) f.1
-        ∙ (lines_both f.0 (line (codes "qed")) ∙ ap (λ (ls : List (List ℕ)). lines_of (f.0 ++ 10 ∷ []) ++ ls) qed_line)),
+            ∙ (ap (λ (bs : List ℕ). lines_of (bs ++ line (codes "qed"))) f.1
+            ∙ (lines_both f.0 (line (codes "qed")) ∙ ap (λ (ls : List (List ℕ)). lines_of (f.0 ++ 10 ∷ []) ++ ls) qed_line)),
       )
 
 -- WHICH LINES ARE `qed`
