@@ -1,5 +1,5 @@
--- What a repository declares names by number what stands in its tables. Each name there is one of the language, and no two
--- constructors have one name.
+-- Each number of a constructor in what a repository declares is the number of a name in its table. Each name there is one of
+-- the language, and no two constructors have one name.
 use Rattle.std.proofs.Common.{ℕ, zero, suc, ◌≡◌, ◌+◌, ◌≤◌, ◌<◌, true, false, List, [], ◌∷◌, ◌++◌, length, map, refl, sym, ◌∙◌, ap, subst, inl, inr, Option, Some, None, arith, length-append}
 use Rattle.std.specs.Prelude.{if◌then◌else◌}
 use Rattle.std.specs.List.{list_any, AllByRecursion, IsDistinct}

@@ -1,5 +1,5 @@
--- What a session answers by names by number what stands in its tables. Each name there is one of the language, and no two
--- constructors have one name.
+-- Each number of a constructor in the library of a session is the number of a name in its table. Each name there is one of
+-- the language, and no two constructors have one name.
 use Rattle.std.proofs.Common.{ℕ, suc, ◌≡◌, Bool, true, false, List, [], ◌∷◌, ◌++◌, length, map, refl, sym, ◌∙◌, ap, subst, codes}
 use Rattle.std.specs.Prelude.{if◌then◌else◌}
 use Rattle.std.specs.List.{AllByRecursion, IsDistinct}
