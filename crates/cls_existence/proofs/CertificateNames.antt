@@ -21,13 +21,13 @@ use Rattle.cls_proof.specs.Statements.{Statement, inhabited, row, empty, member,
 use Rattle.cls_cert.specs.Conditions.{forms_of}
 use Rattle.cls_cert.specs.Making.{Ranked, goal_in, HasFirst, IsMemberFor, IsRowOf, IsRowFor}
 use Rattle.cls_grammar.specs.Grammars.{book_of}
+use Rattle.cls_query.proofs.Searches.{all_both}
 use Rattle.cls_engine.specs.Certified.{IsCertified}
 use Rattle.cls_engine.specs.Goals.{Goal, IsClosed}
 use Rattle.cls_replies.specs.Serving.{Serving}
 use Rattle.cls_existence.specs.FedBack.{IsTypeWithin, IsWithin, IsCertificateWithin}
 use Rattle.cls_existence.proofs.DraftNames.{AreProper}
 use Rattle.cls_existence.proofs.GoalNames.{closure_has}
-use Rattle.cls_existence.proofs.LibraryNames.{each_both}
 use Rattle.cls_existence.proofs.PathNames.{TypeHas, PathsHave, paths_have, paths_type, canonical_has}
 use Rattle.cls_existence.proofs.ServingNames.{IsCalled}
 
@@ -88,12 +88,12 @@ module _ (names components : List (List ℕ)) (proper : AreProper names) (called
 
   layers_named : (layers : List (List (List ℕ))) → AllByRecursion Named (flat_map layer_statements layers)
   layers_named [] = tt
-  layers_named (sets ∷ layers) = (tt, each_both Named (map (λ s. set s) sets) (flat_map layer_statements layers) (sets_named sets) (layers_named layers))
+  layers_named (sets ∷ layers) = (tt, all_both Named (map (λ s. set s) sets) (flat_map layer_statements layers) (sets_named sets) (layers_named layers))
 
   blocks_named : (bs : List Block) → ((b : Block) → Contains bs b → b.component < length components) → AllByRecursion Named (flat_map block_statements bs)
   blocks_named [] f = tt
   blocks_named (b ∷ bs) f =
-      (f b (Contains-here b bs), each_both Named (flat_map layer_statements b.layers) (flat_map block_statements bs) (layers_named b.layers) (blocks_named bs (λ x c. f x (Contains-later x b bs c))))
+      (f b (Contains-here b bs), all_both Named (flat_map layer_statements b.layers) (flat_map block_statements bs) (layers_named b.layers) (blocks_named bs (λ x c. f x (Contains-later x b bs c))))
 
   -- THE CERTIFICATE OF ROWS
   module _ (l : Library) (counted : length components ≡ length l.components) (goals : List Paths) (book : List (List (Rule ℕ))) (known : (i : ℕ) → PathsHave K (goal_in goals i)) where
@@ -130,7 +130,7 @@ module _ (names components : List (List ℕ)) (proper : AreProper names) (called
     members_named [] [] z = tt
     members_named [] (m ∷ ms) z = absurd z
     members_named (i ∷ is) [] z = absurd z
-    members_named (i ∷ is) (m ∷ ms) z = each_both Named (member_statements m) (flat_map member_statements ms) (member_named i m z.0) (members_named is ms z.1)
+    members_named (i ∷ is) (m ∷ ms) z = all_both Named (member_statements m) (flat_map member_statements ms) (member_named i m z.0) (members_named is ms z.1)
 
 -- A SESSION
 module _ (s : Serving) (called : IsCalled s) (t : ClosedType) (known : TypeHas (Below s.names) t) where
@@ -147,10 +147,10 @@ module _ (s : Serving) (called : IsCalled s) (t : ClosedType) (known : TypeHas (
   statements_named : (c : Certificate) → IsCertified lib t c → Accepts lib t c → AllByRecursion (Named s.names s.components called.proper called.called) (statements_of c)
   statements_named (certificate.inhabited ps) (rows, closed, made) (by_rows passes ends) =
       let N : Statement → Type 0 = Named s.names s.components called.proper called.called in
-      (tt, each_both N (map (λ r. row r) ps) (qed ∷ []) (rows_named s.names s.components called.proper called.called lib called.counted (forms_of rows) (book_of rows) (goals_known rows closed) _ [] ps made.1.made passes) (tt, tt))
+      (tt, all_both N (map (λ r. row r) ps) (qed ∷ []) (rows_named s.names s.components called.proper called.called lib called.counted (forms_of rows) (book_of rows) (goals_known rows closed) _ [] ps made.1.made passes) (tt, tt))
   statements_named (certificate.empty ms) (rows, closed, made) accepts =
       let N : Statement → Type 0 = Named s.names s.components called.proper called.called in
-      (tt, each_both N (flat_map member_statements ms) (qed ∷ []) (members_named s.names s.components called.proper called.called lib called.counted (forms_of rows) (book_of rows) (goals_known rows closed) made.1.unproductive ms made.1.made) (tt, tt))
+      (tt, all_both N (flat_map member_statements ms) (qed ∷ []) (members_named s.names s.components called.proper called.called lib called.counted (forms_of rows) (book_of rows) (goals_known rows closed) made.1.unproductive ms made.1.made) (tt, tt))
 
   pub certificate_sayable : (c : Certificate) → IsCertified lib t c → Accepts lib t c → IsCertificateWithin s.names s.components c → IsCertificateSayable s.names s.components c
   certificate_sayable c made accepts w = record {

@@ -1,5 +1,5 @@
--- What a repository declares names by number what stands in its tables. Each name there is one of the language, and no two
--- constructors have one name.
+-- Each number of a constructor in what a repository declares is the number of a name in its table. Each name there is one of
+-- the language, and no two constructors have one name.
 use Rattle.std.proofs.Common.{ℕ, zero, suc, ◌≡◌, ◌+◌, ◌≤◌, ◌<◌, true, false, List, [], ◌∷◌, ◌++◌, length, map, refl, sym, ◌∙◌, ap, subst, inl, inr, Option, Some, None, arith, length-append}
 use Rattle.std.specs.Prelude.{if◌then◌else◌}
 use Rattle.std.specs.List.{list_any, AllByRecursion, IsDistinct}
@@ -22,6 +22,7 @@ use Rattle.cls_syntax.specs.TypeTexts as grammar
 use Rattle.cls_syntax.proofs.ReadTypes.{AllGood, AllHeld, Below, below_of, held_by, line_proper}
 use Rattle.cls_proof.proofs.ReadCertificates.{distinct_all}
 use Rattle.cls_query.proofs.Numbering.{named_both, grown_texts}
+use Rattle.cls_query.proofs.Searches.{all_both}
 use Rattle.cls_assemble.specs.declared.piece.Piece.TheVariants.{Byte}
 use Rattle.cls_lexer.specs.Numerals.{number_value}
 use Rattle.cls_repo.specs.Declarations.{Declares, AreSpelled, AreChoices, changed_at, with_names}
@@ -30,7 +31,7 @@ use Rattle.cls_repo.specs.Directives.{Directive, LineSays, parts_of}
 use Rattle.cls_repo.specs.Drafts.{Component, Draft}
 use Rattle.cls_repo.specs.Readings.{Reading, no_reading, Takes, skipped, declares, TakesAll}
 use Rattle.cls_session.specs.Repositories.{IsRepository}
-use Rattle.cls_existence.proofs.LibraryNames.{SchemaHas, EachType, KindsHave, each_both}
+use Rattle.cls_existence.proofs.LibraryNames.{SchemaHas, EachType, KindsHave}
 use Rattle.cls_existence.proofs.PathNames.{TypeHas}
 
 abbrev pub AreProper : List (List ℕ) → Type 0
@@ -40,7 +41,7 @@ AreProper names = AllByRecursion IsProperName names
 one_proper : (names : List (List ℕ)) (x : List ℕ) → AreProper names → IsProperName x → AreProper (with_text names x)
 one_proper names x h k = elim (list_any (bytes_eq x) names) as (λ b. AreProper (if b then names else names ++ x ∷ [])) [
   | true ↦ h
-  | false ↦ each_both IsProperName names (x ∷ []) h (k, tt)
+  | false ↦ all_both IsProperName names (x ∷ []) h (k, tt)
 ]
 
 pub grown_proper : (names xs : List (List ℕ)) → AreProper names → AreProper xs → AreProper (with_texts names xs)
@@ -197,7 +198,7 @@ declared_named d n line (directive.kind x ts) new says (us, choices, e) h =
       proper = w.proper;
       called = w.called;
       typed = w.typed;
-      ranged = each_both (λ (k : ℕ × List ClosedType). EachType (Below names) k.1) d.kinds ((number_of (with_names d said).variables x, us) ∷ []) w.ranged (choices_spelled names ts us choices held, tt);
+      ranged = all_both (λ (k : ℕ × List ClosedType). EachType (Below names) k.1) d.kinds ((number_of (with_names d said).variables x, us) ∷ []) w.ranged (choices_spelled names ts us choices held, tt);
     }
 declared_named d n line (directive.comp x t) new says e h =
     let said = directive.comp x t in
@@ -211,8 +212,8 @@ declared_named d n line (directive.comp x t) new says e h =
     subst IsNamed (sym e) record {
       apart = w.apart;
       proper = w.proper;
-      called = each_both IsProperName d.component_names (x ∷ []) w.called (words.1.0, tt);
-      typed = each_both (λ (c : Component). SchemaHas (Below after.names) c.schema) d.components (c ∷ []) w.typed (schema, tt);
+      called = all_both IsProperName d.component_names (x ∷ []) w.called (words.1.0, tt);
+      typed = all_both (λ (c : Component). SchemaHas (Below after.names) c.schema) d.components (c ∷ []) w.typed (schema, tt);
       ranged = w.ranged;
     }
 declared_named d n line (directive.text x ws) new says (pieces, template, e) h =

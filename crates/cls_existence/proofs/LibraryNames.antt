@@ -1,5 +1,5 @@
 -- The names in the paths of a library are those of its schemas and of the kinds.
-use Rattle.std.proofs.Common.{ℕ, zero, suc, true, false, List, [], ◌∷◌, ◌++◌, map}
+use Rattle.std.proofs.Common.{ℕ, zero, suc, true, false, List, [], ◌∷◌, map}
 use Rattle.std.specs.Prelude.{◌==◌, if◌then◌else◌}
 use Rattle.std.specs.List.{AllByRecursion, flat_map}
 use Rattle.cls_base.specs.Types.{ClosedType}
@@ -13,12 +13,8 @@ use Rattle.cls_taxon.specs.DecisionLaws.{is_below-reflexive, is_below-transitive
 use Rattle.cls_library.specs.Index.{paths_in}
 use Rattle.cls_library.specs.Libraries.{Library, Component, below_in, variances_in, paths_at, all_of, IsComponentOf, AreComponentsOf, no_components, one_component}
 use Rattle.cls_library.specs.Refusals.{IsLibraryOf}
+use Rattle.cls_query.proofs.Searches.{all_both}
 use Rattle.cls_existence.proofs.PathNames.{TypeHas, PathsHave, paths_have, canonical_has}
-
--- of two lists, one after the other
-pub each_both : {A : Type 0} (P : A → Type 0) (xs ys : List A) → AllByRecursion P xs → AllByRecursion P ys → AllByRecursion P (xs ++ ys)
-each_both P [] ys h k = k
-each_both P (x ∷ xs) ys h k = (h.0, each_both P xs ys h.1 k)
 
 module _ (K : ℕ → Type 0) where
   -- each constructor of the schema has the property
@@ -65,7 +61,7 @@ module _ (K : ℕ → Type 0) where
 
   each_more : (v : ℕ) (ts : List ClosedType) → EachType ts → (cs : List (List (ℕ × ClosedType))) → AllByRecursion ChoiceHas cs → AllByRecursion ChoiceHas (flat_map (λ t. map (λ c. (v, t) ∷ c) cs) ts)
   each_more v [] h cs k = tt
-  each_more v (t ∷ ts) h cs k = each_both ChoiceHas (map (λ c. (v, t) ∷ c) cs) (flat_map (λ u. map (λ c. (v, u) ∷ c) cs) ts) (one_more v t h.0 cs k) (each_more v ts h.1 cs k)
+  each_more v (t ∷ ts) h cs k = all_both ChoiceHas (map (λ c. (v, t) ∷ c) cs) (flat_map (λ u. map (λ c. (v, u) ∷ c) cs) ts) (one_more v t h.0 cs k) (each_more v ts h.1 cs k)
 
   choices_have : (ranges : List (ℕ × List ClosedType)) → KindsHave ranges → AllByRecursion ChoiceHas (choices_from ranges)
   choices_have [] h = (tt, tt)

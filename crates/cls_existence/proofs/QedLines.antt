@@ -3,7 +3,7 @@ use Rattle.std.proofs.Common.{ℕ, ◌≡◌, eqb, true, false, List, [], ◌∷
 use Rattle.std.specs.Prelude.{codes, decimal, if◌then◌else◌}
 use Rattle.std.specs.List.{flat_map, list_any}
 use Rattle.std.proofs.lemmas.Bool.{true≢false}
-use Rattle.std.proofs.lemmas.List.{map-append}
+use Rattle.std.proofs.lemmas.List.{map-append, append_cancel_right}
 use Rattle.std.proofs.lemmas.List.Folds.{list_any-append}
 use Rattle.std.proofs.lemmas.Slice.Eq.{bytes_eq-Decides}
 use Rattle.cls_lexer.specs.Lines.{onto_first, pieces_of, without_return, lines_of}
@@ -204,20 +204,6 @@ body_then : (c : Certificate) → statements_of c ≡ body_of c ++ qed ∷ []
 body_then (certificate.inhabited rows) = refl
 body_then (certificate.empty members) = refl
 
--- lists with one element behind them
-none_or_one : (ss : List Statement) (t : Statement) → ◌≡◌ {A = List Statement} [] (ss ++ t ∷ []) → ⊥
-none_or_one [] t e = cc
-none_or_one (s ∷ ss) t e = cc
-
-same_front : (xs ys : List Statement) (a b : Statement) → xs ++ a ∷ [] ≡ ys ++ b ∷ [] → xs ≡ ys
-same_front [] [] a b e = refl
-same_front [] (y ∷ ys) a b e = absurd (none_or_one ys b (let f : ◌≡◌ {A = List Statement} [] (ys ++ b ∷ []) = cc in f))
-same_front (x ∷ xs) [] a b e = absurd (none_or_one xs a (let f : ◌≡◌ {A = List Statement} [] (xs ++ a ∷ []) = cc in f))
-same_front (x ∷ xs) (y ∷ ys) a b e =
-    let h : x ≡ y = cc in
-    let t : xs ≡ ys = same_front xs ys a b (let f : xs ++ a ∷ [] ≡ ys ++ b ∷ [] = cc in f) in
-    λ i. h i ∷ t i
-
 -- the lines of a certificate end with `qed`, and no other is
 pub record EndWithQed (lines : List (List ℕ)) : Type 0 where
   pub before : List (List ℕ)
@@ -231,5 +217,5 @@ printed_end old new names components c h =
     let r = say_last (number_of new) components b.0 (codes "qed") h.names (statements_of c) said in
     let last = qed_said (number_of new) components r.names' r.last r.line_says in
     let joined : body_of c ++ qed ∷ [] ≡ r.first ++ qed ∷ [] = sym (body_then c) ∙ (r.joined ∙ ap (λ (ts : List Statement). r.first ++ ts) last) in
-    let free : list_any is_qed r.first ≡ false = subst (λ (ts : List Statement). list_any is_qed ts ≡ false) (same_front (body_of c) r.first qed qed joined) (body_free c) in
+    let free : list_any is_qed r.first ≡ false = subst (λ (ts : List Statement). list_any is_qed ts ≡ false) (append_cancel_right (body_of c) r.first (qed ∷ []) joined) (body_free c) in
     record { before = b.0; split = b.1; free = lines_free (number_of new) components b.0 r.names r.first r.so_far free }

@@ -1,5 +1,5 @@
--- What a session answers by names by number what stands in its tables. Each name there is one of the language, and no two
--- constructors have one name.
+-- Each number of a constructor in the library of a session is the number of a name in its table. Each name there is one of
+-- the language, and no two constructors have one name.
 use Rattle.std.proofs.Common.{ℕ, suc, ◌≡◌, Bool, true, false, List, [], ◌∷◌, ◌++◌, length, map, refl, sym, ◌∙◌, ap, subst, codes}
 use Rattle.std.specs.Prelude.{if◌then◌else◌}
 use Rattle.std.specs.List.{AllByRecursion, IsDistinct}
@@ -31,6 +31,7 @@ use Rattle.cls_proof.proofs.ReadCertificates.{distinct_all}
 use Rattle.cls_query.specs.Queries.{Query, verify, row_parts}
 use Rattle.cls_query.specs.QueryForms.{query_rows}
 use Rattle.cls_query.proofs.RowParts.{words_of_parts}
+use Rattle.cls_query.proofs.Searches.{all_both}
 use Rattle.cls_repo.specs.Drafts as drafts
 use Rattle.cls_repo.specs.Drafts.{Draft}
 use Rattle.cls_repo.specs.EndFaults.{declared_in, schemas_in}
@@ -43,7 +44,7 @@ use Rattle.cls_replies.specs.Lines as lines
 use Rattle.cls_replies.specs.Serving.{Serving, Serves, with_names, holding}
 use Rattle.cls_session.specs.Transcripts.{IsAnswered}
 use Rattle.cls_existence.proofs.DraftNames.{AreProper, IsNamed, grown_proper, parts_proper, below_more, repository_named}
-use Rattle.cls_existence.proofs.LibraryNames.{SchemaHas, each_both, library_has}
+use Rattle.cls_existence.proofs.LibraryNames.{SchemaHas, library_has}
 use Rattle.cls_existence.proofs.Openings.{repository_sound}
 use Rattle.cls_existence.proofs.PathNames.{PathsHave, paths_to}
 
@@ -103,7 +104,7 @@ if_proper false x h = tt
 words_proper : (b : Bool) (ws : List Word) → AllGood IsProperName ws → AreProper (constructors_in b ws)
 words_proper b [] h = tt
 words_proper b (word.omega ∷ ws) h = words_proper false ws h.1
-words_proper b (name x ∷ ws) h = each_both IsProperName (if (if b then false else true) then x ∷ [] else []) (constructors_in false ws) (if_proper (if b then false else true) x h.0) (words_proper false ws h.1)
+words_proper b (name x ∷ ws) h = all_both IsProperName (if (if b then false else true) then x ∷ [] else []) (constructors_in false ws) (if_proper (if b then false else true) x h.0) (words_proper false ws h.1)
 words_proper b (number n ∷ ws) h = words_proper false ws h.1
 words_proper b (sign k ∷ ws) h = words_proper (is_dollar (sign k)) ws h.1
 
@@ -132,7 +133,7 @@ lines_names : (f : List ℕ → ℕ) (components ls names : List (List ℕ)) (ss
 lines_names f components [] names ss h = subst (λ (ts : List (List ℕ)). AreProper ts) (sym h.0) tt
 lines_names f components (l ∷ ls) names ss (n1, n2, s1, s2, first, rest, en, es) =
     subst (λ (ts : List (List ℕ)). AreProper ts) (sym en)
-    (each_both IsProperName n1 n2 (line_names f components l n1 s1 first) (lines_names f components ls n2 s2 rest))
+    (all_both IsProperName n1 n2 (line_names f components l n1 s1 first) (lines_names f components ls n2 s2 rest))
 
 -- THE LINES AFTER A REPOSITORY
 same_called : (s m : Serving) → m ≡ s → IsCalled s → IsCalled m
