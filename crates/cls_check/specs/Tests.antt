@@ -1,8 +1,9 @@
 -- internal: what the tests of a certificate tell, by a table of the normal forms of goals
 use Rattle.std.specs.Prelude.{ℕ, zero, suc, ◌<◌, ◌⊎◌, List, [], ◌∷◌, All, Contains, Option, None, Some, slice_index_or}
-use Rattle.cls_path.specs.Paths.{TypePath, Paths}
+use Rattle.cls_path.specs.Paths.{TypePath, Paths, listed, type_of_paths}
 use Rattle.cls_library.specs.Libraries.{Library, arrows_at}
 use Rattle.cls_proof.specs.Certificates.{ProofRow, Block}
+use Rattle.cls_check.specs.declared.findings.Findings.{Findings}
 use Rattle.cls_check.specs.declared.fault.Reason.{Reason}
 use Rattle.cls_check.specs.declared.fault.Reason.TheVariants.{Layers, Unblocked}
 use Rattle.cls_check.specs.declared.place.Place.{Place}
@@ -26,6 +27,12 @@ module _ (l : Library) (goals : List (List TypePath)) where
   -- each of the sets that are known is blocked
   abbrev pub AreStopped : List SetKey → Type 0
   AreStopped known = (p : Place) (s : List ℕ) → Contains known (key_of p s) → IsStopped p s
+
+  -- what is known of sets and of arguments is right
+  pub record AreRight (known : Findings) : Type 0 where
+    pub sets : AreStopped known.sets
+    pub below : (g : List TypePath) → Contains known.below g → IsBelowGoal l goals (type_of_paths (listed g))
+    pub free : (g : List TypePath) → Contains known.free g → IsBelowGoal l goals (type_of_paths (listed g)) → ⊥
 
   -- for each argument the intersection of what the arrows at the positions take is above a goal
   abbrev pub Meets : Place → List ℕ → Type 0

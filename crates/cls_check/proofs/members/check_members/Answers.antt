@@ -7,7 +7,7 @@ use Rattle.cls_check.specs.declared.fault.Reason.{Reason}
 use Rattle.cls_check.specs.Checking.{by_members, PassesMember, IsBelowMember}
 use Rattle.cls_check.specs.Goals.{AreGoals}
 use Rattle.cls_check.specs.Tests.{TellsMember}
-use Rattle.cls_check.proofs.KnownSets.{none_stopped}
+use Rattle.cls_check.proofs.KnownSets.{none_right}
 use Rattle.cls_check.proofs.Loops.{got-some, differs}
 use Rattle.cls_check.proofs.MemberLaws.{Form, zip_length, below_exactly, goals_suit, form_at, tells_pass, tells_fail, members_fail, members_start, members_next, members_done}
 use Rattle.cls_check.proofs.Verdicts.{members-pass}
@@ -16,7 +16,7 @@ use Rattle.cls_check.proofs.members.check_members.Goals as goal
 pub loop-i-init : goal.loop-i-init
 loop-i-init c = record {
   passed = members_start c.args.lib.now c.args.members.now;
-  known = none_stopped c.args.lib.now c.in_ok-goals.goals c.new-known.result c.new-known.ensures;
+  known = none_right c.args.lib.now c.in_ok-goals.goals c.new-known.result c.new-known.ensures.sets c.new-known.ensures.below c.new-known.ensures.free;
 }
 
 pub index-requires : goal.index-requires
