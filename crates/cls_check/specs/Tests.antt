@@ -6,6 +6,7 @@ use Rattle.cls_proof.specs.Certificates.{ProofRow, Block}
 use Rattle.cls_check.specs.declared.findings.Findings.{Findings}
 use Rattle.cls_check.specs.declared.fault.Reason.{Reason}
 use Rattle.cls_check.specs.declared.fault.Reason.TheVariants.{Layers, Unblocked}
+use Rattle.cls_check.specs.declared.met.MetCovers.{MetCovers}
 use Rattle.cls_check.specs.declared.place.Place.{Place}
 use Rattle.cls_base.specs.Firsts.{First}
 use Rattle.cls_check.specs.Arguments.{argument_type}
@@ -41,6 +42,11 @@ module _ (l : Library) (goals : List (List TypePath)) where
   -- so it is for each of the covers that are known
   abbrev pub AllMeet : List SetKey → Type 0
   AllMeet known = (p : Place) (s : List ℕ) → Contains known (key_of p s) → Meets p s
+
+  -- what is known of covers and of arguments is right
+  pub record AreMet (known : MetCovers) : Type 0 where
+    pub covers : AllMeet known.covers
+    pub above : (g : List TypePath) → Contains known.above g → IsAboveGoal l goals (type_of_paths (listed g))
 
   -- each set of the layer is blocked, or leads to the next layer
   abbrev pub AllStep : Place → TypePath → List (List ℕ) → List (List ℕ) → Type 0

@@ -90,7 +90,7 @@ impl Findings {
 }
 
 /// Puts a copy of the intersection into the table, unless that is full or the intersection is large.
-fn keep(alloc: Global, table: &mut Goals, nf: &Nf) -> Result<(), OutOfMemory>
+pub(crate) fn keep(alloc: Global, table: &mut Goals, nf: &Nf) -> Result<(), OutOfMemory>
     ensures { OnOk result ((g : List TypePath) → Contains table.new g → Contains table.old g ⊎ (g ≡ nf.now)) }
 {
     if table.len() >= MAX_KEPT {
