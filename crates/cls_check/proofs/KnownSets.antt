@@ -14,7 +14,7 @@ use Rattle.cls_check.specs.Arguments.{argument_type}
 use Rattle.cls_check.specs.Checking.{IsBlocked}
 use Rattle.cls_check.specs.Goals.{IsAboveGoal, IsBelowGoal}
 use Rattle.cls_check.specs.Known.{SetKey, key_of, placed}
-use Rattle.cls_check.specs.Tests.{IsStopped, AreStopped, AreRight, Meets, AllMeet, AreMet}
+use Rattle.cls_check.specs.Tests.{IsStopped, AreStopped, AreRight, IsSettled, AreSettled, Meets, AllMeet, AreMet}
 use Rattle.cls_check.specs.contracts.known.PlacedSetPartialEq.TheImpl.{eq-value}
 use Rattle.cls_check.specs.declared.findings.Findings.{Findings}
 use Rattle.cls_check.specs.declared.known.PlacedSet.{PlacedSet}
@@ -103,11 +103,20 @@ put_as keys seen v k key q new e x =
 
 -- sets of which a test is known, and one more
 module _ (l : Library) (goals : List (List TypePath)) (known : List SetKey) where
+  pub none_settled : (p : Place) (family : List ℕ) (layer : List (List ℕ)) → known ≡ [] → AreSettled l goals p family layer known
+  none_settled p family layer e s m = absurd (Contains-nil (key_of p s) (subst (λ (ks : List SetKey). Contains ks (key_of p s)) e m))
+
   module _ (new : List SetKey) (place : Place) (set : List ℕ) (put : (k : SetKey) → Contains new k ↔ (Contains known k ⊎ (k ≡ key_of place set))) where
     pub stopped_more : AreStopped l goals known → IsStopped l goals place set → AreStopped l goals new
     stopped_more h one p s m = elim ((put (key_of p s)).0 m) [
       | inl a ↦ h p s a
       | inr e ↦ subst (λ (k : SetKey). IsBlocked l (IsBelowGoal l goals) (arrows_at l k.0.0 k.0.1) k.0.1 k.1) (sym e) one
+    ]
+
+    pub settled_more : (family : List ℕ) (layer : List (List ℕ)) → AreSettled l goals place family layer known → IsSettled l goals place family layer set → AreSettled l goals place family layer new
+    settled_more family layer h one s m = elim ((put (key_of place s)).0 m) [
+      | inl a ↦ h s a
+      | inr e ↦ subst (λ (t : List ℕ). IsSettled l goals place family layer t) (sym (ap (λ (k : SetKey). k.1) e)) one
     ]
 
     pub meets_more : AllMeet l goals known → Meets l goals place set → AllMeet l goals new

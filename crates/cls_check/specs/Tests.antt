@@ -13,6 +13,7 @@ use Rattle.cls_check.specs.Arguments.{argument_type}
 use Rattle.cls_check.specs.Checking.{path_total, empty_layers, layers_for, row_causes, PassesRow, PassesLayers, PassesUnblocked, IsBlocked, BlockedFrom, Steps}
 use Rattle.cls_check.specs.Goals.{IsAboveGoal, IsBelowGoal}
 use Rattle.cls_check.specs.Known.{SetKey, key_of}
+use Rattle.cls_check.specs.Layers.{AllMet}
 use Rattle.cls_check.specs.Places.{arrows_in, block_place}
 
 module _ (l : Library) (goals : List (List TypePath)) where
@@ -47,6 +48,14 @@ module _ (l : Library) (goals : List (List TypePath)) where
   pub record AreMet (known : MetCovers) : Type 0 where
     pub covers : AllMeet known.covers
     pub above : (g : List TypePath) → Contains known.above g → IsAboveGoal l goals (type_of_paths (listed g))
+
+  -- the set is blocked, or with each number of the family it contains a set of the layer
+  abbrev pub IsSettled : Place → List ℕ → List (List ℕ) → List ℕ → Type 0
+  IsSettled p family layer s = IsStopped p s ⊎ AllMet family layer s
+
+  -- so it is for each of the sets that are kept at the place
+  abbrev pub AreSettled : Place → List ℕ → List (List ℕ) → List SetKey → Type 0
+  AreSettled p family layer kept = (s : List ℕ) → Contains kept (key_of p s) → IsSettled p family layer s
 
   -- each set of the layer is blocked, or leads to the next layer
   abbrev pub AllStep : Place → TypePath → List (List ℕ) → List (List ℕ) → Type 0

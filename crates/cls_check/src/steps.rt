@@ -6,14 +6,15 @@ ghost use Rattle.cls_library.specs.Families.{IsFamilyIn};
 ghost use Rattle.cls_library.specs.Libraries.{variances_in};
 ghost use Rattle.cls_check.specs.Checking.{path_total};
 ghost use Rattle.cls_check.specs.Goals.{AllSuit};
-ghost use Rattle.cls_check.specs.Layers.{AllBelow, AllMet};
+ghost use Rattle.cls_check.specs.Layers.{AllBelow};
 ghost use Rattle.cls_check.specs.Near.{AreIndexed};
 ghost use Rattle.cls_check.specs.Places.{Stands, arrows_in};
-ghost use Rattle.cls_check.specs.Tests.{AllStep, AreRight, IsStopped, IsWalked, sets_at};
+ghost use Rattle.cls_check.specs.Tests.{AllStep, AreRight, AreSettled, IsSettled, IsStopped, IsWalked, sets_at};
 
 use crate::argument::arguments;
 use crate::findings::Findings;
 use crate::goals::Goals;
+use crate::known::KnownSets;
 use crate::lack::all_met;
 use crate::near::{Index, index_of};
 use crate::place::Place;
@@ -106,13 +107,77 @@ fn all_step(
     if leading.is_empty() {
         return Ok(true);
     }
+    are_settled(alloc, lib, goals, known, place, path, leading, sets, layer)
+}
+
+/// Whether each of the sets with each number of the family contains a set of the layer, or is blocked.
+fn are_settled(
+    alloc: Global,
+    lib: &Library,
+    goals: &Goals,
+    known: &mut Findings,
+    place: Place,
+    path: &Path,
+    family: &[u32],
+    sets: &LayerRef,
+    layer: &LayerRef,
+) -> Result<bool, OutOfMemory>
+    requires place { Stands lib.now place }
+    requires goals { AllSuit lib.now goals.now }
+    requires known { AreRight lib.now goals.now known.old }
+    requires family { IsFamilyIn lib.now.taxonomy (arrows_in lib.now place) path.now family.now }
+    requires within { AllBelow (length (arrows_in lib.now place)) sets.now }
+    requires layer { AllBelow (length (arrows_in lib.now place)) layer.now }
+    ensures settled { IfOk result (λ settled. IsTrue settled
+        ↔ All (IsSettled lib.now goals.now place family.now layer.now) sets.now) }
+    ensures known { OnOk result (AreRight lib.now goals.now known.new) }
+{
     let index = index_of(alloc, layer, place.arrows(lib).len())?;
+    let mut kept = KnownSets::new(alloc);
     for i in 0..sets.len() {
         let set = sets.get(i);
-        if !is_settled(alloc, lib, goals, known, place, path, leading, layer, &index, set)? {
+        if !settles(alloc, lib, goals, known, &mut kept, place, path, family, layer, &index, set)? {
             return Ok(false);
         }
     }
+    Ok(true)
+}
+
+/// The same of one set. Equal ones are looked at once: those that are settled are kept.
+fn settles(
+    alloc: Global,
+    lib: &Library,
+    goals: &Goals,
+    known: &mut Findings,
+    kept: &mut KnownSets,
+    place: Place,
+    path: &Path,
+    family: &[u32],
+    layer: &LayerRef,
+    index: &Index,
+    set: &[u32],
+) -> Result<bool, OutOfMemory>
+    requires place { Stands lib.now place }
+    requires goals { AllSuit lib.now goals.now }
+    requires known { AreRight lib.now goals.now known.old }
+    requires kept { AreSettled lib.now goals.now place family.now layer.now kept.old }
+    requires family { IsFamilyIn lib.now.taxonomy (arrows_in lib.now place) path.now family.now }
+    requires layer { AllBelow (length (arrows_in lib.now place)) layer.now }
+    requires index { AreIndexed (length (arrows_in lib.now place)) layer.now (length layer.now)
+        index.now.under.items index.now.small }
+    requires set { AreBelow (length (arrows_in lib.now place)) set.now }
+    ensures settled { IfOk result (λ settled. IsTrue settled
+        ↔ IsSettled lib.now goals.now place family.now layer.now set.now) }
+    ensures known { OnOk result (AreRight lib.now goals.now known.new) }
+    ensures kept { OnOk result (AreSettled lib.now goals.now place family.now layer.now kept.new) }
+{
+    if kept.has(alloc, place, set)? {
+        return Ok(true);
+    }
+    if !is_settled(alloc, lib, goals, known, place, path, family, layer, index, set)? {
+        return Ok(false);
+    }
+    kept.put(alloc, place, set)?;
     Ok(true)
 }
 
@@ -138,7 +203,7 @@ fn is_settled(
         index.now.under.items index.now.small }
     requires set { AreBelow (length (arrows_in lib.now place)) set.now }
     ensures settled { IfOk result (λ settled. IsTrue settled
-        ↔ (IsStopped lib.now goals.now place set.now ⊎ AllMet family.now layer.now set.now)) }
+        ↔ IsSettled lib.now goals.now place family.now layer.now set.now) }
     ensures known { OnOk result (AreRight lib.now goals.now known.new) }
 {
     let count = place.arrows(lib).len();
