@@ -1,4 +1,4 @@
-use Rattle.std.proofs.Common.{ℕ, ◌≡◌, ◌==◌, ◌↔◌, ◌⊎◌, Bool, true, IsTrue, length, inl, inr, get_or, subst, sym, ◌∙◌, List, []}
+use Rattle.std.proofs.Common.{ℕ, ◌≡◌, ◌==◌, ◌↔◌, ◌⊎◌, Bool, true, IsTrue, length, inl, inr, get_or, subst, sym, ◌∙◌, arith, List, []}
 use Rattle.std.specs.Prelude.{All}
 use Rattle.std.proofs.lemmas.List.{nil_from_length}
 use Rattle.cls_path.specs.Paths.{TypePath}
