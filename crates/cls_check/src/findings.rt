@@ -13,7 +13,8 @@ use cls_norm::fit;
 use cls_path::Nf;
 use std::alloc::Global;
 
-/// How many arguments a table keeps at most, each of the size of a goal that is worked on. So both tables take 42 MB at most.
+/// How many arguments a table keeps at most. Each is no larger than a goal that is worked on, so both tables take 42 MB at
+/// most.
 const MAX_KEPT: usize = 512;
 
 /// Sets that are known to be blocked, and arguments that are known to be below a goal, or to be free: below none.

@@ -1,5 +1,5 @@
 //! The way from one layer of sets to the next.
-ghost use Rattle.std.specs.Prelude.{◌+◌, ◌<◌, ◌≡◌, ◌↔◌, ◌⊎◌, All, length, [], ◌∷◌, IfOk, IsTrue, OnOk};
+ghost use Rattle.std.specs.Prelude.{◌+◌, ◌<◌, ◌≡◌, ◌↔◌, All, length, [], ◌∷◌, IfOk, IsTrue, OnOk};
 ghost use Rattle.cls_base.specs.Lists.{AreBelow};
 ghost use Rattle.cls_path.specs.Paths.{listed, Suits, SuitsAll};
 ghost use Rattle.cls_library.specs.Families.{IsFamilyIn};
@@ -136,7 +136,9 @@ fn are_settled(
     let mut kept = KnownSets::new(alloc);
     for i in 0..sets.len() {
         let set = sets.get(i);
-        if !settles(alloc, lib, goals, known, &mut kept, place, path, family, layer, &index, set)? {
+        if !settles(
+            alloc, lib, goals, known, &mut kept, place, path, family, layer, &index, set,
+        )? {
             return Ok(false);
         }
     }
@@ -174,7 +176,9 @@ fn settles(
     if kept.has(alloc, place, set)? {
         return Ok(true);
     }
-    if !is_settled(alloc, lib, goals, known, place, path, family, layer, index, set)? {
+    if !is_settled(
+        alloc, lib, goals, known, place, path, family, layer, index, set,
+    )? {
         return Ok(false);
     }
     kept.put(alloc, place, set)?;
