@@ -14,9 +14,11 @@ use Rattle.cls_check.specs.Arguments.{argument_type}
 use Rattle.cls_check.specs.Checking.{IsBlocked}
 use Rattle.cls_check.specs.Goals.{IsAboveGoal, IsBelowGoal}
 use Rattle.cls_check.specs.Known.{SetKey, key_of, placed}
-use Rattle.cls_check.specs.Tests.{IsStopped, AreStopped, Meets, AllMeet}
+use Rattle.cls_check.specs.Tests.{IsStopped, AreStopped, AreRight, IsSettled, AreSettled, Meets, AllMeet, AreMet}
 use Rattle.cls_check.specs.contracts.known.PlacedSetPartialEq.TheImpl.{eq-value}
+use Rattle.cls_check.specs.declared.findings.Findings.{Findings}
 use Rattle.cls_check.specs.declared.known.PlacedSet.{PlacedSet}
+use Rattle.cls_check.specs.declared.met.MetCovers.{MetCovers}
 use Rattle.cls_check.specs.declared.place.Place.{Place}
 use Rattle.cls_check.proofs.Keys.{same, same_place, same_itself}
 use Rattle.cls_check.proofs.Lists.{Contains-last, Contains-put}
@@ -101,11 +103,8 @@ put_as keys seen v k key q new e x =
 
 -- sets of which a test is known, and one more
 module _ (l : Library) (goals : List (List TypePath)) (known : List SetKey) where
-  pub none_stopped : known ≡ [] → AreStopped l goals known
-  none_stopped e p s m = absurd (Contains-nil (key_of p s) (subst (λ (ks : List SetKey). Contains ks (key_of p s)) e m))
-
-  pub none_meet : known ≡ [] → AllMeet l goals known
-  none_meet e p s m = absurd (Contains-nil (key_of p s) (subst (λ (ks : List SetKey). Contains ks (key_of p s)) e m))
+  pub none_settled : (p : Place) (family : List ℕ) (layer : List (List ℕ)) → known ≡ [] → AreSettled l goals p family layer known
+  none_settled p family layer e s m = absurd (Contains-nil (key_of p s) (subst (λ (ks : List SetKey). Contains ks (key_of p s)) e m))
 
   module _ (new : List SetKey) (place : Place) (set : List ℕ) (put : (k : SetKey) → Contains new k ↔ (Contains known k ⊎ (k ≡ key_of place set))) where
     pub stopped_more : AreStopped l goals known → IsStopped l goals place set → AreStopped l goals new
@@ -114,12 +113,39 @@ module _ (l : Library) (goals : List (List TypePath)) (known : List SetKey) wher
       | inr e ↦ subst (λ (k : SetKey). IsBlocked l (IsBelowGoal l goals) (arrows_at l k.0.0 k.0.1) k.0.1 k.1) (sym e) one
     ]
 
+    pub settled_more : (family : List ℕ) (layer : List (List ℕ)) → AreSettled l goals place family layer known → IsSettled l goals place family layer set → AreSettled l goals place family layer new
+    settled_more family layer h one s m = elim ((put (key_of place s)).0 m) [
+      | inl a ↦ h s a
+      | inr e ↦ subst (λ (t : List ℕ). IsSettled l goals place family layer t) (sym (ap (λ (k : SetKey). k.1) e)) one
+    ]
+
     pub meets_more : AllMeet l goals known → Meets l goals place set → AllMeet l goals new
     meets_more h one p s m = elim ((put (key_of p s)).0 m) [
       | inl a ↦ h p s a
       | inr e ↦ subst (λ (k : SetKey). (i : ℕ) → i < k.0.1 → IsAboveGoal l goals (argument_type (arrows_at l k.0.0 k.0.1) k.1 i)) (sym e) one
     ]
 
-  -- what meets its arguments after some goals does so after a further one
-  pub meets_later : (new : List (List TypePath)) (g : List TypePath) → ((f : List TypePath) → Contains new f ↔ (Contains goals f ⊎ (f ≡ g))) → AllMeet l goals known → AllMeet l new known
-  meets_later new g put h p s m i low = let a = h p s m i low in (a.0, (put a.0).1 (inl a.1), a.2)
+-- what holds of the goals of a table, and of one more
+pub holds_more : (P : List TypePath → Type 0) (old new : List (List TypePath)) (nf : List TypePath) → ((g : List TypePath) → Contains new g → Contains old g ⊎ (g ≡ nf)) → ((g : List TypePath) → Contains old g → P g) → P nf → (g : List TypePath) → Contains new g → P g
+holds_more P old new nf put h one g m = elim (put g m) [ inl a ↦ h g a | inr e ↦ subst P (sym e) one ]
+
+-- where nothing is known
+pub none_right : (l : Library) (goals : List (List TypePath)) (a : Findings) → a.sets ≡ [] → a.below ≡ [] → a.free ≡ [] → AreRight l goals a
+none_right l goals a s b f = record {
+  sets = λ p t m. absurd (Contains-nil (key_of p t) (subst (λ (ks : List SetKey). Contains ks (key_of p t)) s m));
+  below = λ g m. absurd (Contains-nil g (subst (λ (gs : List (List TypePath)). Contains gs g) b m));
+  free = λ g m. absurd (Contains-nil g (subst (λ (gs : List (List TypePath)). Contains gs g) f m));
+}
+
+pub none_met : (l : Library) (goals : List (List TypePath)) (a : MetCovers) → a.covers ≡ [] → a.above ≡ [] → AreMet l goals a
+none_met l goals a s b = record {
+  covers = λ p t m. absurd (Contains-nil (key_of p t) (subst (λ (ks : List SetKey). Contains ks (key_of p t)) s m));
+  above = λ g m. absurd (Contains-nil g (subst (λ (gs : List (List TypePath)). Contains gs g) b m));
+}
+
+-- what is known of covers and of arguments after some goals is right after a further one
+pub met_later : (l : Library) (goals new : List (List TypePath)) (nf : List TypePath) → ((f : List TypePath) → Contains new f ↔ (Contains goals f ⊎ (f ≡ nf))) → (a : MetCovers) → AreMet l goals a → AreMet l new a
+met_later l goals new nf put a h = record {
+  covers = λ p s m i low. let u = h.covers p s m i low in (u.0, (put u.0).1 (inl u.1), u.2);
+  above = λ g m. let u = h.above g m in (u.0, (put u.0).1 (inl u.1), u.2);
+}

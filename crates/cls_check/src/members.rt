@@ -6,12 +6,12 @@ ghost use Rattle.cls_proof.specs.Certificates.{empty};
 ghost use Rattle.cls_check.specs.Checking.{Accepts, IsPlace, PassesLayers, path_total, empty_layers};
 ghost use Rattle.cls_check.specs.Goals.{AllSuit, AreForms, AreGoals};
 ghost use Rattle.cls_check.specs.Places.{Stands, block_place};
-ghost use Rattle.cls_check.specs.Tests.{AreStopped, TellsMember, IsBlockWalked, IsOtherWalked, IsWalkedAt};
+ghost use Rattle.cls_check.specs.Tests.{AreRight, TellsMember, IsBlockWalked, IsOtherWalked, IsWalkedAt};
 ghost use Rattle.cls_check.specs.Verdicts.{IsRefusedAs};
 
 use crate::fault::{CheckFault, Reason};
+use crate::findings::Findings;
 use crate::goals::Goals;
-use crate::known::KnownSets;
 use crate::layers::{block_places, place_of};
 use crate::place::Place;
 use crate::steps::is_walked;
@@ -39,7 +39,7 @@ pub(crate) fn check_members(
 {
     let forms = forms_of(alloc, lib, members)?;
     let goals = goals_of(alloc, &forms)?;
-    let mut known = KnownSets::new(alloc);
+    let mut known = Findings::new(alloc);
     for i in 0..members.len() {
         let member = members.get(i);
         match member_fault(alloc, lib, &goals, &mut known, &forms[i], &member.blocks)? {
@@ -89,15 +89,15 @@ fn member_fault(
     alloc: Global,
     lib: &Library,
     goals: &Goals,
-    known: &mut KnownSets,
+    known: &mut Findings,
     form: &Nf,
     blocks: &BlocksRef,
 ) -> Result<Option<Reason>, OutOfMemory>
     requires goals { AllSuit lib.now goals.now }
-    requires known { AreStopped lib.now goals.now known.old }
+    requires known { AreRight lib.now goals.now known.old }
     requires suits { SuitsAll (variances_in lib.now.taxonomy) (listed form.now) }
     ensures tells { IfOk result (TellsMember lib.now goals.now blocks.now (listed form.now)) }
-    ensures known { OnOk result (AreStopped lib.now goals.now known.new) }
+    ensures known { OnOk result (AreRight lib.now goals.now known.new) }
 {
     let count = form.paths().len();
     let places = match block_places(alloc, lib, count, blocks)? {
@@ -115,19 +115,19 @@ fn is_unblocked(
     alloc: Global,
     lib: &Library,
     goals: &Goals,
-    known: &mut KnownSets,
+    known: &mut Findings,
     form: &Nf,
     blocks: &BlocksRef,
     places: &IndexSet<Place>,
 ) -> Result<bool, OutOfMemory>
     requires goals { AllSuit lib.now goals.now }
-    requires known { AreStopped lib.now goals.now known.old }
+    requires known { AreRight lib.now goals.now known.old }
     requires suits { SuitsAll (variances_in lib.now.taxonomy) (listed form.now) }
     requires layers { PassesLayers lib.now blocks.now (path_total (listed form.now)) }
     requires places { places.now.keys ≡ map block_place blocks.now }
     ensures unblocked { IfOk result (λ answer. IsTrue answer ↔ ((x n : ℕ) → IsPlace lib.now x n
         → IsWalkedAt lib.now goals.now blocks.now (listed form.now) x n)) }
-    ensures known { OnOk result (AreStopped lib.now goals.now known.new) }
+    ensures known { OnOk result (AreRight lib.now goals.now known.new) }
 {
     let count = lib.count();
     if form.paths().is_empty() {
@@ -145,17 +145,17 @@ fn are_blocks_walked(
     alloc: Global,
     lib: &Library,
     goals: &Goals,
-    known: &mut KnownSets,
+    known: &mut Findings,
     form: &Nf,
     blocks: &BlocksRef,
 ) -> Result<bool, OutOfMemory>
     requires goals { AllSuit lib.now goals.now }
-    requires known { AreStopped lib.now goals.now known.old }
+    requires known { AreRight lib.now goals.now known.old }
     requires suits { SuitsAll (variances_in lib.now.taxonomy) (listed form.now) }
     requires layers { PassesLayers lib.now blocks.now (path_total (listed form.now)) }
     ensures walked { IfOk result (λ answer. IsTrue answer
         ↔ All (IsBlockWalked lib.now goals.now (listed form.now)) blocks.now) }
-    ensures known { OnOk result (AreStopped lib.now goals.now known.new) }
+    ensures known { OnOk result (AreRight lib.now goals.now known.new) }
 {
     for i in 0..blocks.len() {
         let block = blocks.get(i);
@@ -172,18 +172,18 @@ fn are_others_walked(
     alloc: Global,
     lib: &Library,
     goals: &Goals,
-    known: &mut KnownSets,
+    known: &mut Findings,
     form: &Nf,
     places: &IndexSet<Place>,
 ) -> Result<bool, OutOfMemory>
     requires library { IsLibrary lib.now }
     requires goals { AllSuit lib.now goals.now }
-    requires known { AreStopped lib.now goals.now known.old }
+    requires known { AreRight lib.now goals.now known.old }
     requires suits { SuitsAll (variances_in lib.now.taxonomy) (listed form.now) }
     requires path { 0 < length form.now }
     ensures walked { IfOk result (λ answer. IsTrue answer ↔ ((x n : ℕ) → IsPlace lib.now x n
         → IsOtherWalked lib.now goals.now places.now.keys (listed form.now) (record { component = x; n = n }))) }
-    ensures known { OnOk result (AreStopped lib.now goals.now known.new) }
+    ensures known { OnOk result (AreRight lib.now goals.now known.new) }
 {
     let Some(mut finder) = Finder::new(alloc, lib, form)? else {
         return Ok(true);
@@ -214,7 +214,7 @@ fn is_other_walked(
     alloc: Global,
     lib: &Library,
     goals: &Goals,
-    known: &mut KnownSets,
+    known: &mut Findings,
     form: &Nf,
     places: &IndexSet<Place>,
     none: &LayersRef,
@@ -222,12 +222,12 @@ fn is_other_walked(
 ) -> Result<bool, OutOfMemory>
     requires place { Stands lib.now place }
     requires goals { AllSuit lib.now goals.now }
-    requires known { AreStopped lib.now goals.now known.old }
+    requires known { AreRight lib.now goals.now known.old }
     requires suits { SuitsAll (variances_in lib.now.taxonomy) (listed form.now) }
     requires none { none.now ≡ empty_layers (path_total (listed form.now)) }
     ensures walked { IfOk result (λ answer. IsTrue answer
         ↔ IsOtherWalked lib.now goals.now places.now.keys (listed form.now) place) }
-    ensures known { OnOk result (AreStopped lib.now goals.now known.new) }
+    ensures known { OnOk result (AreRight lib.now goals.now known.new) }
 {
     if places.contains(&place) {
         return Ok(true);

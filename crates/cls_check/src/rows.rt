@@ -9,13 +9,13 @@ ghost use Rattle.cls_proof.specs.Rows.{row_seen};
 ghost use Rattle.cls_check.specs.Checking.{Accepts, EndsBelow, IsForm};
 ghost use Rattle.cls_check.specs.Goals.{AllSuit};
 ghost use Rattle.cls_check.specs.Places.{Stands, arrows_in};
-ghost use Rattle.cls_check.specs.Tests.{AllMeet, Meets, TellsRow};
+ghost use Rattle.cls_check.specs.Tests.{AreMet, Meets, TellsRow};
 ghost use Rattle.cls_check.specs.Verdicts.{IsRefusedAs};
 
 use crate::argument::arguments;
 use crate::fault::{CheckFault, Reason};
 use crate::goals::Goals;
-use crate::known::KnownSets;
+use crate::met::MetCovers;
 use crate::place::Place;
 use crate::positions::are_positions;
 use crate::targets::cover_goal;
@@ -41,7 +41,7 @@ pub(crate) fn check_rows(
         (IsRefusedAs lib.now (type_of_paths (listed asked.now)) (inhabited rows.now)) }
 {
     let mut goals = Goals::new(alloc);
-    let mut known = KnownSets::new(alloc);
+    let mut known = MetCovers::new(alloc);
     for i in 0..rows.len() {
         let row = rows.get(i);
         let goal = normal(alloc, lib.taxonomy(), row.goal)?;
@@ -69,15 +69,15 @@ fn row_fault(
     alloc: Global,
     lib: &Library,
     goals: &Goals,
-    known: &mut KnownSets,
+    known: &mut MetCovers,
     row: RowRef,
     goal: &Nf,
 ) -> Result<Option<Reason>, OutOfMemory>
     requires goals { AllSuit lib.now goals.now }
-    requires known { AllMeet lib.now goals.now known.old }
+    requires known { AreMet lib.now goals.now known.old }
     requires form { IsForm lib.now (type_of row.goal.now) (listed goal.now) }
     ensures tells { IfOk result (TellsRow lib.now goals.now (row_seen row.entry)) }
-    ensures known { OnOk result (AllMeet lib.now goals.now known.new) }
+    ensures known { OnOk result (AreMet lib.now goals.now known.new) }
 {
     let place = Place {
         component: row.component,
@@ -101,24 +101,24 @@ fn is_known_to_meet(
     alloc: Global,
     lib: &Library,
     goals: &Goals,
-    known: &mut KnownSets,
+    known: &mut MetCovers,
     place: Place,
     positions: &[u32],
 ) -> Result<bool, OutOfMemory>
     requires place { Stands lib.now place }
     requires goals { AllSuit lib.now goals.now }
-    requires known { AllMeet lib.now goals.now known.old }
+    requires known { AreMet lib.now goals.now known.old }
     requires within { AreBelow (length (arrows_in lib.now place)) positions.now }
     ensures meets { IfOk result (λ meets. IsTrue meets ↔ Meets lib.now goals.now place positions.now) }
-    ensures known { OnOk result (AllMeet lib.now goals.now known.new) }
+    ensures known { OnOk result (AreMet lib.now goals.now known.new) }
 {
-    if known.has(alloc, place, positions)? {
+    if known.covers.has(alloc, place, positions)? {
         return Ok(true);
     }
-    if !meets_arguments(alloc, lib, goals, place, positions)? {
+    if !meets_arguments(alloc, lib, goals, known, place, positions)? {
         return Ok(false);
     }
-    known.put(alloc, place, positions)?;
+    known.covers.put(alloc, place, positions)?;
     Ok(true)
 }
 
@@ -127,17 +127,20 @@ fn meets_arguments(
     alloc: Global,
     lib: &Library,
     goals: &Goals,
+    known: &mut MetCovers,
     place: Place,
     positions: &[u32],
 ) -> Result<bool, OutOfMemory>
     requires place { Stands lib.now place }
     requires goals { AllSuit lib.now goals.now }
+    requires known { AreMet lib.now goals.now known.old }
     requires within { AreBelow (length (arrows_in lib.now place)) positions.now }
-    ensures { IfOk result (λ meets. IsTrue meets ↔ Meets lib.now goals.now place positions.now) }
+    ensures meets { IfOk result (λ meets. IsTrue meets ↔ Meets lib.now goals.now place positions.now) }
+    ensures known { OnOk result (AreMet lib.now goals.now known.new) }
 {
     let arguments = arguments(alloc, lib, place, positions)?;
     for argument in &arguments {
-        if !goals.any_below(lib, argument) {
+        if !known.is_above(alloc, lib, goals, argument)? {
             return Ok(false);
         }
     }

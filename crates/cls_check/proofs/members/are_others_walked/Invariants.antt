@@ -1,6 +1,6 @@
 use Rattle.std.proofs.Common.{◌≡◌, ◌+◌, ◌-◌, ◌*◌, ◌≤◌, length}
 use Rattle.cls_path.specs.Paths.{listed}
-use Rattle.cls_check.specs.Tests.{AreStopped}
+use Rattle.cls_check.specs.Tests.{AreRight}
 use Rattle.cls_check.proofs.Finding.{AreWalkedBefore}
 use Rattle.cls_check.proofs.members.are_others_walked.Given as goal
 
@@ -10,7 +10,7 @@ invariant-loop-found l = record {
   walked : AreWalkedBefore l.lib l.goals l.places.keys (listed l.form) l.from.component l.from.count;
   size : l.from.component ≤ length l.lib.components;
   count : l.from.count ≤ 33;
-  known : AreStopped l.lib l.goals l.known;
+  known : AreRight l.lib l.goals l.known;
 }
 
 abbrev pub decreases-loop-found : goal.decreases-loop-found

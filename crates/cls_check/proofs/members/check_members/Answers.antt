@@ -6,8 +6,8 @@ use Rattle.cls_proof.specs.Members.{member_seen}
 use Rattle.cls_check.specs.declared.fault.Reason.{Reason}
 use Rattle.cls_check.specs.Checking.{by_members, PassesMember, IsBelowMember}
 use Rattle.cls_check.specs.Goals.{AreGoals}
-use Rattle.cls_check.specs.Tests.{AreStopped, TellsMember}
-use Rattle.cls_check.proofs.KnownSets.{none_stopped}
+use Rattle.cls_check.specs.Tests.{AreRight, TellsMember}
+use Rattle.cls_check.proofs.KnownSets.{none_right}
 use Rattle.cls_check.proofs.Loops.{got-some, differs}
 use Rattle.cls_check.proofs.MemberLaws.{Form, zip_length, below_exactly, goals_suit, form_at, tells_pass, tells_fail, members_fail, members_start, members_next, members_done}
 use Rattle.cls_check.proofs.Verdicts.{members-pass}
@@ -16,7 +16,7 @@ use Rattle.cls_check.proofs.members.check_members.Goals as goal
 pub loop-i-init : goal.loop-i-init
 loop-i-init c = record {
   passed = members_start c.args.lib.now c.args.members.now;
-  known = none_stopped c.args.lib.now c.goals.inside.goals.keys c.new-known.result c.new-known.ensures;
+  known = none_right c.args.lib.now c.goals.inside.goals.keys c.new-known.result c.new-known.ensures.sets c.new-known.ensures.below c.new-known.ensures.free;
 }
 
 pub index-requires : goal.index-requires
@@ -30,7 +30,7 @@ member_fault-requires-clause-goals c = goals_suit c.args.lib.now c.args.members.
 
 pub member_fault-requires-clause-known : goal.member_fault-requires-clause-known
 member_fault-requires-clause-known c =
-    subst (λ (g : List (List TypePath)). AreStopped c.args.lib.now g c.loop-i.known) c.goals.view_is c.loop-i.invariant.known
+    subst (λ (g : List (List TypePath)). AreRight c.args.lib.now g c.loop-i.known) c.goals.view_is c.loop-i.invariant.known
 
 pub member_fault-requires-clause-suits : goal.member_fault-requires-clause-suits
 member_fault-requires-clause-suits c =
@@ -94,5 +94,5 @@ loop-i-preserved c =
     let tells = subst (λ (o : Option Reason). TellsMember l c.in_ok-goals.goals c.get-member.result.blocks (listed c.index.result.now) o) c.in-None.is c.in_ok-reason.ensures.tells in
     record {
       passed = members_next l ms c.loop-i.i c.loop-i.invariant.passed m same low (tells_pass l ms forms c.in_ok-goals.goals c.in_ok-forms.ensures e m c.index.result.now form tells);
-      known = subst (λ (g : List (List TypePath)). AreStopped l g c.member_fault.new.known) (sym c.goals.view_is) c.in_ok-reason.ensures.known;
+      known = subst (λ (g : List (List TypePath)). AreRight l g c.member_fault.new.known) (sym c.goals.view_is) c.in_ok-reason.ensures.known;
     }

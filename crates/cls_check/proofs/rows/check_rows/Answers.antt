@@ -7,7 +7,7 @@ use Rattle.cls_check.specs.declared.fault.Reason.{Reason}
 use Rattle.cls_check.specs.declared.fault.Reason.TheVariants.{Goal}
 use Rattle.cls_check.specs.Checking.{by_rows}
 use Rattle.cls_check.specs.Tests.{TellsRow}
-use Rattle.cls_check.proofs.KnownSets.{none_meet, meets_later}
+use Rattle.cls_check.proofs.KnownSets.{none_met, met_later}
 use Rattle.cls_check.proofs.Loops.{differs}
 use Rattle.cls_check.proofs.Order.{form_by}
 use Rattle.cls_check.proofs.RowLaws.{RowsTo, rows_fail, rows_start, rows_next, rows_done}
@@ -19,7 +19,7 @@ loop-i-init c =
     let l = c.args.lib.now in
     record {
       passed = subst (λ (goals : List (List TypePath)). RowsTo l c.args.rows.now goals 0) (sym c.new-goals.ensures) (rows_start l c.args.rows.now);
-      known = none_meet l c.new-goals.result c.new-known.result c.new-known.ensures;
+      known = none_met l c.new-goals.result c.new-known.result c.new-known.ensures.covers c.new-known.ensures.above;
     }
 
 pub row_fault-requires-clause-form : goal.row_fault-requires-clause-form
@@ -44,7 +44,7 @@ loop-i-preserved c =
     let form = form_by l c.taxonomy.result.now c.taxonomy.ensures (type_of c.get-row.result.goal.now) (listed c.in_ok-goal.goal) c.in_ok-goal.ensures.form in
     record {
       passed = rows_next l rows c.loop-i.goals c.loop-i.i c.loop-i.invariant.passed r is (slice_get_within rows c.loop-i.i r c.get-row.ensures) c.in_ok-goal.goal form c.put.new.self c.in_ok-put-in-None.ensures tells;
-      known = meets_later l c.loop-i.goals c.row_fault.new.known c.put.new.self c.in_ok-goal.goal c.in_ok-put-in-None.ensures c.in_ok-reason.ensures.known;
+      known = met_later l c.loop-i.goals c.put.new.self c.in_ok-goal.goal c.in_ok-put-in-None.ensures c.row_fault.new.known c.in_ok-reason.ensures.known;
     }
 
 pub returns-then-not-branch-clause-refused : goal.returns-then-not-branch-clause-refused
