@@ -13,6 +13,7 @@ pub mod LineParts
 pub mod MachineRuns
 pub mod Numbering
 pub mod OmegaTexts
+pub mod OnePlace
 pub mod Openings
 pub mod Outcomes
 pub mod PartNames
