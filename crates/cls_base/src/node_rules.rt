@@ -3,8 +3,7 @@ ghost use Rattle.cls_base.specs.Arguments.{arguments_in, map_rule};
 ghost use Rattle.cls_base.specs.Cuts.{AreEnds, cut};
 ghost use Rattle.cls_base.specs.Columns.{AreColumns, HasArguments, rule_of, rule_with, rules_with};
 
-use crate::RuleRef;
-use cls_base::{NumberLists, OutOfMemory};
+use crate::{NumberLists, OutOfMemory, RuleRef};
 use std::alloc::Global;
 use std::marker::Model;
 

@@ -2,8 +2,7 @@ ghost use Rattle.std.specs.Prelude.{◌≡◌, ℕ, IfOk, map, ◌++◌, ◌∷�
 ghost use Rattle.cls_base.specs.declared.rule.Rule.{Rule};
 ghost use Rattle.cls_base.specs.Books.{omega_book, omega_rules, heads};
 
-use crate::{NodeRules, RuleBook, RuleRef};
-use cls_base::OutOfMemory;
+use crate::{NodeRules, OutOfMemory, RuleBook, RuleRef};
 use std::alloc::Global;
 use std::marker::Model;
 
