@@ -6,9 +6,9 @@ use Rattle.cls_lexer.specs.Words.{Word, words_of}
 use Rattle.cls_syntax.specs.Faults.{Stop, stop, IsFault, Says, Exactly}
 use Rattle.cls_syntax.specs.LineGrammars.{LineOf, row_words, RowStands, grammar_read, IsGoodGrammar}
 use Rattle.cls_syntax.proofs.GrammarFronts.{grammar_exactly, grammar_reads}
+use Rattle.cls_syntax.proofs.OnePlace.{line_stays}
 use Rattle.cls_query.specs.QueryForms.{query_rows}
 use Rattle.cls_query.specs.QueryErrors.{IsQuery, leaves_table}
-use Rattle.cls_query.proofs.TablePlaces.{line_stays}
 
 pub query_good : IsGoodGrammar query_rows
 query_good = search rules

@@ -2,14 +2,12 @@
 use Rattle.std.specs.Prelude.{ℕ, List, [], ◌∷◌, Option}
 use Rattle.std.specs.Option.{option_map}
 use Rattle.std.proofs.Common.{inl, inr}
-use Rattle.cls_base.specs.Types as types
 use Rattle.cls_base.specs.Types.{ClosedType}
-use Rattle.cls_base.specs.Schemas as schemas
-use Rattle.cls_base.specs.Schemas.{OpenType}
 use Rattle.cls_base.specs.Terms.{Applicative}
 use Rattle.cls_lexer.specs.Names.{number_of, with_texts}
 use Rattle.cls_lexer.specs.Numerals.{number_value}
 use Rattle.cls_lexer.specs.Words.{name}
+use Rattle.cls_syntax.specs.ClosedTypes.{closed}
 use Rattle.cls_syntax.specs.Forms.{Values, Part, fixed, line_parts, constructors_named}
 use Rattle.cls_syntax.specs.LineGrammars.{Row, LineOf}
 use Rattle.cls_syntax.specs.TermTexts.{TermText}
@@ -55,15 +53,6 @@ with_names constructors parts = with_texts constructors (constructors_named part
 -- The tables that hold the names of the query.
 abbrev pub with_query : Tables → LineOf query_rows → Tables
 with_query tables said = tables_of (with_names tables.constructors (row_parts query_rows said)) tables.components
-
--- The closed type where no variable stands in the type. A variable counts as omega.
-abbrev pub closed : OpenType → ClosedType
-closed schemas.omega = types.omega
-closed (schemas.constructor c s) = types.constructor c (closed s)
-closed (schemas.product s t) = types.product (closed s) (closed t)
-closed (schemas.arrow s t) = types.arrow (closed s) (closed t)
-closed (schemas.meet s t) = types.meet (closed s) (closed t)
-closed (schemas.variable v) = types.omega
 
 -- The type and the term that the texts spell, with the numbers of their names in the table.
 abbrev pub type_in : List (List ℕ) → TypeText → ClosedType
