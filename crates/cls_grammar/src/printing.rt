@@ -28,7 +28,7 @@ pub enum GrammarPlace {
     Counts,
     /// The line of the goal with this number, or the last line if there is no such goal.
     Goal(u32),
-    /// The line of a rule of the goal with this number, by its place. Where the goal has no such rule, the next goal follows.
+    /// The line of a rule of the goal with this number, by its place. Where there is no such rule, the next goal follows.
     Rule(u32, usize),
 }
 
@@ -83,7 +83,8 @@ fn write_rule(components: &Names, rule: RuleRef<'_>, text: &mut String) -> Resul
     }
 }
 
-// Writes the lines of rules from a place on, until the text has enough bytes. Gives the place of the first that isn't written.
+// Writes the lines of rules from a place on, until the text has enough bytes. Gives the place of the first that isn't
+// written.
 fn write_rules(
     components: &Names,
     rules: &NodeRules,
@@ -164,8 +165,8 @@ fn write_goals(
 {
     let goals = grammar.count();
     for number in from..goals {
-        let length = text.len();
-        if length >= enough {
+        let written = text.len();
+        if written >= enough {
             return Ok(Some(GrammarPlace::Goal(number)));
         }
         let rules = grammar.rules(number);
@@ -235,8 +236,8 @@ fn write_from_rule(
     write_goals(alloc, tables, grammar, ranks, number + 1, enough, text)
 }
 
-/// Writes lines of the grammar with these ranks of its goals from a place on, until the text has enough bytes. Gives the place of
-/// the first line that isn't written.
+/// Writes lines of the grammar with these ranks of its goals from a place on, until the text has enough bytes. Gives the
+/// place of the first line that isn't written.
 pub(crate) fn write_from(
     alloc: Global,
     tables: &Tables<'_>,

@@ -11,8 +11,8 @@ use cls_path::Nf;
 use cls_syntax::write_type;
 use std::alloc::Global;
 
-/// Writes a line for each path from a place on, and a last one, until the text has enough bytes. Gives the place of the first path
-/// that isn't written, and None behind the last line.
+/// Writes a line for each path from a place on, and a last one, until the text has enough bytes. Gives the place of the
+/// first path that isn't written, and None behind the last line.
 #[tactic(auto, using(cls_proof::proofs::Writing::texts))]
 pub(crate) fn print_paths(
     alloc: Global,

@@ -95,6 +95,13 @@ impl Printing {
         }
     }
 
+    fn into_left(self) -> Left
+        ensures { result ≡ self.left }
+    {
+        let Printing { left } = self;
+        left
+    }
+
     fn of_lines(lines: Lines) -> Printing
         ensures text { (s : serving.Serving) → left_of s result ≡ left_lines s lines }
         ensures printable { (s : serving.Serving) → ArePrintable s lines → IsPrintable s result }
@@ -188,7 +195,8 @@ pub(crate) fn terms_printing(page: Page) -> Printing
 pub(crate) fn texts_printing(page: Page) -> Printing
     ensures text { (s : serving.Serving)
         → left_of s result ≡ page_text (term_lines (name_at s.components) s.templates) page.terms page.more }
-    ensures printable { (s : serving.Serving) → All (IsTermOver (length s.components)) page.terms → IsPrintable s result }
+    ensures printable { (s : serving.Serving)
+        → All (IsTermOver (length s.components)) page.terms → IsPrintable s result }
 {
     Printing::of_lines(Lines::Texts { page, place: 0 })
 }
@@ -206,8 +214,8 @@ pub(crate) fn paths_printing(component: u32) -> Printing
 }
 
 impl Serving {
-    /// The next portion of the reply, and what is left behind it. A portion is lines up to the first end of a line behind 32 KiB, or a
-    /// text that was printed already. It is empty if and only if nothing is left. The only error is out of memory.
+    /// The next portion of the reply, and what is left behind it. A portion is lines up to the first end of a line behind
+    /// 32 KiB, or a text that was printed already. It is empty if and only if nothing is left. The only error is out of memory.
     pub fn print(
         &mut self,
         alloc: Global,
@@ -219,7 +227,7 @@ impl Serving {
         ensures printable { IfOk result (λ r. IsPrintable self.old r.1) }
         ensures same { self.new ≡ self.old }
     {
-        let Printing { left } = printing;
+        let left = printing.into_left();
         match left {
             Left::Nothing => Ok((String::new(alloc), Printing::nothing())),
             Left::Text(text) => Ok((text, Printing::nothing())),

@@ -87,7 +87,8 @@ fn write_reply<K: Sink>(
     requires printable { IsPrintableIn session.old printing }
     requires room { Holds (K.seen sink.old).room (length (reply_in session.old printing)) }
     ensures written { let reply = reply_in session.old printing in MatchStop result
-        (λ _. Writes (K.seen sink.old) (K.seen sink.new) reply) ⊥ (WritesFront (K.seen sink.old) (K.seen sink.new) reply) }
+        (λ _. Writes (K.seen sink.old) (K.seen sink.new) reply) ⊥
+        (WritesFront (K.seen sink.old) (K.seen sink.new) reply) }
     ensures same { session.new ≡ session.old }
     ensures faults { CountsFaults result (K.seen sink.old) (K.seen sink.new) }
 {

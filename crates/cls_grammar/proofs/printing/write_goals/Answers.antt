@@ -33,8 +33,8 @@ returns-clause-lines c =
     let past : length ranks ≤ i = omega (arith, over, c.requires) in
     goals-done (name_in c.args.tables.now.names.now) (name_in c.args.tables.now.components.now) rows ranks i (string_bytes c.loop-number.text) (string_bytes c.push_str.new.self) _ over past c.in_ok-push_str.ensures.bytes c.loop-number.invariant
 
-pub returns-then-length-enough-clause-within : goal.returns-then-length-enough-clause-within
-returns-then-length-enough-clause-within c = let within : c.loop-number.number ≤ length c.args.grammar.now = omega (arith, c.loop-number-test.true, c.count-goals.ensures.count) in within
+pub returns-then-written-enough-clause-within : goal.returns-then-written-enough-clause-within
+returns-then-written-enough-clause-within c = let within : c.loop-number.number ≤ length c.args.grammar.now = omega (arith, c.loop-number-test.true, c.count-goals.ensures.count) in within
 
 pub returns-then-next-count-clause-within : goal.returns-then-next-count-clause-within
 returns-then-next-count-clause-within c = let within : c.loop-number.number < length c.args.grammar.now = omega (arith, c.loop-number-test.true, c.count-goals.ensures.count) in within
