@@ -1,10 +1,13 @@
 -- How portions of a reply are written: lines from a place on, and behind the last place the last line.
 use Rattle.std.proofs.Common.{◌≡◌, ◌∙◌, ℕ, zero, suc, ◌≤◌, List, [], ◌∷◌, ◌++◌, length, drop, ap, sym, subst, refl, arith, append_assoc, append-nil}
-use Rattle.std.specs.Prelude.{codes}
+use Rattle.std.specs.Prelude.{codes, Result, Ok, Err, String, IfOk, OnOk, string_bytes}
 use Rattle.std.specs.List.{flat_map}
 use Rattle.std.proofs.lemmas.List.{drop_all}
 use Rattle.cls_path.specs.Paths.{TypePath, listed}
-use Rattle.cls_replies.specs.Printing.{behind}
+use Rattle.cls_replies.specs.declared.printing.Printing.{Printing}
+use Rattle.cls_replies.specs.Printing.{behind, left_of}
+use Rattle.cls_replies.specs.Rests.{IsPrintingOf}
+use Rattle.cls_replies.specs.Serving.{Serving}
 use Rattle.cls_replies.specs.Texts.{reply_line, path_lines, paths_text}
 
 -- what follows the lines stays behind them
@@ -46,3 +49,17 @@ behind-listed (suc place) (p ∷ ps) = behind-listed place ps
 -- a text of a portion isn't empty
 pub some_text : (text rest : List ℕ) → 32768 ≤ length text → text ≡ [] → rest ≡ []
 some_text text rest many none = absurd (let n = ap length none in omega (arith, n, many))
+
+-- A text that is printed already: what holds of it holds of the reply.
+pub printing_as : {A E F : Type 0} (r : Result (String A) E) (o : Result Printing F) (s : Serving) (P : List ℕ → Type 0) → IsPrintingOf r o
+    → IfOk r (λ text. P (string_bytes text)) → IfOk o (λ p. P (left_of s p))
+printing_as (Ok text) (Ok p) s P h k = subst P (sym (h s)) k
+printing_as (Ok text) (Err f) s P h k = absurd h
+printing_as (Err e) (Ok p) s P h k = absurd h
+printing_as (Err e) (Err f) s P h k = record {}
+
+pub printing_ok : {A E F : Type 0} (r : Result (String A) E) (o : Result Printing F) (P : Type 0) → IsPrintingOf r o → OnOk r P → OnOk o P
+printing_ok (Ok text) (Ok p) P h k = k
+printing_ok (Ok text) (Err f) P h k = absurd h
+printing_ok (Err e) (Ok p) P h k = absurd h
+printing_ok (Err e) (Err f) P h k = record {}

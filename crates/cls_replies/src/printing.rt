@@ -1,5 +1,5 @@
 //! A reply while it is printed.
-ghost use Rattle.std.specs.Prelude.{◌≡◌, ◌<◌, ◌≤◌, ◌++◌, ℕ, All, List, [], IfOk, OnOk, length, string_bytes};
+ghost use Rattle.std.specs.Prelude.{◌≡◌, ◌<◌, ◌≤◌, ◌++◌, All, [], IfOk, length, string_bytes};
 ghost use Rattle.cls_base.specs.Terms.{IsTermOver};
 ghost use Rattle.cls_grammar.specs.GrammarTexts.{IsGrammarText, IsPlaceIn, lines_from};
 ghost use Rattle.cls_grammar.specs.Grammars.{book_of};
@@ -8,7 +8,7 @@ ghost use Rattle.cls_library.specs.Libraries.{paths_at};
 ghost use Rattle.cls_replies.specs.Printing.{ArePrintable, IsPrintable, behind, left_lines, left_of, page_left};
 ghost use Rattle.cls_replies.specs.Serving as serving;
 ghost use Rattle.cls_replies.specs.Steps.{IsFaultLine};
-ghost use Rattle.cls_replies.specs.Rests.{IsRest};
+ghost use Rattle.cls_replies.specs.Rests.{IsPrintingOf, IsRest};
 ghost use Rattle.cls_proof.specs.Seen.{certificate_of};
 ghost use Rattle.cls_proof.specs.Texts.{certificate_text};
 ghost use Rattle.cls_replies.specs.Texts.{history_text, page_text, paths_text, sizes_text, term_line, term_lines};
@@ -114,9 +114,7 @@ impl Printing {
 
 /// The reply that is printed already, if it was.
 pub(crate) fn text_printing(text: Result<String, OutOfMemory>) -> Result<Printing, OutOfMemory>
-    ensures text { (s : serving.Serving) (P : List ℕ → Type 0)
-        → IfOk text (λ t. P (string_bytes t)) → IfOk result (λ p. P (left_of s p)) }
-    ensures ok { (P : Type 0) → OnOk text P → OnOk result P }
+    ensures text { IsPrintingOf text result }
     ensures printable { (s : serving.Serving) → IfOk result (IsPrintable s) }
 {
     match text {

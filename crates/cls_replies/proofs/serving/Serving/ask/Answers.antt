@@ -11,6 +11,7 @@ use Rattle.cls_replies.specs.Serving.{Serving, serving_of}
 use Rattle.cls_replies.specs.Steps.{held_lines}
 use Rattle.cls_replies.specs.Texts.{error_line}
 use Rattle.cls_replies.proofs.Asking.{asks, misreads}
+use Rattle.cls_replies.proofs.Portions.{printing_as}
 use Rattle.cls_replies.proofs.serving.Serving.ask.Goals as goal
 
 pub returns-in-Ok-clause-answered : goal.returns-in-Ok-clause-answered
@@ -32,7 +33,7 @@ returns-in-Err-clause-answered g c =
     let s = serving_of i.names i.components i.templates i.engine (held_lines i.held) in
     let m = serving_of c.read_query.new.constructors i.components i.templates i.engine (held_lines i.held) in
     subst (λ (z : Serving). IfOk c.text_printing.result (λ p. Answered z c.args.line.now (left_of m p) m)) c.self.view_is
-    (c.text_printing.ensures.text m (λ (t : List ℕ). Answered s c.args.line.now t m)
+    (printing_as c.line_fault.result c.text_printing.result m (λ (t : List ℕ). Answered s c.args.line.now t m) c.text_printing.ensures.text
     (IfOk-weaker c.line_fault.result (λ text. option_map error_line (queries.fault_words c.in-Err.fault) ≡ Some (string_bytes text)) (λ text. Answered s c.args.line.now (string_bytes text) m)
     (λ text e. answering.Answered.misread (misreads s m c.args.line.now (string_bytes text) (queries.fault_words c.in-Err.fault) c.in-Err.ensures.fault e
     (λ k. serving_of (c.in-Err.ensures.stay k) i.components i.templates i.engine (held_lines i.held)))) c.line_fault.ensures))

@@ -7,6 +7,7 @@ use Rattle.cls_replies.specs.Printing.{left_of}
 use Rattle.cls_replies.specs.Serving.{Serving, serving_of, holding}
 use Rattle.cls_replies.specs.Steps.{held_lines, Concludes}
 use Rattle.cls_replies.proofs.Holding.{ends_by, holds_on}
+use Rattle.cls_replies.proofs.Portions.{printing_as, printing_ok}
 use Rattle.cls_replies.proofs.serving.Serving.feed.Goals as goal
 
 pub returns-then-ends-clause-goes : goal.returns-then-ends-clause-goes
@@ -18,7 +19,7 @@ returns-then-ends-clause-goes g c =
     let n = c.answer_held.new.self in
     let qed : IsQed c.args.line = c.in_ok-ends-in-Some.ensures.0 c.if-ends.true in
     subst (λ (z : Serving). IfOk c.text_printing.result (λ p. Goes z c.args.line (left_of n p) n)) c.self.view_is
-    (c.text_printing.ensures.text n (λ (t : List ℕ). Goes s c.args.line t n)
+    (printing_as c.answer_held.result c.text_printing.result n (λ (t : List ℕ). Goes s c.args.line t n) c.text_printing.ensures.text
     (IfOk-weaker c.answer_held.result (λ text. Concludes m m.held (string_bytes text) n) (λ text. Goes s c.args.line (string_bytes text) n)
     (λ text k. ends_by s m c.args.line h.line h.inside c.push.new.self (string_bytes text) (ap held_lines c.in-Some.is) c.in_ok-push-in-Some.ensures refl n qed k) c.answer_held.ensures.concludes))
 
@@ -27,7 +28,7 @@ returns-then-ends-clause-printable g c = c.text_printing.ensures.printable c.ans
 
 pub returns-then-ends-clause-counted : goal.returns-then-ends-clause-counted
 returns-then-ends-clause-counted g c =
-    c.text_printing.ensures.ok (length c.answer_held.new.self.held ≤ length c.args.self.now.held + 1)
+    printing_ok c.answer_held.result c.text_printing.result (length c.answer_held.new.self.held ≤ length c.args.self.now.held + 1) c.text_printing.ensures.text
     (on_ok_weaker c.answer_held.result (λ e. let none = ap length e in omega (arith, none)) c.answer_held.ensures.free)
 
 false_true : false ≡ true → ⊥
