@@ -1,5 +1,5 @@
 //! The text of a grammar, written line by line at the end of a `String`, from any place on.
-ghost use Rattle.std.specs.Prelude.{◌≡◌, ◌<◌, ◌≤◌, ◌++◌, OnOk, IfOk, IfSome, Option, List, length, drop, string_bytes};
+ghost use Rattle.std.specs.Prelude.{◌≡◌, ◌<◌, ◌≤◌, ◌++◌, OnOk, IfOk, IfSome, List, length, drop, string_bytes};
 ghost use Rattle.std.specs.Fmt.{decimal};
 ghost use Rattle.std.specs.List.{sum_by};
 ghost use Rattle.cls_path.specs.Paths.{TypePath, listed, type_of_paths};

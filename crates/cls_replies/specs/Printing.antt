@@ -1,5 +1,5 @@
 -- A reply while it is printed: what is left to be written of it, by what answers the lines after a repository.
-use Rattle.std.specs.Prelude.{ℕ, zero, suc, ◌<◌, ◌≤◌, All, List, [], Option, None, Some, drop, length, string_bytes}
+use Rattle.std.specs.Prelude.{ℕ, zero, suc, ◌<◌, ◌≤◌, All, List, [], drop, length, string_bytes}
 use Rattle.cls_base.specs.Terms.{Applicative, IsTermOver}
 use Rattle.cls_enum.specs.declared.listed.Page.{Page}
 use Rattle.cls_grammar.specs.GrammarTexts.{IsPlaceIn, lines_from}

@@ -1,8 +1,7 @@
 -- How a reply is written while it is printed, one portion after another.
-use Rattle.std.proofs.Common.{◌≡◌, ◌∙◌, ℕ, ◌+◌, ◌<◌, ◌==◌, Bool, true, false, List, [], ◌∷◌, ◌++◌, length, refl, sym, ap, subst, arith, append_assoc, append-nil, length-append}
+use Rattle.std.proofs.Common.{◌≡◌, ◌∙◌, ℕ, ◌+◌, ◌<◌, ◌==◌, true, false, List, [], ◌∷◌, ◌++◌, length, refl, sym, ap, subst, arith, append_assoc, append-nil, length-append}
 use Rattle.std.specs.Prelude.{Option, None, Some, Result, Ok, Err, OnOk}
 use Rattle.cls_base.specs.Outside.{SinkSeen, Holds}
-use Rattle.cls_engine.specs.declared.options.Options.{Options}
 use Rattle.cls_lexer.specs.Lines.{CutsLine}
 use Rattle.cls_replies.specs.declared.printing.Printing.{Printing}
 use Rattle.cls_replies.specs.Printing.{IsPrintable, left_of}
@@ -11,7 +10,7 @@ use Rattle.cls_session.specs.declared.driver.Stop.{Stop}
 use Rattle.cls_session.specs.declared.driver.Stop.TheVariants as stops
 use Rattle.cls_session.specs.Driving.{Writes, WritesFront, WritesAllBut, WritesFrontBut, PutsPart, WritesPart, AnswersLine, RefusesLine, BreaksLine, BreaksLines, AnswersPending, LeavesPending, MatchStop, MatchEachStop}
 use Rattle.cls_session.specs.Sessions.{left_by, IsPrintableBy}
-use Rattle.cls_session.specs.Standings.{Standing, Stands}
+use Rattle.cls_session.specs.Standings.{Standing}
 use Rattle.cls_session.proofs.Breaks.{breaks_reply}
 use Rattle.cls_session.proofs.Pending.{IsReply, fails_pending, leaves_within, reply_stands}
 use Rattle.cls_session.proofs.Writing.{Holds-rest, Writes-none, Writes-trans, room_more, but_more, front_after, front_more, front_wider}

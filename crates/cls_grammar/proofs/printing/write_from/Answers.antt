@@ -1,5 +1,4 @@
 use Rattle.std.proofs.Common.{◌≡◌, ◌++◌, ◌∙◌, List, ℕ, ap, append_assoc, string_bytes}
-use Rattle.std.specs.Prelude.{codes}
 use Rattle.std.proofs.lemmas.Result.{IfOk-weaker}
 use Rattle.cls_syntax.specs.TypePrinting.{name_in}
 use Rattle.cls_grammar.specs.GrammarTexts.{counts_text, goals_from, lines_from, lines_left}

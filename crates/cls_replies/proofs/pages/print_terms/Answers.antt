@@ -1,4 +1,4 @@
-use Rattle.std.proofs.Common.{◌≤◌, List, length, drop, arith, string_bytes}
+use Rattle.std.proofs.Common.{◌≤◌, length, drop, arith, string_bytes}
 use Rattle.std.specs.Prelude.{codes, if◌then◌else◌}
 use Rattle.std.specs.List.{flat_map}
 use Rattle.cls_term.specs.Texts.{name_at}

@@ -1,7 +1,5 @@
-use Rattle.std.proofs.Common.{◌≡◌, ◌∙◌, ◌++◌, [], List, ℕ, ap, sym, subst, append-nil, string_bytes}
+use Rattle.std.proofs.Common.{◌∙◌, ◌++◌, List, ℕ, ap, sym, append-nil, string_bytes}
 use Rattle.cls_replies.specs.Printing.{left_lines}
-use Rattle.cls_replies.specs.Rests.{IsRest}
-use Rattle.cls_replies.specs.Serving.{Serving}
 use Rattle.cls_replies.proofs.serving.Serving.print.Goals as goal
 
 pub returns-in-Nothing-clause-portion : goal.returns-in-Nothing-clause-portion

@@ -1,4 +1,4 @@
-use Rattle.std.proofs.Common.{◌≡◌, refl, subst, string_bytes}
+use Rattle.std.proofs.Common.{refl, subst, string_bytes}
 use Rattle.cls_replies.specs.declared.printing.Left.TheVariants as left
 use Rattle.cls_replies.specs.declared.printing.Lines.TheVariants as lines
 use Rattle.cls_replies.specs.Rests.{IsRest}
