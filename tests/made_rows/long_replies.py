@@ -10,6 +10,8 @@ from row import Row
 def rows() -> Iterator[Row]:
     yield paths_of_4096_instances()
     yield text_of_65536_bytes()
+    yield five_texts_of_30000_bytes()
+    yield grammar_of_900_rules()
 
 
 def paths_of_4096_instances() -> Row:
@@ -27,3 +29,20 @@ def text_of_65536_bytes() -> Row:
     given = f"comp x : A\ncomp f : A -> A\ntext x = ab\ntext f = {{1}}{{1}}\nend\ntexts A max 17 take 2 after {cursor}\n"
     wanted = f"term f({cursor})\ntext 65536\n{'ab' * 32_768}\nterm f(f({cursor}))\nlong\ndone\n"
     return Row("limits/text_of_65536_bytes", given.encode(), wanted.encode())
+
+
+def five_texts_of_30000_bytes() -> Row:
+    """A page of 150,000 bytes, of which a portion has two terms."""
+    texts = {f"x{number}": letter * 30_000 for number, letter in enumerate("abcde")}
+    declared = "".join(f"comp {name} : A\ntext {name} = {text}\n" for name, text in texts.items())
+    wanted = "".join(f"term {name}\ntext 30000\n{text}\n" for name, text in texts.items())
+    return Row("limits/five_texts_of_30000_bytes", f"{declared}end\ntexts A max 1 take 5\n".encode(), f"{wanted}done\n".encode())
+
+
+def grammar_of_900_rules() -> Row:
+    """A goal whose rules have over 50,000 bytes, and one behind it."""
+    names = [f"f{number:03}".ljust(48, "x") for number in range(899)]
+    declared = "".join(f"comp {name} : B -> A\n" for name in names)
+    rules = "".join(f"rule {name} 1\n" for name in names)
+    wanted = f"grammar 2 900\ngoal 0 rank 2 A\n{rules}goal 1 rank 1 B\nrule y\ndone\n"
+    return Row("limits/grammar_of_900_rules", f"{declared}comp y : B\nend\ngrammar A\n".encode(), wanted.encode())

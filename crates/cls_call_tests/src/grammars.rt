@@ -5,7 +5,7 @@ use crate::goals::{declared, goal};
 use cls_base::OpenGate;
 use cls_core::laws::complete_histories_make_grammars;
 use cls_expand::Expander;
-use cls_grammar::Grammar;
+use cls_grammar::{Grammar, GrammarPlace};
 use cls_library::Library;
 use cls_path::Nf;
 use cls_table::Limits;
@@ -42,7 +42,11 @@ fn a_rule_without_terms_is_trimmed(rt: HostRuntime) -> Result<(), Fail> {
     let mut given = declared(alloc, "comp x : A\ncomp f : A -> A\ncomp g : B -> A\nend\n")?;
     let goal = goal(alloc, &given.library, &mut given.names, "A")?;
     let trimmed = grammar(&rt, alloc, &given.library, goal)?.trim(alloc)?;
-    let text = trimmed.print(alloc, &given.names, &given.components)?;
+    let ranks = trimmed.ranks(alloc)?;
+    let mut text = String::new(alloc);
+    let (names, components) = (&given.names, &given.components);
+    let start = GrammarPlace::Counts;
+    trimmed.write_lines(alloc, names, components, &ranks, start, 1_000, &mut text)?;
     let wanted = "grammar 2 2\ngoal 0 rank 1 A\nrule x\nrule f 0\ngoal 1 empty B\ndone\n";
     assert_eq!(rt; text.as_str(), wanted);
     Ok(())

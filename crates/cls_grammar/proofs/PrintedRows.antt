@@ -1,17 +1,21 @@
--- The text of rows, one after the other.
-use Rattle.std.proofs.Common.{◌≡◌, ℕ, zero, suc, ◌+◌, ◌<◌, List, [], ◌∷◌, ◌++◌, Option, Some, length, take, get_or, slice_get, sym, ap, subst, ◌∙◌, arith, append_assoc, append-nil}
-use Rattle.std.specs.Prelude.{option_map}
+-- The text of rows, one after the other, from any place on.
+use Rattle.std.proofs.Common.{◌≡◌, ℕ, zero, suc, ◌+◌, ◌<◌, ◌≤◌, List, [], ◌∷◌, ◌++◌, Option, Some, length, take, drop, get_or, slice_get, sym, ap, subst, ◌∙◌, arith, append_assoc, append-nil}
+use Rattle.std.specs.Prelude.{option_map, codes}
 use Rattle.std.specs.List.{sum_by}
 use Rattle.std.proofs.lemmas.List.Sums.{sum_by-cons}
-use Rattle.std.proofs.lemmas.List.{take_more, flat_map_more}
+use Rattle.std.proofs.lemmas.List.{drop_all, drop_more}
 use Rattle.std.proofs.lemmas.Option.{slice_get_within, get_or_from_slice_get}
+use Rattle.cls_base.specs.Languages.{rules_at}
 use Rattle.cls_path.specs.Paths.{TypePath}
 use Rattle.cls_base.specs.declared.rule.Rule.{Rule}
 use Rattle.cls_core.specs.declared.answer.Answer.TheVariants.{Rules}
 use Rattle.cls_core.specs.Arguments.{rules_of, rule_count}
 use Rattle.cls_core.specs.Rows.{Row}
 use Rattle.cls_core.proofs.Columns.{get-some}
-use Rattle.cls_grammar.specs.GrammarTexts.{line, rule_text, rules_text, goal_text, row_text, rows_text}
+use Rattle.cls_grammar.specs.declared.printing.GrammarPlace.{GrammarPlace}
+use Rattle.cls_grammar.specs.declared.printing.GrammarPlace.TheVariants as places
+use Rattle.cls_grammar.specs.Grammars.{book_of}
+use Rattle.cls_grammar.specs.GrammarTexts.{line, rule_text, rules_text, goal_text, rows_text, goals_from, lines_from}
 
 pub read-at : {A : Type 0} (xs : List A) (i : ℕ) (d : A) → i < length xs → slice_get xs i ≡ Some (get_or xs i d)
 read-at xs i d l = let u = get-some xs i l in subst (λ x. slice_get xs i ≡ Some x) (sym (get_or_from_slice_get xs i u.0 d u.1)) u.1
@@ -27,45 +31,110 @@ row-parts rows i g l r goal answer at =
     let c : r.answer ≡ Rules l = cc in
     ((let d : r.goal ≡ g = cc in d), ap rules_of c)
 
--- the text of a row is that of its goal and its rules
-pub row-written : (name component : ℕ → List ℕ) (rows : List Shown) (i : ℕ) (g : List TypePath) (l : List (Rule ℕ)) (rank : Option ℕ) (t u v : List ℕ)
-    → option_map (λ (r : Shown). r.goal) (slice_get rows i) ≡ Some g → option_map (λ (r : Shown). r.answer) (slice_get rows i) ≡ Some (Rules l)
-    → u ≡ t ++ goal_text name i g rank → v ≡ u ++ rules_text component l
-    → (r : Shown) → slice_get rows i ≡ Some r → v ≡ t ++ row_text name component i r rank
-row-written name component rows i g l rank t u v goal answer e f r at =
-    let p = row-parts rows i g l r goal answer at in
-    f ∙ (ap (λ x. x ++ rules_text component l) e ∙ (append_assoc t (goal_text name i g rank) (rules_text component l) ∙ (λ j. t ++ (goal_text name i (sym p.0 j) rank ++ rules_text component (sym p.1 j)))))
-
-rows-next : (name component : ℕ → List ℕ) (k : ℕ) (rows : List Shown) (ranks : List (Option ℕ)) (i : ℕ) (r : Shown) (rank : Option ℕ) → slice_get rows i ≡ Some r → slice_get ranks i ≡ Some rank → rows_text name component k (take (suc i) rows) (take (suc i) ranks) ≡ rows_text name component k (take i rows) (take i ranks) ++ row_text name component (k + i) r rank
-rows-next name component k [] ranks i r rank e f = cc
-rows-next name component k (x ∷ rows) [] i r rank e f = cc
-rows-next name component k (x ∷ rows) (y ∷ ranks) zero r rank e f =
-    let a : x ≡ r = cc in
-    let b : y ≡ rank = cc in
-    let z : k ≡ k + 0 = omega arith in
-    append-nil (row_text name component k x y) ∙ (λ j. row_text name component (z j) (a j) (b j))
-rows-next name component k (x ∷ rows) (y ∷ ranks) (suc i) r rank e f =
-    let z : k + 1 + i ≡ k + suc i = omega arith in
-    ap (λ t. row_text name component k x y ++ t) (rows-next name component (k + 1) rows ranks i r rank e f)
-    ∙ (sym (append_assoc (row_text name component k x y) (rows_text name component (k + 1) (take i rows) (take i ranks)) (row_text name component (k + 1 + i) r rank))
-    ∙ ap (λ n. (row_text name component k x y ++ rows_text name component (k + 1) (take i rows) (take i ranks)) ++ row_text name component n r rank) z)
+-- what is left begins with the element at its place
+drop-got : {A : Type 0} (xs : List A) (i : ℕ) (x : A) → slice_get xs i ≡ Some x → drop i xs ≡ x ∷ drop (i + 1) xs
+drop-got {A} xs i x e = drop_more xs i x (slice_get_within xs i x e) ∙ ap (λ (y : A). y ∷ drop (i + 1) xs) (get_or_from_slice_get xs i x x e)
 
 -- one rule more is written
-pub rules-written : (component : ℕ → List ℕ) (rs : List (Rule ℕ)) (i : ℕ) (r : Rule ℕ) (t u v : List ℕ) → slice_get rs i ≡ Some r
-    → u ≡ t ++ rules_text component (take i rs) → v ≡ u ++ line (rule_text component r) → v ≡ t ++ rules_text component (take (i + 1) rs)
-rules-written component rs i r t u v e f g =
-    let text = λ (q : Rule ℕ). line (rule_text component q) in
-    let next : take (i + 1) rs ≡ take i rs ++ r ∷ [] = take_more rs i r (slice_get_within rs i r e) ∙ ap (λ x. take i rs ++ x ∷ []) (get_or_from_slice_get rs i r r e) in
-    g ∙ (ap (λ x. x ++ text r) f ∙ (flat_map_more text t (take i rs) r ∙ ap (λ l. t ++ rules_text component l) (sym next)))
+pub rules-next : (component : ℕ → List ℕ) (rs : List (Rule ℕ)) (i : ℕ) (r : Rule ℕ) (t u all : List ℕ) → slice_get rs i ≡ Some r
+    → u ≡ t ++ line (rule_text component r) → t ++ rules_text component (drop i rs) ≡ all → u ++ rules_text component (drop (i + 1) rs) ≡ all
+rules-next component rs i r t u all e written so_far =
+    let rest = drop (i + 1) rs in
+    ap (λ (x : List ℕ). x ++ rules_text component rest) written
+    ∙ (append_assoc t (line (rule_text component r)) (rules_text component rest)
+    ∙ (ap (λ (ss : List (Rule ℕ)). t ++ rules_text component ss) (sym (drop-got rs i r e)) ∙ so_far))
 
--- one row more is written
-pub rows-written : (name component : ℕ → List ℕ) (rows : List Shown) (ranks : List (Option ℕ)) (i : ℕ) (r : Shown) (rank : Option ℕ) (t u v : List ℕ) → slice_get rows i ≡ Some r → slice_get ranks i ≡ Some rank
-    → u ≡ t ++ rows_text name component 0 (take i rows) (take i ranks) → v ≡ u ++ row_text name component i r rank → v ≡ t ++ rows_text name component 0 (take (i + 1) rows) (take (i + 1) ranks)
-rows-written name component rows ranks i r rank t u v e f g h =
-    let s : suc i ≡ i + 1 = omega arith in
-    let z : 0 + i ≡ i = omega arith in
-    h ∙ (ap (λ x. x ++ row_text name component i r rank) g ∙ (append_assoc t (rows_text name component 0 (take i rows) (take i ranks)) (row_text name component i r rank)
-    ∙ ap (λ x. t ++ x) (ap (λ n. rows_text name component 0 (take i rows) (take i ranks) ++ row_text name component n r rank) (sym z) ∙ (sym (rows-next name component 0 rows ranks i r rank e f) ∙ ap (λ n. rows_text name component 0 (take n rows) (take n ranks)) s))))
+-- the rules of a goal, as the rule book has them
+rules-read : (rows : List Shown) (i : ℕ) (l : List (Rule ℕ)) → option_map (λ (r : Shown). r.answer) (slice_get rows i) ≡ Some (Rules l) → rules_at (book_of rows) i ≡ l
+rules-read [] i l e = cc
+rules-read (r ∷ rows) zero l e = let a : r.answer ≡ Rules l = cc in ap rules_of a
+rules-read (r ∷ rows) (suc i) l e = rules-read rows i l e
+
+module _ (name component : ℕ → List ℕ) (rows : List Shown) (ranks : List (Option ℕ)) where
+  abbrev Goals : ℕ → List ℕ
+  Goals i = goals_from name component rows ranks i
+
+  abbrev Lines : GrammarPlace → List ℕ
+  Lines place = lines_from name component rows ranks place
+
+  abbrev HasGoal : ℕ → List TypePath → Type 0
+  HasGoal i g = option_map (λ (r : Shown). r.goal) (slice_get rows i) ≡ Some g
+
+  abbrev HasRules : ℕ → List (Rule ℕ) → Type 0
+  HasRules i l = option_map (λ (r : Shown). r.answer) (slice_get rows i) ≡ Some (Rules l)
+
+  -- the goals from one on are this one with its rules, and the goals behind it
+  goals-drop : (i : ℕ) (g : List TypePath) (l : List (Rule ℕ)) (rank : Option ℕ) → i < length rows → HasGoal i g → HasRules i l → slice_get ranks i ≡ Some rank
+      → Goals i ≡ goal_text name i g rank ++ (rules_text component l ++ Goals (i + 1))
+  goals-drop i g l rank less goal answer at =
+      let r = get-some rows i less in
+      let p = row-parts rows i g l r.0 goal answer r.1 in
+      let n = rows_text name component (i + 1) (drop (i + 1) rows) (drop (i + 1) ranks) in
+      let d = line (codes "done") in
+      (λ j. rows_text name component i (drop-got rows i r.0 r.1 j) (drop-got ranks i rank at j) ++ d)
+      ∙ ((λ j. ((goal_text name i (p.0 j) rank ++ rules_text component (p.1 j)) ++ n) ++ d)
+      ∙ (append_assoc (goal_text name i g rank ++ rules_text component l) n d
+      ∙ append_assoc (goal_text name i g rank) (rules_text component l) (n ++ d)))
+
+  -- a goal is written with some of its rules
+  goal-written : (i : ℕ) (g : List TypePath) (l : List (Rule ℕ)) (rank : Option ℕ) (next : ℕ) (t u v all : List ℕ) → i < length rows → HasGoal i g → HasRules i l → slice_get ranks i ≡ Some rank
+      → u ≡ t ++ goal_text name i g rank → v ++ rules_text component (drop next l) ≡ u ++ rules_text component l → t ++ Goals i ≡ all
+      → v ++ (rules_text component (drop next l) ++ Goals (i + 1)) ≡ all
+  goal-written i g l rank next t u v all less goal answer at e f so_far =
+      let m = Goals (i + 1) in
+      let first = goal_text name i g rank in
+      let lines = rules_text component l in
+      sym (append_assoc v (rules_text component (drop next l)) m)
+      ∙ (ap (λ (x : List ℕ). x ++ m) f
+      ∙ (ap (λ (x : List ℕ). (x ++ lines) ++ m) e
+      ∙ (append_assoc (t ++ first) lines m
+      ∙ (append_assoc t first (lines ++ m)
+      ∙ (ap (λ (x : List ℕ). t ++ x) (sym (goals-drop i g l rank less goal answer at)) ∙ so_far)))))
+
+  -- it goes on at a rule
+  pub goal-begun : (i : ℕ) (g : List TypePath) (l : List (Rule ℕ)) (rank : Option ℕ) (next : ℕ) (t u v all : List ℕ) → i < length rows → HasGoal i g → HasRules i l → slice_get ranks i ≡ Some rank
+      → u ≡ t ++ goal_text name i g rank → v ++ rules_text component (drop next l) ≡ u ++ rules_text component l → t ++ Goals i ≡ all → v ++ Lines (places.Rule i next) ≡ all
+  goal-begun i g l rank next t u v all less goal answer at e f so_far =
+      (λ j. v ++ (rules_text component (drop next (rules-read rows i l answer j)) ++ Goals (i + 1)))
+      ∙ goal-written i g l rank next t u v all less goal answer at e f so_far
+
+  -- or with all of them, and it goes on at the next goal
+  pub goal-done : (i : ℕ) (g : List TypePath) (l : List (Rule ℕ)) (rank : Option ℕ) (next : ℕ) (t u v all : List ℕ) → i < length rows → HasGoal i g → HasRules i l → slice_get ranks i ≡ Some rank
+      → u ≡ t ++ goal_text name i g rank → v ++ rules_text component (drop next l) ≡ u ++ rules_text component l → t ++ Goals i ≡ all → length l ≤ next → v ++ Goals (i + 1) ≡ all
+  goal-done i g l rank next t u v all less goal answer at e f so_far over =
+      ap (λ (k : List (Rule ℕ)). v ++ (rules_text component k ++ Goals (i + 1))) (sym (drop_all next l over))
+      ∙ goal-written i g l rank next t u v all less goal answer at e f so_far
+
+  -- no goal is left
+  pub goals-done : (i : ℕ) (t u all : List ℕ) → length rows ≤ i → length ranks ≤ i → u ≡ t ++ line (codes "done") → t ++ Goals i ≡ all → u ++ [] ≡ all
+  goals-done i t u all over past e so_far =
+      append-nil u
+      ∙ (e
+      ∙ ((λ j. t ++ (rows_text name component i (sym (drop_all i rows over) j) (sym (drop_all i ranks past) j) ++ line (codes "done"))) ∙ so_far))
+
+  -- rules of a goal are written from a place on, some of them
+  pub rules-begun : (i : ℕ) (l : List (Rule ℕ)) (place next : ℕ) (t v : List ℕ) → HasRules i l → v ++ rules_text component (drop next l) ≡ t ++ rules_text component (drop place l)
+      → v ++ Lines (places.Rule i next) ≡ t ++ Lines (places.Rule i place)
+  rules-begun i l place next t v answer w =
+      let m = Goals (i + 1) in
+      let same = rules-read rows i l answer in
+      (λ j. v ++ (rules_text component (drop next (same j)) ++ m))
+      ∙ (sym (append_assoc v (rules_text component (drop next l)) m)
+      ∙ (ap (λ (x : List ℕ). x ++ m) w
+      ∙ (append_assoc t (rules_text component (drop place l)) m
+      ∙ (λ j. t ++ (rules_text component (drop place (sym same j)) ++ m)))))
+
+  -- or all of them, and the goals behind them follow
+  pub rules-done : (i : ℕ) (l : List (Rule ℕ)) (place next : ℕ) (t v rest : List ℕ) → HasRules i l → v ++ rules_text component (drop next l) ≡ t ++ rules_text component (drop place l)
+      → length l ≤ next → rest ≡ v ++ Goals (i + 1) → rest ≡ t ++ Lines (places.Rule i place)
+  rules-done i l place next t v rest answer w over e =
+      let m = Goals (i + 1) in
+      e
+      ∙ (ap (λ (k : List (Rule ℕ)). v ++ (rules_text component k ++ m)) (sym (drop_all next l over))
+      ∙ (sym (append_assoc v (rules_text component (drop next l)) m)
+      ∙ (ap (λ (x : List ℕ). x ++ m) w
+      ∙ (append_assoc t (rules_text component (drop place l)) m
+      ∙ (λ j. t ++ (rules_text component (drop place (sym (rules-read rows i l answer) j)) ++ m))))))
 
 sum-next : (rows : List Shown) (i : ℕ) (l : List (Rule ℕ)) → option_map (λ (r : Shown). r.answer) (slice_get rows i) ≡ Some (Rules l) → sum_by (λ (r : Shown). rule_count r.answer) (take (suc i) rows) ≡ sum_by (λ (r : Shown). rule_count r.answer) (take i rows) + length l
 sum-next [] i l e = cc

@@ -1,13 +1,16 @@
 -- The text of a grammar.
-use Rattle.std.specs.Prelude.{◌≡◌, ℕ, ◌+◌, List, [], ◌∷◌, ◌++◌, length, codes, flat_map, Option, Some, None}
+use Rattle.std.specs.Prelude.{◌≡◌, ℕ, ◌+◌, ◌<◌, ◌≤◌, List, [], ◌∷◌, ◌++◌, length, drop, codes, flat_map, Option, Some, None}
 use Rattle.std.specs.Fmt.{decimal}
 use Rattle.std.specs.List.{sum_by}
 use Rattle.cls_path.specs.Paths.{TypePath, listed, type_of_paths}
 use Rattle.cls_syntax.specs.TypePrinting.{printed}
+use Rattle.cls_base.specs.Languages.{rules_at}
 use Rattle.cls_core.specs.Arguments.{rules_of, rule_count}
 use Rattle.cls_core.specs.Rows.{Row}
 use Rattle.cls_base.specs.declared.rule.Rule.{Rule}
 use Rattle.cls_base.specs.declared.rule.Rule.TheVariants.{Head, Any}
+use Rattle.cls_grammar.specs.declared.printing.GrammarPlace.{GrammarPlace}
+use Rattle.cls_grammar.specs.declared.printing.GrammarPlace.TheVariants as places
 use Rattle.cls_grammar.specs.Grammars.{book_of}
 use Rattle.cls_grammar.specs.Ranks.{AreRanks}
 
@@ -59,3 +62,25 @@ module _ (name component : ℕ → List ℕ) where
   -- the text of the grammar with the ranks of its goals
   abbrev pub IsGrammarText : List (Row (List TypePath)) → List ℕ → Type 0
   IsGrammarText rows text = (ranks : List (Option ℕ)) × AreRanks (book_of rows) ranks × (text ≡ grammar_text rows ranks)
+
+  -- what stands from a place of the text on, by the ranks of the goals
+  module _ (rows : List (Row (List TypePath))) (ranks : List (Option ℕ)) where
+    -- the goals from a number on, each with its rules, and the last line
+    abbrev pub goals_from : ℕ → List ℕ
+    goals_from i = rows_text i (drop i rows) (drop i ranks) ++ line (codes "done")
+
+    abbrev pub lines_from : GrammarPlace → List ℕ
+    lines_from places.Counts = grammar_text rows ranks
+    lines_from (places.Goal i) = goals_from i
+    lines_from (places.Rule i j) = rules_text component (drop j (rules_at (book_of rows) i)) ++ goals_from (i + 1)
+
+    -- the same where nothing may be left
+    abbrev pub lines_left : Option GrammarPlace → List ℕ
+    lines_left None = []
+    lines_left (Some place) = lines_from place
+
+-- The text has such a place: a goal with its rules, or the end of the goals.
+abbrev pub IsPlaceIn : List (Row (List TypePath)) → GrammarPlace → Type 0
+IsPlaceIn rows places.Counts = Unit {0}
+IsPlaceIn rows (places.Goal i) = i ≤ length rows
+IsPlaceIn rows (places.Rule i j) = i < length rows

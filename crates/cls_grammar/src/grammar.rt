@@ -1,10 +1,10 @@
-ghost use Rattle.std.specs.Prelude.{◌≡◌, ◌<◌, ◌≤◌, Some, None, IfOk, IfErr, OnOk, length, slice_get, option_map, string_bytes};
+ghost use Rattle.std.specs.Prelude.{◌≡◌, ◌<◌, ◌≤◌, ◌++◌, Some, None, IfOk, IfErr, IfSome, OnOk, length, slice_get, option_map, string_bytes};
 ghost use Rattle.cls_core.specs.declared.answer.Answer.TheVariants as answers;
 ghost use Rattle.cls_core.specs.Renumbering.{renumbered};
 ghost use Rattle.cls_base.specs.Books.{HaveNodesBelow};
 ghost use Rattle.cls_grammar.specs.Faults.{IfWide};
 ghost use Rattle.cls_syntax.specs.TypePrinting.{name_in};
-ghost use Rattle.cls_grammar.specs.GrammarTexts.{IsGrammarText};
+ghost use Rattle.cls_grammar.specs.GrammarTexts.{IsPlaceIn, lines_from, lines_left};
 ghost use Rattle.cls_grammar.specs.Grammars.{MakeGrammar, book_of, first_wide};
 ghost use Rattle.cls_grammar.specs.Ranks.{AreRanks, AreProductive};
 ghost use Rattle.cls_grammar.specs.Trimming.{IsTrimmed, HaveSameLanguages};
@@ -12,7 +12,7 @@ ghost use Rattle.cls_grammar.specs.Trimming.{IsTrimmed, HaveSameLanguages};
 use crate::GrammarFault;
 use crate::columns::{Flags, Ranks};
 use crate::numbering::{breadth_first, placed_rows};
-use crate::printing::{Tables, write_grammar};
+use crate::printing::{GrammarPlace, Tables, write_from};
 use crate::ranking::{productive, ranks_of};
 use crate::trimming::useful_rows;
 use cls_base::{NodeRules, OutOfMemory, RuleBook};
@@ -96,22 +96,30 @@ impl Grammar {
         Ok(useful_rows(alloc, self, &flags)?)
     }
 
-    /// The text of the grammar, with each goal's rank or that it has none. A name that isn't in its table is the empty
-    /// text. The only error is out of memory.
-    pub fn print(
+    /// Writes lines of the text of the grammar at the end, from a place on until the text has enough bytes. Each goal stands
+    /// there with its rank, or that it has none. A name that isn't in its table is the empty text. The answer is the place of
+    /// the first line that isn't written, and None behind the last one. The only error is out of memory, and then a part of
+    /// the lines may stand there.
+    pub fn write_lines(
         &self,
         alloc: Global,
         names: &Names,
         components: &Names,
-    ) -> Result<String, OutOfMemory>
-        ensures { IfOk result (λ text.
-            IsGrammarText (name_in names.now) (name_in components.now) self.now (string_bytes text)) }
+        ranks: &Ranks,
+        from: GrammarPlace,
+        enough: usize,
+        text: &mut String,
+    ) -> Result<Option<GrammarPlace>, OutOfMemory>
+        requires ranked { AreRanks (book_of self.now) ranks.now }
+        requires place { IsPlaceIn self.now from }
+        ensures within { IfOk result (λ next. IfSome next (IsPlaceIn self.now)) }
+        ensures lines { let n = name_in names.now in let c = name_in components.now in IfOk result (λ next.
+            string_bytes text.new ++ lines_left n c self.now ranks.now next
+            ≡ string_bytes text.old ++ lines_from n c self.now ranks.now from) }
+        ensures full { IfOk result (λ next. IfSome next (λ _. enough ≤ length (string_bytes text.new))) }
     {
-        let ranks = self.ranks(alloc)?;
-        let mut text = String::new(alloc);
         let tables = Tables { names, components };
-        write_grammar(alloc, &tables, self, ranks.as_slice(), &mut text)?;
-        Ok(text)
+        write_from(alloc, &tables, self, ranks.as_slice(), from, enough, text)
     }
 
     /// The number of goals, at least 1.

@@ -1,7 +1,7 @@
 //! The tree grammar of a goal: the goals that it leads to, each with its rules, as a rule book.
 //!
 //! - [`Grammar`] is the grammar, and [`GrammarFault`] says why rows make none. [`Ranks`] and [`Flags`] are what it
-//!   answers of each goal.
+//!   answers of each goal. Its text is written from any line on, which [`GrammarPlace`] names.
 //! - [`productive`] says of each node of any rule book whether it has a derivation tree.
 //! - [`laws`] says what the languages of a grammar's goals are.
 //!
@@ -24,4 +24,5 @@ mod waiting;
 pub use columns::{Flags, Ranks};
 pub use fault::GrammarFault;
 pub use grammar::Grammar;
+pub use printing::GrammarPlace;
 pub use ranking::productive;

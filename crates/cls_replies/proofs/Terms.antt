@@ -1,7 +1,6 @@
 -- The terms of a page, as their lines are made.
-use Rattle.std.proofs.Common.{◌≡◌, ℕ, zero, suc, ◌+◌, ◌<◌, List, [], ◌∷◌, ◌++◌, length, take, sym, subst, ap, ◌∙◌, append_assoc, append-nil, arith, get_or}
+use Rattle.std.proofs.Common.{◌≡◌, ℕ, ◌<◌, List, length, sym, subst, arith, get_or}
 use Rattle.std.specs.Prelude.{All, Bool}
-use Rattle.std.specs.List.{flat_map}
 use Rattle.std.proofs.lemmas.List.Elements.{Contains-get_or}
 use Rattle.cls_base.specs.Terms.{Applicative, component, apply, IsTermOver}
 use Rattle.cls_base.specs.Types.{ClosedType}
@@ -25,17 +24,7 @@ at_place P es i e all l is = subst P (sym is) (all i e l)
 pub at_index : (P : Applicative → Type 0) (es : List Applicative) (i : ℕ) → All P es → i < length es → P (at es i)
 at_index P es i all l = all i (component 0) l
 
--- the lines of one term more
-pub lines-next : (f : Applicative → List ℕ) (es : List Applicative) (i : ℕ) → i < length es → flat_map f (take (i + 1) es) ≡ flat_map f (take i es) ++ f (at es i)
-lines-next f [] i l = absurd (omega arith)
-lines-next f (e ∷ es) zero l = append-nil (f e)
-lines-next f (e ∷ es) (suc i) l =
-    let k : suc i + 1 ≡ suc (i + 1) = omega arith in
-    ap (λ (j : ℕ). flat_map f (take j (e ∷ es))) k
-    ∙ ap (λ (w : List ℕ). f e ++ w) (lines-next f es i (omega arith))
-    ∙ sym (append_assoc (f e) (flat_map f (take i es)) (f (at es i)))
-
-pub ruleset lines = (at_index, lines-next)
+pub ruleset lines = (at_place, at_index)
 
 -- a term that has a type is one over the components
 pub over : (l : Library) (e : Applicative) (t : ClosedType) → HasTypeIn l e t → IsTermOver (length l.components) e

@@ -2,7 +2,9 @@ pub mod Answering
 pub mod Errors
 pub mod LineKinds
 pub mod Lines
+pub mod Printing
 pub mod Replies
+pub mod Rests
 pub mod Serving
 pub mod Steps
 pub mod Texts

@@ -2,6 +2,7 @@
 //!
 //! - [`Serving`] takes one line after another and gives what is written for it. It keeps the names that queries have
 //!   numbered, the engine that answers them, and the lines of a certificate that hasn't ended.
+//! - [`Printing`] is a reply while it is printed. [`Serving::print`] gives one portion of its lines after another.
 //!
 //! `specs/Lines` defines how lines are answered one after another, `specs/Answering` how a query is, `specs/Replies`
 //! what the reply to a query says, and `specs/Errors` which errors it can have.
@@ -18,10 +19,12 @@ mod events;
 mod faults;
 mod pages;
 mod paths;
+mod printing;
 mod queries;
 mod serving;
 mod sizes;
 mod verifying;
 mod words;
 
+pub use printing::Printing;
 pub use serving::Serving;

@@ -1,10 +1,12 @@
 //! Pages of terms.
-ghost use Rattle.std.specs.Prelude.{◌≡◌, [], ◌++◌, ◌<◌, All, codes, decimal, length, IfOk, OnOk, string_bytes};
+ghost use Rattle.std.specs.Prelude.{◌≡◌, ◌++◌, ◌<◌, ◌≤◌, if◌then◌else◌, All, codes, decimal, length, IfOk, IfSome, OnOk, string_bytes};
 ghost use Rattle.cls_base.specs.Terms.{IsTermOver};
 ghost use Rattle.cls_term.specs.Banks.{at};
 ghost use Rattle.cls_term.specs.Texts.{name_at};
 ghost use Rattle.cls_assemble.specs.Texts.{text_by};
-ghost use Rattle.cls_replies.specs.Texts.{reply_line, assembled_lines, term_line, term_lines, page_text};
+ghost use Rattle.cls_replies.specs.Printing.{page_left};
+ghost use Rattle.cls_replies.specs.Rests.{left_at};
+ghost use Rattle.cls_replies.specs.Texts.{reply_line, assembled_lines, term_line, term_lines};
 
 use cls_assemble::{Templates, TextFault, text_of};
 use cls_base::OutOfMemory;
@@ -14,46 +16,71 @@ use cls_term::{CodedTerms, Term};
 use itoa::Buffer;
 use std::alloc::Global;
 
-/// A line for each term, and a last one that says whether more terms follow, in the empty text.
-#[tactic(auto, using(crate::proofs::Terms::lines))]
+/// Writes a line for each term of the page from a place on, and a last one that says whether more terms follow, until the text
+/// has enough bytes. Gives the place of the first term that isn't written, and None behind the last line.
 pub(crate) fn print_terms(
     alloc: Global,
-    mut text: String,
     page: &Page,
+    from: usize,
     components: &Names,
-) -> Result<String, OutOfMemory>
-    requires { string_bytes text ≡ [] }
-    ensures { IfOk result (λ text. string_bytes text
-        ≡ page_text (term_line (name_at components.now)) page.now.terms page.now.more) }
+    enough: usize,
+    text: &mut String,
+) -> Result<Option<usize>, OutOfMemory>
+    requires { from ≤ length page.now.terms }
+    ensures within { IfOk result (λ next. IfSome next (λ place. place ≤ length page.now.terms)) }
+    ensures lines { let left = page_left (term_line (name_at components.now)) page.now in
+        IfOk result (λ next. string_bytes text.new ++ left_at left next ≡ string_bytes text.old ++ left from) }
+    ensures full { IfOk result (λ next. IfSome next (λ _. enough ≤ length (string_bytes text.new))) }
 {
-    page.terms
-        .write_lines(alloc, "term ", components, &mut text)?;
-    text.push_str(if page.more { "more\n" } else { "done\n" })?;
-    Ok(text)
+    let terms = &page.terms;
+    let next = terms.write_lines(alloc, "term ", components, from, enough, text)?;
+    let count = terms.len();
+    if next < count {
+        return Ok(Some(next));
+    }
+    write_more(page.more, text)?;
+    Ok(None)
 }
 
 /// The same, with the text of each term by the templates behind its line.
 #[tactic(auto, using(crate::proofs::Terms::lines))]
 pub(crate) fn print_texts(
     alloc: Global,
-    mut text: String,
     page: &Page,
+    from: usize,
     components: &Names,
     templates: &Templates,
-) -> Result<String, OutOfMemory>
-    requires empty { string_bytes text ≡ [] }
+    enough: usize,
+    text: &mut String,
+) -> Result<Option<usize>, OutOfMemory>
     requires named { All (IsTermOver (length components.now)) page.now.terms }
     requires written { length templates.now ≡ length components.now }
-    ensures { IfOk result (λ text. string_bytes text
-        ≡ page_text (term_lines (name_at components.now) templates.now) page.now.terms page.now.more) }
+    ensures within { IfOk result (λ next. IfSome next (λ place. place ≤ length page.now.terms)) }
+    ensures lines { let left = page_left (term_lines (name_at components.now) templates.now) page.now in
+        IfOk result (λ next. string_bytes text.new ++ left_at left next ≡ string_bytes text.old ++ left from) }
+    ensures full { IfOk result (λ next. IfSome next (λ _. enough ≤ length (string_bytes text.new))) }
 {
-    for place in 0..page.terms.len() {
-        write_term(&page.terms, place, components, &mut text)?;
+    let count = page.terms.len();
+    for place in from..count {
+        let written = text.len();
+        if written >= enough {
+            return Ok(Some(place));
+        }
+        write_term(&page.terms, place, components, text)?;
         let term = page.terms.term(alloc, place)?;
-        write_assembled(alloc, &term, templates, &mut text)?;
+        write_assembled(alloc, &term, templates, text)?;
     }
-    text.push_str(if page.more { "more\n" } else { "done\n" })?;
-    Ok(text)
+    write_more(page.more, text)?;
+    Ok(None)
+}
+
+/// Writes the last line of a page at the end.
+fn write_more(more: bool, text: &mut String) -> Result<(), OutOfMemory>
+    ensures { OnOk result (string_bytes text.new
+        ≡ string_bytes text.old ++ reply_line (if more then codes "more" else codes "done")) }
+{
+    text.push_str(if more { "more\n" } else { "done\n" })?;
+    Ok(())
 }
 
 /// Writes the line of the term at a place at the end.

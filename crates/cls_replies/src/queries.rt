@@ -6,25 +6,26 @@ ghost use Rattle.cls_base.specs.Ty.{type_of};
 ghost use Rattle.cls_syntax.specs.MeasuredTypes.{measured_type};
 ghost use Rattle.cls_proof.specs.Seen.{certificate_of};
 ghost use Rattle.cls_check.specs.Verdicts.{rows_in};
-ghost use Rattle.cls_query.specs.Queries.{sub, paths, typed, inhabit, grammar, audit, certify, finite, list, texts};
+ghost use Rattle.cls_query.specs.Queries.{sub, typed, inhabit, grammar, audit, certify, finite, list, texts};
 ghost use Rattle.cls_query.specs.Readable.{IsPageAsked, IsReadable, IsVerify};
 ghost use Rattle.cls_query.specs.ReadQueries.{listing_of, asked_of};
 ghost use Rattle.cls_engine.specs.Faults.{IsFaultOf};
 ghost use Rattle.cls_replies.specs.Answering.{Answers, Judges};
 ghost use Rattle.cls_replies.specs.Errors.{faults_of};
+ghost use Rattle.cls_replies.specs.Printing.{IsPrintable, left_of};
 ghost use Rattle.cls_replies.specs.Steps.{IsPageOf};
 
-use crate::events::print_history;
 use crate::faults::engine_fault;
-use crate::pages::{print_terms, print_texts};
-use crate::paths::print_paths;
+use crate::printing::{
+    Printing, certificate_printing, fault_printing, grammar_printing, history_printing,
+    paths_printing, sizes_printing, terms_printing, text_printing, texts_printing,
+};
 use crate::serving::Serving;
-use crate::sizes::print_sizes;
 use crate::words::{says, verdict_line};
-use cls_base::{Gate, Name, OutOfMemory, Ty};
+use cls_base::{Gate, OutOfMemory, Ty};
 use cls_engine::EngineFault;
 use cls_enum::Page;
-use cls_proof::{Certificate, print_certificate};
+use cls_proof::Certificate;
 use cls_query::{Listing, Query};
 use cls_syntax::MeasuredTy;
 use cls_term::CodedTerm;
@@ -40,17 +41,18 @@ impl Serving {
         alloc: Global,
         query: &Query,
         gate: &G,
-    ) -> Result<String, OutOfMemory>
+    ) -> Result<Printing, OutOfMemory>
         requires readable { IsReadable (length self.old.components) (asked_of query.now) }
         requires not_verify { IsVerify (asked_of query.now) → ⊥ }
-        ensures answers { IfOk result (λ text. Answers self.old (asked_of query.now) (string_bytes text)) }
+        ensures answers { IfOk result (λ p. Answers self.old (asked_of query.now) (left_of self.old p)) }
+        ensures printable { IfOk result (IsPrintable self.old) }
         ensures same { self.new ≡ self.old }
     {
         match query {
-            Query::Sub(lower, upper) => self.sub(alloc, lower, upper),
-            Query::Paths(name) => self.paths(alloc, *name),
-            Query::Typed(term, ty) => self.typed(alloc, term, ty),
-            Query::Inhabit(ty) => self.inhabit(rt, alloc, ty, gate),
+            Query::Sub(lower, upper) => text_printing(self.sub(alloc, lower, upper)),
+            Query::Paths(name) => Ok(paths_printing(name.0)),
+            Query::Typed(term, ty) => text_printing(self.typed(alloc, term, ty)),
+            Query::Inhabit(ty) => text_printing(self.inhabit(rt, alloc, ty, gate)),
             Query::Grammar(ty) => self.grammar(rt, alloc, ty, gate),
             Query::Audit(ty) => self.audit(rt, alloc, ty, gate),
             Query::Certify(ty) => self.certify(rt, alloc, ty, gate),
@@ -75,13 +77,6 @@ impl Serving {
             Ok(yes) => says(self.empty_text(alloc), yes, "yes", "no"),
             Err(fault) => engine_fault(alloc, &self.names, fault),
         }
-    }
-
-    fn paths(&self, alloc: Global, component: Name) -> Result<String, OutOfMemory>
-        requires { component.0 < length self.now.components }
-        ensures { IfOk result (λ text. Answers self.now (paths component.0) (string_bytes text)) }
-    {
-        print_paths(alloc, &self.names, self.engine.library().paths(component.0))
     }
 
     fn typed(&mut self, alloc: Global, term: &CodedTerm, ty: &Ty) -> Result<String, OutOfMemory>
@@ -118,17 +113,14 @@ impl Serving {
         alloc: Global,
         ty: &Ty,
         gate: &G,
-    ) -> Result<String, OutOfMemory>
-        ensures answers { IfOk result (λ text. Answers self.old (grammar (type_of ty.now)) (string_bytes text)) }
+    ) -> Result<Printing, OutOfMemory>
+        ensures answers { IfOk result (λ p. Answers self.old (grammar (type_of ty.now)) (left_of self.old p)) }
+        ensures printable { IfOk result (IsPrintable self.old) }
         ensures same { self.new ≡ self.old }
     {
         match self.engine.grammar(rt, alloc, ty, gate) {
-            Ok(grammar) => {
-                let text = grammar.print(alloc, &self.names, &self.components);
-                self.engine.take_back(grammar);
-                text
-            }
-            Err(fault) => engine_fault(alloc, &self.names, fault),
+            Ok(grammar) => grammar_printing(alloc, grammar),
+            Err(fault) => fault_printing(alloc, &self.names, fault),
         }
     }
 
@@ -138,13 +130,14 @@ impl Serving {
         alloc: Global,
         ty: &Ty,
         gate: &G,
-    ) -> Result<String, OutOfMemory>
-        ensures answers { IfOk result (λ text. Answers self.old (audit (type_of ty.now)) (string_bytes text)) }
+    ) -> Result<Printing, OutOfMemory>
+        ensures answers { IfOk result (λ p. Answers self.old (audit (type_of ty.now)) (left_of self.old p)) }
+        ensures printable { IfOk result (IsPrintable self.old) }
         ensures same { self.new ≡ self.old }
     {
         match self.engine.audit(rt, alloc, ty, gate) {
-            Ok(history) => print_history(alloc, &history),
-            Err(fault) => engine_fault(alloc, &self.names, fault),
+            Ok(history) => history_printing(alloc, history),
+            Err(fault) => fault_printing(alloc, &self.names, fault),
         }
     }
 
@@ -154,18 +147,16 @@ impl Serving {
         alloc: Global,
         ty: &Ty,
         gate: &G,
-    ) -> Result<String, OutOfMemory>
-        ensures answers { IfOk result (λ text. Answers self.old (certify (type_of ty.now)) (string_bytes text)) }
+    ) -> Result<Printing, OutOfMemory>
+        ensures answers { IfOk result (λ p. Answers self.old (certify (type_of ty.now)) (left_of self.old p)) }
+        ensures printable { IfOk result (IsPrintable self.old) }
         ensures same { self.new ≡ self.old }
     {
         match self.engine.certify(rt, alloc, ty, gate) {
-            Ok(certificate) => print_certificate(
-                alloc,
-                &self.names,
-                &self.components,
-                &certificate,
-            ),
-            Err(fault) => engine_fault(alloc, &self.names, fault),
+            Ok(certificate) => {
+                certificate_printing(alloc, &self.names, &self.components, certificate)
+            }
+            Err(fault) => fault_printing(alloc, &self.names, fault),
         }
     }
 
@@ -175,13 +166,14 @@ impl Serving {
         alloc: Global,
         ty: &Ty,
         gate: &G,
-    ) -> Result<String, OutOfMemory>
-        ensures answers { IfOk result (λ text. Answers self.old (finite (type_of ty.now)) (string_bytes text)) }
+    ) -> Result<Printing, OutOfMemory>
+        ensures answers { IfOk result (λ p. Answers self.old (finite (type_of ty.now)) (left_of self.old p)) }
+        ensures printable { IfOk result (IsPrintable self.old) }
         ensures same { self.new ≡ self.old }
     {
         match self.engine.finite(rt, alloc, ty, gate) {
-            Ok(sizes) => print_sizes(alloc, &sizes),
-            Err(fault) => engine_fault(alloc, &self.names, fault),
+            Ok(sizes) => sizes_printing(alloc, sizes),
+            Err(fault) => fault_printing(alloc, &self.names, fault),
         }
     }
 
@@ -191,14 +183,15 @@ impl Serving {
         alloc: Global,
         listing: &Listing,
         gate: &G,
-    ) -> Result<String, OutOfMemory>
+    ) -> Result<Printing, OutOfMemory>
         requires { IsPageAsked (length self.old.components) (listing_of listing.now) }
-        ensures answers { IfOk result (λ text. Answers self.old (list (listing_of listing.now)) (string_bytes text)) }
+        ensures answers { IfOk result (λ p. Answers self.old (list (listing_of listing.now)) (left_of self.old p)) }
+        ensures printable { IfOk result (IsPrintable self.old) }
         ensures same { self.new ≡ self.old }
     {
         match self.page(rt, alloc, listing, gate) {
-            Ok(page) => print_terms(alloc, self.empty_text(alloc), &page, &self.components),
-            Err(fault) => engine_fault(alloc, &self.names, fault),
+            Ok(page) => Ok(terms_printing(page)),
+            Err(fault) => fault_printing(alloc, &self.names, fault),
         }
     }
 
@@ -208,17 +201,15 @@ impl Serving {
         alloc: Global,
         listing: &Listing,
         gate: &G,
-    ) -> Result<String, OutOfMemory>
+    ) -> Result<Printing, OutOfMemory>
         requires { IsPageAsked (length self.old.components) (listing_of listing.now) }
-        ensures answers { IfOk result (λ text. Answers self.old (texts (listing_of listing.now)) (string_bytes text)) }
+        ensures answers { IfOk result (λ p. Answers self.old (texts (listing_of listing.now)) (left_of self.old p)) }
+        ensures printable { IfOk result (IsPrintable self.old) }
         ensures same { self.new ≡ self.old }
     {
         match self.page(rt, alloc, listing, gate) {
-            Ok(page) => {
-                let text = self.empty_text(alloc);
-                print_texts(alloc, text, &page, &self.components, &self.templates)
-            }
-            Err(fault) => engine_fault(alloc, &self.names, fault),
+            Ok(page) => Ok(texts_printing(page)),
+            Err(fault) => fault_printing(alloc, &self.names, fault),
         }
     }
 

@@ -6,11 +6,13 @@ ghost use Rattle.cls_engine.specs.Options.{AreInRange};
 ghost use Rattle.cls_replies.specs.Answering.{Answered};
 ghost use Rattle.cls_replies.specs.LineKinds.{IsSingle};
 ghost use Rattle.cls_replies.specs.Lines.{Goes, Ends};
+ghost use Rattle.cls_replies.specs.Printing.{IsPrintable, left_of};
 ghost use Rattle.cls_replies.specs.Serving.{serving_of};
 ghost use Rattle.cls_replies.specs.Steps.{Concludes};
 
 use crate::certificates::{LineKind, is_qed, kind_of};
 use crate::faults::line_fault;
+use crate::printing::{Printing, text_printing};
 use cls_assemble::Templates;
 use cls_base::{Gate, OutOfMemory};
 use cls_engine::{Engine, Options};
@@ -24,8 +26,8 @@ use std::mem;
 use std::sync::Wait;
 use std::thread::Threads;
 
-/// The most bytes of room that are kept, 1 MiB.
-const MAX_ROOM_BYTES: usize = 1_048_576;
+/// The most bytes of room that are kept, 256 KiB.
+const MAX_ROOM_BYTES: usize = 262_144;
 
 /// A query whose certificate hasn't ended: its line, and the lines behind it.
 #[derive(Drop)]
@@ -97,8 +99,8 @@ impl Serving {
         }
     }
 
-    /// Takes the next line, and gives what is written for it. After an error, which is out of memory, no further line is
-    /// to be fed. The buffer `room` may be reused for the tokens of the line; its content is ignored.
+    /// Takes the next line, and gives what is written for it, which is to be printed before the next line is fed. After an error,
+    /// which is out of memory, no further line is to be fed. The buffer `room` may be reused for the tokens of the line; its content is ignored.
     // Not inlined: a frame is cleared whenever its function is called, and this one's is large.
     #[inline(never)]
     pub fn feed<'p, R: Threads + Wait + Sync, G: Gate + Sync>(
@@ -108,9 +110,10 @@ impl Serving {
         line: Line<'p>,
         gate: &G,
         room: &mut Vec<Token<'p>>,
-    ) -> Result<String, OutOfMemory>
+    ) -> Result<Printing, OutOfMemory>
         requires { length self.old.held + 1 < 2 ^ 32 }
-        ensures goes { IfOk result (λ text. Goes self.old line.entry (string_bytes text) self.new) }
+        ensures goes { IfOk result (λ p. Goes self.old line.entry (left_of self.new p) self.new) }
+        ensures printable { IfOk result (IsPrintable self.new) }
         ensures counted { OnOk result (length self.new.held ≤ length self.old.held + 1) }
     {
         match &mut self.held {
@@ -119,9 +122,9 @@ impl Serving {
                 let ends = is_qed(alloc, &line)?;
                 held.inside.push(&line)?;
                 if ends {
-                    self.answer_held(alloc)
+                    text_printing(self.answer_held(alloc))
                 } else {
-                    Ok(String::new(alloc))
+                    Ok(Printing::nothing())
                 }
             }
         }
@@ -175,19 +178,20 @@ impl Serving {
         line: Line<'p>,
         gate: &G,
         room: &mut Vec<Token<'p>>,
-    ) -> Result<String, OutOfMemory>
+    ) -> Result<Printing, OutOfMemory>
         requires { self.old.held ≡ [] }
-        ensures goes { IfOk result (λ text. Goes self.old line.entry (string_bytes text) self.new) }
+        ensures goes { IfOk result (λ p. Goes self.old line.entry (left_of self.new p) self.new) }
+        ensures printable { IfOk result (IsPrintable self.new) }
         ensures counted { OnOk result (length self.new.held ≤ 1) }
     {
         match kind_of(alloc, &line)? {
-            LineKind::Skipped => Ok(String::new(alloc)),
+            LineKind::Skipped => Ok(Printing::nothing()),
             LineKind::Opening => {
                 self.held = Some(Held {
                     line: line.into_owned(alloc)?,
                     inside: HeldLines::new(alloc),
                 });
-                Ok(String::new(alloc))
+                Ok(Printing::nothing())
             }
             LineKind::Single => self.ask(rt, alloc, &line, gate, room),
         }
@@ -201,14 +205,15 @@ impl Serving {
         line: &Line<'p>,
         gate: &G,
         room: &mut Vec<Token<'p>>,
-    ) -> Result<String, OutOfMemory>
+    ) -> Result<Printing, OutOfMemory>
         requires { IsSingle line.now }
-        ensures answered { IfOk result (λ text. Answered self.old line.now (string_bytes text) self.new) }
+        ensures answered { IfOk result (λ p. Answered self.old line.now (left_of self.new p) self.new) }
+        ensures printable { IfOk result (IsPrintable self.new) }
         ensures same_held { OnOk result (self.new.held ≡ self.old.held) }
     {
         match read_query(alloc, &mut self.names, &self.components, line, room) {
             Ok(query) => self.answer(rt, alloc, &query, gate),
-            Err(fault) => line_fault(alloc, &fault),
+            Err(fault) => text_printing(line_fault(alloc, &fault)),
         }
     }
 }

@@ -9,6 +9,7 @@ pub mod Breaks
 pub mod Writing
 pub mod Driving
 pub mod Pending
+pub mod Portions
 pub mod Outputs
 pub mod InputLoop
 pub mod Asked

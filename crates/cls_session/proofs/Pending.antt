@@ -6,12 +6,12 @@ use Rattle.cls_lexer.specs.Lines.{CutsLine}
 use Rattle.cls_engine.specs.declared.options.Options.{Options}
 use Rattle.cls_session.specs.declared.driver.Stop.{Stop}
 use Rattle.cls_session.specs.declared.driver.Stop.TheVariants as stops
-use Rattle.cls_session.specs.Driving.{Writes, WritesFront, WritesAllBut, IsWritten, FitsLines, AnswersLines, RefusesLines, BreaksLines, AnswersPending, RefusesPending, LeavesPending, MatchStop, MatchEachStop}
+use Rattle.cls_session.specs.Driving.{Writes, WritesFront, WritesAllBut, WritesFrontBut, IsWritten, FitsLines, AnswersLines, RefusesLines, BreaksLines, AnswersPending, RefusesPending, LeavesPending, MatchStop, MatchEachStop}
 use Rattle.cls_session.specs.Standings.{Standing, Stands}
 use Rattle.cls_session.specs.Transcripts.{IsRefused}
 use Rattle.cls_session.proofs.Driving.{CutsLines-push}
 use Rattle.cls_session.proofs.Standings.{Stands-transcript}
-use Rattle.cls_session.proofs.Writing.{Writes-none, nothing_left, room_more, but_more, front_more, but_none, but_front, whole_front}
+use Rattle.cls_session.proofs.Writing.{Writes-none, nothing_left, room_more, but_more, front_more, front_but_more, front_some, but_none, whole_but, whole_front}
 
 -- no line was answered yet, and nothing is pending
 pub pending_none : (sink : SinkSeen) (s : Standing) (text pending : List ℕ) → pending ≡ [] → AnswersPending sink sink s s text text pending
@@ -44,7 +44,7 @@ module _ {a b : SinkSeen} {first mid : Standing} {text between pending : List �
   leaves_pending = record {
     reply = λ o lines written h.
         let (more, reply, cuts, next, writes) = so_far.reply o lines written h in
-        (more, between, reply, cuts, inl (Stands-transcript o (lines ++ more) (written ++ reply) mid next), writes);
+        (more, between, reply, cuts, inl (Stands-transcript o (lines ++ more) (written ++ reply) mid next), whole_but writes);
   }
 
   -- A further line is cut off.
@@ -99,6 +99,20 @@ module _ {a b : SinkSeen} {first mid : Standing} {text between pending : List �
             );
       }
 
+      -- the run is out of memory within it
+      pub leaves_within : {c : SinkSeen} {left : List ℕ} → WritesFrontBut b c (pending ++ further) left → LeavesPending a c first text left
+      leaves_within front = record {
+        reply = λ o lines written h.
+            let (more, reply, cuts, next, writes) = so_far.reply o lines written h in (
+              more ++ line ∷ [],
+              after,
+              reply ++ further,
+              CutsLines-push text between after line more cuts cut,
+              on_line (λ xs x. IsWritten o xs x) lines more line written reply further (stands o (lines ++ more) (written ++ reply) next),
+              front_but_more writes further front,
+            );
+      }
+
 -- The same if the reader holds nothing after the line.
 pub pending_next : {a b c : SinkSeen} {first mid last : Standing} {text between line after held further pending left : List ℕ}
     → held ≡ [] → CutsLine between line after → AnswersPending a b first mid text between pending → IsReply mid line further last
@@ -118,14 +132,14 @@ refusal_stands refused o lines written h = inr (refused o lines written h)
 module _ {a b : SinkSeen} {first : Standing} {text pending : List ℕ} where
   -- there is room for it
   pub fits_left : LeavesPending a b first text pending → FitsLines a first text → Holds b.room (length pending)
-  fits_left p f = (p.reply f.options f.lines f.written f.stands).5.room_left
+  fits_left p f = (p.reply f.options f.lines f.written f.stands).5.writes.room_left
 
   -- if only a front of it is written, the run breaks off
   pub breaks_left : {c : SinkSeen} → LeavesPending a b first text pending → WritesFront b c pending → BreaksLines a c first text
   breaks_left p front = record {
     reply = λ o lines written h.
         let (more, rest, reply, cuts, next, writes) = p.reply o lines written h in
-        (more, rest, reply, cuts, next, but_front writes front);
+        (more, rest, reply, cuts, next, front_some writes front);
   }
 
 -- What is said of the lines, whatever came of them.
@@ -141,7 +155,7 @@ module _ {A : Type 0} (a : SinkSeen) {b : SinkSeen} (first last : Standing) (tex
   leaves_replies (Err stops.Refused) sound p = record {
     reply = λ o lines written h.
         let (more, after, reply, cuts, next, writes) = p.reply o lines written h in
-        (more, after, reply, cuts, inr next, writes);
+        (more, after, reply, cuts, inr next, whole_but writes);
   }
   leaves_replies (Err stops.WriteFault) sound p = absurd (sound refl)
   leaves_replies (Err stops.NoMemory) sound p = p

@@ -4,7 +4,7 @@ use Rattle.std.specs.Prelude.{Option, None, Some}
 use Rattle.std.specs.Io.KnownBytes.{Appends}
 use Rattle.std.proofs.KnownBytes.{Appends-nil, Appends-trans}
 use Rattle.cls_base.specs.Outside.{SinkSeen, Holds, Fills}
-use Rattle.cls_session.specs.Driving.{Writes, WritesFront, WritesAllBut}
+use Rattle.cls_session.specs.Driving.{Writes, WritesFront, WritesAllBut, WritesFrontBut}
 
 Fills-none : (room : Option ℕ) → Fills room room 0
 Fills-none None = tt
@@ -109,3 +109,34 @@ module _ {a b c : SinkSeen} {text rest : List ℕ} (p : WritesAllBut a b text re
   -- or a front of it
   pub but_front : WritesFront b c rest → WritesFront a c text
   but_front f = subst (λ (x : List ℕ). WritesFront a c x) (sym p.split) (front_after p.writes f)
+
+-- a longer text is begun as well
+pub front_wider : {a c : SinkSeen} {text part rest : List ℕ} → text ≡ part ++ rest → WritesFront a c part → WritesFront a c text
+front_wider {rest = rest} e f = record {
+  front = f.front;
+  rest = f.rest ++ rest;
+  split = e ∙ (ap (λ (x : List ℕ). x ++ rest) f.split ∙ append_assoc f.front f.rest rest);
+  held = f.held;
+}
+
+-- all of a text was written but for what is pending
+pub whole_but : {a b : SinkSeen} {text pending : List ℕ} → WritesAllBut a b text pending → WritesFrontBut a b text pending
+whole_but {text = text} w = record { front = text; rest = []; split = sym (append-nil text); writes = w }
+
+-- a front was written but for what is pending, and then a front of that
+pub front_some : {a b c : SinkSeen} {text pending : List ℕ} → WritesFrontBut a b text pending → WritesFront b c pending → WritesFront a c text
+front_some p f = front_wider p.split (but_front p.writes f)
+
+-- a text was written but for its rest, and a front of the rest and a further text but for what is pending
+pub front_but_more : {a b c : SinkSeen} {text rest left : List ℕ} → WritesAllBut a b text rest → (more : List ℕ) → WritesFrontBut b c (rest ++ more) left → WritesFrontBut a c (text ++ more) left
+front_but_more {left = left} p more q = record {
+  front = p.front ++ q.front;
+  rest = q.rest;
+  split = split_more p more ∙ (ap (λ (x : List ℕ). p.front ++ x) q.split ∙ sym (append_assoc p.front q.front q.rest));
+  writes = record {
+    front = p.front ++ q.writes.front;
+    split = ap (λ (x : List ℕ). p.front ++ x) q.writes.split ∙ sym (append_assoc p.front q.writes.front left);
+    writes = Writes-trans p.writes q.writes.writes;
+    room_left = q.writes.room_left;
+  };
+}

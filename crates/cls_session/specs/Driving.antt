@@ -34,6 +34,13 @@ pub record WritesFront (sink sink' : SinkSeen) (text : List ℕ) : Type 0 where
   pub split : text ≡ front ++ rest
   pub held : Appends sink.held sink'.held front
 
+-- A front of the text was written but for what is pending of it, for which there is room.
+pub record WritesFrontBut (sink sink' : SinkSeen) (text pending : List ℕ) : Type 0 where
+  pub front : List ℕ
+  pub rest : List ℕ
+  pub split : text ≡ front ++ rest
+  pub writes : WritesAllBut sink sink' front pending
+
 -- What may stand written for the lines. The last of them may be the one at which the repository is refused.
 abbrev pub IsWritten : Options → List (List ℕ) → List ℕ → Type 0
 IsWritten o lines text = Transcript o lines text ⊎ IsRefused lines text
@@ -116,12 +123,12 @@ pub record RefusesPending (sink sink' : SinkSeen) (session : Standing) (text pen
       → (more : List (List ℕ)) × (rest reply : List ℕ) × CutsLines text more rest
       × IsRefused (lines ++ more) (written ++ reply) × WritesAllBut sink sink' reply pending
 
--- The run stopped at one of them, or between two: what may stand written for some first ones was written, but for what
--- is pending.
+-- The run stopped at one of them, or between two: what begins what may stand written for some first ones was written, but
+-- for what is pending.
 pub record LeavesPending (sink sink' : SinkSeen) (session : Standing) (text pending : List ℕ) : Type 0 where
   pub reply : (o : Options) (lines : List (List ℕ)) (written : List ℕ) → Stands o lines written session
       → (more : List (List ℕ)) × (rest reply : List ℕ) × CutsLines text more rest
-      × IsWritten o (lines ++ more) (written ++ reply) × WritesAllBut sink sink' reply pending
+      × IsWritten o (lines ++ more) (written ++ reply) × WritesFrontBut sink sink' reply pending
 
 -- THE LINES OF A TEXT THAT ENDS THE INPUT.
 
@@ -178,3 +185,15 @@ CountsFaults (Ok a) sink sink' = sink'.faults ≡ sink.faults
 CountsFaults (Err stops.Refused) sink sink' = sink'.faults ≡ sink.faults
 CountsFaults (Err stops.WriteFault) sink sink' = HasRisen sink.faults sink'.faults
 CountsFaults (Err stops.NoMemory) sink sink' = sink'.faults ≡ sink.faults
+
+-- WHILE A REPLY IS PRINTED. A part of the text was written but for what is pending, and the rest isn't printed.
+pub record PutsPart (sink sink' : SinkSeen) (text pending left : List ℕ) : Type 0 where
+  pub part : List ℕ
+  pub split : text ≡ part ++ left
+  pub writes : WritesAllBut sink sink' part pending
+
+-- A part of the text was written so far.
+pub record WritesPart (sink sink' : SinkSeen) (text left : List ℕ) : Type 0 where
+  pub part : List ℕ
+  pub split : text ≡ part ++ left
+  pub writes : Writes sink sink' part

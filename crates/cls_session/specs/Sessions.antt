@@ -1,22 +1,44 @@
 -- internal: what a session's answers mean
-use Rattle.std.specs.Prelude.{ℕ, ◌≡◌, List, [], ◌∷◌, ◌++◌, true, false, None, Some, string_bytes}
+use Rattle.std.specs.Prelude.{ℕ, ◌≡◌, List, [], ◌∷◌, ◌++◌, true, false, Option, None, Some, string_bytes}
 use Rattle.cls_base.specs.Firsts.{First, IsSilent}
 use Rattle.cls_engine.specs.declared.options.Options.{Options}
 use Rattle.cls_repo.specs.declared.fault.FaultKind.TheVariants as kinds
 use Rattle.cls_repo.specs.declared.fault.RepoFault.{RepoFault}
 use Rattle.cls_repo.specs.FaultWords.{OnWords}
 use Rattle.cls_repo.specs.Readings.{Reading, Takes, Refuses, closing_faults}
+use Rattle.cls_replies.specs.declared.printing.Printing.{Printing}
+use Rattle.cls_replies.specs.Printing.{IsPrintable, left_of}
 use Rattle.cls_replies.specs.Serving.{Serving, Serves}
 use Rattle.cls_session.specs.declared.session.Answer.{Answer}
 use Rattle.cls_session.specs.declared.session.Answer.TheVariants as answer
 use Rattle.cls_session.specs.Standings.{Standing, Stands}
 use Rattle.cls_session.specs.Transcripts.{refusal, IsRefused}
 
+-- What is left of a reply, by what answers the lines after the repository. Before that there is none.
+abbrev pub left_by : Option Serving → Printing → List ℕ
+left_by None p = []
+left_by (Some serving) p = left_of serving p
+
+abbrev pub reply_in : Standing → Printing → List ℕ
+reply_in s p = left_by s.serving p
+
+-- What is left of it can be printed.
+abbrev pub IsPrintableBy : Option Serving → Printing → Type 0
+IsPrintableBy None p = Unit {0}
+IsPrintableBy (Some serving) p = IsPrintable serving p
+
+abbrev pub IsPrintableIn : Standing → Printing → Type 0
+IsPrintableIn s p = IsPrintableBy s.serving p
+
+abbrev pub CanPrint : Standing → Answer → Type 0
+CanPrint s (answer.Reply p) = IsPrintableIn s p
+CanPrint s (answer.Refusal text) = Unit {0}
+
 -- Whatever the options are and whatever was fed and written before, the reply goes on with it, and the session knows the
 -- line from then on.
 abbrev pub IsAnswerTo : Standing → List ℕ → Answer → Standing → Type 0
-IsAnswerTo old line (answer.Reply text) new = (o : Options) (lines : List (List ℕ)) (written : List ℕ)
-    → Stands o lines written old → Stands o (lines ++ line ∷ []) (written ++ string_bytes text) new
+IsAnswerTo old line (answer.Reply p) new = (o : Options) (lines : List (List ℕ)) (written : List ℕ)
+    → Stands o lines written old → Stands o (lines ++ line ∷ []) (written ++ reply_in new p) new
 IsAnswerTo old line (answer.Refusal text) new = (o : Options) (lines : List (List ℕ)) (written : List ℕ)
     → Stands o lines written old → IsRefused (lines ++ line ∷ []) (written ++ string_bytes text)
 

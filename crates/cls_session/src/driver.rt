@@ -1,8 +1,11 @@
 ghost use Rattle.std.specs.Prelude.{◌≡◌, ℕ, ◌+◌, ◌^◌, ◌<◌, ◌≤◌, [], ◌++◌, length, OnOk};
 ghost use Rattle.cls_lexer.specs.Lines.{HasNoFeed};
+ghost use Rattle.cls_base.specs.Outside.{Holds};
+ghost use Rattle.cls_session.specs.Sessions.{IsPrintableIn, reply_in};
 ghost use Rattle.cls_session.specs.Standings.{lines_of_session};
 ghost use Rattle.cls_session.specs.declared.driver.Stop.TheVariants.{WriteFault, NoMemory};
 ghost use Rattle.cls_session.specs.Driving.{MatchStop, MatchEachStop, CountsFaults};
+ghost use Rattle.cls_session.specs.Driving.{Writes, WritesAllBut, WritesFront, WritesFrontBut};
 ghost use Rattle.cls_session.specs.Driving.{FitsLine, AnswersLine, RefusesLine, BreaksLine};
 ghost use Rattle.cls_session.specs.Driving.{FitsLines, AnswersLines, RefusesLines, BreaksLines};
 ghost use Rattle.cls_session.specs.Driving.{AnswersPending, RefusesPending, LeavesPending};
@@ -13,6 +16,7 @@ use crate::session::{Answer, Session};
 use crate::status::Status;
 use cls_base::{Failed, Gate, OutOfMemory, Sink};
 use cls_lexer::{Line, LineReader, Piece};
+use cls_replies::Printing;
 use std::alloc::Global;
 use std::mem;
 use std::sync::Wait;
@@ -65,14 +69,39 @@ pub fn answer_line<R: Threads + Wait + Sync, K: Sink, G: Gate + Sync>(
 {
     let answer = session.feed(rt, alloc, line, gate, &mut Vec::new(alloc))?;
     match answer {
-        Answer::Reply(text) => {
-            write_all(sink, text.as_bytes())?;
-            Ok(())
-        }
+        Answer::Reply(printing) => write_reply(alloc, session, printing, sink),
         Answer::Refusal(text) => {
             write_all(sink, text.as_bytes())?;
             Err(Stop::Refused)
         }
+    }
+}
+
+/// Prints a reply and writes it, one portion after another.
+fn write_reply<K: Sink>(
+    alloc: Global,
+    session: &mut Session,
+    printing: Printing,
+    sink: &mut K,
+) -> Result<(), Stop>
+    requires printable { IsPrintableIn session.old printing }
+    requires room { Holds (K.seen sink.old).room (length (reply_in session.old printing)) }
+    ensures written { let reply = reply_in session.old printing in MatchStop result
+        (λ _. Writes (K.seen sink.old) (K.seen sink.new) reply) ⊥
+        (WritesFront (K.seen sink.old) (K.seen sink.new) reply) }
+    ensures same { session.new ≡ session.old }
+    ensures faults { CountsFaults result (K.seen sink.old) (K.seen sink.new) }
+{
+    let mut left = printing;
+    'portions: loop {
+        let (portion, rest) = session.print(alloc, left)?;
+        let bytes = portion.as_bytes();
+        if bytes.is_empty() {
+            return Ok(());
+        }
+        write_all(sink, bytes)?;
+        session.reuse(portion);
+        left = rest;
     }
 }
 
@@ -144,16 +173,43 @@ fn collect_replies<R: Threads + Wait + Sync, K: Sink, G: Gate + Sync>(
         };
         let answer = session.feed(rt, alloc, line, gate, &mut room)?;
         match answer {
-            Answer::Reply(text) => {
-                pending.put(text.as_str(), sink)?;
-                session.reuse(text);
-            }
+            Answer::Reply(printing) => put_reply(alloc, session, printing, pending, sink)?,
             Answer::Refusal(text) => {
                 pending.put(text.as_str(), sink)?;
                 return Err(Stop::Refused);
             }
         }
         rest = after;
+    }
+}
+
+/// Prints a reply and puts it behind what is pending, one portion after another.
+fn put_reply<K: Sink>(
+    alloc: Global,
+    session: &mut Session,
+    printing: Printing,
+    pending: &mut PendingReplies,
+    sink: &mut K,
+) -> Result<(), Stop>
+    requires printable { IsPrintableIn session.old printing }
+    requires room { Holds (K.seen sink.old).room (length (pending.old ++ reply_in session.old printing)) }
+    ensures put { let text = pending.old ++ reply_in session.old printing in MatchEachStop result
+        (λ _. WritesAllBut (K.seen sink.old) (K.seen sink.new) text pending.new) ⊥
+        (WritesFront (K.seen sink.old) (K.seen sink.new) text)
+        (WritesFrontBut (K.seen sink.old) (K.seen sink.new) text pending.new) }
+    ensures same { session.new ≡ session.old }
+    ensures faults { CountsFaults result (K.seen sink.old) (K.seen sink.new) }
+{
+    let mut left = printing;
+    'portions: loop {
+        let (portion, rest) = session.print(alloc, left)?;
+        let text = portion.as_str();
+        if text.is_empty() {
+            return Ok(());
+        }
+        pending.put(text, sink)?;
+        session.reuse(portion);
+        left = rest;
     }
 }
 

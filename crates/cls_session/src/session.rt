@@ -5,7 +5,7 @@ ghost use Rattle.cls_engine.specs.Options.{AreInRange};
 ghost use Rattle.cls_repo.specs.FaultWords.{IsSaid};
 ghost use Rattle.cls_repo.specs.Readings.{closing_faults, no_reading};
 ghost use Rattle.cls_replies.specs.Serving.{Serves};
-ghost use Rattle.cls_session.specs.Sessions.{IsAnswerTo, Declares, IsFaultAt, SaysFault};
+ghost use Rattle.cls_session.specs.Sessions.{CanPrint, IsAnswerTo, IsPrintableIn, Declares, IsFaultAt, SaysFault, reply_in};
 ghost use Rattle.cls_session.specs.Standings.{Stands, lines_of_session};
 ghost use Rattle.cls_session.specs.Transcripts.{Ending, refusal};
 
@@ -13,7 +13,7 @@ use crate::status::Status;
 use cls_base::{Gate, OutOfMemory};
 use cls_engine::Options;
 use cls_lexer::{Line, Token};
-use cls_replies::Serving;
+use cls_replies::{Printing, Serving};
 use cls_repo::{FaultKind, RepoFault, RepoReader};
 use itoa::Buffer;
 use std::alloc::Global;
@@ -25,8 +25,8 @@ use std::thread::Threads;
 /// What a session answers to a line.
 #[derive(Drop)]
 pub enum Answer {
-    /// This is written, and the session goes on. A line that asks for nothing has the empty reply.
-    Reply(String),
+    /// This is printed and written, and the session goes on. A line that asks for nothing has the empty reply.
+    Reply(Printing),
     /// This is written, and the session ends: the line is the first fault of the repository.
     Refusal(String),
 }
@@ -101,14 +101,34 @@ impl Session {
     ) -> Result<Answer, OutOfMemory>
         requires few_lines { lines_of_session self.old + 1 < 2 ^ 32 }
         ensures answered { IfOk result (λ answer. IsAnswerTo self.old line.entry answer self.new) }
+        ensures printable { IfOk result (CanPrint self.new) }
         ensures counted { OnOk result (lines_of_session self.new ≤ lines_of_session self.old + 1) }
     {
         if let Some(serving) = &mut self.serving {
             return Ok(Answer::Reply(serving.feed(rt, alloc, line, gate, room)?));
         }
         match self.declare(alloc, &line, room) {
-            Ok(()) => Ok(Answer::Reply(String::new(alloc))),
+            Ok(()) => Ok(Answer::Reply(Printing::nothing())),
             Err(fault) => Ok(Answer::Refusal(refusal(alloc, &fault)?)),
+        }
+    }
+
+    /// The next portion of a reply to the last line, and what is left of the reply behind it. The portion is empty if and only if
+    /// nothing was left. The only error is out of memory.
+    pub fn print(
+        &mut self,
+        alloc: Global,
+        printing: Printing,
+    ) -> Result<(String, Printing), OutOfMemory>
+        requires { IsPrintableIn self.old printing }
+        ensures portion { IfOk result (λ r. reply_in self.old printing ≡ string_bytes r.0 ++ reply_in self.old r.1) }
+        ensures ended { IfOk result (λ r. string_bytes r.0 ≡ [] → reply_in self.old r.1 ≡ []) }
+        ensures printable { IfOk result (λ r. IsPrintableIn self.old r.1) }
+        ensures same { self.new ≡ self.old }
+    {
+        match &mut self.serving {
+            Some(serving) => serving.print(alloc, printing),
+            None => Ok((String::new(alloc), printing)),
         }
     }
 

@@ -180,12 +180,20 @@ fn at_most_65536_bytes_of_replies_are_written_together(rt: HostRuntime) -> Resul
 }
 
 #[test]
-fn a_reply_of_more_bytes_is_a_piece_of_its_own(rt: HostRuntime) -> Result<(), Fail> {
-    let short = "list omega max 1 take 1\n";
-    let long = "list omega max 8 take 300\n";
-    let short_reply = reply_length(&rt, rt.alloc(), short)?;
-    let long_reply = reply_length(&rt, rt.alloc(), long)?;
-    assert!(rt; long_reply > 65_536);
-    let lengths = [short_reply, long_reply, short_reply];
-    assert_lengths(&rt, rt.alloc(), &[short, long, short], &lengths)
+fn a_reply_of_more_bytes_is_written_in_portions(rt: HostRuntime) -> Result<(), Fail> {
+    let query = "list omega max 8 take 300\n";
+    let reply = reply_length(&rt, rt.alloc(), query)?;
+    assert!(rt; reply > 65_536);
+    let mut input = ONE_COMPONENT.to_vec(rt.alloc())?;
+    input.extend_from_slice(query.as_bytes())?;
+    let pieces = offered(&rt, rt.alloc(), input.as_slice(), WHOLE, WHOLE)?;
+    assert!(rt; pieces.len() > 1);
+    let mut total: usize = 0;
+    for piece in pieces.iter() {
+        assert!(rt; piece.len() <= 65_536);
+        assert!(rt; piece.ends_with(b"\n"));
+        total = total.saturating_add(piece.len());
+    }
+    assert_eq!(rt; total, reply);
+    Ok(())
 }

@@ -1,4 +1,4 @@
-ghost use Rattle.std.specs.Prelude.{◌≡◌, ℕ, ◌<◌, [], ◌∷◌, ◌++◌, IfOk, List, OnOk, OnErr, flat_map, length, map, string_bytes};
+ghost use Rattle.std.specs.Prelude.{◌≡◌, ℕ, ◌<◌, ◌≤◌, [], ◌∷◌, ◌++◌, IfOk, List, OnOk, OnErr, drop, flat_map, length, map, string_bytes};
 ghost use Rattle.cls_base.specs.Terms.{Applicative, code_of};
 ghost use Rattle.cls_term.specs.Banks.{at};
 ghost use Rattle.cls_term.specs.Texts.{line_of, name_at, text_of};
@@ -106,29 +106,39 @@ impl CodedTerms {
         Ok(())
     }
 
-    /// Writes a line for each term at the end: the word, the text of the term as [`Term::print`] gives it, and a line
-    /// feed. What a term begins with like the one before it is copied. The only error is out of memory, and then a part
-    /// of the lines may stand there.
+    /// Writes a line for each term from a place on at the end, until the text has enough bytes: the word, the text of the
+    /// term as [`Term::print`] gives it, and a line feed. What a term begins with like the one before it is copied. The
+    /// answer is the place of the first term that isn't written. The only error is out of memory, and then a part of the
+    /// lines may stand there.
     #[tactic(auto, using(crate::proofs::CodeLists::lists))]
     pub fn write_lines(
         &self,
         alloc: Global,
         word: &str,
         components: &Names,
+        from: usize,
+        enough: usize,
         text: &mut String,
-    ) -> Result<(), OutOfMemory>
-        ensures { OnOk result (string_bytes text.new
-            ≡ string_bytes text.old ++ flat_map (line_of word.now (name_at components.now)) self.now) }
+    ) -> Result<usize, OutOfMemory>
+        requires { from ≤ length self.now }
+        ensures within { IfOk result (λ next. next ≤ length self.now) }
+        ensures lines { let lines = flat_map (line_of word.now (name_at components.now)) in IfOk result (λ next.
+            string_bytes text.new ++ lines (drop next self.now) ≡ string_bytes text.old ++ lines (drop from self.now)) }
+        ensures full { IfOk result (λ next. next < length self.now → enough ≤ length (string_bytes text.new)) }
     {
+        let count = self.len();
         let mut line = Line::new(alloc, word)?;
         let mut before: &[u32] = &[];
-        for place in 0..self.len() {
+        for place in from..count {
+            if text.len() >= enough {
+                return Ok(place);
+            }
             let code = self.code(place);
             line.write(before, code, components)?;
             text.push_str(line.as_str())?;
             text.push('\n')?;
             before = code;
         }
-        Ok(())
+        Ok(count)
     }
 }

@@ -4,5 +4,5 @@ use Rattle.cls_path.specs.Paths.{listed}
 use Rattle.cls_replies.specs.Texts.{path_lines}
 use Rattle.cls_replies.proofs.paths.print_paths.Given as goal
 
-abbrev pub invariant-loop-path : goal.invariant-loop-path
-invariant-loop-path l = string_bytes l.text ++ path_lines l.names (listed (drop l.path-index l.path-items)) ≡ path_lines l.names (listed l.path-items)
+abbrev pub invariant-loop-place : goal.invariant-loop-place
+invariant-loop-place l = string_bytes l.text ++ path_lines l.names (listed (drop l.place l.items)) ≡ string_bytes l.initial.text ++ path_lines l.names (listed (drop l.from l.items))

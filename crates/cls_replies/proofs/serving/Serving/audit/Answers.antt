@@ -1,28 +1,36 @@
-use Rattle.std.proofs.Common.{sym, subst}
-use Rattle.std.specs.Prelude.{IfOk, string_bytes}
+use Rattle.std.proofs.Common.{◌≡◌, subst}
+use Rattle.std.specs.Prelude.{IfOk}
 use Rattle.std.proofs.lemmas.Result.{IfOk-weaker}
 use Rattle.cls_base.specs.Ty.{type_of}
 use Rattle.cls_query.specs.Queries.{audit}
 use Rattle.cls_replies.specs.Answering.{Answers}
+use Rattle.cls_replies.specs.Printing.{left_of}
 use Rattle.cls_replies.specs.Replies.{Reply}
 use Rattle.cls_replies.specs.Serving.{Serving, serving_of}
 use Rattle.cls_replies.specs.Steps.{held_lines}
-use Rattle.std.proofs.Common.{◌≡◌}
 use Rattle.cls_replies.specs.Texts.{history_text}
 use Rattle.cls_replies.proofs.Faulting.{fault_answers, reply_answers}
 use Rattle.cls_replies.proofs.serving.Serving.audit.Goals as goal
-use Rattle.cls_replies.proofs.serving.Serving.audit.Goals.{in-Ok, in-Err}
 
-pub returns-clause-answers : goal.returns-clause-answers
-returns-clause-answers g c =
+pub returns-in-Ok-clause-answers : goal.returns-in-Ok-clause-answers
+returns-in-Ok-clause-answers g c =
     let i = c.self.inside in
     let s = serving_of i.names i.components i.templates i.engine (held_lines i.held) in
     let q = audit (type_of c.args.ty.now) in
-    subst (λ (s : Serving). IfOk c.match-audit.result (λ text. Answers s q (string_bytes text))) c.self.view_is
-    (elim c.match-audit.branch [
-      | in-Ok w ↦ subst (λ r. IfOk r (λ text. Answers s q (string_bytes text))) (sym w.result-is)
-          (reply_answers string_bytes w.print_history.result s q w.in-Ok.ensures.silent
-          (IfOk-weaker w.print_history.result (λ text. string_bytes text ≡ history_text w.in-Ok.history) (λ text. Reply s q (string_bytes text)) (λ text e. let t : Reply s q (string_bytes text) = (w.in-Ok.history, w.in-Ok.ensures.history, e) in t) w.print_history.ensures))
-      | in-Err w ↦ subst (λ r. IfOk r (λ text. Answers s q (string_bytes text))) (sym w.result-is)
-          (fault_answers string_bytes w.engine_fault.result s q w.in-Err.fault w.in-Err.ensures.fault w.engine_fault.ensures)
-    ])
+    subst (λ (z : Serving). IfOk c.history_printing.result (λ p. Answers z q (left_of z p))) c.self.view_is
+    (reply_answers (left_of s) c.history_printing.result s q c.in-Ok.ensures.silent
+    (IfOk-weaker c.history_printing.result (λ p. left_of s p ≡ history_text c.in-Ok.history) (λ p. Reply s q (left_of s p)) (λ p e. let t : Reply s q (left_of s p) = (c.in-Ok.history, c.in-Ok.ensures.history, e) in t) (c.history_printing.ensures.text s)))
+
+pub returns-in-Ok-clause-printable : goal.returns-in-Ok-clause-printable
+returns-in-Ok-clause-printable g c = c.history_printing.ensures.printable c.args.self.now
+
+pub returns-in-Err-clause-answers : goal.returns-in-Err-clause-answers
+returns-in-Err-clause-answers g c =
+    let i = c.self.inside in
+    let s = serving_of i.names i.components i.templates i.engine (held_lines i.held) in
+    let q = audit (type_of c.args.ty.now) in
+    subst (λ (z : Serving). IfOk c.fault_printing.result (λ p. Answers z q (left_of z p))) c.self.view_is
+    (fault_answers (left_of s) c.fault_printing.result s q c.in-Err.fault c.in-Err.ensures.fault (c.fault_printing.ensures.text s))
+
+pub returns-in-Err-clause-printable : goal.returns-in-Err-clause-printable
+returns-in-Err-clause-printable g c = c.fault_printing.ensures.printable c.args.self.now

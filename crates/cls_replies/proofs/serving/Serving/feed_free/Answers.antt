@@ -1,15 +1,22 @@
-use Rattle.std.proofs.Common.{subst}
-use Rattle.std.specs.Prelude.{string_bytes}
+use Rattle.std.proofs.Common.{refl, subst}
 use Rattle.std.proofs.lemmas.Result.{IfOk-weaker}
+use Rattle.cls_lexer.specs.Skipped.{IsSkipped}
 use Rattle.cls_replies.specs.Answering.{Answered}
 use Rattle.cls_replies.specs.LineKinds.{IsSingle}
 use Rattle.cls_replies.specs.Lines.{Goes}
 use Rattle.cls_replies.specs.Lines as lines
+use Rattle.cls_replies.specs.Printing.{left_of}
 use Rattle.cls_replies.specs.Steps.{IsOfKind}
 use Rattle.cls_replies.proofs.serving.Serving.feed_free.Goals as goal
+
+pub returns-in-Skipped-clause-goes : goal.returns-in-Skipped-clause-goes
+returns-in-Skipped-clause-goes g c =
+    let skipped : IsSkipped c.args.line = subst (IsOfKind c.args.line) c.in-Skipped.is c.in_ok-kind_of.ensures in
+    lines.Goes.skips c.requires skipped (c.nothing.ensures.text c.args.self.now) refl
 
 pub returns-in-Single-clause-goes : goal.returns-in-Single-clause-goes
 returns-in-Single-clause-goes g c =
     let single : IsSingle c.args.line = subst (IsOfKind c.args.line) c.in-Single.is c.in_ok-kind_of.ensures in
-    IfOk-weaker c.ask.result (λ text. Answered c.args.self.now c.args.line (string_bytes text) c.ask.new.self) (λ text. Goes c.args.self.now c.args.line (string_bytes text) c.ask.new.self)
-    (λ text a. lines.Goes.asks c.requires single a) c.ask.ensures.answered
+    let new = c.ask.new.self in
+    IfOk-weaker c.ask.result (λ p. Answered c.args.self.now c.args.line (left_of new p) new) (λ p. Goes c.args.self.now c.args.line (left_of new p) new)
+    (λ p a. lines.Goes.asks c.requires single a) c.ask.ensures.answered

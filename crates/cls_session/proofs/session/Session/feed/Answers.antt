@@ -4,6 +4,7 @@ use Rattle.cls_repo.specs.FaultWords.{IsSaid}
 use Rattle.cls_session.specs.Sessions.{Declares, IsFaultAt}
 use Rattle.cls_session.specs.Standings.{Standing}
 use Rattle.cls_session.proofs.Opening.{none_of, answers_declared, answers_fault}
+use Rattle.cls_session.proofs.Portions.{nothing_left_by, nothing_printable}
 use Rattle.cls_session.proofs.Standings.{Stands-goes}
 use Rattle.cls_session.proofs.session.Session.feed.Goals as goal
 
@@ -18,7 +19,13 @@ pub returns-in-Ok-clause-answered : goal.returns-in-Ok-clause-answered
 returns-in-Ok-clause-answered g c =
     let none : c.args.self.now.serving ≡ None = sym (ap (λ (s : Standing). s.serving) c.self.view_is) ∙ none_of c.self.inside.serving c.in_default.not-Some in
     answers_declared c.args.self.now c.declare.new.self c.args.line _ none
-    (subst (λ (s : Standing). Declares s c.args.line c.declare.new.self) c.self.view_is c.in-Ok.ensures.declared) c.new.ensures.bytes
+    (subst (λ (s : Standing). Declares s c.args.line c.declare.new.self) c.self.view_is c.in-Ok.ensures.declared) (nothing_left_by c.declare.new.self.serving c.nothing.result c.nothing.ensures.text)
+
+pub returns-in-Some-clause-printable : goal.returns-in-Some-clause-printable
+returns-in-Some-clause-printable g c = c.in_ok-feed.ensures.printable
+
+pub returns-in-Ok-clause-printable : goal.returns-in-Ok-clause-printable
+returns-in-Ok-clause-printable g c = nothing_printable c.declare.new.self.serving c.nothing.result c.nothing.ensures.printable
 
 pub returns-clause-answered : goal.returns-clause-answered
 returns-clause-answered g c =

@@ -1,0 +1,35 @@
+use Rattle.std.proofs.Common.{◌∙◌, ◌++◌, List, ℕ, ap, sym, append-nil, string_bytes}
+use Rattle.cls_replies.specs.Printing.{left_lines}
+use Rattle.cls_replies.proofs.serving.Serving.print.Goals as goal
+
+pub returns-in-Nothing-clause-portion : goal.returns-in-Nothing-clause-portion
+returns-in-Nothing-clause-portion c =
+    let s = c.args.self.now in
+    rw (← c.into_left-left.ensures, c.in-Nothing.is) (sym ((λ j. c.new.ensures.bytes j ++ c.nothing.ensures.text s j)))
+
+pub returns-in-Text-clause-portion : goal.returns-in-Text-clause-portion
+returns-in-Text-clause-portion c =
+    let s = c.args.self.now in
+    let text = string_bytes c.in-Text.text in
+    rw (← c.into_left-left.ensures, c.in-Text.is) (sym (append-nil text) ∙ ap (λ (v : List ℕ). text ++ v) (sym (c.nothing-in-Text.ensures.text s)))
+
+pub write_lines-requires : goal.write_lines-requires
+write_lines-requires c =
+    let left = rw (← c.into_left-left.ensures) at c.requires in
+    let printable = rw c.in-Lines.is at left in
+    rw c.empty_text.ensures.same printable
+
+pub returns-in_ok-rest-in-Lines-clause-portion : goal.returns-in_ok-rest-in-Lines-clause-portion
+returns-in_ok-rest-in-Lines-clause-portion c =
+    let rest = rw c.empty_text.ensures.same at c.in_ok-rest-in-Lines.ensures.rest in
+    rw (← c.into_left-left.ensures, c.in-Lines.is) (sym (rest.lines ∙ ap (λ (v : List ℕ). v ++ left_lines c.args.self.now c.in-Lines.lines) c.empty_text.ensures.empty))
+
+pub returns-in_ok-rest-in-Lines-clause-ended : goal.returns-in_ok-rest-in-Lines-clause-ended
+returns-in_ok-rest-in-Lines-clause-ended c =
+    let rest = rw c.empty_text.ensures.same at c.in_ok-rest-in-Lines.ensures.rest in
+    rest.full
+
+pub returns-in_ok-rest-in-Lines-clause-printable : goal.returns-in_ok-rest-in-Lines-clause-printable
+returns-in_ok-rest-in-Lines-clause-printable c =
+    let rest = rw c.empty_text.ensures.same at c.in_ok-rest-in-Lines.ensures.rest in
+    rest.printable

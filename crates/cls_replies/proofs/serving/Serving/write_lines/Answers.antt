@@ -1,0 +1,34 @@
+use Rattle.cls_replies.proofs.serving.Serving.write_lines.Goals as goal
+
+pub write_terms-requires : goal.write_terms-requires
+write_terms-requires c = rw c.in-Terms.is at c.requires
+
+pub returns-in-Terms-clause-rest : goal.returns-in-Terms-clause-rest
+returns-in-Terms-clause-rest c = rw c.in-Terms.is c.write_terms.ensures
+
+pub write_texts-requires-clause-place : goal.write_texts-requires-clause-place
+write_texts-requires-clause-place c = let printable = rw c.in-Texts.is at c.requires in printable.0
+
+pub write_texts-requires-clause-named : goal.write_texts-requires-clause-named
+write_texts-requires-clause-named c = let printable = rw c.in-Texts.is at c.requires in printable.1
+
+pub returns-in-Texts-clause-rest : goal.returns-in-Texts-clause-rest
+returns-in-Texts-clause-rest c = rw c.in-Texts.is c.write_texts.ensures
+
+pub write_grammar-requires-clause-ranked : goal.write_grammar-requires-clause-ranked
+write_grammar-requires-clause-ranked c = let printable = rw c.in-Grammar.is at c.requires in printable.0
+
+pub write_grammar-requires-clause-place : goal.write_grammar-requires-clause-place
+write_grammar-requires-clause-place c = let printable = rw c.in-Grammar.is at c.requires in printable.1.0
+
+pub write_grammar-requires-clause-of_goal : goal.write_grammar-requires-clause-of_goal
+write_grammar-requires-clause-of_goal c = let printable = rw c.in-Grammar.is at c.requires in printable.1.1
+
+pub returns-in-Grammar-clause-rest : goal.returns-in-Grammar-clause-rest
+returns-in-Grammar-clause-rest c = rw c.in-Grammar.is c.write_grammar.ensures.rest
+
+pub write_paths-requires : goal.write_paths-requires
+write_paths-requires c = rw c.in-Paths.is at c.requires
+
+pub returns-in-Paths-clause-rest : goal.returns-in-Paths-clause-rest
+returns-in-Paths-clause-rest c = rw c.in-Paths.is c.write_paths.ensures

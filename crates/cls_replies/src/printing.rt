@@ -1,0 +1,356 @@
+//! A reply while it is printed.
+ghost use Rattle.std.specs.Prelude.{◌≡◌, ◌<◌, ◌≤◌, ◌++◌, All, [], IfOk, length, string_bytes};
+ghost use Rattle.cls_base.specs.Terms.{IsTermOver};
+ghost use Rattle.cls_grammar.specs.GrammarTexts.{IsGrammarText, IsPlaceIn, lines_from};
+ghost use Rattle.cls_grammar.specs.Grammars.{book_of};
+ghost use Rattle.cls_grammar.specs.Ranks.{AreRanks};
+ghost use Rattle.cls_library.specs.Libraries.{paths_at};
+ghost use Rattle.cls_replies.specs.Printing.{ArePrintable, IsOfGoal, IsPrintable, behind, left_lines, left_of, page_left};
+ghost use Rattle.cls_replies.specs.Serving as serving;
+ghost use Rattle.cls_replies.specs.Steps.{IsFaultLine};
+ghost use Rattle.cls_replies.specs.Rests.{IsPrintingOf, IsRest};
+ghost use Rattle.cls_proof.specs.Seen.{certificate_of};
+ghost use Rattle.cls_proof.specs.Texts.{certificate_text};
+ghost use Rattle.cls_replies.specs.Texts.{history_text, page_text, paths_text, sizes_text, term_line, term_lines};
+ghost use Rattle.cls_syntax.specs.TypePrinting.{name_in};
+ghost use Rattle.cls_term.specs.Texts.{name_at};
+
+use crate::events::print_history;
+use crate::faults::engine_fault;
+use crate::pages::{print_terms, print_texts};
+use crate::paths::print_paths;
+use crate::serving::Serving;
+use crate::sizes::print_sizes;
+use cls_base::OutOfMemory;
+use cls_core::History;
+use cls_engine::EngineFault;
+use cls_enum::Page;
+use cls_finite::FiniteAnswer;
+use cls_grammar::{Grammar, GrammarPlace, Ranks};
+use cls_lexer::Names;
+use cls_proof::{Certificate, print_certificate};
+use std::alloc::Global;
+
+/// So many bytes of lines are enough for a portion, 32 KiB.
+const PORTION_BYTES: usize = 32_768;
+
+/// Lines that aren't printed yet: what they are printed from, and where they go on.
+#[derive(Drop)]
+pub(crate) enum Lines {
+    /// The terms of a page from a place on, and the last line.
+    Terms { page: Page, place: usize },
+    /// The same with the text of each term.
+    Texts { page: Page, place: usize },
+    /// The lines of a grammar.
+    Grammar {
+        grammar: Grammar,
+        ranks: Ranks,
+        place: GrammarPlace,
+    },
+    /// The paths of a component from a place on, and the last line.
+    Paths { component: u32, place: usize },
+}
+
+/// What is left of a reply.
+#[derive(Drop)]
+pub(crate) enum Left {
+    /// Nothing.
+    Nothing,
+    /// A text, which is printed already.
+    Text(String),
+    /// Lines that are printed when they are asked for.
+    Lines(Lines),
+}
+
+/// A reply, as far as it wasn't taken yet. Its text is taken in portions by [`Serving::print`], which prints them.
+pub struct Printing {
+    pub(crate) left: Left,
+}
+
+// Not derived, for the prover: so a caller's proof has one step where a value is dropped, and not one for each part of it.
+impl Drop for Printing {
+    fn drop(self) {
+        let Printing { left: _ } = self;
+    }
+}
+
+impl Printing {
+    /// The empty reply.
+    pub fn nothing() -> Printing
+        ensures text { (s : serving.Serving) → left_of s result ≡ [] }
+        ensures printable { (s : serving.Serving) → IsPrintable s result }
+    {
+        Printing {
+            left: Left::Nothing,
+        }
+    }
+
+    /// A reply that is printed already.
+    pub(crate) fn of_text(text: String) -> Printing
+        ensures text { (s : serving.Serving) → left_of s result ≡ string_bytes text }
+        ensures printable { (s : serving.Serving) → IsPrintable s result }
+    {
+        Printing {
+            left: Left::Text(text),
+        }
+    }
+
+    fn into_left(self) -> Left
+        ensures { result ≡ self.left }
+    {
+        let Printing { left } = self;
+        left
+    }
+
+    fn of_lines(lines: Lines) -> Printing
+        ensures text { (s : serving.Serving) → left_of s result ≡ left_lines s lines }
+        ensures printable { (s : serving.Serving) → ArePrintable s lines → IsPrintable s result }
+    {
+        Printing {
+            left: Left::Lines(lines),
+        }
+    }
+}
+
+/// The reply that is printed already, if it was.
+pub(crate) fn text_printing(text: Result<String, OutOfMemory>) -> Result<Printing, OutOfMemory>
+    ensures text { IsPrintingOf text result }
+    ensures printable { (s : serving.Serving) → IfOk result (IsPrintable s) }
+{
+    match text {
+        Ok(text) => Ok(Printing::of_text(text)),
+        Err(fault) => Err(fault),
+    }
+}
+
+/// The reply that says what the engine can't do. The only error is out of memory, which is also the answer where that is the
+/// fault.
+pub(crate) fn fault_printing(
+    alloc: Global,
+    names: &Names,
+    fault: EngineFault,
+) -> Result<Printing, OutOfMemory>
+    ensures text { (s : serving.Serving) → IfOk result (λ p. IsFaultLine names.now fault (left_of s p)) }
+    ensures printable { (s : serving.Serving) → IfOk result (IsPrintable s) }
+{
+    text_printing(engine_fault(alloc, names, fault))
+}
+
+/// The grammar with the ranks of its goals. The only error is out of memory.
+pub(crate) fn grammar_printing(alloc: Global, grammar: Grammar) -> Result<Printing, OutOfMemory>
+    ensures text { (s : serving.Serving)
+        → IfOk result (λ p. IsGrammarText (name_in s.names) (name_in s.components) grammar (left_of s p)) }
+    ensures printable { (s : serving.Serving) → IsOfGoal s grammar → IfOk result (IsPrintable s) }
+{
+    let ranks = grammar.ranks(alloc)?;
+    Ok(Printing::of_lines(Lines::Grammar {
+        grammar,
+        ranks,
+        place: GrammarPlace::Counts,
+    }))
+}
+
+/// The lines of a certificate. The only error is out of memory.
+pub(crate) fn certificate_printing(
+    alloc: Global,
+    names: &Names,
+    components: &Names,
+    certificate: Certificate,
+) -> Result<Printing, OutOfMemory>
+    ensures text { (s : serving.Serving) → IfOk result (λ p.
+        left_of s p ≡ certificate_text names.now components.now (certificate_of certificate)) }
+    ensures printable { (s : serving.Serving) → IfOk result (IsPrintable s) }
+{
+    text_printing(print_certificate(alloc, names, components, &certificate))
+}
+
+/// The lines of a history. The only error is out of memory.
+pub(crate) fn history_printing(alloc: Global, history: History) -> Result<Printing, OutOfMemory>
+    ensures text { (s : serving.Serving) → IfOk result (λ p. left_of s p ≡ history_text history) }
+    ensures printable { (s : serving.Serving) → IfOk result (IsPrintable s) }
+{
+    text_printing(print_history(alloc, &history))
+}
+
+/// The lines of sizes. The only error is out of memory.
+pub(crate) fn sizes_printing(alloc: Global, sizes: FiniteAnswer) -> Result<Printing, OutOfMemory>
+    ensures text { (s : serving.Serving) → IfOk result (λ p. left_of s p ≡ sizes_text sizes) }
+    ensures printable { (s : serving.Serving) → IfOk result (IsPrintable s) }
+{
+    text_printing(print_sizes(alloc, &sizes))
+}
+
+/// The terms of the page.
+pub(crate) fn terms_printing(page: Page) -> Printing
+    ensures text { (s : serving.Serving)
+        → left_of s result ≡ page_text (term_line (name_at s.components)) page.terms page.more }
+    ensures printable { (s : serving.Serving) → IsPrintable s result }
+{
+    Printing::of_lines(Lines::Terms { page, place: 0 })
+}
+
+/// The terms of the page, each with its text.
+pub(crate) fn texts_printing(page: Page) -> Printing
+    ensures text { (s : serving.Serving)
+        → left_of s result ≡ page_text (term_lines (name_at s.components) s.templates) page.terms page.more }
+    ensures printable { (s : serving.Serving)
+        → All (IsTermOver (length s.components)) page.terms → IsPrintable s result }
+{
+    Printing::of_lines(Lines::Texts { page, place: 0 })
+}
+
+/// The paths of the component.
+pub(crate) fn paths_printing(component: u32) -> Printing
+    ensures text { (s : serving.Serving)
+        → left_of s result ≡ paths_text s.names (paths_at s.engine.library component) }
+    ensures printable { (s : serving.Serving) → component < length s.components → IsPrintable s result }
+{
+    Printing::of_lines(Lines::Paths {
+        component,
+        place: 0,
+    })
+}
+
+impl Serving {
+    /// The next portion of the reply, and what is left behind it. A portion is lines up to the first end of a line behind
+    /// 32 KiB, or a text that was printed already. It is empty if and only if nothing is left. The only error is out of memory.
+    pub fn print(
+        &mut self,
+        alloc: Global,
+        printing: Printing,
+    ) -> Result<(String, Printing), OutOfMemory>
+        requires { IsPrintable self.old printing }
+        ensures portion { IfOk result (λ r. left_of self.old printing ≡ string_bytes r.0 ++ left_of self.old r.1) }
+        ensures ended { IfOk result (λ r. string_bytes r.0 ≡ [] → left_of self.old r.1 ≡ []) }
+        ensures printable { IfOk result (λ r. IsPrintable self.old r.1) }
+        ensures same { self.new ≡ self.old }
+    {
+        let left = printing.into_left();
+        match left {
+            Left::Nothing => Ok((String::new(alloc), Printing::nothing())),
+            Left::Text(text) => Ok((text, Printing::nothing())),
+            Left::Lines(lines) => {
+                let mut portion = self.empty_text(alloc);
+                let rest = self.write_lines(alloc, lines, &mut portion)?;
+                Ok((portion, Printing { left: rest }))
+            }
+        }
+    }
+
+    /// Writes lines at the end until they are enough, and gives what is left of them.
+    fn write_lines(
+        &mut self,
+        alloc: Global,
+        lines: Lines,
+        text: &mut String,
+    ) -> Result<Left, OutOfMemory>
+        requires { ArePrintable self.old lines }
+        ensures rest { IfOk result
+            (IsRest self.old (left_lines self.old lines) (string_bytes text.old) (string_bytes text.new)) }
+        ensures same { self.new ≡ self.old }
+    {
+        match lines {
+            Lines::Terms { page, place } => self.write_terms(alloc, page, place, text),
+            Lines::Texts { page, place } => self.write_texts(alloc, page, place, text),
+            Lines::Grammar {
+                grammar,
+                ranks,
+                place,
+            } => self.write_grammar(alloc, grammar, ranks, place, text),
+            Lines::Paths { component, place } => self.write_paths(alloc, component, place, text),
+        }
+    }
+
+    fn write_terms(
+        &self,
+        alloc: Global,
+        page: Page,
+        place: usize,
+        text: &mut String,
+    ) -> Result<Left, OutOfMemory>
+        requires { place ≤ length page.terms }
+        ensures { IfOk result (IsRest self.now (page_left (term_line (name_at self.now.components)) page place)
+            (string_bytes text.old) (string_bytes text.new)) }
+    {
+        let next = print_terms(alloc, &page, place, &self.components, PORTION_BYTES, text)?;
+        match next {
+            Some(place) => Ok(Left::Lines(Lines::Terms { page, place })),
+            None => Ok(Left::Nothing),
+        }
+    }
+
+    fn write_texts(
+        &self,
+        alloc: Global,
+        page: Page,
+        place: usize,
+        text: &mut String,
+    ) -> Result<Left, OutOfMemory>
+        requires place { place ≤ length page.terms }
+        requires named { All (IsTermOver (length self.now.components)) page.terms }
+        ensures { IfOk result (IsRest self.now
+            (page_left (term_lines (name_at self.now.components) self.now.templates) page place)
+            (string_bytes text.old) (string_bytes text.new)) }
+    {
+        let (components, templates) = (&self.components, &self.templates);
+        let enough = PORTION_BYTES;
+        let next = print_texts(alloc, &page, place, components, templates, enough, text)?;
+        match next {
+            Some(place) => Ok(Left::Lines(Lines::Texts { page, place })),
+            None => Ok(Left::Nothing),
+        }
+    }
+
+    /// The engine takes the grammar back when its last line is written.
+    fn write_grammar(
+        &mut self,
+        alloc: Global,
+        grammar: Grammar,
+        ranks: Ranks,
+        place: GrammarPlace,
+        text: &mut String,
+    ) -> Result<Left, OutOfMemory>
+        requires ranked { AreRanks (book_of grammar) ranks }
+        requires place { IsPlaceIn grammar place }
+        requires of_goal { IsOfGoal self.old grammar }
+        ensures rest { IfOk result (IsRest self.old
+            (lines_from (name_in self.old.names) (name_in self.old.components) grammar ranks place)
+            (string_bytes text.old) (string_bytes text.new)) }
+        ensures same { self.new ≡ self.old }
+    {
+        let (names, components) = (&self.names, &self.components);
+        let enough = PORTION_BYTES;
+        let next = grammar.write_lines(alloc, names, components, &ranks, place, enough, text)?;
+        match next {
+            Some(place) => Ok(Left::Lines(Lines::Grammar {
+                grammar,
+                ranks,
+                place,
+            })),
+            None => {
+                self.engine.take_back(grammar);
+                Ok(Left::Nothing)
+            }
+        }
+    }
+
+    fn write_paths(
+        &self,
+        alloc: Global,
+        component: u32,
+        place: usize,
+        text: &mut String,
+    ) -> Result<Left, OutOfMemory>
+        requires { component < length self.now.components }
+        ensures { IfOk result (IsRest self.now
+            (paths_text self.now.names (behind place (paths_at self.now.engine.library component)))
+            (string_bytes text.old) (string_bytes text.new)) }
+    {
+        let paths = self.engine.library().paths(component);
+        let next = print_paths(alloc, &self.names, paths, place, PORTION_BYTES, text)?;
+        match next {
+            Some(place) => Ok(Left::Lines(Lines::Paths { component, place })),
+            None => Ok(Left::Nothing),
+        }
+    }
+}

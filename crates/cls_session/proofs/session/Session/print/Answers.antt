@@ -1,0 +1,39 @@
+use Rattle.std.proofs.Common.{◌≡◌, ◌++◌, ◌∙◌, [], sym, ap, refl, subst, string_bytes}
+use Rattle.std.specs.Prelude.{Option, None, Some, IfOk}
+use Rattle.cls_replies.specs.Serving.{Serving}
+use Rattle.cls_session.specs.Sessions.{left_by, IsPrintableBy}
+use Rattle.cls_session.specs.Standings.{Standing}
+use Rattle.cls_session.proofs.session.Session.print.Goals as goal
+
+pub print-requires : goal.print-requires
+print-requires c =
+    let e : c.args.self.now.serving ≡ Some c.in-Some.serving = sym (ap (λ (s : Standing). s.serving) c.self.view_is) ∙ c.in-Some.is in
+    subst (λ (o : Option Serving). IsPrintableBy o c.args.printing) e c.requires
+
+pub returns-in-Some-clause-portion : goal.returns-in-Some-clause-portion
+returns-in-Some-clause-portion c =
+    let e : c.args.self.now.serving ≡ Some c.in-Some.serving = sym (ap (λ (s : Standing). s.serving) c.self.view_is) ∙ c.in-Some.is in
+    subst (λ (o : Option Serving). IfOk c.print.result (λ r. left_by o c.args.printing ≡ string_bytes r.0 ++ left_by o r.1)) (sym e) c.print.ensures.portion
+
+pub returns-in-Some-clause-ended : goal.returns-in-Some-clause-ended
+returns-in-Some-clause-ended c =
+    let e : c.args.self.now.serving ≡ Some c.in-Some.serving = sym (ap (λ (s : Standing). s.serving) c.self.view_is) ∙ c.in-Some.is in
+    subst (λ (o : Option Serving). IfOk c.print.result (λ r. string_bytes r.0 ≡ [] → left_by o r.1 ≡ [])) (sym e) c.print.ensures.ended
+
+pub returns-in-Some-clause-printable : goal.returns-in-Some-clause-printable
+returns-in-Some-clause-printable c =
+    let e : c.args.self.now.serving ≡ Some c.in-Some.serving = sym (ap (λ (s : Standing). s.serving) c.self.view_is) ∙ c.in-Some.is in
+    subst (λ (o : Option Serving). IfOk c.print.result (λ r. IsPrintableBy o r.1)) (sym e) c.print.ensures.printable
+
+pub returns-in-None-clause-portion : goal.returns-in-None-clause-portion
+returns-in-None-clause-portion c =
+    let e : c.args.self.now.serving ≡ None = sym (ap (λ (s : Standing). s.serving) c.self.view_is) ∙ c.in-None.is in
+    subst (λ (o : Option Serving). left_by o c.args.printing ≡ string_bytes c.new.result ++ left_by o c.args.printing) (sym e) (ap (λ (v : _). v ++ []) (sym c.new.ensures.bytes))
+
+pub returns-in-None-clause-ended : goal.returns-in-None-clause-ended
+returns-in-None-clause-ended c =
+    let e : c.args.self.now.serving ≡ None = sym (ap (λ (s : Standing). s.serving) c.self.view_is) ∙ c.in-None.is in
+    subst (λ (o : Option Serving). string_bytes c.new.result ≡ [] → left_by o c.args.printing ≡ []) (sym e) (λ none. refl)
+
+pub returns-in-None-clause-printable : goal.returns-in-None-clause-printable
+returns-in-None-clause-printable c = c.requires
