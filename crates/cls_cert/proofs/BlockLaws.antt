@@ -108,7 +108,7 @@ added_all families j old new e a = record {
 }
 
 -- without families there is one cover
-one_cover : (j : ℕ) → HaveMore (take j []) max_covers → ⊥
+pub one_cover : (j : ℕ) → HaveMore (take j []) max_covers → ⊥
 one_cover j m = two m.list m.distinct (λ s k. alone s (m.minimal s k)) m.more
   where
     none_taken : (j : ℕ) → take {A = List ℕ} j [] ≡ []
