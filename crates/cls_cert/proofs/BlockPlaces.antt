@@ -1,6 +1,6 @@
 -- The blocks of a goal that are computed, from one place to the next.
 use Rattle.std.proofs.Common.{ℕ, zero, suc, ◌≡◌, ◌+◌, ◌-◌, ◌<◌, ◌≤◌, refl, sym, ◌∙◌, subst, ap, ◌⊎◌, inl, inr, List, [], ◌∷◌, ◌++◌, length, arith, append_assoc, Contains}
-use Rattle.std.specs.Prelude.{Option, None, Some}
+use Rattle.std.specs.Prelude.{None}
 use Rattle.cls_base.proofs.Lists.{Contains-nil, Contains-here}
 use Rattle.cls_path.specs.Paths.{TypePath, Paths, none, more, SuitsAll}
 use Rattle.cls_library.specs.declared.place.Place.{Place}

@@ -1,10 +1,10 @@
 -- The families of a goal's paths at a place are those that are computed.
-use Rattle.std.proofs.Common.{ℕ, zero, suc, ◌≡◌, ◌+◌, ◌<◌, ◌≤◌, Bool, true, false, refl, sym, ◌∙◌, subst, ap, inl, inr, List, [], ◌∷◌, arith, Contains}
+use Rattle.std.proofs.Common.{ℕ, zero, suc, ◌≡◌, ◌+◌, ◌<◌, ◌≤◌, Bool, true, false, refl, subst, inl, inr, List, [], ◌∷◌, arith, Contains}
 use Rattle.std.specs.Prelude.{slice_get, IsSomeAnd}
 use Rattle.cls_base.proofs.Lists.{Contains-nil, Contains-here, Contains-later, Contains-cases}
 use Rattle.cls_taxon.specs.Decisions.{is_below}
 use Rattle.cls_taxon.specs.DecisionLaws.{is_below-reflexive, is_below-transitive, is_below-one_variance}
-use Rattle.cls_path.specs.Paths.{TypePath, Paths, none, more, listed, Suits, SuitsAll}
+use Rattle.cls_path.specs.Paths.{TypePath, listed, Suits, SuitsAll}
 use Rattle.cls_path.proofs.Decided.{le_tested, tested_le}
 use Rattle.cls_cover.specs.Lists.{IsAscending}
 use Rattle.cls_cover.proofs.Ascending.{ascending}

@@ -1,26 +1,24 @@
 -- The members that are computed are those of the certificate that is made.
-use Rattle.std.proofs.Common.{ℕ, zero, suc, ◌≡◌, ◌+◌, ◌-◌, ◌<◌, ◌≤◌, refl, sym, ◌∙◌, subst, ap, ◌⊎◌, inl, inr, List, [], ◌∷◌, ◌++◌, length, take, drop, get_or, arith, append_assoc, append-nil, Contains}
+use Rattle.std.proofs.Common.{ℕ, zero, suc, ◌≡◌, ◌+◌, ◌-◌, ◌<◌, ◌≤◌, refl, sym, ◌∙◌, subst, ap, ◌⊎◌, inl, inr, List, [], ◌∷◌, ◌++◌, length, take, drop, get_or, arith, append_assoc, append-nil}
 use Rattle.std.specs.Prelude.{Option, None, Some, slice_get}
 use Rattle.std.proofs.lemmas.List.{drop_more, drop_all, length-map}
-use Rattle.cls_base.specs.declared.rule.Rule.{Rule}
 use Rattle.cls_base.proofs.Lists.{Contains-nil, Contains-here}
 use Rattle.cls_core.specs.Arguments.{rules_of}
 use Rattle.cls_core.specs.Rows.{Row}
-use Rattle.cls_path.specs.Paths.{TypePath, Paths, none, more, listed, type_of_paths, SuitsAll}
+use Rattle.cls_path.specs.Paths.{TypePath, Paths, none, more, listed, SuitsAll}
 use Rattle.cls_cover.specs.Covers.{AreCovers}
-use Rattle.cls_expand.specs.Answers.{IsReady}
 use Rattle.cls_grammar.specs.Grammars.{book_of}
-use Rattle.cls_grammar.specs.Ranks.{IsProductiveIn, AreRanks}
+use Rattle.cls_grammar.specs.Ranks.{AreRanks}
 use Rattle.cls_library.specs.Arrows.{arity_of}
 use Rattle.cls_library.specs.Families.{AreFamilies}
 use Rattle.cls_library.specs.Libraries.{Library, IsLibrary, variances_in, paths_at, arrows_at}
 use Rattle.cls_proof.specs.Certificates as proof
 use Rattle.cls_proof.specs.Certificates.{Block}
 use Rattle.cls_cert.specs.Building.{AreCoversOfFronts, HasFirstFamily, IsPlaceBefore, AddsBlock, with_block, without_block, AreBlocks, AreMembersTo}
-use Rattle.cls_cert.specs.Computed.{layers_from, block_by, families_by, block_at, counts_from, blocks_in, components_from, blocks_from, member_of, members_from, start_place}
+use Rattle.cls_cert.specs.Computed.{layers_from, block_by, families_by, block_at, counts_from, blocks_in, components_from, member_of, members_from}
 use Rattle.cls_cert.specs.Conditions.{forms_of, IsGrammarOf}
 use Rattle.cls_cert.specs.CoverLists.{made_covers}
-use Rattle.cls_cert.specs.Making.{HasFirst, AreLayers, IsMemberFor, goal_in, AreMembers}
+use Rattle.cls_cert.specs.Making.{IsMemberFor, goal_in, AreMembers}
 use Rattle.cls_cert.proofs.BlockLaws.{first_place, has_first, has_no_first, layers_are, no_blocks, blocks_step, member_whole}
 use Rattle.cls_cert.proofs.BlockPlaces.{some_block, no_block}
 use Rattle.cls_cert.proofs.FamilyLists.{families_are}
@@ -123,12 +121,32 @@ module _ (l : Library) (is : IsLibrary l) (goal : List TypePath) (suits : SuitsA
       let made : Blocks n 0 (components_from l (listed goal) 0 0 n) = components_made n 0 [] (omega arith) (no_blocks l (listed goal) [] refl) in
       member_whole l (listed goal) (member_of l (listed goal)) refl (subst (λ (k : ℕ). Blocks n 0 (components_from l (listed goal) 0 0 k)) (sym all) made)
 
-module _ (l : Library) (rows : List (Row (List TypePath))) (h : IsGrammarOf l rows) (ranks : List (Option ℕ)) (are : AreRanks (book_of rows) ranks) where
-  abbrev goals : List Paths
-  goals = forms_of rows
+module _ (l : Library) (rows : List (Row (List TypePath))) (ranks : List (Option ℕ)) (ranked : length ranks ≡ length rows) where
+  one_more : (g : Paths) (gs : List Paths) (o : Option ℕ) (os : List (Option ℕ)) → members_from l (g ∷ gs) (o ∷ os) ≡ members_from l (g ∷ []) (o ∷ []) ++ members_from l gs os
+  one_more g gs None os = refl
+  one_more g gs (Some k) os = refl
 
-  count : length ranks ≡ length goals
-  count = are.count ∙ (length-map rows (λ (r : Row (List TypePath)). rules_of r.answer) ∙ sym (length-map rows (λ (r : Row (List TypePath)). listed r.goal)))
+  goal_count : length (forms_of rows) ≡ length rows
+  goal_count = length-map rows (λ (r : Row (List TypePath)). listed r.goal)
+
+  pub members_left_next : (i : ℕ) → i < length rows → members_from l (drop i (forms_of rows)) (drop i ranks) ≡ members_from l (goal_in (forms_of rows) i ∷ []) (get_or ranks i None ∷ []) ++ members_from l (drop (i + 1) (forms_of rows)) (drop (i + 1) ranks)
+  members_left_next i w =
+      let n = goal_count in
+      let low : i < length (forms_of rows) = omega arith in
+      let low_rank : i < length ranks = omega arith in
+      ap (λ (gs : List Paths). members_from l gs (drop i ranks)) (drop_more (forms_of rows) i none low)
+      ∙ (ap (λ (os : List (Option ℕ)). members_from l (goal_in (forms_of rows) i ∷ drop (i + 1) (forms_of rows)) os) (drop_more ranks i None low_rank)
+      ∙ one_more (goal_in (forms_of rows) i) (drop (i + 1) (forms_of rows)) (get_or ranks i None) (drop (i + 1) ranks))
+
+  pub members_left_none : (i : ℕ) → length rows ≤ i → members_from l (drop i (forms_of rows)) (drop i ranks) ≡ []
+  members_left_none i w =
+      let n = goal_count in
+      let over : length (forms_of rows) ≤ i = omega arith in
+      ap (λ (gs : List Paths). members_from l gs (drop i ranks)) (drop_all i (forms_of rows) over)
+
+module _ (l : Library) (rows : List (Row (List TypePath))) (h : IsGrammarOf l rows) (ranks : List (Option ℕ)) (are : AreRanks (book_of rows) ranks) where
+  count : length ranks ≡ length rows
+  count = are.count ∙ length-map rows (λ (r : Row (List TypePath)). rules_of r.answer)
 
   -- the member of a goal of the grammar
   member_at : (i : ℕ) → i < length rows → IsMemberFor l (goal_in (forms_of rows) i) (member_of l (goal_in (forms_of rows) i))
@@ -145,40 +163,20 @@ module _ (l : Library) (rows : List (Row (List TypePath))) (h : IsGrammarOf l ro
       subst (λ (ms : List proof.Member). AreMembersTo l (forms_of rows) (book_of rows) (i + 1) ms) (sym (append-nil old))
       (members_skip l (forms_of rows) (book_of rows) i old (k, (rank_is (book_of rows) ranks are i k e).tree) a)
 
-  one_more : (g : Paths) (gs : List Paths) (o : Option ℕ) (os : List (Option ℕ)) → members_from l (g ∷ gs) (o ∷ os) ≡ members_from l (g ∷ []) (o ∷ []) ++ members_from l gs os
-  one_more g gs None os = refl
-  one_more g gs (Some k) os = refl
-
-  pub members_left_next : (i : ℕ) → i < length rows → members_from l (drop i (forms_of rows)) (drop i ranks) ≡ members_from l (goal_in (forms_of rows) i ∷ []) (get_or ranks i None ∷ []) ++ members_from l (drop (i + 1) (forms_of rows)) (drop (i + 1) ranks)
-  members_left_next i w =
-      let n : length (forms_of rows) ≡ length rows = length-map rows (λ (r : Row (List TypePath)). listed r.goal) in
-      let c = count in
-      let low : i < length (forms_of rows) = omega arith in
-      let low_rank : i < length ranks = omega arith in
-      ap (λ (gs : List Paths). members_from l gs (drop i ranks)) (drop_more (forms_of rows) i none low)
-      ∙ (ap (λ (os : List (Option ℕ)). members_from l (goal_in (forms_of rows) i ∷ drop (i + 1) (forms_of rows)) os) (drop_more ranks i None low_rank)
-      ∙ one_more (goal_in (forms_of rows) i) (drop (i + 1) (forms_of rows)) (get_or ranks i None) (drop (i + 1) ranks))
-
-  pub members_left_none : (i : ℕ) → length rows ≤ i → members_from l (drop i (forms_of rows)) (drop i ranks) ≡ []
-  members_left_none i w =
-      let n : length (forms_of rows) ≡ length rows = length-map rows (λ (r : Row (List TypePath)). listed r.goal) in
-      ap (λ (gs : List Paths). members_from l gs (drop i ranks)) (drop_all i (forms_of rows) (omega arith))
-
   members_made : (k i : ℕ) → i + k ≡ length rows → (old : List proof.Member) → AreMembersTo l (forms_of rows) (book_of rows) i old
       → AreMembersTo l (forms_of rows) (book_of rows) (length rows) (old ++ members_from l (drop i (forms_of rows)) (drop i ranks))
   members_made zero i e old a =
-      subst (λ (ms : List proof.Member). AreMembersTo l (forms_of rows) (book_of rows) (length rows) (old ++ ms)) (sym (members_left_none i (omega arith)))
+      subst (λ (ms : List proof.Member). AreMembersTo l (forms_of rows) (book_of rows) (length rows) (old ++ ms)) (sym (members_left_none l rows ranks count i (omega arith)))
       (subst (λ (ms : List proof.Member). AreMembersTo l (forms_of rows) (book_of rows) (length rows) ms) (sym (append-nil old))
       (subst (λ (n : ℕ). AreMembersTo l (forms_of rows) (book_of rows) n old) (let f : i ≡ length rows = omega arith in f) a))
   members_made (suc k) i e old a =
       let w : i < length rows = omega arith in
-      let n : length (forms_of rows) ≡ length rows = length-map rows (λ (r : Row (List TypePath)). listed r.goal) in
       let c = count in
       let low : i < length ranks = omega arith in
       let here = members_from l (goal_in (forms_of rows) i ∷ []) (get_or ranks i None ∷ []) in
       let others = members_from l (drop (i + 1) (forms_of rows)) (drop (i + 1) ranks) in
       let next = members_next i (get_or ranks i None) w (got_within ranks i None low) old a in
-      subst (λ (ms : List proof.Member). AreMembersTo l (forms_of rows) (book_of rows) (length rows) (old ++ ms)) (sym (members_left_next i w))
+      subst (λ (ms : List proof.Member). AreMembersTo l (forms_of rows) (book_of rows) (length rows) (old ++ ms)) (sym (members_left_next l rows ranks count i w))
       (subst (λ (ms : List proof.Member). AreMembersTo l (forms_of rows) (book_of rows) (length rows) ms) (append_assoc old here others)
       (members_made k (i + 1) (omega arith) (old ++ here) next))
 

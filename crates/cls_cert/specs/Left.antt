@@ -20,7 +20,7 @@ use Rattle.cls_cert.specs.declared.members.MembersLeft.{MembersLeft}
 use Rattle.cls_cert.specs.declared.rows.MadeRow.{MadeRow}
 use Rattle.cls_cert.specs.declared.row_lines.RowsLeft.{RowsLeft}
 use Rattle.cls_cert.specs.Computed.{layers_from, blocks_from, members_from}
-use Rattle.cls_cert.specs.Conditions.{forms_of, IsGrammarOf}
+use Rattle.cls_cert.specs.Conditions.{IsGrammarOf}
 use Rattle.cls_cert.specs.Making.{goal_in}
 
 -- A BLOCK

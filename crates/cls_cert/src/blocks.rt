@@ -72,7 +72,8 @@ fn begin_block(
         ≡ string_bytes text.old ++ flat_map (block_text components.now)
             (block_at finder.old.library (listed finder.old.goal) place.component place.count)) }
 {
-    let families = listed_families(alloc, finder.families(alloc, place, room)?)?;
+    let found = finder.families(alloc, place, room)?;
+    let families = listed_families(alloc, found)?;
     if !has_first(families.as_slice()) {
         return Ok(());
     }
@@ -115,7 +116,8 @@ pub(crate) fn write_blocks(
     let mut room = Vec::new(alloc);
     let mut from = start;
     while let Some(place) = finder.next(from) {
-        if text.len() >= enough {
+        let written = text.len();
+        if written >= enough {
             return Ok(Some(from));
         }
         begin_block(alloc, &mut finder, place, &mut room, components, block, text)?;

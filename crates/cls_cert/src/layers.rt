@@ -131,7 +131,7 @@ impl BlockLeft {
         ensures lines { OnOk result (string_bytes text.new ++ block_left self.new
             ≡ string_bytes text.old ++ block_left self.old) }
         ensures next { OnOk result (self.new.front ≡ front + 1) }
-        ensures families { OnOk result (self.new.families ≡ self.old.families) }
+        ensures families { OnOk result (self.new.families.items ≡ self.old.families.items) }
     {
         let cover = self.forced.take();
         let (sets, forced) = next_layer(alloc, self.families.as_slice(), front, cover)?;

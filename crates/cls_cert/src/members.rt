@@ -59,7 +59,8 @@ impl MembersLeft {
         self.block.write_lines(alloc, enough, text)?;
         self.write_goal(alloc, lib, grammar, names, components, enough, text)?;
         self.write_members(alloc, lib, grammar, names, components, enough, text)?;
-        if text.len() >= enough {
+        let written = text.len();
+        if written >= enough {
             return Ok(true);
         }
         text.push_str("qed\n")?;
@@ -90,12 +91,14 @@ impl MembersLeft {
         let Some(from) = self.from else {
             return Ok(());
         };
-        if text.len() >= enough {
+        let written = text.len();
+        if written >= enough {
             return Ok(());
         }
         let goal = grammar.goal(self.goal);
         let block = &mut self.block;
-        self.from = write_blocks(alloc, lib, goal, from, components, enough, block, text)?;
+        let next = write_blocks(alloc, lib, goal, from, components, enough, block, text)?;
+        self.from = next;
         Ok(())
     }
 
@@ -120,7 +123,8 @@ impl MembersLeft {
             → (block_left self.new.block ≡ []) × (self.new.from ≡ None) × (length grammar.now ≤ self.new.next)) }
     {
         for number in self.next..grammar.count() {
-            if text.len() >= enough {
+            let written = text.len();
+            if written >= enough {
                 return Ok(());
             }
             self.begin_member(alloc, grammar, names, number, text)?;

@@ -75,7 +75,8 @@ fn write_rows(
 {
     let count = rows.len();
     for place in from..count {
-        if text.len() >= enough {
+        let written = text.len();
+        if written >= enough {
             return Ok(place);
         }
         write_made_row(alloc, grammar, names, components, &rows[place], text)?;

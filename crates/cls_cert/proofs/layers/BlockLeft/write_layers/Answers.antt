@@ -1,4 +1,5 @@
-use Rattle.std.proofs.Common.{ℕ, ◌≡◌, ◌+◌, ◌<◌, ◌≤◌, ◌++◌, ◌∙◌, List, length, ap, refl, sym, arith, string_bytes}
+use Rattle.std.proofs.Common.{◌+◌, ◌<◌, ◌≤◌, ◌++◌, ◌∙◌, length, ap, refl, arith, string_bytes}
+use Rattle.cls_cert.specs.declared.layers.BlockLeft.{BlockLeft}
 use Rattle.cls_cert.proofs.Layers.{layers_done, sets_written}
 use Rattle.cls_cert.proofs.layers.BlockLeft.write_layers.Goals as goal
 
@@ -24,8 +25,8 @@ loop-front-preserved c =
       lines = sets_written (string_bytes c.begin_layer.new.text) (string_bytes c.write_sets.new.text) begun done same c.in_ok-write_sets.ensures.lines
           ∙ (c.in_ok-begin_layer.ensures.lines ∙ c.loop-front.invariant.lines);
       full = c.in_ok-write_sets.ensures.full;
-      front = ap (λ b. b.front) same ∙ c.in_ok-begin_layer.ensures.next;
-      size = ap (λ b. length b.families.items) same ∙ (ap (λ fs. length fs.items) c.in_ok-begin_layer.ensures.families ∙ c.loop-front.invariant.size);
+      front = ap (λ (b : BlockLeft). b.front) same ∙ c.in_ok-begin_layer.ensures.next;
+      size = ap (λ (b : BlockLeft). length b.families.items) same ∙ (ap length c.in_ok-begin_layer.ensures.families ∙ c.loop-front.invariant.size);
     }
 
 pub returns-then-written-enough-clause-full : goal.returns-then-written-enough-clause-full

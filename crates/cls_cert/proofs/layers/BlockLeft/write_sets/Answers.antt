@@ -1,4 +1,4 @@
-use Rattle.std.proofs.Common.{◌≤◌, length, string_bytes}
+use Rattle.std.proofs.Common.{length, string_bytes}
 use Rattle.cls_proof.specs.Texts.{set_text}
 use Rattle.cls_cert.proofs.Writing.{none_left, all_done}
 use Rattle.cls_cert.proofs.layers.BlockLeft.write_sets.Goals as goal
