@@ -1,7 +1,10 @@
 -- A reply while it is printed: what is left to be written of it, by what answers the lines after a repository.
-use Rattle.std.specs.Prelude.{ℕ, zero, suc, ◌<◌, ◌≤◌, All, List, [], drop, length, string_bytes}
+use Rattle.std.specs.Prelude.{ℕ, zero, suc, ◌≡◌, ◌<◌, ◌≤◌, ◌++◌, All, List, [], drop, length, string_bytes}
 use Rattle.cls_base.specs.Terms.{Applicative, IsTermOver}
 use Rattle.cls_base.specs.Types.{ClosedType}
+use Rattle.cls_cert.specs.Conditions.{forms_of}
+use Rattle.cls_cert.specs.Left.{AreMembersLeft, AreRowsLeft, members_left, rows_left}
+use Rattle.cls_core.specs.Rows.{Row}
 use Rattle.cls_engine.specs.Faults.{AreSilent, closure_faults}
 use Rattle.cls_engine.specs.Goals.{Goal, IsClosed}
 use Rattle.cls_enum.specs.declared.listed.Page.{Page}
@@ -36,10 +39,14 @@ module _ (s : Serving) where
   left_lines (lines.Texts page place) = page_left (term_lines (name_at s.components) s.templates) page place
   left_lines (lines.Grammar grammar ranks place) = lines_from (name_in s.names) (name_in s.components) grammar ranks place
   left_lines (lines.Paths x place) = paths_text s.names (behind place (paths_at s.engine.library x))
+  left_lines (lines.Rows grammar rows) = rows_left s.names s.components (forms_of grammar) rows
+  left_lines (lines.Members grammar members) =
+      members_left s.names s.components s.engine.library (forms_of grammar) members
 
   abbrev pub left_in : Left → List ℕ
   left_in left.Nothing = []
   left_in (left.Text text) = string_bytes text
+  left_in (left.Begun first l) = string_bytes first ++ left_lines l
   left_in (left.Lines l) = left_lines l
 
   -- the bytes that are left
@@ -56,10 +63,13 @@ module _ (s : Serving) where
   ArePrintable (lines.Texts page place) = (place ≤ length page.terms) × All (IsTermOver (length s.components)) page.terms
   ArePrintable (lines.Grammar grammar ranks place) = AreRanks (book_of grammar) ranks × IsPlaceIn grammar place × IsOfGoal grammar
   ArePrintable (lines.Paths x place) = x < length s.components
+  ArePrintable (lines.Rows grammar rows) = AreRowsLeft grammar rows × IsOfGoal grammar
+  ArePrintable (lines.Members grammar members) = AreMembersLeft s.engine.library grammar members × IsOfGoal grammar
 
   abbrev pub IsLeftPrintable : Left → Type 0
   IsLeftPrintable left.Nothing = Unit {0}
   IsLeftPrintable (left.Text text) = Unit {0}
+  IsLeftPrintable (left.Begun first l) = (string_bytes first ≡ [] → ⊥) × ArePrintable l
   IsLeftPrintable (left.Lines l) = ArePrintable l
 
   -- what is left of the reply can be printed

@@ -32,3 +32,21 @@ write_paths-requires c = rw c.in-Paths.is at c.requires
 
 pub returns-in-Paths-clause-rest : goal.returns-in-Paths-clause-rest
 returns-in-Paths-clause-rest c = rw c.in-Paths.is c.write_paths.ensures
+
+pub write_rows-requires-clause-left : goal.write_rows-requires-clause-left
+write_rows-requires-clause-left c = let printable = rw c.in-Rows.is at c.requires in printable.0
+
+pub write_rows-requires-clause-of_goal : goal.write_rows-requires-clause-of_goal
+write_rows-requires-clause-of_goal c = let printable = rw c.in-Rows.is at c.requires in printable.1
+
+pub returns-in-Rows-clause-rest : goal.returns-in-Rows-clause-rest
+returns-in-Rows-clause-rest c = rw c.in-Rows.is c.write_rows.ensures.rest
+
+pub write_members-requires-clause-left : goal.write_members-requires-clause-left
+write_members-requires-clause-left c = let printable = rw c.in-Members.is at c.requires in printable.0
+
+pub write_members-requires-clause-of_goal : goal.write_members-requires-clause-of_goal
+write_members-requires-clause-of_goal c = let printable = rw c.in-Members.is at c.requires in printable.1
+
+pub returns-in-Members-clause-rest : goal.returns-in-Members-clause-rest
+returns-in-Members-clause-rest c = rw c.in-Members.is c.write_members.ensures.rest
