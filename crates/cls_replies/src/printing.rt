@@ -7,7 +7,8 @@ ghost use Rattle.cls_grammar.specs.GrammarTexts.{IsGrammarText, IsPlaceIn, lines
 ghost use Rattle.cls_grammar.specs.Grammars.{book_of};
 ghost use Rattle.cls_grammar.specs.Ranks.{AreRanks};
 ghost use Rattle.cls_library.specs.Libraries.{paths_at};
-ghost use Rattle.cls_replies.specs.Printing.{ArePrintable, IsOfGoal, IsPrintable, behind, left_lines, left_of, page_left};
+ghost use Rattle.cls_replies.specs.Printing.{ArePrintable, IsOfGoal, IsPrintable, behind};
+ghost use Rattle.cls_replies.specs.Printing.{events_left, left_lines, left_of, page_left, steps_left};
 ghost use Rattle.cls_replies.specs.Serving as serving;
 ghost use Rattle.cls_replies.specs.Steps.{IsFaultLine};
 ghost use Rattle.cls_replies.specs.Rests.{IsCertificateText, IsPrintingOf, IsRest};
@@ -15,18 +16,18 @@ ghost use Rattle.cls_replies.specs.Texts.{history_text, page_text, paths_text, s
 ghost use Rattle.cls_syntax.specs.TypePrinting.{name_in};
 ghost use Rattle.cls_term.specs.Texts.{name_at};
 
-use crate::events::print_history;
+use crate::events::print_events;
 use crate::faults::engine_fault;
 use crate::pages::{print_terms, print_texts};
 use crate::paths::print_paths;
 use crate::serving::Serving;
-use crate::sizes::print_sizes;
+use crate::sizes::{print_over, print_size, print_steps};
 use cls_base::OutOfMemory;
 use cls_cert::{CertificateLeft, MembersLeft, RowsLeft, certify};
 use cls_core::History;
 use cls_engine::EngineFault;
 use cls_enum::Page;
-use cls_finite::FiniteAnswer;
+use cls_finite::{FiniteAnswer, Walk};
 use cls_grammar::{Grammar, GrammarPlace, Ranks};
 use cls_lexer::Names;
 use cls_library::Library;
@@ -50,6 +51,10 @@ pub(crate) enum Lines {
     },
     /// The paths of a component from a place on, and the last line.
     Paths { component: u32, place: usize },
+    /// The events of a history from a place on, and the last line.
+    Events { history: History, place: usize },
+    /// The steps of a walk from a place on, and the last line.
+    Steps { walk: Walk, place: usize },
     /// What is left of a certificate with rows, of a grammar.
     Rows { grammar: Grammar, rows: RowsLeft },
     /// What is left of a certificate without rows, of a grammar.
@@ -196,12 +201,12 @@ pub(crate) fn certificate_printing(
     }
 }
 
-/// The lines of a history. The only error is out of memory.
-pub(crate) fn history_printing(alloc: Global, history: History) -> Result<Printing, OutOfMemory>
-    ensures text { (s : serving.Serving) → IfOk result (λ p. left_of s p ≡ history_text history) }
-    ensures printable { (s : serving.Serving) → IfOk result (IsPrintable s) }
+/// The lines of a history.
+pub(crate) fn history_printing(history: History) -> Printing
+    ensures text { (s : serving.Serving) → left_of s result ≡ history_text history }
+    ensures printable { (s : serving.Serving) → IsPrintable s result }
 {
-    text_printing(print_history(alloc, &history))
+    Printing::of_lines(Lines::Events { history, place: 0 })
 }
 
 /// The lines of sizes. The only error is out of memory.
@@ -209,7 +214,13 @@ pub(crate) fn sizes_printing(alloc: Global, sizes: FiniteAnswer) -> Result<Print
     ensures text { (s : serving.Serving) → IfOk result (λ p. left_of s p ≡ sizes_text sizes) }
     ensures printable { (s : serving.Serving) → IfOk result (IsPrintable s) }
 {
-    text_printing(print_sizes(alloc, &sizes))
+    match sizes {
+        FiniteAnswer::Finite(size) => text_printing(print_size(alloc, size)),
+        FiniteAnswer::Over => text_printing(print_over(alloc)),
+        FiniteAnswer::Infinite(walk) => {
+            begun_printing(alloc, "infinite\n", Lines::Steps { walk, place: 0 })
+        }
+    }
 }
 
 /// The terms of the page.
@@ -241,6 +252,30 @@ pub(crate) fn paths_printing(component: u32) -> Printing
         component,
         place: 0,
     })
+}
+
+fn write_events(history: History, place: usize, text: &mut String) -> Result<Left, OutOfMemory>
+    requires { place ≤ length history }
+    ensures { (s : serving.Serving) → IfOk result (IsRest s (events_left history place)
+        (string_bytes text.old) (string_bytes text.new)) }
+{
+    let next = print_events(&history, place, PORTION_BYTES, text)?;
+    match next {
+        Some(place) => Ok(Left::Lines(Lines::Events { history, place })),
+        None => Ok(Left::Nothing),
+    }
+}
+
+fn write_steps(walk: Walk, place: usize, text: &mut String) -> Result<Left, OutOfMemory>
+    requires { place ≤ length walk }
+    ensures { (s : serving.Serving) → IfOk result (IsRest s (steps_left walk place)
+        (string_bytes text.old) (string_bytes text.new)) }
+{
+    let next = print_steps(&walk, place, PORTION_BYTES, text)?;
+    match next {
+        Some(place) => Ok(Left::Lines(Lines::Steps { walk, place })),
+        None => Ok(Left::Nothing),
+    }
 }
 
 impl Serving {
@@ -291,6 +326,8 @@ impl Serving {
                 place,
             } => self.write_grammar(alloc, grammar, ranks, place, text),
             Lines::Paths { component, place } => self.write_paths(alloc, component, place, text),
+            Lines::Events { history, place } => write_events(history, place, text),
+            Lines::Steps { walk, place } => write_steps(walk, place, text),
             Lines::Rows { grammar, rows } => self.write_rows(alloc, grammar, rows, text),
             Lines::Members { grammar, members } => {
                 self.write_members(alloc, grammar, members, text)

@@ -136,7 +136,7 @@ impl Serving {
         ensures same { self.new ≡ self.old }
     {
         match self.engine.audit(rt, alloc, ty, gate) {
-            Ok(history) => history_printing(alloc, history),
+            Ok(history) => Ok(history_printing(history)),
             Err(fault) => fault_printing(alloc, &self.names, fault),
         }
     }

@@ -50,3 +50,15 @@ write_members-requires-clause-of_goal c = let printable = rw c.in-Members.is at 
 
 pub returns-in-Members-clause-rest : goal.returns-in-Members-clause-rest
 returns-in-Members-clause-rest c = rw c.in-Members.is c.write_members.ensures.rest
+
+pub write_events-requires : goal.write_events-requires
+write_events-requires c = rw c.in-Events.is at c.requires
+
+pub returns-in-Events-clause-rest : goal.returns-in-Events-clause-rest
+returns-in-Events-clause-rest c = rw c.in-Events.is (c.write_events.ensures c.args.self.now)
+
+pub write_steps-requires : goal.write_steps-requires
+write_steps-requires c = rw c.in-Steps.is at c.requires
+
+pub returns-in-Steps-clause-rest : goal.returns-in-Steps-clause-rest
+returns-in-Steps-clause-rest c = rw c.in-Steps.is (c.write_steps.ensures c.args.self.now)
