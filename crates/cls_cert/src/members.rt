@@ -156,6 +156,8 @@ impl MembersLeft {
         ensures same { OnOk result
             (self.new ≡ record self.old { goal = self.new.goal; from = self.new.from; next = number + 1 }) }
     {
+        // For the prover: the number of goals is one of 32 bits.
+        let _count = grammar.count();
         self.next = number + 1;
         if self.ranks.as_slice()[number as usize].is_some() {
             return Ok(());

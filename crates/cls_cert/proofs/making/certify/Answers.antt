@@ -22,15 +22,15 @@ rows-requires-clause-ranked c =
 pub rows-requires-clause-ranks : goal.rows-requires-clause-ranks
 rows-requires-clause-ranks c = subst (λ (xs : List (Option ℕ)). AreRanks (book_of c.args.grammar.now) xs) (sym c.as_slice-in-Some.ensures) c.in_ok-ranks.ensures
 
-pub returns-in-Some-clause-made : goal.returns-in-Some-clause-made
-returns-in-Some-clause-made c = λ names components.
+pub returns-in_ok-made-in-Some-clause-made : goal.returns-in_ok-made-in-Some-clause-made
+returns-in_ok-made-in-Some-clause-made c = λ names components.
     let ranks = c.in_ok-ranks.ranks in
     let e = first_rank c.args.lib.now c.args.grammar.now c.requires ranks c.as_slice-first.result.now c.in_ok-ranks.ensures c.as_slice-first.ensures (Some c.in-Some.rank) c.in-Some.is in
     let rows = map (row_for (forms_of c.args.grammar.now)) c.in_ok-made-in-Some.made.items in
     (inhabited rows, ((c.in-Some.rank, (rank_is (book_of c.args.grammar.now) ranks c.in_ok-ranks.ensures 0 c.in-Some.rank e).tree), c.in_ok-made-in-Some.ensures.made), refl)
 
-pub returns-in-Some-clause-left : goal.returns-in-Some-clause-left
-returns-in-Some-clause-left c = record { each = c.in_ok-made-in-Some.ensures.within; next = omega arith }
+pub returns-in_ok-made-in-Some-clause-left : goal.returns-in_ok-made-in-Some-clause-left
+returns-in_ok-made-in-Some-clause-left c = record { each = c.in_ok-made-in-Some.ensures.within; next = omega arith }
 
 pub returns-clause-made : goal.returns-clause-made
 returns-clause-made c = λ names components.

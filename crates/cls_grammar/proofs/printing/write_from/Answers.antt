@@ -5,15 +5,15 @@ use Rattle.cls_grammar.specs.GrammarTexts.{counts_text, goals_from, lines_from, 
 use Rattle.cls_grammar.specs.declared.printing.GrammarPlace.TheVariants as places
 use Rattle.cls_grammar.proofs.printing.write_from.Goals as goal
 
-pub returns-in-Counts-clause-lines : goal.returns-in-Counts-clause-lines
-returns-in-Counts-clause-lines c =
+pub returns-in_ok-write_counts-in-Counts-clause-lines : goal.returns-in_ok-write_counts-in-Counts-clause-lines
+returns-in_ok-write_counts-in-Counts-clause-lines c =
     let n = name_in c.args.tables.now.names.now in
     let k = name_in c.args.tables.now.components.now in
     let rows = c.args.grammar.now in
     let ranks = c.args.ranks.now in
     let old = string_bytes c.args.text.now in
     let counted : string_bytes c.write_counts.new.text ++ goals_from n k rows ranks 0 ≡ old ++ lines_from n k rows ranks places.Counts =
-    ap (λ (v : List ℕ). v ++ goals_from n k rows ranks 0) c.in_ok-write_counts.ensures ∙ append_assoc old (counts_text rows) (goals_from n k rows ranks 0)
+    ap (λ (v : List ℕ). v ++ goals_from n k rows ranks 0) c.in_ok-write_counts-in-Counts.ensures ∙ append_assoc old (counts_text rows) (goals_from n k rows ranks 0)
     in
     rw c.in-Counts.is (IfOk-weaker c.write_goals.result
     (λ next. string_bytes c.write_goals.new.text ++ lines_left n k rows ranks next ≡ string_bytes c.write_counts.new.text ++ goals_from n k rows ranks 0)

@@ -36,17 +36,17 @@ write_lines-requires c =
     let printable = rw c.in-Lines.is at left in
     rw c.empty_text.ensures.same printable
 
-pub returns-in-Lines-clause-portion : goal.returns-in-Lines-clause-portion
-returns-in-Lines-clause-portion c =
-    let rest = rw c.empty_text.ensures.same at c.in_ok-rest.ensures.rest in
+pub returns-in_ok-rest-in-Lines-clause-portion : goal.returns-in_ok-rest-in-Lines-clause-portion
+returns-in_ok-rest-in-Lines-clause-portion c =
+    let rest = rw c.empty_text.ensures.same at c.in_ok-rest-in-Lines.ensures.rest in
     rw (← c.into_left-left.ensures, c.in-Lines.is) (sym (rest.lines ∙ ap (λ (v : List ℕ). v ++ left_lines c.args.self.now c.in-Lines.lines) c.empty_text.ensures.empty))
 
-pub returns-in-Lines-clause-ended : goal.returns-in-Lines-clause-ended
-returns-in-Lines-clause-ended c =
-    let rest = rw c.empty_text.ensures.same at c.in_ok-rest.ensures.rest in
+pub returns-in_ok-rest-in-Lines-clause-ended : goal.returns-in_ok-rest-in-Lines-clause-ended
+returns-in_ok-rest-in-Lines-clause-ended c =
+    let rest = rw c.empty_text.ensures.same at c.in_ok-rest-in-Lines.ensures.rest in
     rest.full
 
-pub returns-in-Lines-clause-printable : goal.returns-in-Lines-clause-printable
-returns-in-Lines-clause-printable c =
-    let rest = rw c.empty_text.ensures.same at c.in_ok-rest.ensures.rest in
+pub returns-in_ok-rest-in-Lines-clause-printable : goal.returns-in_ok-rest-in-Lines-clause-printable
+returns-in_ok-rest-in-Lines-clause-printable c =
+    let rest = rw c.empty_text.ensures.same at c.in_ok-rest-in-Lines.ensures.rest in
     rest.printable
