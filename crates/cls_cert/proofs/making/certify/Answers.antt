@@ -16,7 +16,7 @@ use Rattle.cls_cert.proofs.making.certify.Goals as goal
 pub rows-requires-clause-ranked : goal.rows-requires-clause-ranked
 rows-requires-clause-ranked c =
     let ranks = c.in_ok-ranks.ranks in
-    let e = first_rank c.args.lib.now c.args.grammar.now c.requires ranks c.as_slice-first.result.now c.in_ok-ranks.ensures c.as_slice-first.ensures (Some c.in-Some.rank) c.in-Some.is in
+    let e = first_rank c.args.lib.now c.args.grammar.now c.requires ranks c.as_slice.result.now c.in_ok-ranks.ensures c.as_slice.ensures (Some c.in-Some.rank) c.in-Some.is in
     subst (λ (xs : List (Option ℕ)). slice_get xs 0 ≡ Some (Some c.in-Some.rank)) (sym c.as_slice-in-Some.ensures) e
 
 pub rows-requires-clause-ranks : goal.rows-requires-clause-ranks
@@ -25,24 +25,24 @@ rows-requires-clause-ranks c = subst (λ (xs : List (Option ℕ)). AreRanks (boo
 pub returns-in_ok-made-in-Some-clause-made : goal.returns-in_ok-made-in-Some-clause-made
 returns-in_ok-made-in-Some-clause-made c = λ names components.
     let ranks = c.in_ok-ranks.ranks in
-    let e = first_rank c.args.lib.now c.args.grammar.now c.requires ranks c.as_slice-first.result.now c.in_ok-ranks.ensures c.as_slice-first.ensures (Some c.in-Some.rank) c.in-Some.is in
+    let e = first_rank c.args.lib.now c.args.grammar.now c.requires ranks c.as_slice.result.now c.in_ok-ranks.ensures c.as_slice.ensures (Some c.in-Some.rank) c.in-Some.is in
     let rows = map (row_for (forms_of c.args.grammar.now)) c.in_ok-made-in-Some.made.items in
     (inhabited rows, ((c.in-Some.rank, (rank_is (book_of c.args.grammar.now) ranks c.in_ok-ranks.ensures 0 c.in-Some.rank e).tree), c.in_ok-made-in-Some.ensures.made), refl)
 
 pub returns-in_ok-made-in-Some-clause-left : goal.returns-in_ok-made-in-Some-clause-left
 returns-in_ok-made-in-Some-clause-left c = record { each = c.in_ok-made-in-Some.ensures.within; next = omega arith }
 
-pub returns-clause-made : goal.returns-clause-made
-returns-clause-made c = λ names components.
+pub returns-in-None-clause-made : goal.returns-in-None-clause-made
+returns-in-None-clause-made c = λ names components.
     let l = c.args.lib.now in
     let rows = c.args.grammar.now in
     let goals = forms_of rows in
     let ranks = c.in_ok-ranks.ranks in
-    let e = first_rank l rows c.requires ranks c.as_slice-first.result.now c.in_ok-ranks.ensures c.as_slice-first.ensures None c.in-None.is in
+    let e = first_rank l rows c.requires ranks c.as_slice.result.now c.in_ok-ranks.ensures c.as_slice.ensures None c.in-None.is in
     (empty (members_from l goals ranks), (c.in_ok-ranks.ensures.each 0 None e, members_are l rows c.requires ranks c.in_ok-ranks.ensures), ap (λ (v : List ℕ). line (codes "empty") ++ (v ++ (members_text names components l goals ranks 0 ++ line (codes "qed")))) (sym c.none-block.ensures.text))
 
-pub returns-clause-left : goal.returns-clause-left
-returns-clause-left c = record {
+pub returns-in-None-clause-left : goal.returns-in-None-clause-left
+returns-in-None-clause-left c = record {
   grammar = c.requires;
   ranks = c.in_ok-ranks.ensures;
   block = c.none-block.ensures.left;
