@@ -171,7 +171,14 @@ fn write_goals(
         }
         let rules = grammar.rules(number);
         let rank = ranks[number as usize];
-        write_goal(alloc, tables.names, number, grammar.goal(number), rank, text)?;
+        write_goal(
+            alloc,
+            tables.names,
+            number,
+            grammar.goal(number),
+            rank,
+            text,
+        )?;
         let next = write_rules(tables.components, rules, 0, enough, text)?;
         let count = rules.len();
         if next < count {

@@ -1,7 +1,8 @@
-use Rattle.std.proofs.Common.{◌≡◌, ◌++◌, ◌∙◌, List, ℕ, ap, append_assoc, string_bytes}
+use Rattle.std.proofs.Common.{◌≡◌, ◌++◌, ◌∙◌, List, ℕ, ap, append_assoc, string_bytes, sym}
+use Rattle.std.specs.Prelude.{codes}
 use Rattle.std.proofs.lemmas.Result.{IfOk-weaker}
 use Rattle.cls_syntax.specs.TypePrinting.{name_in}
-use Rattle.cls_grammar.specs.GrammarTexts.{counts_text, goals_from, lines_from, lines_left}
+use Rattle.cls_grammar.specs.GrammarTexts.{counts_text, goals_from, line, lines_from, lines_left, rows_text}
 use Rattle.cls_grammar.specs.declared.printing.GrammarPlace.TheVariants as places
 use Rattle.cls_grammar.proofs.printing.write_from.Goals as goal
 
@@ -13,8 +14,9 @@ returns-in_ok-write_counts-in-Counts-clause-lines c =
     let ranks = c.args.ranks.now in
     let old = string_bytes c.args.text.now in
     let counted : string_bytes c.write_counts.new.text ++ goals_from n k rows ranks 0 ≡ old ++ lines_from n k rows ranks places.Counts =
-    ap (λ (v : List ℕ). v ++ goals_from n k rows ranks 0) c.in_ok-write_counts-in-Counts.ensures ∙ append_assoc old (counts_text rows) (goals_from n k rows ranks 0)
-    in
+    ap (λ (v : List ℕ). v ++ goals_from n k rows ranks 0) c.in_ok-write_counts-in-Counts.ensures
+    ∙ (append_assoc old (counts_text rows) (goals_from n k rows ranks 0)
+    ∙ ap (λ (v : List ℕ). old ++ v) (sym (append_assoc (counts_text rows) (rows_text n k 0 rows ranks) (line (codes "done"))))) in
     rw c.in-Counts.is (IfOk-weaker c.write_goals.result
     (λ next. string_bytes c.write_goals.new.text ++ lines_left n k rows ranks next ≡ string_bytes c.write_counts.new.text ++ goals_from n k rows ranks 0)
     (λ next. string_bytes c.write_goals.new.text ++ lines_left n k rows ranks next ≡ old ++ lines_from n k rows ranks places.Counts)
