@@ -62,7 +62,8 @@ pub(crate) fn print_texts(
 {
     let count = page.terms.len();
     for place in from..count {
-        if text.len() >= enough {
+        let written = text.len();
+        if written >= enough {
             return Ok(Some(place));
         }
         write_term(&page.terms, place, components, text)?;

@@ -28,7 +28,8 @@ pub(crate) fn print_paths(
 {
     let items = paths.paths();
     for place in from..items.len() {
-        if text.len() >= enough {
+        let written = text.len();
+        if written >= enough {
             return Ok(Some(place));
         }
         text.push_str("path ")?;

@@ -28,8 +28,8 @@ loop-place-preserved c =
     in
     left_next (term_lines name templates) terms place before (string_bytes c.write_assembled.new.text) _ less written c.loop-place.invariant
 
-pub returns-then-len-enough-clause-lines : goal.returns-then-len-enough-clause-lines
-returns-then-len-enough-clause-lines c =
+pub returns-then-written-enough-clause-lines : goal.returns-then-written-enough-clause-lines
+returns-then-written-enough-clause-lines c =
     let shown = term_lines (name_at c.args.components.now) c.args.templates.now in
     let page = c.args.page.now in
     with_end (string_bytes c.loop-place.text) (string_bytes c.args.text.now) (flat_map shown (drop c.loop-place.place page.terms)) (flat_map shown (drop c.args.from page.terms)) (reply_line (if page.more then codes "more" else codes "done")) c.loop-place.invariant

@@ -2,8 +2,8 @@ use Rattle.std.proofs.Common.{◌≤◌, length, arith, string_bytes}
 use Rattle.cls_replies.proofs.Portions.{paths_on, paths_done}
 use Rattle.cls_replies.proofs.paths.print_paths.Goals as goal
 
-pub returns-then-len-enough-clause-lines : goal.returns-then-len-enough-clause-lines
-returns-then-len-enough-clause-lines c =
+pub returns-then-written-enough-clause-lines : goal.returns-then-written-enough-clause-lines
+returns-then-written-enough-clause-lines c =
     paths_on c.args.names.now c.paths-items.result.now c.args.paths.now c.paths-items.ensures c.args.from c.loop-place.place (string_bytes c.args.text.now) (string_bytes c.loop-place.text) c.loop-place.invariant
 
 pub returns-clause-lines : goal.returns-clause-lines
