@@ -1,6 +1,6 @@
 //! The blocks of a member while they are written: for each component and number of arguments the minimal covers of the first
 //! paths of its goal.
-ghost use Rattle.std.specs.Prelude.{◌≡◌, ◌<◌, ◌≤◌, ◌↔◌, ◌++◌, [], IfOk, IfSome, OnOk, IsTrue, length, map, string_bytes, None};
+ghost use Rattle.std.specs.Prelude.{◌≡◌, ◌<◌, ◌↔◌, ◌++◌, [], IfOk, IfSome, OnOk, IsTrue, length, map, string_bytes, None};
 ghost use Rattle.std.specs.List.{flat_map};
 ghost use Rattle.cls_path.specs.Paths.{listed};
 ghost use Rattle.cls_library.specs.Families.{IsPlace, alone, families_in};
@@ -30,7 +30,7 @@ fn has_first(families: &[Numbers]) -> bool
 }
 
 /// The families as a list.
-fn listed_families(alloc: Global, families: Families) -> Result<Vec<Numbers>, OutOfMemory>
+fn listed_families(alloc: Global, families: Families<'_>) -> Result<Vec<Numbers>, OutOfMemory>
     ensures { IfOk result (λ all. all.items ≡ families_in families) }
 {
     match families {

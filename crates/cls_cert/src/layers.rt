@@ -8,7 +8,7 @@ ghost use Rattle.cls_cover.specs.Forced.{IsForced};
 ghost use Rattle.cls_library.specs.Rules.{max_covers};
 ghost use Rattle.cls_proof.specs.Texts.{layer_text, set_text};
 ghost use Rattle.cls_cert.specs.Computed.{layers_from};
-ghost use Rattle.cls_cert.specs.Left.{IsBlockLeft, block_left, layers_left, sets_left};
+ghost use Rattle.cls_cert.specs.Left.{IsBlockLeft, block_left, sets_left};
 
 use crate::forced::forced_with;
 use cls_base::{NumberLists, Numbers, OutOfMemory};
