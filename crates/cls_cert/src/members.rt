@@ -53,8 +53,8 @@ impl MembersLeft {
     ) -> Result<bool, OutOfMemory>
         requires { AreMembersLeft lib.now grammar.now self.old }
         ensures left { OnOk result (AreMembersLeft lib.now grammar.now self.new) }
-        ensures lines { let left = members_left names.now components.now lib.now (forms_of grammar.now) in
-            IfOk result (IsWrittenOn enough (left self.old) (left self.new) (string_bytes text.old) (string_bytes text.new)) }
+        ensures lines { let left = members_left names.now components.now lib.now (forms_of grammar.now) in IfOk result
+            (IsWrittenOn enough (left self.old) (left self.new) (string_bytes text.old) (string_bytes text.new)) }
     {
         self.block.write_lines(alloc, enough, text)?;
         self.write_goal(alloc, lib, grammar, names, components, enough, text)?;
