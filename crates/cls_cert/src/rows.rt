@@ -9,11 +9,10 @@ ghost use Rattle.cls_cert.specs.Left.{row_for};
 
 use crate::buckets::by_rank;
 use crate::choosing::{first_cover, first_rule};
-use cls_base::OutOfMemory;
+use cls_base::{OutOfMemory, RuleRef};
 use cls_grammar::Grammar;
 use cls_library::Library;
 use cls_proof::Positions;
-use cls_rulebook::RuleRef;
 use std::alloc::Global;
 
 /// The number of a goal, and the choice by which some term has it. The goal's type isn't kept: the types of all rows would take
