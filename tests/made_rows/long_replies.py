@@ -12,6 +12,8 @@ def rows() -> Iterator[Row]:
     yield text_of_65536_bytes()
     yield five_texts_of_30000_bytes()
     yield grammar_of_900_rules()
+    yield certificate_of_700_members()
+    yield certificate_of_700_rows()
 
 
 def paths_of_4096_instances() -> Row:
@@ -46,3 +48,28 @@ def grammar_of_900_rules() -> Row:
     rules = "".join(f"rule {name} 1\n" for name in names)
     wanted = f"grammar 2 900\ngoal 0 rank 2 A\n{rules}goal 1 rank 1 B\nrule y\ndone\n"
     return Row("limits/grammar_of_900_rules", f"{declared}comp y : B\nend\ngrammar A\n".encode(), wanted.encode())
+
+
+def chain_of_700_goals() -> tuple[list[str], list[str], str]:
+    """Types and components, each of which makes one type of the next."""
+    types = [f"A{number:03}".ljust(48, "y") for number in range(700)]
+    names = [f"f{number:03}".ljust(48, "x") for number in range(699)]
+    declared = "".join(f"comp {name} : {lower} -> {upper}\n" for name, upper, lower in zip(names, types, types[1:]))
+    return types, names, declared
+
+
+def certificate_of_700_members() -> Row:
+    """No term has the last type of the chain, so none has the first."""
+    types, names, declared = chain_of_700_goals()
+    members = "".join(f"member {upper}\nblock {name} 1\nlayer\nset 0\n" for name, upper in zip(names, types))
+    wanted = f"empty\n{members}member {types[-1]}\nqed\n"
+    return Row("limits/certificate_of_700_members", f"{declared}end\ncertify {types[0]}\n".encode(), wanted.encode())
+
+
+def certificate_of_700_rows() -> Row:
+    """A component has the last type of the chain, so each type has a term. The last row is that of the first type."""
+    types, names, declared = chain_of_700_goals()
+    rows = "".join(f"row {upper} by {name} 1 : 0\n" for name, upper in reversed(list(zip(names, types))))
+    wanted = f"inhabited\nrow {types[-1]} by z 0 : 0\n{rows}qed\n"
+    given = f"{declared}comp z : {types[-1]}\nend\ncertify {types[0]}\n"
+    return Row("limits/certificate_of_700_rows", given.encode(), wanted.encode())

@@ -1,16 +1,11 @@
 -- The only cover of families of one position each, as it grows family by family.
-use Rattle.std.proofs.Common.{ℕ, ◌≡◌, ◌+◌, ◌<◌, ◌≤◌, ◌↔◌, ◌⊎◌, refl, sym, subst, ap, ◌∙◌, List, [], ◌∷◌, ◌++◌, length, take, get_or, arith, Option, Some, None, IfSome, MatchOption}
-use Rattle.std.specs.Prelude.{map}
-use Rattle.std.proofs.lemmas.List.{take_more, take-map}
-use Rattle.cls_base.proofs.Lists.{map_last}
+use Rattle.std.proofs.Common.{ℕ, ◌≡◌, ◌+◌, ◌<◌, ◌≤◌, refl, sym, subst, ap, ◌∙◌, List, [], ◌∷◌, ◌++◌, length, take, get_or, arith, Option, Some, None, IfSome, MatchOption}
+use Rattle.std.proofs.lemmas.List.{take_more}
 use Rattle.cls_cover.specs.Covers.{AreCovers}
 use Rattle.cls_cover.specs.Growing.{single}
-use Rattle.cls_cover.specs.Members.{Member, Ascending}
 use Rattle.cls_cover.specs.Forced.{IsForced}
-use Rattle.cls_cover.proofs.SingleFamilies.{forced_covers, forced_more}
+use Rattle.cls_cover.proofs.SingleFamilies.{forced_covers}
 use Rattle.cls_cover.proofs.Public.{to_covers}
-use Rattle.cls_library.specs.Families.{alone}
-use Rattle.cls_cert.proofs.Lists.{take_one}
 
 pub only_cover : (families list : List (List ℕ)) (cover : List ℕ) → IsForced families cover → list ≡ cover ∷ [] → AreCovers families list
 only_cover families list cover h e =
@@ -41,14 +36,3 @@ module _ {V : Type 0} (items : V → List ℕ) where
   forced_front families j family d old new l e h k =
       let t : take j families ++ family ∷ [] ≡ take (j + 1) families = ap (λ (f : List ℕ). take j families ++ f ∷ []) e ∙ sym (take_more families j d l) in
       subst (λ (fs : List (List ℕ)). IsOnly fs new) t (grown (take j families) family old new h k)
-
--- one position more
-pub forced_lone :
-    (positions : List ℕ) (j x : ℕ) (cover next : List ℕ) → x ≡ get_or positions j x → j < length positions
-    → IsForced (take j (map alone positions)) cover → Ascending next → ((y : ℕ) → Member next y ↔ (Member cover y ⊎ (y ≡ x)))
-    → IsForced (take (j + 1) (map alone positions)) next
-forced_lone positions j x cover next is l h a m =
-    let front : take (j + 1) (map alone positions) ≡ take j (map alone positions) ++ alone x ∷ [] =
-    take-map alone (j + 1) positions
-    ∙ (ap (map alone) (take_one positions j x is l) ∙ (map_last alone (take j positions) x ∙ ap (λ (fs : List (List ℕ)). fs ++ alone x ∷ []) (sym (take-map alone j positions)))) in
-    subst (λ (fs : List (List ℕ)). IsForced fs next) (sym front) (forced_more (take j (map alone positions)) cover next x (alone x) h refl a m)

@@ -27,20 +27,6 @@ take_take (suc i) zero xs l = absurd (omega arith)
 take_take (suc i) (suc j) [] l = refl
 take_take (suc i) (suc j) (x ∷ xs) l = ap (λ ys. x ∷ ys) (take_take i j xs (omega arith))
 
--- the last of a longer list, and those before
-pub get_before : {A : Type 0} (xs : List A) (y d : A) (k : ℕ) → k < length xs → get_or (xs ++ y ∷ []) k d ≡ get_or xs k d
-get_before [] y d k l = absurd (omega arith)
-get_before (x ∷ xs) y d zero l = refl
-get_before (x ∷ xs) y d (suc k) l = get_before xs y d k (omega arith)
-
-pub get_last : {A : Type 0} (xs : List A) (y d : A) → get_or (xs ++ y ∷ []) (length xs) d ≡ y
-get_last [] y d = refl
-get_last (x ∷ xs) y d = get_last xs y d
-
-pub length_last : {A : Type 0} (xs : List A) (y : A) → length (xs ++ y ∷ []) ≡ suc (length xs)
-length_last [] y = refl
-length_last (x ∷ xs) y = ap suc (length_last xs y)
-
 pub not_false : IsTrue false → ⊥
 not_false t = search rules
 

@@ -1,18 +1,15 @@
 -- The members of a certificate, goal after goal.
-use Rattle.std.proofs.Common.{ℕ, ◌≡◌, ◌+◌, ◌<◌, ◌↔◌, refl, sym, ap, ◌∙◌, subst, ◌⊎◌, inl, inr, List, [], ◌∷◌, ◌++◌, length, arith, Contains}
+use Rattle.std.proofs.Common.{ℕ, ◌≡◌, ◌+◌, ◌<◌, ◌↔◌, sym, subst, ◌⊎◌, inl, inr, List, [], ◌∷◌, ◌++◌, length, arith, Contains}
 use Rattle.std.proofs.lemmas.List.Elements.{Contains-push, Contains-push_cases, Contains-append_left}
 use Rattle.cls_base.specs.declared.rule.Rule.{Rule}
 use Rattle.cls_base.proofs.Lists.{Contains-nil}
 use Rattle.cls_expand.specs.Listing.{all_last}
-use Rattle.cls_path.specs.Paths.{Paths, type_of_paths}
+use Rattle.cls_path.specs.Paths.{Paths}
 use Rattle.cls_grammar.specs.Ranks.{IsProductiveIn}
 use Rattle.cls_library.specs.Libraries.{Library}
 use Rattle.cls_proof.specs.Certificates as proof
 use Rattle.cls_cert.specs.Making.{goal_in, IsMemberFor, AreMembers}
-use Rattle.cls_cert.specs.Building.{AddsMember, AreBlocks, AreMembersTo, with_last}
-use Rattle.cls_proof.specs.Growing.{last_blocks, new_member}
-use Rattle.cls_proof.proofs.PartLaws.{on_last-push}
-use Rattle.cls_cert.proofs.BlockLaws.{member_whole}
+use Rattle.cls_cert.specs.Building.{AreMembersTo}
 use Rattle.cls_cert.proofs.Lists.{rises_last}
 
 module _ (l : Library) (goals : List Paths) (book : List (List (Rule ℕ))) where
@@ -65,17 +62,3 @@ module _ (l : Library) (goals : List Paths) (book : List (List (Rule ℕ))) wher
     exactly = subst (λ (k : ℕ). (i : ℕ) → Contains a.unproductive i ↔ ((i < k) × (IsProductiveIn book i → ⊥))) e a.exactly;
     made = a.made;
   }
-
-  -- one member more
-  pub member_added : (n : ℕ) (old new : List proof.Member) (goal : Paths) → goal ≡ goal_in goals n → AddsMember l goal old new → (IsProductiveIn book n → ⊥) → AreMembersTo l goals book n old → AreMembersTo l goals book (n + 1) new
-  member_added n old new goal e m f a = members_step n old new m.member m.added f (subst (λ (g : Paths). IsMemberFor l g m.member) e m.is) a
-
--- the blocks of a member that was added
-pub goal_added : (l : Library) (goal : Paths) (old begun new : List proof.Member) → begun ≡ old ++ new_member (type_of_paths goal) ∷ [] → new ≡ with_last (last_blocks new) begun → AreBlocks l goal (length l.components) 0 (last_blocks new) → AddsMember l goal old new
-goal_added l goal old begun new b e a =
-    let f : proof.Member → proof.Member = λ m. record { goal = m.goal; blocks = last_blocks new } in
-    record {
-      member = record { goal = type_of_paths goal; blocks = last_blocks new };
-      is = member_whole l goal record { goal = type_of_paths goal; blocks = last_blocks new } refl a;
-      added = e ∙ (ap (λ (ms : List proof.Member). with_last (last_blocks new) ms) b ∙ on_last-push f old (new_member (type_of_paths goal)));
-    }

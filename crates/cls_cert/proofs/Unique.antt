@@ -41,10 +41,10 @@ one_first P xs x y h k =
     let e : h.place ≡ k.place = between h.place k.place (λ l. k.none_before h.place x l h.there h.holds) (λ l. h.none_before k.place y l k.there k.holds) in
     one_some (slice_get xs k.place) x y (ap (slice_get xs) (sym e) ∙ h.there) k.there
 
-one_ascending : (s t : List ℕ) → IsAscending s → IsAscending t → ((x : ℕ) → Contains s x → Contains t x) → ((x : ℕ) → Contains t x → Contains s x) → s ≡ t
+pub one_ascending : (s t : List ℕ) → IsAscending s → IsAscending t → ((x : ℕ) → Contains s x → Contains t x) → ((x : ℕ) → Contains t x → Contains s x) → s ≡ t
 one_ascending s t a b f g = one_list (λ x y. x < y) (λ x y l m. omega arith) s t a b f g
 
-one_minimal : (Covers : List ℕ → Type 0) (s t : List (List ℕ)) → AreMinimal Covers s → AreMinimal Covers t → s ≡ t
+pub one_minimal : (Covers : List ℕ → Type 0) (s t : List (List ℕ)) → AreMinimal Covers s → AreMinimal Covers t → s ≡ t
 one_minimal Covers s t h k = one_list Precedes precedes_not s t h.in_order k.in_order (λ x m. (k.exactly x).1 ((h.exactly x).0 m)) (λ x m. (h.exactly x).1 ((k.exactly x).0 m))
 
 -- lists of one length with the same elements at each place

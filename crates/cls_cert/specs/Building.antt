@@ -12,33 +12,12 @@ use Rattle.cls_library.specs.Libraries.{Library}
 use Rattle.cls_library.specs.Rules.{Choice, IsChoice, IsRuleFor}
 use Rattle.cls_proof.specs.Certificates as proof
 use Rattle.cls_proof.specs.Certificates.{ProofRow, Block}
-use Rattle.cls_proof.specs.Growing.{in_last_member, in_last_block}
 use Rattle.cls_cert.specs.Making.{HasFirst, AreLayers, BlockBefore, IsMemberFor, Ranked, ComesEarlier, IsRanked, IsRowFor, goal_in}
 
 -- a list for each number of first families: their minimal covers
 pub record AreCoversOfFronts (families : List (List ℕ)) (layers : List (List (List ℕ))) : Type 0 where
   pub count : length layers ≡ length families
   pub each : (j : ℕ) → j < length families → AreCovers (take (suc j) families) (slice_index_or layers j [])
-
--- the last block has these further layers
-abbrev pub with_layers : List (List (List ℕ)) → List proof.Member → List proof.Member
-with_layers more members = in_last_member (in_last_block (λ layers. layers ++ more)) members
-
--- the last member has these blocks
-abbrev pub with_last : List Block → List proof.Member → List proof.Member
-with_last blocks members = in_last_member (λ _. blocks) members
-
--- one layer more, of the minimal covers of the families
-pub record AddsCovers (families : List (List ℕ)) (old new : List proof.Member) : Type 0 where
-  pub covers : List (List ℕ)
-  pub are : AreCovers families covers
-  pub added : new ≡ with_layers (covers ∷ []) old
-
--- such a layer more for the first family, for the first two, and so on
-pub record AddsCoversOfFronts (families : List (List ℕ)) (old new : List proof.Member) : Type 0 where
-  pub layers : List (List (List ℕ))
-  pub are : AreCoversOfFronts families layers
-  pub added : new ≡ with_layers layers old
 
 -- there is a first family, and it isn't empty
 abbrev pub HasFirstFamily : List (List ℕ) → Type 0
@@ -122,9 +101,3 @@ GivesRule l goals x ns cover =
 -- some choice of the goal gives this rule
 abbrev pub IsGiven : Library → List Paths → Paths → ℕ → List ℕ → Type 0
 IsGiven l goals goal x ns = (c : Choice) × IsChoice l goal c × IsRuleFor l c (rule_over goals x ns)
-
--- one member more, that of the goal
-pub record AddsMember (l : Library) (goal : Paths) (old new : List proof.Member) : Type 0 where
-  pub member : proof.Member
-  pub is : IsMemberFor l goal member
-  pub added : new ≡ old ++ member ∷ []

@@ -1,10 +1,11 @@
 //! Makes the certificate of a goal: of a grammar's goal 0, that some term has it, or that none has.
 //!
-//! - [`certify`] makes the certificate. It has rows if goal 0 is productive, and members otherwise.
+//! - [`certify`] begins the certificate, and [`RowsLeft`] and [`MembersLeft`] write its lines. It has rows if goal 0 is productive,
+//!   and members otherwise.
 //! - `specs/` defines which certificate it is. [`laws`] says that it is the only one, and that it is accepted.
 //!
-//! Inside, `members` and `blocks` make the members, with the help of `forced` for families of one position each, `rows` and
-//! `choosing` the rows, and `buckets` sorts goals by rank.
+//! Inside, `members`, `blocks` and `layers` make the members while they are written, with the help of `forced` for families of one
+//! position each. `rows` and `choosing` make the rows, and `row_lines` writes them. `buckets` sorts goals by rank.
 #![tactic(auto)]
 
 mod blocks;
@@ -12,8 +13,12 @@ mod buckets;
 mod choosing;
 mod forced;
 pub mod laws;
+mod layers;
 mod making;
 mod members;
+mod row_lines;
 mod rows;
 
-pub use making::certify;
+pub use making::{CertificateLeft, certify};
+pub use members::MembersLeft;
+pub use row_lines::RowsLeft;

@@ -1,75 +1,174 @@
-//! The members of a certificate: the unproductive goals of a grammar.
-ghost use Rattle.std.specs.Prelude.{◌+◌, ◌<◌, IfOk, OnOk, length};
-ghost use Rattle.cls_path.specs.Paths.{listed};
-ghost use Rattle.cls_library.specs.Rules.{IsWide};
-ghost use Rattle.cls_grammar.specs.Grammars.{book_of};
-ghost use Rattle.cls_grammar.specs.Ranks.{AreRanks};
-ghost use Rattle.cls_expand.specs.Answers.{IsReady};
-ghost use Rattle.cls_cert.specs.Conditions.{forms_of, IsGrammarOf};
-ghost use Rattle.cls_cert.specs.Making.{AreMembers};
-ghost use Rattle.cls_cert.specs.Building.{AddsMember, AreMembersTo};
+//! What is left of a certificate without rows while it is written: members, one for each unproductive goal of a grammar.
+ghost use Rattle.std.specs.Prelude.{◌≡◌, ℕ, ◌+◌, ◌<◌, ◌≤◌, ◌++◌, [], IfOk, IfSome, List, OnOk, None, length, string_bytes};
+ghost use Rattle.cls_library.specs.Libraries as libraries;
+ghost use Rattle.cls_cert.specs.Computed.{start_place};
+ghost use Rattle.cls_cert.specs.Conditions.{forms_of};
+ghost use Rattle.cls_cert.specs.Left.{AreMembersLeft, IsWrittenOn, block_left, members_left};
 
-use crate::blocks::add_blocks;
+use crate::blocks::write_blocks;
+use crate::layers::BlockLeft;
 use cls_base::OutOfMemory;
-use cls_grammar::Grammar;
-use cls_library::Library;
+use cls_grammar::{Grammar, Ranks};
+use cls_lexer::Names;
+use cls_library::{Library, Place};
 use cls_norm::type_of;
-use cls_path::Nf;
-use cls_proof::Members;
+use cls_proof::write_member;
 use std::alloc::Global;
 
-/// Adds the member of a goal.
-fn add_goal(
-    alloc: Global,
-    lib: &Library,
-    goal: &Nf,
-    members: &mut Members,
-) -> Result<(), OutOfMemory>
-    requires ready { IsReady lib.now goal.now }
-    requires narrow { IsWide lib.now (listed goal.now) → ⊥ }
-    ensures { OnOk result (AddsMember lib.now (listed goal.now) members.old members.new) }
-{
-    members.push_member(type_of(alloc, goal)?)?;
-    add_blocks(alloc, lib, goal, members)?;
-    Ok(())
+/// Members that are left, of a grammar with its ranks: what is left of a block, the blocks from a place on of a goal whose line is
+/// written, and the members of the goals from a number on.
+pub struct MembersLeft {
+    pub(crate) ranks: Ranks,
+    pub(crate) block: BlockLeft,
+    pub(crate) goal: u32,
+    pub(crate) from: Option<Place>,
+    pub(crate) next: u32,
 }
 
-/// Adds the member of the goal with this number, if it has no rank.
-fn add_member(
-    alloc: Global,
-    lib: &Library,
-    grammar: &Grammar,
-    ranks: &[Option<u32>],
-    i: u32,
-    members: &mut Members,
-) -> Result<(), OutOfMemory>
-    requires grammar { IsGrammarOf lib.now grammar.now }
-    requires ranks { AreRanks (book_of grammar.now) ranks.now }
-    requires within { i < length grammar.now }
-    ensures { OnOk result
-        (AreMembersTo lib.now (forms_of grammar.now) (book_of grammar.now) i members.old
-        → AreMembersTo lib.now (forms_of grammar.now) (book_of grammar.now) (i + 1) members.new) }
-{
-    if ranks[i as usize].is_some() {
-        return Ok(());
+// Not derived, for the prover: so a caller's proof has one step where a value is dropped, and not one for each part of it.
+impl Drop for MembersLeft {
+    fn drop(self) {
+        let MembersLeft {
+            ranks: _,
+            block: _,
+            goal: _,
+            from: _,
+            next: _,
+        } = self;
     }
-    add_goal(alloc, lib, grammar.goal(i), members)
 }
 
-/// The members for the goals without a rank.
-pub(crate) fn members(
-    alloc: Global,
-    lib: &Library,
-    grammar: &Grammar,
-    ranks: &[Option<u32>],
-) -> Result<Members, OutOfMemory>
-    requires grammar { IsGrammarOf lib.now grammar.now }
-    requires ranks { AreRanks (book_of grammar.now) ranks.now }
-    ensures { IfOk result (AreMembers lib.now (forms_of grammar.now) (book_of grammar.now)) }
-{
-    let mut members = Members::new(alloc);
-    for i in 0..grammar.count() {
-        add_member(alloc, lib, grammar, ranks, i, &mut members)?;
+impl MembersLeft {
+    /// Writes lines at the end until they are enough, and says whether more are left. The last line is `qed`. The only error is out
+    /// of memory, after which no further lines are to be written.
+    pub fn write_lines(
+        &mut self,
+        alloc: Global,
+        lib: &Library,
+        grammar: &Grammar,
+        names: &Names,
+        components: &Names,
+        enough: usize,
+        text: &mut String,
+    ) -> Result<bool, OutOfMemory>
+        requires { AreMembersLeft lib.now grammar.now self.old }
+        ensures left { OnOk result (AreMembersLeft lib.now grammar.now self.new) }
+        ensures lines { let left = members_left names.now components.now lib.now (forms_of grammar.now) in IfOk result
+            (IsWrittenOn enough (left self.old) (left self.new) (string_bytes text.old) (string_bytes text.new)) }
+    {
+        self.block.write_lines(alloc, enough, text)?;
+        self.write_goal(alloc, lib, grammar, names, components, enough, text)?;
+        self.write_members(alloc, lib, grammar, names, components, enough, text)?;
+        let written = text.len();
+        if written >= enough {
+            return Ok(true);
+        }
+        text.push_str("qed\n")?;
+        Ok(false)
     }
-    Ok(members)
+
+    /// Writes the blocks that are left of a goal whose line is written, until the text has enough bytes. Before it nothing is left of
+    /// a block.
+    fn write_goal(
+        &mut self,
+        alloc: Global,
+        lib: &Library,
+        grammar: &Grammar,
+        names: &Names,
+        components: &Names,
+        enough: usize,
+        text: &mut String,
+    ) -> Result<(), OutOfMemory>
+        requires left { AreMembersLeft lib.now grammar.now self.old }
+        requires full { length (string_bytes text.old) < enough → block_left self.old.block ≡ [] }
+        ensures left { OnOk result (AreMembersLeft lib.now grammar.now self.new) }
+        ensures lines { let left = members_left names.now components.now lib.now (forms_of grammar.now) in
+            OnOk result (string_bytes text.new ++ left self.new ≡ string_bytes text.old ++ left self.old) }
+        ensures full { OnOk result (length (string_bytes text.new) < enough
+            → (block_left self.new.block ≡ []) × (self.new.from ≡ None)) }
+        ensures next { OnOk result (self.new.next ≡ self.old.next) }
+    {
+        let Some(from) = self.from else {
+            return Ok(());
+        };
+        let written = text.len();
+        if written >= enough {
+            return Ok(());
+        }
+        let goal = grammar.goal(self.goal);
+        let block = &mut self.block;
+        let next = write_blocks(alloc, lib, goal, from, components, enough, block, text)?;
+        self.from = next;
+        Ok(())
+    }
+
+    /// Writes the members from the next goal on, until the text has enough bytes. Before them nothing is left.
+    fn write_members(
+        &mut self,
+        alloc: Global,
+        lib: &Library,
+        grammar: &Grammar,
+        names: &Names,
+        components: &Names,
+        enough: usize,
+        text: &mut String,
+    ) -> Result<(), OutOfMemory>
+        requires left { AreMembersLeft lib.now grammar.now self.old }
+        requires full { length (string_bytes text.old) < enough
+            → (block_left self.old.block ≡ []) × (self.old.from ≡ None) }
+        ensures left { OnOk result (AreMembersLeft lib.now grammar.now self.new) }
+        ensures lines { let left = members_left names.now components.now lib.now (forms_of grammar.now) in
+            OnOk result (string_bytes text.new ++ left self.new ≡ string_bytes text.old ++ left self.old) }
+        ensures full { OnOk result (length (string_bytes text.new) < enough
+            → (block_left self.new.block ≡ []) × (self.new.from ≡ None) × (length grammar.now ≤ self.new.next)) }
+    {
+        for number in self.next..grammar.count() {
+            let written = text.len();
+            if written >= enough {
+                return Ok(());
+            }
+            self.begin_member(alloc, grammar, names, number, text)?;
+            self.write_goal(alloc, lib, grammar, names, components, enough, text)?;
+        }
+        Ok(())
+    }
+
+    /// Writes the first line of the member of the next goal, if that is unproductive. Its blocks are left then. Before it nothing is
+    /// left.
+    fn begin_member(
+        &mut self,
+        alloc: Global,
+        grammar: &Grammar,
+        names: &Names,
+        number: u32,
+        text: &mut String,
+    ) -> Result<(), OutOfMemory>
+        requires ranked { length self.old.ranks ≡ length grammar.now }
+        requires next { self.old.next ≡ number }
+        requires more { number < length grammar.now }
+        requires goal { self.old.goal < length grammar.now }
+        requires none { (block_left self.old.block ≡ []) × (self.old.from ≡ None) }
+        ensures lines { (components : List (List ℕ)) (l : libraries.Library)
+            → let left = members_left names.now components l (forms_of grammar.now) in
+            OnOk result (string_bytes text.new ++ left self.new ≡ string_bytes text.old ++ left self.old) }
+        ensures goal { OnOk result (self.new.goal < length grammar.now) }
+        ensures from { OnOk result (IfSome self.new.from (λ place. place ≡ start_place)) }
+        ensures same { OnOk result
+            (self.new ≡ record self.old { goal = self.new.goal; from = self.new.from; next = number + 1 }) }
+    {
+        // For the prover: the number of goals is one of 32 bits.
+        let _count = grammar.count();
+        self.next = number + 1;
+        if self.ranks.as_slice()[number as usize].is_some() {
+            return Ok(());
+        }
+        let ty = type_of(alloc, grammar.goal(number))?;
+        write_member(names, &ty, text)?;
+        self.goal = number;
+        self.from = Some(Place {
+            component: 0,
+            count: 0,
+        });
+        Ok(())
+    }
 }

@@ -1,20 +1,29 @@
 //! The rows of a certificate: the goals whose rank is less than that of goal 0, and then goal 0.
-ghost use Rattle.std.specs.Prelude.{◌≡◌, ◌+◌, [], IfOk, OnOk, Some, length, slice_get};
+ghost use Rattle.std.specs.Prelude.{◌≡◌, ◌+◌, ◌<◌, [], All, IfOk, OnOk, Some, length, map, slice_get};
 ghost use Rattle.cls_grammar.specs.Grammars.{book_of};
 ghost use Rattle.cls_grammar.specs.Ranks.{AreRanks};
-ghost use Rattle.cls_proof.specs.Rows.{row_of};
 ghost use Rattle.cls_cert.specs.Conditions.{forms_of, IsGrammarOf};
 ghost use Rattle.cls_cert.specs.Making.{IsRowFor, AreRows};
 ghost use Rattle.cls_cert.specs.Building.{AreRowsTo, IsBucketTo};
+ghost use Rattle.cls_cert.specs.Left.{row_for};
 
 use crate::buckets::by_rank;
 use crate::choosing::{first_cover, first_rule};
 use cls_base::{OutOfMemory, RuleRef};
 use cls_grammar::Grammar;
 use cls_library::Library;
-use cls_norm::type_of;
-use cls_proof::{Positions, ProofRow, ProofRows};
+use cls_proof::Positions;
 use std::alloc::Global;
+
+/// The number of a goal, and the choice by which some term has it. The goal's type isn't kept: the types of all rows would take
+/// much memory.
+#[derive(Drop)]
+pub(crate) struct MadeRow {
+    pub number: u32,
+    pub component: u32,
+    pub n: u32,
+    pub cover: Positions,
+}
 
 /// The row of the goal with this number, which has this rank.
 fn row(
@@ -24,18 +33,18 @@ fn row(
     ranks: &[Option<u32>],
     number: u32,
     rank: u32,
-) -> Result<ProofRow, OutOfMemory>
+) -> Result<MadeRow, OutOfMemory>
     requires grammar { IsGrammarOf lib.now grammar.now }
     requires ranks { AreRanks (book_of grammar.now) ranks.now }
     requires ranked { slice_get ranks.now number ≡ Some (Some rank) }
-    ensures { IfOk result (λ row. IsRowFor lib.now (forms_of grammar.now) (book_of grammar.now)
-        (record { number = number; rank = rank }) (row_of row)) }
+    ensures made { IfOk result (λ row. IsRowFor lib.now (forms_of grammar.now) (book_of grammar.now)
+        (record { number = number; rank = rank }) (row_for (forms_of grammar.now) row)) }
+    ensures within { IfOk result (λ row. row.number < length grammar.now) }
 {
     let goal = grammar.goal(number);
-    let ty = type_of(alloc, goal)?;
     if goal.paths().is_empty() {
-        return Ok(ProofRow {
-            goal: ty,
+        return Ok(MadeRow {
+            number,
             component: 0,
             n: 0,
             cover: Positions::new(alloc),
@@ -46,8 +55,8 @@ fn row(
             // For the prover: a component takes few arguments.
             let _arity = lib.arity(component);
             let cover = first_cover(alloc, lib, grammar, goal, component, args)?;
-            Ok(ProofRow {
-                goal: ty,
+            Ok(MadeRow {
+                number,
                 component,
                 n: args.len() as u32,
                 cover,
@@ -66,14 +75,16 @@ fn add_rows(
     ranks: &[Option<u32>],
     numbers: &[u32],
     rank: u32,
-    rows: &mut ProofRows,
+    rows: &mut Vec<MadeRow>,
 ) -> Result<(), OutOfMemory>
     requires grammar { IsGrammarOf lib.now grammar.now }
     requires ranks { AreRanks (book_of grammar.now) ranks.now }
     requires bucket { IsBucketTo ranks.now (length ranks.now) rank numbers.now }
-    ensures { OnOk result
-        (AreRowsTo lib.now (forms_of grammar.now) (book_of grammar.now) rank [] rows.old
-        → AreRowsTo lib.now (forms_of grammar.now) (book_of grammar.now) (rank + 1) [] rows.new) }
+    ensures made { let goals = forms_of grammar.now in let seen = map (row_for goals) in OnOk result
+        (AreRowsTo lib.now goals (book_of grammar.now) rank [] (seen rows.old.items)
+        → AreRowsTo lib.now goals (book_of grammar.now) (rank + 1) [] (seen rows.new.items)) }
+    ensures within { OnOk result (All (λ row. row.number < length grammar.now) rows.old.items
+        → All (λ row. row.number < length grammar.now) rows.new.items) }
 {
     for number in numbers {
         rows.push(row(alloc, lib, grammar, ranks, *number, rank)?)?;
@@ -88,16 +99,18 @@ pub(crate) fn rows(
     grammar: &Grammar,
     ranks: &[Option<u32>],
     rank: u32,
-) -> Result<ProofRows, OutOfMemory>
+) -> Result<Vec<MadeRow>, OutOfMemory>
     requires grammar { IsGrammarOf lib.now grammar.now }
     requires ranks { AreRanks (book_of grammar.now) ranks.now }
     requires ranked { slice_get ranks.now 0 ≡ Some (Some rank) }
-    ensures { IfOk result (AreRows lib.now (forms_of grammar.now) (book_of grammar.now)) }
+    ensures made { let goals = forms_of grammar.now in
+        IfOk result (λ rows. AreRows lib.now goals (book_of grammar.now) (map (row_for goals) rows.items)) }
+    ensures within { IfOk result (λ rows. All (λ row. row.number < length grammar.now) rows.items) }
 {
     // For the prover: the number of goals is one of 32 bits.
     let _count = grammar.count();
     let buckets = by_rank(alloc, ranks, rank)?;
-    let mut rows = ProofRows::new(alloc);
+    let mut rows = Vec::new(alloc);
     for lower in 0..rank {
         let numbers = buckets[lower as usize].as_slice();
         add_rows(alloc, lib, grammar, ranks, numbers, lower, &mut rows)?;

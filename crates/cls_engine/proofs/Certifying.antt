@@ -56,7 +56,7 @@ module _ (lib : Library) (is : IsLibrary lib) (o : Options) (t : ClosedType) (si
     known = record { ready = ready; canonical = closed.canonical; none_wide = none_wide; not_large = λ h. large (closed.goal, closed.is_goal, h) };
   }
 
-  grammar : IsGrammarOf lib rows
+  pub grammar : IsGrammarOf lib rows
   grammar = record { start = closed.goal; ready = ready; canonical = closed.canonical; narrow = none_wide }
 
   first_goal : goal_in (forms_of rows) 0 ≡ listed closed.goal

@@ -7,8 +7,6 @@ ghost use Rattle.cls_grammar.specs.Grammars.{book_of};
 ghost use Rattle.cls_grammar.specs.Ranks.{IsProductiveIn};
 ghost use Rattle.cls_library.specs.Typing.{HasTypeIn};
 ghost use Rattle.cls_engine.specs.Faults.{IsFaultOf, AreSilent, closure_faults};
-ghost use Rattle.cls_proof.specs.Seen.{certificate_of};
-ghost use Rattle.cls_engine.specs.Certified.{IsCertified};
 ghost use Rattle.cls_engine.specs.Goals.{IsClosed};
 ghost use Rattle.cls_engine.specs.Histories.{IsHistoryOf};
 
@@ -16,10 +14,8 @@ use crate::engine::Engine;
 use crate::fault::EngineFault;
 use crate::outcomes::Outcome;
 use cls_base::{Gate, OutOfMemory, Ty};
-use cls_cert::certify;
 use cls_core::History;
 use cls_grammar::Grammar;
-use cls_proof::Certificate;
 use std::alloc::Global;
 use std::sync::Wait;
 use std::thread::Threads;
@@ -88,27 +84,6 @@ impl Engine {
         // For the prover: what holds of each library.
         let _count = self.library().count();
         self.keep_recent(grammar);
-    }
-
-    /// The certificate of the type's goal, of a term or that there is none.
-    pub fn certify<R: Threads + Wait + Sync, T: Gate + Sync>(
-        &mut self,
-        rt: &R,
-        alloc: Global,
-        ty: &Ty,
-        gate: &T,
-    ) -> Result<Certificate, EngineFault>
-        ensures same { self.new ≡ self.old }
-        ensures certificate { IfOk result
-            (λ c. IsCertified self.old.library (type_of ty.now) (certificate_of c)) }
-        ensures silent { OnOk result (AreSilent (closure_faults self.old.library self.old.options (type_of ty.now))) }
-        ensures fault { IfErr result
-            (IsFaultOf (closure_faults self.old.library self.old.options (type_of ty.now))) }
-    {
-        let grammar = self.closure(rt, alloc, ty, gate)?;
-        let certificate = certify(alloc, self.library(), &grammar)?;
-        self.keep_recent(grammar);
-        Ok(certificate)
     }
 
     /// The history of the work on the type's goal: one that is legal and complete.

@@ -16,7 +16,8 @@ use Rattle.cls_core.specs.declared.answer.Answer.{Answer}
 use Rattle.cls_core.specs.declared.answer.Answer.TheVariants.{Rules, Wide}
 use Rattle.cls_existence.specs.Possible.{IsPossible}
 use Rattle.cls_existence.proofs.Classical.{surely, then, after, either_way, partners}
-use Rattle.cls_existence.proofs.Positions.{subs, numbers_have, subs_have, AreWithin, within_sub, minimal_below}
+use Rattle.cls_cert.specs.Subsets.{subs, numbers_have, subs_have, AreWithin, within_sub}
+use Rattle.cls_existence.proofs.Positions.{minimal_below}
 use Rattle.cls_existence.proofs.Sorting.{sorted}
 use Rattle.cls_library.specs.Arrows.{MultiArrow, arity_of}
 use Rattle.cls_library.specs.Libraries.{Library, IsLibrary, variances_in, paths_at, arrows_at}

@@ -34,8 +34,10 @@ use Rattle.cls_cert.proofs.Ruled.{ruled_within}
 use Rattle.cls_existence.specs.Possible.{IsPossible}
 use Rattle.cls_existence.proofs.Classical.{surely, then, after, either_way, by_index, least}
 use Rattle.cls_existence.proofs.Firsts.{first_exists, stands_before}
-use Rattle.cls_existence.proofs.Positions.{subs, subs_have, AreWithin, within_sub, minimal_below}
-use Rattle.cls_existence.proofs.Sorting.{Sorted, sorted}
+use Rattle.cls_cert.specs.Subsets.{subs, subs_have, AreWithin, within_sub}
+use Rattle.cls_existence.proofs.Positions.{minimal_below}
+use Rattle.cls_cert.specs.Sorting.{Sorted}
+use Rattle.cls_existence.proofs.Sorting.{sorted}
 
 less_or_same : (i n : ℕ) → i < suc n → (i < n) ⊎ (i ≡ n)
 less_or_same i n l = grind arith

@@ -1,6 +1,7 @@
 -- The lines of a certificate.
 use Rattle.std.specs.Prelude.{ℕ, ◌<◌, List, ◌∷◌, [], ◌++◌, codes, decimal}
 use Rattle.std.specs.List.{flat_map, AllByRecursion}
+use Rattle.cls_base.specs.Types.{ClosedType}
 use Rattle.cls_syntax.specs.TypePrinting.{name_in, HasNamesBelow, printed}
 use Rattle.cls_proof.specs.Certificates.{ProofRow, Block, Member, Certificate, inhabited, empty}
 
@@ -19,9 +20,17 @@ abbrev pub layer_text : List (List ℕ) → List ℕ
 layer_text sets = line (codes "layer") ++ flat_map set_text sets
 
 -- the table of the names of components
-abbrev pub block_text : List (List ℕ) → Block → List ℕ
-block_text components b =
-    line (codes "block " ++ name_in components b.component ++ codes " " ++ decimal b.n) ++ flat_map layer_text b.layers
+module _ (components : List (List ℕ)) where
+  -- the first line of a block
+  abbrev pub block_line : ℕ → ℕ → List ℕ
+  block_line component n = line (codes "block " ++ name_in components component ++ codes " " ++ decimal n)
+
+  abbrev pub block_text : Block → List ℕ
+  block_text b = block_line b.component b.n ++ flat_map layer_text b.layers
+
+-- the first line of a member, by the table of the names of constructors
+abbrev pub member_line : List (List ℕ) → ClosedType → List ℕ
+member_line names goal = line (codes "member " ++ printed (name_in names) 0 goal)
 
 -- the tables of the names of constructors and of components
 module _ (names components : List (List ℕ)) where
@@ -31,7 +40,7 @@ module _ (names components : List (List ℕ)) where
       ++ codes " by " ++ name_in components r.component ++ codes " " ++ decimal r.n ++ codes " :" ++ numbers_text r.cover)
 
   abbrev pub member_text : Member → List ℕ
-  member_text m = line (codes "member " ++ printed (name_in names) 0 m.goal) ++ flat_map (block_text components) m.blocks
+  member_text m = member_line names m.goal ++ flat_map (block_text components) m.blocks
 
   abbrev pub certificate_text : Certificate → List ℕ
   certificate_text (inhabited rows) = line (codes "inhabited") ++ flat_map row_text rows ++ line (codes "qed")

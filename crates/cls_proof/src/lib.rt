@@ -2,7 +2,8 @@
 //!
 //! - [`Certificate`] is a list of [`ProofRow`]s or of [`Members`]. A row says of its goal that some term has it, by the
 //!   goals of rows before it. A member says of its goal that no term has it, and its blocks show why.
-//! - [`print_certificate`] gives the lines of a certificate, and [`read_certificate`] reads them from [`HeldLines`].
+//! - [`write_row`], [`write_member`], [`write_block`] and [`write_set`] write lines of a certificate, and [`read_certificate`] reads
+//!   them from [`HeldLines`].
 //! - [`laws`] holds what is true of all lines.
 //! - `specs/` defines certificates and their lines. What one must meet is defined where it is checked.
 //!
@@ -41,7 +42,7 @@ pub use layer::{Layers, LayersRef};
 pub use lines::HeldLines;
 pub use member::{MemberRef, Members};
 pub use positions::Positions;
-pub use print::print_certificate;
+pub use print::{write_block, write_member, write_row, write_set};
 pub use proof_fault::ProofFault;
 pub use read::read_certificate;
 pub use row::{ProofRow, ProofRows, RowRef};

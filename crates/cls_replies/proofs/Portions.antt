@@ -3,16 +3,13 @@ use Rattle.std.proofs.Common.{◌≡◌, ◌∙◌, ℕ, zero, suc, ◌≤◌, L
 use Rattle.std.specs.Prelude.{codes, Result, Ok, Err, String, IfOk, OnOk, string_bytes}
 use Rattle.std.specs.List.{flat_map}
 use Rattle.std.proofs.lemmas.List.{drop_all}
+use Rattle.cls_cert.proofs.Writing.{with_end}
 use Rattle.cls_path.specs.Paths.{TypePath, listed}
 use Rattle.cls_replies.specs.declared.printing.Printing.{Printing}
 use Rattle.cls_replies.specs.Printing.{behind, left_of}
 use Rattle.cls_replies.specs.Rests.{IsPrintingOf}
 use Rattle.cls_replies.specs.Serving.{Serving}
 use Rattle.cls_replies.specs.Texts.{reply_line, path_lines, paths_text}
-
--- what follows the lines stays behind them
-pub with_end : (u t f g e : List ℕ) → u ++ f ≡ t ++ g → u ++ (f ++ e) ≡ t ++ (g ++ e)
-with_end u t f g e w = sym (append_assoc u f e) ∙ (ap (λ (x : List ℕ). x ++ e) w ∙ append_assoc t g e)
 
 -- no line is left, and what follows them was written
 pub at_end : {A : Type 0} (shown : A → List ℕ) (xs : List A) (next : ℕ) (u t v g e : List ℕ) → length xs ≤ next → v ≡ u ++ e

@@ -1,34 +1,36 @@
 //! A reply while it is printed.
 ghost use Rattle.std.specs.Prelude.{◌≡◌, ◌<◌, ◌≤◌, ◌++◌, All, [], IfOk, length, string_bytes};
 ghost use Rattle.cls_base.specs.Terms.{IsTermOver};
+ghost use Rattle.cls_cert.specs.Conditions.{IsGrammarOf, forms_of};
+ghost use Rattle.cls_cert.specs.Left.{AreMembersLeft, AreRowsLeft, members_left, rows_left};
 ghost use Rattle.cls_grammar.specs.GrammarTexts.{IsGrammarText, IsPlaceIn, lines_from};
 ghost use Rattle.cls_grammar.specs.Grammars.{book_of};
 ghost use Rattle.cls_grammar.specs.Ranks.{AreRanks};
 ghost use Rattle.cls_library.specs.Libraries.{paths_at};
-ghost use Rattle.cls_replies.specs.Printing.{ArePrintable, IsOfGoal, IsPrintable, behind, left_lines, left_of, page_left};
+ghost use Rattle.cls_replies.specs.Printing.{ArePrintable, IsOfGoal, IsPrintable, behind};
+ghost use Rattle.cls_replies.specs.Printing.{events_left, left_lines, left_of, page_left, steps_left};
 ghost use Rattle.cls_replies.specs.Serving as serving;
 ghost use Rattle.cls_replies.specs.Steps.{IsFaultLine};
-ghost use Rattle.cls_replies.specs.Rests.{IsPrintingOf, IsRest};
-ghost use Rattle.cls_proof.specs.Seen.{certificate_of};
-ghost use Rattle.cls_proof.specs.Texts.{certificate_text};
+ghost use Rattle.cls_replies.specs.Rests.{IsCertificateText, IsPrintingOf, IsRest};
 ghost use Rattle.cls_replies.specs.Texts.{history_text, page_text, paths_text, sizes_text, term_line, term_lines};
 ghost use Rattle.cls_syntax.specs.TypePrinting.{name_in};
 ghost use Rattle.cls_term.specs.Texts.{name_at};
 
-use crate::events::print_history;
+use crate::events::print_events;
 use crate::faults::engine_fault;
 use crate::pages::{print_terms, print_texts};
 use crate::paths::print_paths;
 use crate::serving::Serving;
-use crate::sizes::print_sizes;
+use crate::sizes::{print_over, print_size, print_steps};
 use cls_base::OutOfMemory;
+use cls_cert::{CertificateLeft, MembersLeft, RowsLeft, certify};
 use cls_core::History;
 use cls_engine::EngineFault;
 use cls_enum::Page;
-use cls_finite::FiniteAnswer;
+use cls_finite::{FiniteAnswer, Walk};
 use cls_grammar::{Grammar, GrammarPlace, Ranks};
 use cls_lexer::Names;
-use cls_proof::{Certificate, print_certificate};
+use cls_library::Library;
 use std::alloc::Global;
 
 /// So many bytes of lines are enough for a portion, 32 KiB.
@@ -49,6 +51,17 @@ pub(crate) enum Lines {
     },
     /// The paths of a component from a place on, and the last line.
     Paths { component: u32, place: usize },
+    /// The events of a history from a place on, and the last line.
+    Events { history: History, place: usize },
+    /// The steps of a walk from a place on, and the last line.
+    Steps { walk: Walk, place: usize },
+    /// What is left of a certificate with rows, of a grammar.
+    Rows { grammar: Grammar, rows: RowsLeft },
+    /// What is left of a certificate without rows, of a grammar.
+    Members {
+        grammar: Grammar,
+        members: MembersLeft,
+    },
 }
 
 /// What is left of a reply.
@@ -58,6 +71,8 @@ pub(crate) enum Left {
     Nothing,
     /// A text, which is printed already.
     Text(String),
+    /// A first line, which is printed already, and lines behind it.
+    Begun { first: String, lines: Lines },
     /// Lines that are printed when they are asked for.
     Lines(Lines),
 }
@@ -150,26 +165,48 @@ pub(crate) fn grammar_printing(alloc: Global, grammar: Grammar) -> Result<Printi
     }))
 }
 
-/// The lines of a certificate. The only error is out of memory.
-pub(crate) fn certificate_printing(
-    alloc: Global,
-    names: &Names,
-    components: &Names,
-    certificate: Certificate,
-) -> Result<Printing, OutOfMemory>
-    ensures text { (s : serving.Serving) → IfOk result (λ p.
-        left_of s p ≡ certificate_text names.now components.now (certificate_of certificate)) }
-    ensures printable { (s : serving.Serving) → IfOk result (IsPrintable s) }
+/// A first line and lines behind it. The only error is out of memory.
+fn begun_printing(alloc: Global, first: &str, lines: Lines) -> Result<Printing, OutOfMemory>
+    requires { first.now ≡ [] → ⊥ }
+    ensures text { (s : serving.Serving) → IfOk result (λ p. left_of s p ≡ first.now ++ left_lines s lines) }
+    ensures printable { (s : serving.Serving) → ArePrintable s lines → IfOk result (IsPrintable s) }
 {
-    text_printing(print_certificate(alloc, names, components, &certificate))
+    let mut text = String::new(alloc);
+    text.push_str(first)?;
+    Ok(Printing {
+        left: Left::Begun { first: text, lines },
+    })
 }
 
-/// The lines of a history. The only error is out of memory.
-pub(crate) fn history_printing(alloc: Global, history: History) -> Result<Printing, OutOfMemory>
-    ensures text { (s : serving.Serving) → IfOk result (λ p. left_of s p ≡ history_text history) }
-    ensures printable { (s : serving.Serving) → IfOk result (IsPrintable s) }
+/// The certificate of goal 0 of a grammar, which is by the rules of the library. The only error is out of memory.
+pub(crate) fn certificate_printing(
+    alloc: Global,
+    lib: &Library,
+    grammar: Grammar,
+) -> Result<Printing, OutOfMemory>
+    requires { IsGrammarOf lib.now grammar }
+    ensures text { (s : serving.Serving) → s.engine.library ≡ lib.now
+        → IfOk result (λ p. IsCertificateText lib.now grammar s.names s.components (left_of s p)) }
+    ensures printable { (s : serving.Serving) → s.engine.library ≡ lib.now → IsOfGoal s grammar
+        → IfOk result (IsPrintable s) }
 {
-    text_printing(print_history(alloc, &history))
+    let left = certify(alloc, lib, &grammar)?;
+    match left {
+        CertificateLeft::Rows(rows) => {
+            begun_printing(alloc, "inhabited\n", Lines::Rows { grammar, rows })
+        }
+        CertificateLeft::Members(members) => {
+            begun_printing(alloc, "empty\n", Lines::Members { grammar, members })
+        }
+    }
+}
+
+/// The lines of a history.
+pub(crate) fn history_printing(history: History) -> Printing
+    ensures text { (s : serving.Serving) → left_of s result ≡ history_text history }
+    ensures printable { (s : serving.Serving) → IsPrintable s result }
+{
+    Printing::of_lines(Lines::Events { history, place: 0 })
 }
 
 /// The lines of sizes. The only error is out of memory.
@@ -177,7 +214,13 @@ pub(crate) fn sizes_printing(alloc: Global, sizes: FiniteAnswer) -> Result<Print
     ensures text { (s : serving.Serving) → IfOk result (λ p. left_of s p ≡ sizes_text sizes) }
     ensures printable { (s : serving.Serving) → IfOk result (IsPrintable s) }
 {
-    text_printing(print_sizes(alloc, &sizes))
+    match sizes {
+        FiniteAnswer::Finite(size) => text_printing(print_size(alloc, size)),
+        FiniteAnswer::Over => text_printing(print_over(alloc)),
+        FiniteAnswer::Infinite(walk) => {
+            begun_printing(alloc, "infinite\n", Lines::Steps { walk, place: 0 })
+        }
+    }
 }
 
 /// The terms of the page.
@@ -211,6 +254,30 @@ pub(crate) fn paths_printing(component: u32) -> Printing
     })
 }
 
+fn write_events(history: History, place: usize, text: &mut String) -> Result<Left, OutOfMemory>
+    requires { place ≤ length history }
+    ensures { (s : serving.Serving) → IfOk result (IsRest s (events_left history place)
+        (string_bytes text.old) (string_bytes text.new)) }
+{
+    let next = print_events(&history, place, PORTION_BYTES, text)?;
+    match next {
+        Some(place) => Ok(Left::Lines(Lines::Events { history, place })),
+        None => Ok(Left::Nothing),
+    }
+}
+
+fn write_steps(walk: Walk, place: usize, text: &mut String) -> Result<Left, OutOfMemory>
+    requires { place ≤ length walk }
+    ensures { (s : serving.Serving) → IfOk result (IsRest s (steps_left walk place)
+        (string_bytes text.old) (string_bytes text.new)) }
+{
+    let next = print_steps(&walk, place, PORTION_BYTES, text)?;
+    match next {
+        Some(place) => Ok(Left::Lines(Lines::Steps { walk, place })),
+        None => Ok(Left::Nothing),
+    }
+}
+
 impl Serving {
     /// The next portion of the reply, and what is left behind it. A portion is lines up to the first end of a line behind
     /// 32 KiB, or a text that was printed already. It is empty if and only if nothing is left. The only error is out of memory.
@@ -229,6 +296,7 @@ impl Serving {
         match left {
             Left::Nothing => Ok((String::new(alloc), Printing::nothing())),
             Left::Text(text) => Ok((text, Printing::nothing())),
+            Left::Begun { first, lines } => Ok((first, Printing::of_lines(lines))),
             Left::Lines(lines) => {
                 let mut portion = self.empty_text(alloc);
                 let rest = self.write_lines(alloc, lines, &mut portion)?;
@@ -258,6 +326,12 @@ impl Serving {
                 place,
             } => self.write_grammar(alloc, grammar, ranks, place, text),
             Lines::Paths { component, place } => self.write_paths(alloc, component, place, text),
+            Lines::Events { history, place } => write_events(history, place, text),
+            Lines::Steps { walk, place } => write_steps(walk, place, text),
+            Lines::Rows { grammar, rows } => self.write_rows(alloc, grammar, rows, text),
+            Lines::Members { grammar, members } => {
+                self.write_members(alloc, grammar, members, text)
+            }
         }
     }
 
@@ -352,5 +426,62 @@ impl Serving {
             Some(place) => Ok(Left::Lines(Lines::Paths { component, place })),
             None => Ok(Left::Nothing),
         }
+    }
+
+    /// The engine takes the grammar back when its last line is written.
+    fn write_rows(
+        &mut self,
+        alloc: Global,
+        grammar: Grammar,
+        rows: RowsLeft,
+        text: &mut String,
+    ) -> Result<Left, OutOfMemory>
+        requires left { AreRowsLeft grammar rows }
+        requires of_goal { IsOfGoal self.old grammar }
+        ensures rest { IfOk result (IsRest self.old
+            (rows_left self.old.names self.old.components (forms_of grammar) rows)
+            (string_bytes text.old) (string_bytes text.new)) }
+        ensures same { self.new ≡ self.old }
+    {
+        let mut left = rows;
+        let (names, components) = (&self.names, &self.components);
+        let more = left.write_lines(alloc, &grammar, names, components, PORTION_BYTES, text)?;
+        if more {
+            return Ok(Left::Lines(Lines::Rows {
+                grammar,
+                rows: left,
+            }));
+        }
+        self.engine.take_back(grammar);
+        Ok(Left::Nothing)
+    }
+
+    /// The engine takes the grammar back when its last line is written.
+    fn write_members(
+        &mut self,
+        alloc: Global,
+        grammar: Grammar,
+        members: MembersLeft,
+        text: &mut String,
+    ) -> Result<Left, OutOfMemory>
+        requires left { AreMembersLeft self.old.engine.library grammar members }
+        requires of_goal { IsOfGoal self.old grammar }
+        ensures rest { IfOk result (IsRest self.old
+            (members_left self.old.names self.old.components self.old.engine.library (forms_of grammar) members)
+            (string_bytes text.old) (string_bytes text.new)) }
+        ensures same { self.new ≡ self.old }
+    {
+        let mut left = members;
+        let lib = self.engine.library();
+        let (names, components, enough) = (&self.names, &self.components, PORTION_BYTES);
+        let more = left.write_lines(alloc, lib, &grammar, names, components, enough, text)?;
+        if more {
+            return Ok(Left::Lines(Lines::Members {
+                grammar,
+                members: left,
+            }));
+        }
+        self.engine.take_back(grammar);
+        Ok(Left::Nothing)
     }
 }

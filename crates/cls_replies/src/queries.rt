@@ -136,7 +136,7 @@ impl Serving {
         ensures same { self.new ≡ self.old }
     {
         match self.engine.audit(rt, alloc, ty, gate) {
-            Ok(history) => history_printing(alloc, history),
+            Ok(history) => Ok(history_printing(history)),
             Err(fault) => fault_printing(alloc, &self.names, fault),
         }
     }
@@ -152,9 +152,12 @@ impl Serving {
         ensures printable { IfOk result (IsPrintable self.old) }
         ensures same { self.new ≡ self.old }
     {
-        match self.engine.certify(rt, alloc, ty, gate) {
-            Ok(certificate) => {
-                certificate_printing(alloc, &self.names, &self.components, certificate)
+        match self.engine.grammar(rt, alloc, ty, gate) {
+            Ok(grammar) => {
+                let lib = self.engine.library();
+                // For the prover: what holds of each library.
+                let _count = lib.count();
+                certificate_printing(alloc, lib, grammar)
             }
             Err(fault) => fault_printing(alloc, &self.names, fault),
         }

@@ -1,34 +1,54 @@
 //! How large the terms of a type are.
-ghost use Rattle.std.specs.Prelude.{◌≡◌, ◌++◌, IfOk, OnOk, string_bytes};
-ghost use Rattle.cls_finite.specs.declared.answer.FiniteAnswer.TheVariants.{Infinite};
+ghost use Rattle.std.specs.Prelude.{◌≡◌, ◌≤◌, ◌++◌, length, IfOk, IfSome, OnOk, string_bytes};
+ghost use Rattle.cls_finite.specs.declared.answer.FiniteAnswer.TheVariants.{Finite, Over};
+ghost use Rattle.cls_replies.specs.Printing.{steps_left};
+ghost use Rattle.cls_replies.specs.Rests.{left_at};
 ghost use Rattle.cls_replies.specs.Texts.{step_line, sizes_text};
 
 use cls_base::OutOfMemory;
-use cls_finite::{FiniteAnswer, Step, Walk};
+use cls_finite::{Step, Walk};
 use itoa::Buffer;
 use std::alloc::Global;
 
-/// The line of the greatest size, or of its being over the limit, or the lines of a walk.
-pub(crate) fn print_sizes(alloc: Global, sizes: &FiniteAnswer) -> Result<String, OutOfMemory>
-    ensures { IfOk result (λ text. string_bytes text ≡ sizes_text sizes.now) }
+/// The line of the greatest size.
+pub(crate) fn print_size(alloc: Global, size: u64) -> Result<String, OutOfMemory>
+    ensures { IfOk result (λ text. string_bytes text ≡ sizes_text (Finite size)) }
 {
-    match sizes {
-        FiniteAnswer::Finite(size) => Ok(format!(in alloc; "finite {size}\n")?),
-        FiniteAnswer::Over => Ok(String::from_str(alloc, "finite over\n")?),
-        FiniteAnswer::Infinite(walk) => print_walk(alloc, walk),
-    }
+    Ok(format!(in alloc; "finite {size}\n")?)
 }
 
-/// A first line, a line for each step, and a last one.
-fn print_walk(alloc: Global, walk: &Walk) -> Result<String, OutOfMemory>
-    ensures { IfOk result (λ text. string_bytes text ≡ sizes_text (Infinite walk.now)) }
+/// The line that says that the greatest size is over the limit.
+pub(crate) fn print_over(alloc: Global) -> Result<String, OutOfMemory>
+    ensures { IfOk result (λ text. string_bytes text ≡ sizes_text Over) }
 {
-    let mut text = String::from_str(alloc, "infinite\n")?;
-    for step in walk.as_slice() {
-        write_step(step, &mut text)?;
+    Ok(String::from_str(alloc, "finite over\n")?)
+}
+
+/// Writes a line for each step from a place on, and a last one, until the text has enough bytes. Gives the place of the first step
+/// that isn't written, and None behind the last line.
+pub(crate) fn print_steps(
+    walk: &Walk,
+    from: usize,
+    enough: usize,
+    text: &mut String,
+) -> Result<Option<usize>, OutOfMemory>
+    requires { from ≤ length walk.now }
+    ensures within { IfOk result (λ next. IfSome next (λ place. place ≤ length walk.now)) }
+    ensures lines { let left = steps_left walk.now in
+        IfOk result (λ next. string_bytes text.new ++ left_at left next ≡ string_bytes text.old ++ left from) }
+    ensures full { IfOk result (λ next. IfSome next (λ _. enough ≤ length (string_bytes text.new))) }
+{
+    let steps = walk.as_slice();
+    let count = steps.len();
+    for place in from..count {
+        let written = text.len();
+        if written >= enough {
+            return Ok(Some(place));
+        }
+        write_step(&steps[place], text)?;
     }
     text.push_str("done\n")?;
-    Ok(text)
+    Ok(None)
 }
 
 /// Writes the line of the step at the end.

@@ -1,10 +1,14 @@
-use Rattle.std.proofs.Common.{[], take}
+use Rattle.std.proofs.Common.{◌<◌, [], length, take, map, All}
 use Rattle.cls_grammar.specs.Grammars.{book_of}
 use Rattle.cls_cert.specs.Conditions.{forms_of}
 use Rattle.cls_cert.specs.Building.{AreRowsTo}
+use Rattle.cls_cert.specs.declared.rows.MadeRow.{MadeRow}
+use Rattle.cls_cert.specs.Left.{row_for}
 use Rattle.cls_cert.proofs.rows.add_rows.Given as goal
 
 abbrev pub invariant-loop-number : goal.invariant-loop-number
-invariant-loop-number l =
-    AreRowsTo l.lib (forms_of l.grammar) (book_of l.grammar) l.rank [] l.fn.rows
-    → AreRowsTo l.lib (forms_of l.grammar) (book_of l.grammar) l.rank (take l.number-index l.numbers) l.rows
+invariant-loop-number l = record {
+  made : AreRowsTo l.lib (forms_of l.grammar) (book_of l.grammar) l.rank [] (map (row_for (forms_of l.grammar)) l.fn.rows.items)
+      → AreRowsTo l.lib (forms_of l.grammar) (book_of l.grammar) l.rank (take l.number-index l.numbers) (map (row_for (forms_of l.grammar)) l.rows.items);
+  within : All (λ (r : MadeRow). r.number < length l.grammar) l.fn.rows.items → All (λ (r : MadeRow). r.number < length l.grammar) l.rows.items;
+}

@@ -1,15 +1,14 @@
-use Rattle.std.proofs.Common.{ℕ, List, sym, subst, arith}
-use Rattle.cls_base.specs.Ty.{type_of}
-use Rattle.cls_path.specs.Paths.{listed}
+use Rattle.std.proofs.Common.{ℕ, ◌≡◌, List, ap, sym, subst, arith}
+use Rattle.cls_path.specs.Paths.{listed, type_of_paths}
 use Rattle.cls_base.specs.Columns.{rule_of}
 use Rattle.cls_base.specs.declared.rule_ref.RuleRef.{RuleRef}
 use Rattle.cls_grammar.specs.Grammars.{book_of}
 use Rattle.cls_cert.specs.Conditions.{forms_of}
-use Rattle.cls_cert.specs.Making.{IsFirst, IsRowFor}
+use Rattle.cls_cert.specs.Making.{IsFirst, IsRowFor, goal_in}
 use Rattle.cls_cert.specs.Building.{HasLess}
 use Rattle.cls_cert.proofs.ChoiceLaws.{given_declared, given_within}
 use Rattle.cls_cert.proofs.RowMaking.{number_within, empty_form, first_path, omega_made, some_rule, no_apply, given, below, row_made}
-use Rattle.cls_cert.proofs.Ruled.{ruled}
+use Rattle.cls_cert.proofs.Ruled.{ruled, told_form}
 use Rattle.cls_cert.proofs.rows.row.Goals as goal
 
 pub goal-goal-requires : goal.goal-goal-requires
@@ -18,13 +17,17 @@ goal-goal-requires c = number_within c.args.lib.now c.args.grammar.now c.require
 pub rules-requires : goal.rules-requires
 rules-requires c = number_within c.args.lib.now c.args.grammar.now c.requires.grammar c.args.ranks.now c.requires.ranks c.args.number c.args.rank c.requires.ranked
 
-pub returns-then-is_empty : goal.returns-then-is_empty
-returns-then-is_empty c =
+pub returns-then-is_empty-clause-made : goal.returns-then-is_empty-clause-made
+returns-then-is_empty-clause-made c =
     let g = c.goal-goal.result.now in
-    subst (λ (cover : List ℕ). IsRowFor c.args.lib.now (forms_of c.args.grammar.now) (book_of c.args.grammar.now) (record { number = c.args.number; rank = c.args.rank }) (record { goal = type_of c.in_ok-ty.ty; component = 0; n = 0; cover = cover }))
+    let form : goal_in (forms_of c.args.grammar.now) c.args.number ≡ listed g = told_form c.args.grammar.now c.args.number g c.goal-goal.ensures in
+    subst (λ (cover : List ℕ). IsRowFor c.args.lib.now (forms_of c.args.grammar.now) (book_of c.args.grammar.now) (record { number = c.args.number; rank = c.args.rank }) (record { goal = type_of_paths (goal_in (forms_of c.args.grammar.now) c.args.number); component = 0; n = 0; cover = cover }))
     (sym c.new.ensures)
-    (omega_made c.args.lib.now c.args.grammar.now c.requires.grammar c.args.ranks.now c.requires.ranks c.args.number c.args.rank c.requires.ranked g c.goal-goal.ensures (type_of c.in_ok-ty.ty) c.in_ok-ty.ensures
+    (omega_made c.args.lib.now c.args.grammar.now c.requires.grammar c.args.ranks.now c.requires.ranks c.args.number c.args.rank c.requires.ranked g c.goal-goal.ensures (type_of_paths (goal_in (forms_of c.args.grammar.now) c.args.number)) (ap type_of_paths form)
     (empty_form c.paths.result.now g c.is_empty.result c.paths.ensures c.is_empty.ensures c.if-is_empty.true))
+
+pub returns-then-is_empty-clause-within : goal.returns-then-is_empty-clause-within
+returns-then-is_empty-clause-within c = number_within c.args.lib.now c.args.grammar.now c.requires.grammar c.args.ranks.now c.requires.ranks c.args.number c.args.rank c.requires.ranked
 
 pub unreachable-requires : goal.unreachable-requires
 unreachable-requires c =
@@ -87,12 +90,16 @@ first_cover-requires-clause-given c =
     let first = subst (λ (r : RuleRef). IsFirst (HasLess c.args.ranks.now c.args.rank) rs (rule_of r)) c.in-Some-Head.field-0-is c.in-Some-Head.ensures in
     given c.args.lib.now c.args.grammar.now c.requires.grammar c.args.ranks.now c.requires.ranks c.args.number c.args.rank c.requires.ranked g c.goal-goal.ensures rs c.rules.ensures.rules p.0 p.1 p.2 x ns first
 
-pub returns : goal.returns
-returns c =
+pub returns-clause-made : goal.returns-clause-made
+returns-clause-made c =
     let g = c.goal-goal.result.now in
     let rs = c.rules.result.now in
     let p = first_path c.paths.result.now g c.is_empty.result c.paths.ensures c.is_empty.ensures c.if-is_empty.false in
     let x = c.in-Some-Head.component in
     let ns = c.in-Some-Head.args.now in
     let first = subst (λ (r : RuleRef). IsFirst (HasLess c.args.ranks.now c.args.rank) rs (rule_of r)) c.in-Some-Head.field-0-is c.in-Some-Head.ensures in
-    row_made c.args.lib.now c.args.grammar.now c.requires.grammar c.args.ranks.now c.requires.ranks c.args.number c.args.rank c.requires.ranked g c.goal-goal.ensures rs c.rules.ensures.rules p.0 p.1 p.2 x ns c.in_ok-cover-in-Some-Head.cover first c.in_ok-cover-in-Some-Head.ensures (type_of c.in_ok-ty.ty) c.in_ok-ty.ensures
+    let form : goal_in (forms_of c.args.grammar.now) c.args.number ≡ listed g = told_form c.args.grammar.now c.args.number g c.goal-goal.ensures in
+    row_made c.args.lib.now c.args.grammar.now c.requires.grammar c.args.ranks.now c.requires.ranks c.args.number c.args.rank c.requires.ranked g c.goal-goal.ensures rs c.rules.ensures.rules p.0 p.1 p.2 x ns c.in_ok-cover-in-Some-Head.cover first c.in_ok-cover-in-Some-Head.ensures (type_of_paths (goal_in (forms_of c.args.grammar.now) c.args.number)) (ap type_of_paths form)
+
+pub returns-clause-within : goal.returns-clause-within
+returns-clause-within c = number_within c.args.lib.now c.args.grammar.now c.requires.grammar c.args.ranks.now c.requires.ranks c.args.number c.args.rank c.requires.ranked

@@ -2,8 +2,9 @@ use Rattle.std.proofs.Common.{◌≤◌, length, drop, arith, string_bytes}
 use Rattle.std.specs.Prelude.{codes, if◌then◌else◌}
 use Rattle.std.specs.List.{flat_map}
 use Rattle.cls_term.specs.Texts.{name_at}
+use Rattle.cls_cert.proofs.Writing.{with_end}
 use Rattle.cls_replies.specs.Texts.{reply_line, term_line}
-use Rattle.cls_replies.proofs.Portions.{with_end, at_end}
+use Rattle.cls_replies.proofs.Portions.{at_end}
 use Rattle.cls_replies.proofs.pages.print_terms.Goals as goal
 
 pub returns-then-next-count-clause-lines : goal.returns-then-next-count-clause-lines

@@ -6,8 +6,9 @@ use Rattle.cls_assemble.specs.Texts.{text_by}
 use Rattle.cls_term.specs.Banks.{at}
 use Rattle.cls_term.specs.Texts.{name_at}
 use Rattle.cls_term.proofs.Writing.{left_next}
+use Rattle.cls_cert.proofs.Writing.{with_end}
 use Rattle.cls_replies.specs.Texts.{reply_line, assembled_lines, term_line, term_lines}
-use Rattle.cls_replies.proofs.Portions.{with_end, at_end}
+use Rattle.cls_replies.proofs.Portions.{at_end}
 use Rattle.cls_replies.proofs.pages.print_texts.Goals as goal
 
 pub loop-place-preserved : goal.loop-place-preserved

@@ -13,6 +13,23 @@ returns-in-Text-clause-portion c =
     let text = string_bytes c.in-Text.text in
     rw (← c.into_left-left.ensures, c.in-Text.is) (sym (append-nil text) ∙ ap (λ (v : List ℕ). text ++ v) (sym (c.nothing-in-Text.ensures.text s)))
 
+pub returns-in-Begun-clause-portion : goal.returns-in-Begun-clause-portion
+returns-in-Begun-clause-portion c =
+    let first = string_bytes c.in-Begun.first in
+    rw (← c.into_left-left.ensures, c.in-Begun.is) (sym (ap (λ (v : List ℕ). first ++ v) (c.of_lines.ensures.text c.args.self.now)))
+
+pub returns-in-Begun-clause-ended : goal.returns-in-Begun-clause-ended
+returns-in-Begun-clause-ended c = λ none.
+    let left = rw (← c.into_left-left.ensures) at c.requires in
+    let begun = rw c.in-Begun.is at left in
+    absurd (begun.0 none)
+
+pub returns-in-Begun-clause-printable : goal.returns-in-Begun-clause-printable
+returns-in-Begun-clause-printable c =
+    let left = rw (← c.into_left-left.ensures) at c.requires in
+    let begun = rw c.in-Begun.is at left in
+    c.of_lines.ensures.printable c.args.self.now begun.1
+
 pub write_lines-requires : goal.write_lines-requires
 write_lines-requires c =
     let left = rw (← c.into_left-left.ensures) at c.requires in

@@ -32,3 +32,33 @@ write_paths-requires c = rw c.in-Paths.is at c.requires
 
 pub returns-in-Paths-clause-rest : goal.returns-in-Paths-clause-rest
 returns-in-Paths-clause-rest c = rw c.in-Paths.is c.write_paths.ensures
+
+pub write_rows-requires-clause-left : goal.write_rows-requires-clause-left
+write_rows-requires-clause-left c = let printable = rw c.in-Rows.is at c.requires in printable.0
+
+pub write_rows-requires-clause-of_goal : goal.write_rows-requires-clause-of_goal
+write_rows-requires-clause-of_goal c = let printable = rw c.in-Rows.is at c.requires in printable.1
+
+pub returns-in-Rows-clause-rest : goal.returns-in-Rows-clause-rest
+returns-in-Rows-clause-rest c = rw c.in-Rows.is c.write_rows.ensures.rest
+
+pub write_members-requires-clause-left : goal.write_members-requires-clause-left
+write_members-requires-clause-left c = let printable = rw c.in-Members.is at c.requires in printable.0
+
+pub write_members-requires-clause-of_goal : goal.write_members-requires-clause-of_goal
+write_members-requires-clause-of_goal c = let printable = rw c.in-Members.is at c.requires in printable.1
+
+pub returns-in-Members-clause-rest : goal.returns-in-Members-clause-rest
+returns-in-Members-clause-rest c = rw c.in-Members.is c.write_members.ensures.rest
+
+pub write_events-requires : goal.write_events-requires
+write_events-requires c = rw c.in-Events.is at c.requires
+
+pub returns-in-Events-clause-rest : goal.returns-in-Events-clause-rest
+returns-in-Events-clause-rest c = rw c.in-Events.is (c.write_events.ensures c.args.self.now)
+
+pub write_steps-requires : goal.write_steps-requires
+write_steps-requires c = rw c.in-Steps.is at c.requires
+
+pub returns-in-Steps-clause-rest : goal.returns-in-Steps-clause-rest
+returns-in-Steps-clause-rest c = rw c.in-Steps.is (c.write_steps.ensures c.args.self.now)
