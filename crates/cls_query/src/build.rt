@@ -56,8 +56,7 @@ pub(crate) fn build(
             Ok(Query::About(*asks, goal))
         }
         Query::Page(asks, spelled) => {
-            let after = tree(alloc, term)?;
-            let page = page(alloc, constructors, spelled, after)?;
+            let page = page(alloc, constructors, spelled, term)?;
             Ok(Query::Page(*asks, page))
         }
     }
@@ -96,12 +95,12 @@ fn page(
     alloc: Global,
     constructors: &mut Names,
     spelled: &SpelledListing,
-    after: Option<Term>,
+    term: Option<CodedTerm>,
 ) -> Result<BuiltListing, OutOfMemory>
     requires closed { HasNoDollar (words_in spelled.now.goal) }
     requires in_range { AreInRange spelled.now.max.text.now spelled.now.take.text.now }
     ensures page { IfOk result (λ page. (components : _)
-        → after ≡ option_map (spelled_in components) spelled.now.after
+        → term ≡ option_map (spelled_in components) spelled.now.after
         → answers.listing_of page ≡ listing_of (tables_of constructors.new components) (listing_text spelled.now)) }
     ensures constructors { OnOk result (constructors.new
         ≡ with_constructors constructors.old (words_in spelled.now.goal)) }
@@ -110,6 +109,7 @@ fn page(
     let Some((max, take)) = numbers(spelled) else {
         unreachable!()
     };
+    let after = tree(alloc, term)?;
     let goal = closed(alloc, constructors, &spelled.goal)?;
     Ok(Listing {
         goal,

@@ -29,6 +29,6 @@ mod reader;
 mod word;
 
 pub use fault::LineFault;
-pub use query::{BuiltListing, BuiltQuery, Listing, Query, SpelledListing, SpelledQuery};
+pub use query::{BuiltListing, BuiltQuery, Listing, Query};
 pub use reader::read_query;
 pub use word::{GoalWord, ListingWord, QueryWord};
