@@ -6,6 +6,7 @@ ghost use Rattle.cls_base.specs.Ty.{type_of};
 ghost use Rattle.cls_syntax.specs.MeasuredTypes.{measured_type};
 ghost use Rattle.cls_proof.specs.Seen.{certificate_of};
 ghost use Rattle.cls_check.specs.Verdicts.{rows_in};
+ghost use Rattle.cls_query.specs.declared.query.Query.TheVariants as queries;
 ghost use Rattle.cls_query.specs.Queries.{sub, paths, typed, inhabit, grammar, audit, certify, finite, list, texts};
 ghost use Rattle.cls_query.specs.Readable.{IsPageAsked, IsReadable, IsVerify};
 ghost use Rattle.cls_query.specs.ReadQueries.{listing_of, asked_of};
@@ -25,7 +26,7 @@ use cls_base::{Gate, Name, OutOfMemory, Ty};
 use cls_engine::EngineFault;
 use cls_enum::Page;
 use cls_proof::{Certificate, print_certificate};
-use cls_query::{Listing, Query};
+use cls_query::{BuiltListing, BuiltQuery, GoalWord, Listing, ListingWord, Query};
 use cls_syntax::MeasuredTy;
 use cls_term::CodedTerm;
 use std::alloc::Global;
@@ -38,7 +39,7 @@ impl Serving {
         &mut self,
         rt: &R,
         alloc: Global,
-        query: &Query,
+        query: &BuiltQuery,
         gate: &G,
     ) -> Result<String, OutOfMemory>
         requires readable { IsReadable (length self.old.components) (asked_of query.now) }
@@ -50,14 +51,52 @@ impl Serving {
             Query::Sub(lower, upper) => self.sub(alloc, lower, upper),
             Query::Paths(name) => self.paths(alloc, *name),
             Query::Typed(term, ty) => self.typed(alloc, term, ty),
-            Query::Inhabit(ty) => self.inhabit(rt, alloc, ty, gate),
-            Query::Grammar(ty) => self.grammar(rt, alloc, ty, gate),
-            Query::Audit(ty) => self.audit(rt, alloc, ty, gate),
-            Query::Certify(ty) => self.certify(rt, alloc, ty, gate),
-            Query::Verify(_) => unreachable!(),
-            Query::Finite(ty) => self.finite(rt, alloc, ty, gate),
-            Query::List(listing) => self.list(rt, alloc, listing, gate),
-            Query::Texts(listing) => self.texts(rt, alloc, listing, gate),
+            Query::About(asks, ty) => self.about(rt, alloc, *asks, ty, gate),
+            Query::Page(asks, listing) => self.show(rt, alloc, *asks, listing, gate),
+        }
+    }
+
+    /// What is written for a query about the type.
+    fn about<R: Threads + Wait + Sync, G: Gate + Sync>(
+        &mut self,
+        rt: &R,
+        alloc: Global,
+        asks: GoalWord,
+        ty: &Ty,
+        gate: &G,
+    ) -> Result<String, OutOfMemory>
+        requires { IsVerify (queries.About asks (type_of ty.now)) → ⊥ }
+        ensures answers { IfOk result (λ text.
+            Answers self.old (queries.About asks (type_of ty.now)) (string_bytes text)) }
+        ensures same { self.new ≡ self.old }
+    {
+        match asks {
+            GoalWord::Inhabit => self.inhabit(rt, alloc, ty, gate),
+            GoalWord::Grammar => self.grammar(rt, alloc, ty, gate),
+            GoalWord::Audit => self.audit(rt, alloc, ty, gate),
+            GoalWord::Certify => self.certify(rt, alloc, ty, gate),
+            GoalWord::Verify => unreachable!(),
+            GoalWord::Finite => self.finite(rt, alloc, ty, gate),
+        }
+    }
+
+    /// What is written for a query for the page.
+    fn show<R: Threads + Wait + Sync, G: Gate + Sync>(
+        &mut self,
+        rt: &R,
+        alloc: Global,
+        asks: ListingWord,
+        listing: &BuiltListing,
+        gate: &G,
+    ) -> Result<String, OutOfMemory>
+        requires { IsPageAsked (length self.old.components) (listing_of listing.now) }
+        ensures answers { IfOk result (λ text.
+            Answers self.old (queries.Page asks (listing_of listing.now)) (string_bytes text)) }
+        ensures same { self.new ≡ self.old }
+    {
+        match asks {
+            ListingWord::List => self.list(rt, alloc, listing, gate),
+            ListingWord::Texts => self.texts(rt, alloc, listing, gate),
         }
     }
 
@@ -189,7 +228,7 @@ impl Serving {
         &mut self,
         rt: &R,
         alloc: Global,
-        listing: &Listing,
+        listing: &BuiltListing,
         gate: &G,
     ) -> Result<String, OutOfMemory>
         requires { IsPageAsked (length self.old.components) (listing_of listing.now) }
@@ -206,7 +245,7 @@ impl Serving {
         &mut self,
         rt: &R,
         alloc: Global,
-        listing: &Listing,
+        listing: &BuiltListing,
         gate: &G,
     ) -> Result<String, OutOfMemory>
         requires { IsPageAsked (length self.old.components) (listing_of listing.now) }
@@ -227,7 +266,7 @@ impl Serving {
         &mut self,
         rt: &R,
         alloc: Global,
-        listing: &Listing,
+        listing: &BuiltListing,
         gate: &G,
     ) -> Result<Page, EngineFault>
         requires { IsPageAsked (length self.old.components) (listing_of listing.now) }
