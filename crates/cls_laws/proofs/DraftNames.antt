@@ -12,7 +12,7 @@ use Rattle.cls_lexer.specs.Names.{number_of, with_text, with_texts}
 use Rattle.cls_lexer.specs.Words.{Word, sign}
 use Rattle.cls_lexer.specs.declared.token.TokenKind.TheVariants.{To, And, Times, Close, Bar}
 use Rattle.cls_syntax.specs.declared.role.Role.TheVariants.{Constructor}
-use Rattle.cls_syntax.specs.ClosedTypes.{opened, Spells}
+use Rattle.cls_syntax.specs.ClosedTypes.{opened, Spells, AreSpelled}
 use Rattle.cls_syntax.specs.Forms as form
 use Rattle.cls_syntax.specs.Forms.{Part, fixed, naming, numeral, part_word, type_parts, meet_parts, product_parts, atom_parts, types_parts, constructors_named}
 use Rattle.cls_syntax.specs.RoundTrips.{IsProperName}
@@ -24,7 +24,7 @@ use Rattle.cls_proof.proofs.ReadCertificates.{distinct_all}
 use Rattle.cls_query.proofs.Numbering.{named_both, grown_texts}
 use Rattle.cls_assemble.specs.declared.piece.Piece.TheVariants.{Byte}
 use Rattle.cls_lexer.specs.Numerals.{number_value}
-use Rattle.cls_repo.specs.Declarations.{Declares, AreSpelled, AreChoices, changed_at, with_names}
+use Rattle.cls_repo.specs.Declarations.{Declares, AreChoices, changed_at, with_names}
 use Rattle.cls_repo.specs.Directives as directive
 use Rattle.cls_repo.specs.Directives.{Directive, LineSays, parts_of}
 use Rattle.cls_repo.specs.Drafts.{Component, Draft}

@@ -10,7 +10,7 @@ use Rattle.cls_lexer.specs.Numerals.{number_value}
 use Rattle.cls_lexer.specs.Skipped.{IsSkipped}
 use Rattle.cls_lexer.specs.Tokens.{tokens_of, byte_at}
 use Rattle.cls_lexer.specs.Words.{Word, name, sign, words_of}
-use Rattle.cls_syntax.specs.ClosedTypes.{HasNoDollar}
+use Rattle.cls_syntax.specs.ClosedTypes.{HasNoDollar, AreSpelled}
 use Rattle.cls_syntax.specs.Faults.{Stop, stop, Exactly}
 use Rattle.cls_syntax.specs.Forms.{types}
 use Rattle.cls_syntax.specs.LineGrammars.{LineOf, row_words, RowStands, grammar_read, IsGoodGrammar}
@@ -22,12 +22,12 @@ use Rattle.cls_syntax.proofs.Dollars.{no_dollar}
 use Rattle.cls_syntax.proofs.GrammarFronts.{grammar_exactly}
 use Rattle.cls_syntax.proofs.LineParts.{line_same}
 use Rattle.cls_query.proofs.FirstErrors.{each_silent}
-use Rattle.cls_repo.specs.Declarations.{template_text, AreSpelled, AreChoices, with_names, with_pair, with_kind, with_component, with_template, with_cost, with_variance, Declares}
+use Rattle.cls_repo.specs.Declarations.{template_text, AreChoices, with_names, with_pair, with_kind, with_component, with_template, with_cost, with_variance, Declares}
 use Rattle.cls_repo.specs.Directives.{Directive, sub, kind, comp, text, end, cost, variance, repository_rows, row_of, WordsSay, LineSays, is_end}
 use Rattle.cls_repo.specs.Drafts.{Draft}
 use Rattle.cls_repo.specs.LineFaults.{misspelled, spelling_words, kind_variable, bad_template, directive_faults, line_faults}
 use Rattle.cls_repo.specs.Readings.{Reading, Takes, skipped, declares, Refuses}
-use Rattle.cls_repo.proofs.KindTypes.{front_left, front_right}
+use Rattle.cls_syntax.proofs.ClosedLists.{front_left, front_right}
 use Rattle.cls_repo.proofs.Lines.{stopped}
 use Rattle.cls_laws.specs.Possible.{IsPossible}
 use Rattle.cls_laws.proofs.Classical.{surely, then, after, either_way, first_decided}

@@ -14,7 +14,7 @@ use Rattle.cls_term.specs.TermReadings.{term_of, terms_of}
 use Rattle.cls_term.specs.TokenFaults as faults
 use Rattle.cls_term.proofs.Spines.{greatest_of-spine_of}
 use Rattle.cls_query.specs.declared.query.Query.TheVariants.{Sub, Paths, Typed, About, Page}
-use Rattle.cls_query.specs.FormAnswers.{SpelledListing, SpelledQuery, query_text, term_spelled, spelled_in}
+use Rattle.cls_query.specs.FormAnswers.{SpelledQuery, query_text, term_spelled, spelled_in}
 use Rattle.cls_query.specs.Queries.{query_parts}
 use Rattle.cls_query.specs.QueryErrors.{is_absent, is_unknown_in_term}
 use Rattle.cls_query.proofs.CodeForms.{sub_placed, about_placed, typed_placed, plain_placed, cursor_placed}

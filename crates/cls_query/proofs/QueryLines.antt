@@ -21,7 +21,7 @@ use Rattle.cls_query.specs.declared.word.QueryWord.{QueryWord}
 use Rattle.cls_query.specs.declared.word.QueryWord.TheVariants as word
 use Rattle.cls_query.specs.QueryErrors.{IsQuery, leaves_table}
 use Rattle.cls_query.specs.QueryForms.{goal_word_text, listing_word_text, word_text, goal_words, listing_words, listing_form, form_of}
-use Rattle.cls_query.specs.QueryReading.{or_later, front_in, goal_front, listing_front, either_front, query_front, query_at, said_of, query_after, query_behind, query_read}
+use Rattle.cls_query.specs.QueryReading.{or_later, front_in, goal_front, listing_front, either_front, query_front, query_at, said_of, query_behind, query_read}
 use Rattle.cls_query.specs.Queries.{QueryText, word_of, values_of, query_words, QueryStands}
 use Rattle.cls_query.proofs.Searches.{nothing_found, some_or}
 use Rattle.cls_query.proofs.TablePlaces.{line_stays}

@@ -1,5 +1,5 @@
 -- What a line says, in texts, and what it asks, with types, terms and numbers. Both are queries of one kind.
-use Rattle.std.specs.Prelude.{ℕ, List, ◌∷◌, Option}
+use Rattle.std.specs.Prelude.{ℕ, List, ◌∷◌}
 use Rattle.std.specs.Option.{option_map}
 use Rattle.cls_base.specs.Types as types
 use Rattle.cls_base.specs.Types.{ClosedType}

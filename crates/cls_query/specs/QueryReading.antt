@@ -1,8 +1,7 @@
 -- internal: how a query is read from the left, its first word and then what the form of the word says
 use Rattle.std.specs.Prelude.{ℕ, ◌≡◌, false, List, [], ◌∷◌, Option, Some, None, Result, Ok, Err, MatchResult}
 use Rattle.std.specs.Option.{option_map}
-use Rattle.cls_lexer.specs.Words.{Word, words}
-use Rattle.cls_lexer.specs.declared.token.Token.{Token}
+use Rattle.cls_lexer.specs.Words.{Word}
 use Rattle.cls_syntax.specs.declared.stop.Stop as code
 use Rattle.cls_syntax.specs.Faults.{Stop, stop}
 use Rattle.cls_syntax.specs.Forms.{Values, the_word}

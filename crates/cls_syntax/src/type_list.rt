@@ -1,19 +1,18 @@
-//! The types of a kind, read from their tokens in one pass.
+//! Types with bars between them, built over their tokens in one pass.
 ghost use Rattle.std.specs.Prelude.{◌≡◌, ◌<◌, length, take, IsTrue, IfOk, IfSome, OnOk, map, option_copied, position};
 ghost use Rattle.cls_base.specs.Ty.{type_of};
 ghost use Rattle.cls_lexer.specs.declared.token.TokenKind.TheVariants.{Bar};
 ghost use Rattle.cls_lexer.specs.Names.{number_of, with_texts};
 ghost use Rattle.cls_lexer.specs.Words.{words, word_of};
-ghost use Rattle.cls_syntax.specs.ClosedTypes.{HasNoDollar};
+ghost use Rattle.cls_syntax.specs.ClosedTypes.{AreSpelled, HasNoDollar};
+ghost use Rattle.cls_syntax.specs.FirstTypes.{FirstType};
 ghost use Rattle.cls_syntax.specs.Forms.{types_parts, constructors_named};
 ghost use Rattle.cls_syntax.specs.Spans.{is_whole, types_in};
 ghost use Rattle.cls_syntax.specs.TypeLists.{types_front, is_the_sign};
-ghost use Rattle.cls_repo.specs.Declarations.{AreSpelled};
-ghost use Rattle.cls_repo.specs.Written.{FirstType};
 
+use crate::type_builder::closed_type;
 use cls_base::{OutOfMemory, Ty};
 use cls_lexer::{Names, Token, TokenKind};
-use cls_syntax::closed_type;
 use std::alloc::Global;
 
 /// The types, one or more with bars between them, that the tokens spell. They have no variable. Their names are

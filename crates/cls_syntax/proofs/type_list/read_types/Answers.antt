@@ -8,9 +8,9 @@ use Rattle.cls_lexer.specs.Names.{with_texts}
 use Rattle.cls_lexer.specs.Words.{words}
 use Rattle.cls_syntax.specs.Forms.{types_parts, constructors_named}
 use Rattle.cls_syntax.specs.Spans.{types_in}
-use Rattle.cls_repo.proofs.KindTypes.{IsReading, begun, read_on, all_read}
-use Rattle.cls_repo.proofs.Tables.{kept, grows_on, grows_kept}
-use Rattle.cls_repo.proofs.kind_types.read_types.Goals as goal
+use Rattle.cls_syntax.proofs.ClosedLists.{IsReading, begun, read_on, all_read}
+use Rattle.cls_syntax.proofs.Tables.{kept, grows_on, grows_kept}
+use Rattle.cls_syntax.proofs.type_list.read_types.Goals as goal
 
 pub loop-left-init : goal.loop-left-init
 loop-left-init c = rw c.new-types.ensures.items (begun c.args.names.now c.args.tokens.now c.requires.whole c.requires.closed)

@@ -7,7 +7,7 @@ use Rattle.cls_lexer.specs.declared.token.Token.{Token}
 use Rattle.cls_lexer.specs.declared.token.TokenKind.TheVariants.{Bar}
 use Rattle.cls_lexer.specs.Names.{number_of, with_texts}
 use Rattle.cls_lexer.specs.Words.{Word, sign, words}
-use Rattle.cls_syntax.specs.ClosedTypes.{Spells, HasNoDollar}
+use Rattle.cls_syntax.specs.ClosedTypes.{Spells, HasNoDollar, AreSpelled}
 use Rattle.cls_syntax.specs.Forms.{Part, fixed, naming, numeral, type_parts, types_parts, constructors_named}
 use Rattle.cls_syntax.specs.Spans.{is_whole, read_or, omega_text, types_in}
 use Rattle.cls_syntax.specs.TypeLists.{types_words, types_front}
@@ -16,10 +16,9 @@ use Rattle.cls_syntax.specs.TypeTexts.{TypeText, type_words, TypeList, last, mor
 use Rattle.cls_syntax.specs.declared.role.Role.TheVariants.{Constructor}
 use Rattle.cls_syntax.proofs.FirstBars.{words_list}
 use Rattle.cls_syntax.proofs.PartNames.{type_constructors}
-use Rattle.cls_repo.specs.Declarations.{AreSpelled}
-use Rattle.cls_repo.specs.Written.{FirstType, IsRest}
-use Rattle.cls_repo.proofs.Tables.{Grows, grows_on, grows_all, with_both}
-use Rattle.cls_repo.proofs.TypeMeanings.{spelled_still}
+use Rattle.cls_syntax.specs.FirstTypes.{FirstType, IsRest}
+use Rattle.cls_syntax.proofs.Tables.{Grows, grows_on, grows_all, with_both}
+use Rattle.cls_syntax.proofs.TypeMeanings.{spelled_still}
 
 abbrev Is_whole : List Word → Type 0
 Is_whole ws = IsTrue (is_whole (types_front Bar ws))

@@ -6,8 +6,8 @@ use Rattle.cls_lexer.specs.Names.{with_texts}
 use Rattle.cls_lexer.specs.Words.{words}
 use Rattle.cls_syntax.specs.Forms.{types_parts, constructors_named}
 use Rattle.cls_syntax.specs.Spans.{types_in}
-use Rattle.cls_repo.proofs.KindTypes.{IsReading, left_count}
-use Rattle.cls_repo.proofs.kind_types.read_types.Given as goal
+use Rattle.cls_syntax.proofs.ClosedLists.{IsReading, left_count}
+use Rattle.cls_syntax.proofs.type_list.read_types.Given as goal
 
 abbrev pub invariant-loop-left : goal.invariant-loop-left
 invariant-loop-left l =

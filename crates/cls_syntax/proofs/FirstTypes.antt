@@ -15,8 +15,8 @@ use Rattle.cls_syntax.specs.TypeLists.{is_the_sign, types_front}
 use Rattle.cls_syntax.specs.TypeReading.{type_front}
 use Rattle.cls_syntax.specs.TypeTexts.{more}
 use Rattle.cls_syntax.proofs.FirstBars.{IsLast, IsFirst, first_bar}
-use Rattle.cls_repo.specs.Written.{IsRest}
-use Rattle.cls_repo.proofs.KindTypes.{front_left, front_right}
+use Rattle.cls_syntax.specs.FirstTypes.{IsRest}
+use Rattle.cls_syntax.proofs.ClosedLists.{front_left, front_right}
 
 no_name_bar : (b : Bool) (x : List ℕ) → is_the_sign Bar (if b then word.omega else name x) ≡ false
 no_name_bar true x = refl

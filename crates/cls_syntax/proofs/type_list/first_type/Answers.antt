@@ -3,8 +3,8 @@ use Rattle.cls_lexer.specs.Words.{words}
 use Rattle.cls_syntax.specs.Spans.{type_in}
 use Rattle.cls_syntax.specs.TypeSchemas.{with_constructors}
 use Rattle.cls_syntax.proofs.TypeSpans.{spelled_words}
-use Rattle.cls_repo.proofs.FirstTypes.{one_type, front_whole, closed_front, others_left}
-use Rattle.cls_repo.proofs.kind_types.first_type.Goals as goal
+use Rattle.cls_syntax.proofs.FirstTypes.{one_type, front_whole, closed_front, others_left}
+use Rattle.cls_syntax.proofs.type_list.first_type.Goals as goal
 
 pub closed_type-requires-clause-whole : goal.closed_type-requires-clause-whole
 closed_type-requires-clause-whole c = front_whole c.args.tokens.now c.requires.whole c.in-Some.place c.in-Some.ensures.first

@@ -12,7 +12,7 @@ use Rattle.cls_syntax.specs.Forms.{Part, fixed, naming, numeral, type_parts, mee
 use Rattle.cls_syntax.specs.TypeSchemas.{type_schema, meet_schema, product_schema, atom_schema}
 use Rattle.cls_syntax.specs.TypeTexts.{TypeText, MeetText, ProductText, AtomText, only_meet, arrow, only_product, meet, only_atom, product, named, applied, variable, inside, type_words}
 use Rattle.cls_syntax.specs.TypeTexts as grammar
-use Rattle.cls_repo.proofs.Tables.{Held, Grows, stays, held_all}
+use Rattle.cls_syntax.proofs.Tables.{Held, Grows, stays, held_all}
 
 module _ (f g : List ℕ → ℕ) where
   -- both number the constructors among the parts alike
