@@ -37,7 +37,7 @@ use Rattle.cls_query.specs.QueryReading.{said_of, query_after}
 use Rattle.cls_query.specs.Queries.{Listing, Query, QueryText, query_parts, with_names, tables_of, type_in, term_in, listing_of, query_of}
 use Rattle.cls_query.specs.QueryErrors.{query_types, is_large, is_outside, is_absent, is_unknown, is_unknown_in_term}
 use Rattle.cls_query.proofs.Searches.{behind}
-use Rattle.cls_query.proofs.FormParts.{comparison_inside, typing_inside, goal_inside, page_outside, comparison_known, typing_known, goal_known, page_known, comparison_in_term, typing_in_term, goal_in_term, plain_in_term, cursor_in_term, cursor_within, typing_within, comparison_names, typing_names, goal_names, page_names, page_types}
+use Rattle.cls_query.proofs.FormParts.{comparison_inside, typing_inside, goal_inside, page_outside, comparison_known, typing_known, goal_known, page_known, comparison_in_term, typing_in_term, goal_in_term, plain_in_term, cursor_in_term, cursor_within, typing_within, comparison_names, typing_names, goal_names, page_names, page_types, or_nothing}
 use Rattle.cls_query.proofs.Numbering.{names_of_type}
 
 -- RANGES
@@ -86,10 +86,6 @@ pub held_is : (table : List (List ℕ)) (x : List ℕ) (n : ℕ) → slice_get t
 held_is table x n h = ap not (list_any_at (bytes_eq x) table n x (slice_get_within table n x h) ((bytes_eq-Decides x _).1 (sym (get_or_from_slice_get table n x x h))))
 
 -- TYPES
-or_nothing : (b : Bool) → (b || false) ≡ b
-or_nothing true = refl
-or_nothing false = refl
-
 pub page_large : {q : SpelledQuery} {word : ListingWord} {l : SpelledListing} → q ≡ Page word l → list_any is_large (query_types (query_text q)) ≡ is_large (type_text l.goal)
 page_large {q = q} {word = word} {l = l} e =
     ap (λ (p : SpelledQuery). list_any is_large (query_types (query_text p))) e

@@ -59,7 +59,7 @@ typing_inside e t = typing_none is_outside (λ w. refl) (λ x. refl) (λ x. refl
 pub goal_inside : (word : GoalWord) (t : TypeText) → list_any is_outside (query_parts (About word t)) ≡ false
 goal_inside word t = goal_none is_outside (λ w. refl) (λ x. refl) (λ x. refl) (t, tt)
 
-or_nothing : (b : Bool) → (b || false) ≡ b
+pub or_nothing : (b : Bool) → (b || false) ≡ b
 or_nothing true = refl
 or_nothing false = refl
 
