@@ -18,7 +18,8 @@ use Rattle.cls_query.specs.Queries.{ListingText, QueryText}
 
 -- THE FIRST WORD
 -- A word that stands in front with what follows it, or what is found of other words.
-abbrev pub or_later : {W : Type 0} → W → Result (Unit {0} × List Word) Stop → Option (W × List Word) → Option (W × List Word)
+abbrev pub or_later :
+    {W : Type 0} → W → Result (Unit {0} × List Word) Stop → Option (W × List Word) → Option (W × List Word)
 or_later word (Ok p) others = Some (word, p.1)
 or_later word (Err e) others = others
 
@@ -32,7 +33,8 @@ goal_front ws = front_in goal_word_text goal_words ws
 abbrev pub listing_front : List Word → Option (ListingWord × List Word)
 listing_front ws = front_in listing_word_text listing_words ws
 
-abbrev pub either_front : Option (GoalWord × List Word) → Option (ListingWord × List Word) → Option (QueryWord × List Word)
+abbrev pub either_front :
+    Option (GoalWord × List Word) → Option (ListingWord × List Word) → Option (QueryWord × List Word)
 either_front (Some p) other = Some (About p.0, p.1)
 either_front None (Some p) = Some (Page p.0, p.1)
 either_front None None = None

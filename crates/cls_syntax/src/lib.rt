@@ -14,7 +14,8 @@
 //! count parentheses. `schema_builder` builds a type that was recognised, by operator precedence (the shunting yard of
 //! Dijkstra, 1961) over the stack of `waiting_stack`, and `tree` has the trees that it builds: schemas, or the closed
 //! types of `measured`, which know their measures. `type_builder` builds closed types, also over tokens that may spell
-//! none, and `type_list` those with bars between them. `interning` numbers the names of what is built, and `depth` counts open parentheses.
+//! none, and `type_list` those with bars between them. `interning` numbers the names of what is built, and `depth` counts
+//! open parentheses.
 //!
 //! In `specs/`, `Forms` has the forms of lines and their parts, `Roles` which names may stand where, `LineReading` and
 //! `LineGrammars` how a line is read, and `Faults` what the place of a fault is. A line of an own form is a constant of
