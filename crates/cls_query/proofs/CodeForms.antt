@@ -86,10 +86,20 @@ pub held_is : (table : List (List ℕ)) (x : List ℕ) (n : ℕ) → slice_get t
 held_is table x n h = ap not (list_any_at (bytes_eq x) table n x (slice_get_within table n x h) ((bytes_eq-Decides x _).1 (sym (get_or_from_slice_get table n x x h))))
 
 -- TYPES
+abbrev has_large : SpelledQuery → Bool
+has_large q = list_any is_large (query_types (query_text q))
+
+pub sub_large : {q : SpelledQuery} {s t : SpelledType} → q ≡ Sub s t → list_any is_large (query_types (query_text q)) ≡ (is_large (type_text s) || is_large (type_text t))
+sub_large {q = q} {s = s} {t = t} e = ap has_large e ∙ ap (λ b. is_large (type_text s) || b) (or_nothing (is_large (type_text t)))
+
+pub typed_large : {q : SpelledQuery} {e : SpelledTerm} {t : SpelledType} → q ≡ Typed e t → list_any is_large (query_types (query_text q)) ≡ is_large (type_text t)
+typed_large {q = q} {e = x} {t = t} e = ap has_large e ∙ or_nothing (is_large (type_text t))
+
+pub about_large : {q : SpelledQuery} {word : GoalWord} {t : SpelledType} → q ≡ About word t → list_any is_large (query_types (query_text q)) ≡ is_large (type_text t)
+about_large {q = q} {word = word} {t = t} e = ap has_large e ∙ or_nothing (is_large (type_text t))
+
 pub page_large : {q : SpelledQuery} {word : ListingWord} {l : SpelledListing} → q ≡ Page word l → list_any is_large (query_types (query_text q)) ≡ is_large (type_text l.goal)
-page_large {q = q} {word = word} {l = l} e =
-    ap (λ (p : SpelledQuery). list_any is_large (query_types (query_text p))) e
-    ∙ (ap (list_any is_large) (page_types word (listing_text l)) ∙ or_nothing (is_large (type_text l.goal)))
+page_large {q = q} {word = word} {l = l} e = ap has_large e ∙ (ap (list_any is_large) (page_types word (listing_text l)) ∙ or_nothing (is_large (type_text l.goal)))
 
 -- NUMBERS
 abbrev has_outside : SpelledQuery → Bool
