@@ -1,11 +1,33 @@
-use Rattle.std.proofs.Common.{sym, ap, ◌∙◌}
+use Rattle.std.proofs.Common.{sym, ap, ◌∙◌, subst}
+use Rattle.std.specs.List.{AllByRecursion}
 use Rattle.std.specs.Option.{option_map}
 use Rattle.cls_base.specs.Ty.{type_of}
-use Rattle.cls_query.specs.FormAnswers.{SpelledQuery, term_spelled, spelled_in}
+use Rattle.cls_syntax.specs.ClosedTypes.{HasNoDollar}
+use Rattle.cls_syntax.specs.TypeTexts.{type_words}
+use Rattle.cls_query.specs.FormAnswers.{SpelledQuery, query_text, term_spelled, spelled_in}
+use Rattle.cls_query.specs.QueryErrors.{query_types}
 use Rattle.cls_query.specs.ReadQueries.{listing_of}
 use Rattle.cls_query.proofs.CodeForms.{page_outside_is, both_within, sub_named, typed_named, about_named, page_named, typed_means, about_means, page_means}
 use Rattle.cls_query.proofs.Searches.{some_or}
 use Rattle.cls_query.proofs.build.build.Goals as goal
+
+abbrev AreClosed : SpelledQuery → Type 0
+AreClosed q = AllByRecursion (λ t. HasNoDollar (type_words t)) (query_types (query_text q))
+
+pub both_types-requires-clause-lower : goal.both_types-requires-clause-lower
+both_types-requires-clause-lower c = (subst AreClosed c.in-Sub.is c.requires.closed).0
+
+pub both_types-requires-clause-upper : goal.both_types-requires-clause-upper
+both_types-requires-clause-upper c = (subst AreClosed c.in-Sub.is c.requires.closed).1.0
+
+pub closed-requires : goal.closed-requires
+closed-requires c = (subst AreClosed c.in-Typed.is c.requires.closed).0
+
+pub closed-requires-in-About : goal.closed-requires-in-About
+closed-requires-in-About c = (subst AreClosed c.in-About.is c.requires.closed).0
+
+pub page-requires-clause-closed : goal.page-requires-clause-closed
+page-requires-clause-closed c = (subst AreClosed c.in-Page.is c.requires.closed).0
 
 pub returns-in_ok-lower-in-Sub-clause-constructors : goal.returns-in_ok-lower-in-Sub-clause-constructors
 returns-in_ok-lower-in-Sub-clause-constructors c = c.in_ok-lower-in-Sub.ensures.constructors ∙ sub_named c.args.constructors.now c.in-Sub.is
