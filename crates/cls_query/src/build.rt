@@ -64,11 +64,7 @@ pub(crate) fn build(
 
 /// The type that is spelled. Its names are numbered in the order of its tokens. The only error is out of memory, and leaves
 /// the table as before.
-fn closed(
-    alloc: Global,
-    constructors: &mut Names,
-    spelled: &SpelledType,
-) -> Result<Ty, OutOfMemory>
+fn closed(alloc: Global, constructors: &mut Names, spelled: &SpelledType) -> Result<Ty, OutOfMemory>
     requires { HasNoDollar (words_in spelled.now) }
     ensures ty { IfOk result (λ ty. type_of ty ≡ type_in constructors.new (type_text spelled.now)) }
     ensures constructors { OnOk result

@@ -154,11 +154,7 @@ fn unknown_in_term(query: &SpelledQuery, components: &Names, count: usize) -> Op
 }
 
 /// The place of the first name of the cursor, if there is one, that is no component. It ends a line of so many tokens.
-fn unknown_in_cursor(
-    components: &Names,
-    after: &Option<SpelledTerm>,
-    count: usize,
-) -> Option<usize>
+fn unknown_in_cursor(components: &Names, after: &Option<SpelledTerm>, count: usize) -> Option<usize>
     requires { IfSome after.now (λ term. length (term_words (term_text term)) ≤ count) }
     ensures { result ≡ place_behind components.now count after.now }
 {

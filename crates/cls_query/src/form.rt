@@ -103,8 +103,10 @@ fn goal<'t, 'a>(tokens: &'t [Token<'a>]) -> Result<SpelledType<'t, 'a>, Stop<'t,
 }
 
 fn page<'t, 'a>(tokens: &'t [Token<'a>]) -> Result<SpelledListing<'t, 'a>, Stop<'t, 'a>>
-    ensures { Reads listing_form tokens.now result (λ x. (type_text x.goal,
-        (x.max.text.now, (x.take.text.now, option_map (λ e. (term_text e, tt)) x.after)))) }
+    ensures { Reads listing_form tokens.now result (λ x. (
+      type_text x.goal,
+      (x.max.text.now, (x.take.text.now, option_map (λ e. (term_text e, tt)) x.after)),
+    )) }
 {
     let (goal, rest) = type_at(tokens)?;
     let rest = word_at(rest, "max")?;

@@ -48,9 +48,7 @@ pub enum QueryWord {
 }
 
 /// The word of a query that the tokens begin with, and the tokens after it.
-pub(crate) fn query_word<'t, 'a>(
-    tokens: &'t [Token<'a>],
-) -> Option<(QueryWord, &'t [Token<'a>])>
+pub(crate) fn query_word<'t, 'a>(tokens: &'t [Token<'a>]) -> Option<(QueryWord, &'t [Token<'a>])>
     ensures { MatchOption result (query_front (words tokens.now) ≡ None)
         (λ x. query_front (words tokens.now) ≡ Some (x.0, words x.1.now)) }
 {
