@@ -1,3 +1,5 @@
+pub mod Books
+pub mod Columns
 pub mod Cutting
 pub mod Depths
 pub mod Firsts

@@ -1,3 +1,6 @@
+pub mod Arguments
+pub mod Books
+pub mod Columns
 pub mod Cuts
 pub mod Firsts
 pub mod Languages

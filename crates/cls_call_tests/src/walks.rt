@@ -1,7 +1,6 @@
 //! Walks through rule books that show that there are terms of any size.
-use cls_base::Numbers;
+use cls_base::{Numbers, OmegaBook};
 use cls_finite::{FiniteAnswer, Step, Walk, finite, right_walk};
-use cls_rulebook::OmegaBook;
 use std::test::Fail;
 
 #[test]

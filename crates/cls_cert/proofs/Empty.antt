@@ -22,7 +22,7 @@ use Rattle.cls_cover.specs.Lists.{Rises, IsAscending, Sublist}
 use Rattle.cls_cover.specs.Covers.{IsMinimal, AreMinimal}
 use Rattle.cls_cover.specs.Members.{Member}
 use Rattle.cls_cover.proofs.Lists.{contains_member, member_contains, decide_member, without, sublist_none, member_append_left}
-use Rattle.cls_rulebook.specs.Arguments.{arguments_of_rule}
+use Rattle.cls_base.specs.Arguments.{arguments_of_rule}
 use Rattle.cls_core.specs.Rows.{Row}
 use Rattle.cls_grammar.specs.Grammars.{book_of}
 use Rattle.cls_grammar.specs.Ranks.{HasTree, HaveTrees, head_tree, any_tree, no_trees, more_trees, IsProductiveIn}

@@ -13,7 +13,7 @@ use Rattle.cls_base.proofs.Lists.{Contains-nil, Contains-here, Contains-later, C
 use Rattle.cls_path.specs.Paths.{TypePath, Paths, none, more, SuitsAll, paths_of, listed, type_of_paths}
 use Rattle.cls_path.proofs.RoundTrip.{paths_back}
 use Rattle.cls_cover.specs.Lists.{Rises}
-use Rattle.cls_rulebook.specs.Arguments.{arguments_of_rule}
+use Rattle.cls_base.specs.Arguments.{arguments_of_rule}
 use Rattle.cls_core.specs.Rows.{Row}
 use Rattle.cls_grammar.specs.Grammars.{book_of}
 use Rattle.cls_grammar.specs.Ranks.{HasTree, head_tree, any_tree}

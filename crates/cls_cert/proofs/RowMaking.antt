@@ -11,14 +11,14 @@ use Rattle.cls_base.specs.declared.rule.Rule.TheVariants.{Head, Any}
 use Rattle.cls_base.proofs.Lists.{Contains-at}
 use Rattle.cls_path.specs.Paths.{TypePath, Paths, none, more, listed, type_of_paths}
 use Rattle.cls_core.specs.Arguments.{rules_of}
-use Rattle.cls_rulebook.specs.Arguments.{arguments_of_rule}
+use Rattle.cls_base.specs.Arguments.{arguments_of_rule}
 use Rattle.cls_core.specs.Rows.{Row}
 use Rattle.cls_core.specs.declared.answer.Answer.TheVariants as answers
 use Rattle.cls_grammar.specs.Grammars.{book_of}
 use Rattle.cls_grammar.specs.Ranks.{IsRank, AreRanks}
 use Rattle.cls_library.specs.Libraries.{Library}
 use Rattle.cls_library.specs.Rules.{IsRules}
-use Rattle.cls_rulebook.specs.Books.{HasNodesBelow, HaveNodesBelow}
+use Rattle.cls_base.specs.Books.{HasNodesBelow, HaveNodesBelow}
 use Rattle.cls_expand.specs.Making.{choice_at}
 use Rattle.cls_cert.specs.Conditions.{forms_of, IsGrammarOf}
 use Rattle.cls_cert.specs.Making.{IsFirst, IsFirstChoice, goal_in, named, Ranked, IsLower, IsRowFor}

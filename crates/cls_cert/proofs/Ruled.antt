@@ -16,7 +16,7 @@ use Rattle.cls_path.specs.OrderLaws.{list_same, list_equal}
 use Rattle.cls_core.specs.declared.answer.Answer.{Answer}
 use Rattle.cls_core.specs.declared.answer.Answer.TheVariants.{Rules, Wide}
 use Rattle.cls_core.specs.Arguments.{arguments_of, rules_of}
-use Rattle.cls_rulebook.specs.Arguments.{arguments_of_rule, arguments_in, map_rule}
+use Rattle.cls_base.specs.Arguments.{arguments_of_rule, arguments_in, map_rule}
 use Rattle.cls_core.specs.Closure.{IsReached, at_start, at_argument, IsClosure, goals_of}
 use Rattle.cls_core.specs.Machine.{numbered}
 use Rattle.cls_core.specs.Rows.{Row}

@@ -6,7 +6,7 @@ use Rattle.cls_base.specs.declared.rule.Rule.TheVariants.{Head}
 use Rattle.cls_path.specs.Paths.{Paths}
 use Rattle.cls_cover.specs.Lists.{Rises, IsAscending}
 use Rattle.cls_cover.specs.Covers.{AreCovers}
-use Rattle.cls_rulebook.specs.Arguments.{arguments_of_rule}
+use Rattle.cls_base.specs.Arguments.{arguments_of_rule}
 use Rattle.cls_grammar.specs.Ranks.{IsProductiveIn}
 use Rattle.cls_library.specs.Libraries.{Library}
 use Rattle.cls_library.specs.Rules.{Choice, IsChoice, IsRuleFor}

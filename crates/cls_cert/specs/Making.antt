@@ -10,7 +10,7 @@ use Rattle.cls_base.specs.declared.rule.Rule.{Rule}
 use Rattle.cls_path.specs.Paths.{TypePath, Paths, none, more, type_of_paths}
 use Rattle.cls_cover.specs.Lists.{Rises, IsAscending}
 use Rattle.cls_cover.specs.Covers.{AreMinimal}
-use Rattle.cls_rulebook.specs.Arguments.{arguments_of_rule, map_rule}
+use Rattle.cls_base.specs.Arguments.{arguments_of_rule, map_rule}
 use Rattle.cls_core.specs.Rows.{Row}
 use Rattle.cls_grammar.specs.Grammars.{book_of}
 use Rattle.cls_grammar.specs.Ranks.{IsRank, IsProductiveIn}

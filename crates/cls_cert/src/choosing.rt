@@ -2,8 +2,8 @@
 ghost use Rattle.std.specs.Prelude.{◌≡◌, ℕ, ◌<◌, ◌≤◌, ◌^◌, ◌↔◌, List, Contains, IfOk, IsTrue, MatchOption, length, map, slice_get, Some};
 ghost use Rattle.cls_base.specs.Lists.{AreBelow};
 ghost use Rattle.cls_base.specs.declared.rule.Rule.{Rule};
-ghost use Rattle.cls_rulebook.specs.Books.{HaveNodesBelow, HasNodesBelow};
-ghost use Rattle.cls_rulebook.specs.Columns.{rule_of};
+ghost use Rattle.cls_base.specs.Books.{HaveNodesBelow, HasNodesBelow};
+ghost use Rattle.cls_base.specs.Columns.{rule_of};
 ghost use Rattle.cls_path.specs.Paths.{listed};
 ghost use Rattle.cls_library.specs.Arrows.{arity_of};
 ghost use Rattle.cls_library.specs.Libraries.{paths_at, arrows_at};
@@ -15,13 +15,12 @@ ghost use Rattle.cls_cert.specs.Making.{IsFirst, IsFirstChoice};
 ghost use Rattle.cls_cert.specs.Building.{HaveLess, HasLess, GivesRule, IsFirstAt, IsGiven, goals_over, rule_over};
 
 use crate::blocks::few_covers;
-use cls_base::{NumberLists, OutOfMemory};
+use cls_base::{NodeRules, NumberLists, OutOfMemory, RuleRef};
 use cls_expand::{arguments_of, families_of};
 use cls_grammar::Grammar;
 use cls_library::Library;
 use cls_path::Nf;
 use cls_proof::Positions;
-use cls_rulebook::{NodeRules, RuleRef};
 use std::alloc::Global;
 
 /// Whether the goal has a rank that is less than this one.

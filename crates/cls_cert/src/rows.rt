@@ -9,12 +9,11 @@ ghost use Rattle.cls_cert.specs.Building.{AreRowsTo, IsBucketTo};
 
 use crate::buckets::by_rank;
 use crate::choosing::{first_cover, first_rule};
-use cls_base::OutOfMemory;
+use cls_base::{OutOfMemory, RuleRef};
 use cls_grammar::Grammar;
 use cls_library::Library;
 use cls_norm::type_of;
 use cls_proof::{Positions, ProofRow, ProofRows};
-use cls_rulebook::RuleRef;
 use std::alloc::Global;
 
 /// The row of the goal with this number, which has this rank.

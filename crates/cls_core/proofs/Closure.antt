@@ -11,7 +11,7 @@ use Rattle.cls_base.specs.Lists.{AreDistinct}
 use Rattle.cls_base.proofs.Lists.{Contains-nil, Contains-head, Contains-here, Contains-later, Contains-cases, Contains-at, Contains-place, AreDistinct-from_map, sum_by-within, length-within}
 use Rattle.cls_core.specs.Closure.{IsReached, at_start, at_argument, AllReached, HasMoreGoals, HasMoreRules, IsTooLarge, IsClosure, goals_of}
 use Rattle.cls_core.specs.Arguments.{HasUniqueAnswers, arguments_of, map_answer, rule_count}
-use Rattle.cls_rulebook.specs.Arguments.{arguments_of_rule, arguments_in, map_rule}
+use Rattle.cls_base.specs.Arguments.{arguments_of_rule, arguments_in, map_rule}
 use Rattle.cls_core.specs.Machine.{IsFiled, EachFiled, AllFiled, begun, claimed, grown, numbered, filed, Steps, Replays, rules_in, rules_weight}
 use Rattle.cls_core.specs.Rows.{Machine, Row, filed_rows}
 use Rattle.cls_core.proofs.FiledRows.{filed-at, filed-goals, filed-inside, filed-parts}

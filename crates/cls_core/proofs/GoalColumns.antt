@@ -9,9 +9,9 @@ use Rattle.cls_base.specs.Cuts.{cut, AreEnds}
 use Rattle.cls_base.proofs.Cutting.{cut-push, ends-push}
 use Rattle.cls_base.proofs.Refilling.{joined-cut, cut-map, cut-lengths}
 use Rattle.cls_base.specs.declared.rule.Rule.TheVariants.{Head, Any}
-use Rattle.cls_rulebook.specs.Arguments.{arguments_in, map_rule}
-use Rattle.cls_rulebook.specs.Columns.{HasArguments, AreColumns, rule_with, rules_with}
-use Rattle.cls_rulebook.proofs.Columns.{columns-push, rules-push, rule-at, arguments-at, arguments-joined, columns-lengths, rules-map}
+use Rattle.cls_base.specs.Arguments.{arguments_in, map_rule}
+use Rattle.cls_base.specs.Columns.{HasArguments, AreColumns, rule_with, rules_with}
+use Rattle.cls_base.proofs.Columns.{columns-push, rules-push, rule-at, arguments-at, arguments-joined, columns-lengths, rules-map}
 use Rattle.cls_core.proofs.Columns.{some-inside}
 
 module _ {G : Type 0} (hs : List (Option ℕ)) (gs : List G) (ends : List ℕ) (e : AreEnds 0 (length gs) ends) (c : AreColumns hs (cut gs 0 ends)) where

@@ -8,7 +8,7 @@ use Rattle.std.proofs.lemmas.List.Sums.{position_or_len_is}
 use Rattle.indexmap.specs.IndexSet.{insert_key, insert_all}
 use Rattle.cls_core.specs.Adding.{GoesOn}
 use Rattle.cls_core.specs.Numbers.{numbers_from}
-use Rattle.cls_rulebook.specs.Arguments.{arguments_of_rule, arguments_in}
+use Rattle.cls_base.specs.Arguments.{arguments_of_rule, arguments_in}
 use Rattle.cls_base.specs.declared.rule.Rule.{Rule}
 
 module _ {A : Type 0} (p : A → Bool) where

@@ -11,7 +11,7 @@ use Rattle.cls_base.specs.declared.rule.Rule.TheVariants.{Head, Any}
 use Rattle.cls_core.specs.declared.answer.Answer.{Answer}
 use Rattle.cls_core.specs.declared.answer.Answer.TheVariants.{Rules, Wide}
 use Rattle.cls_core.specs.Arguments.{arguments_of, map_answer}
-use Rattle.cls_rulebook.specs.Arguments.{arguments_of_rule, arguments_in, map_rule}
+use Rattle.cls_base.specs.Arguments.{arguments_of_rule, arguments_in, map_rule}
 use Rattle.cls_base.proofs.Lists.{Contains-nil, Contains-here, Contains-later, Contains-cases, Contains-map, Contains-from_map}
 use Rattle.cls_core.proofs.Members.{all-only}
 

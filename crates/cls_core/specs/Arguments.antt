@@ -1,7 +1,7 @@
 -- The goals that answers have for arguments.
 use Rattle.std.specs.Prelude.{◌≡◌, ℕ, All, List, [], length, map}
 use Rattle.cls_base.specs.declared.rule.Rule.{Rule}
-use Rattle.cls_rulebook.specs.Arguments.{arguments_in, map_rule}
+use Rattle.cls_base.specs.Arguments.{arguments_in, map_rule}
 use Rattle.cls_core.specs.declared.answer.Answer.{Answer}
 use Rattle.cls_core.specs.declared.answer.Answer.TheVariants.{Rules, Wide}
 

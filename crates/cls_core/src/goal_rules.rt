@@ -2,10 +2,9 @@
 ghost use Rattle.std.specs.Prelude.{◌≡◌, ◌<◌, ◌≤◌, ◌↔◌, ℕ, [], ◌∷◌, ◌++◌, Some, Contains, IfOk, IsTrue, OnErr, OnOk, drop, length, map, slice_get, slice_index_or};
 ghost use Rattle.cls_base.specs.Cuts.{AreEnds, cut};
 ghost use Rattle.cls_base.specs.declared.rule.Rule.TheVariants.{Any, Head};
-ghost use Rattle.cls_rulebook.specs.Arguments.{arguments_in, map_rule};
+ghost use Rattle.cls_base.specs.Arguments.{arguments_in, map_rule};
 
-use cls_base::{Goals, Key, OutOfMemory, start_of};
-use cls_rulebook::NodeRules;
+use cls_base::{start_of, Goals, Key, NodeRules, OutOfMemory};
 use std::alloc::Global;
 use std::marker::Model;
 
@@ -24,7 +23,7 @@ impl<G> Model for GoalRules<G> {
     ghost use Rattle.std.specs.Prelude.{List, length};
     ghost use Rattle.cls_base.specs.declared.rule.Rule.{Rule};
     ghost use Rattle.cls_base.specs.Cuts.{AreEnds, cut};
-    ghost use Rattle.cls_rulebook.specs.Columns.{AreColumns, rules_with};
+    ghost use Rattle.cls_base.specs.Columns.{AreColumns, rules_with};
 
     ghost Value = { List (Rule G) };
 
@@ -47,7 +46,7 @@ impl<G> GoalRules<G> {
     }
 
     /// The number of rules.
-    #[tactic(auto, using(cls_rulebook::proofs::Columns::columns))]
+    #[tactic(auto, using(cls_base::proofs::Columns::columns))]
     pub fn len(&self) -> usize
         ensures { result ≡ length self.now }
     {
@@ -147,7 +146,7 @@ impl<G: Key> GoalRules<G> {
     }
 
     // Whether the rule at a place is that of the component with these arguments.
-    #[tactic(auto, using(cls_rulebook::proofs::Columns::columns, cls_base::proofs::Cutting::cuts))]
+    #[tactic(auto, using(cls_base::proofs::Columns::columns, cls_base::proofs::Cutting::cuts))]
     fn is_head(&self, place: usize, component: u32, args: &[G]) -> bool
         requires { place < length self.now }
         ensures { IsTrue result ↔ (slice_get self.now place ≡ Some (Head component args.now)) }

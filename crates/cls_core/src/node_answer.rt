@@ -2,8 +2,7 @@ ghost use Rattle.std.specs.Prelude.{◌≡◌, IfOk, IfSome, IfNone};
 ghost use Rattle.cls_core.specs.Arguments.{rule_count};
 ghost use Rattle.cls_core.specs.declared.answer.Answer.TheVariants.{Rules, Wide};
 
-use cls_base::OutOfMemory;
-use cls_rulebook::NodeRules;
+use cls_base::{NodeRules, OutOfMemory};
 use std::alloc::Global;
 use std::marker::Model;
 

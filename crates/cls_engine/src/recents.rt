@@ -5,7 +5,7 @@ ghost use Rattle.cls_engine.specs.declared.recents.Kept.{Kept as KeptSeen};
 
 use cls_grammar::Grammar;
 use cls_path::Nf;
-use cls_rulebook::NodeRules;
+use cls_base::NodeRules;
 use std::alloc::Global;
 
 /// The most grammars that are kept.

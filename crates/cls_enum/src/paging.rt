@@ -20,8 +20,7 @@ use crate::enumeration::{Enumeration, make_node};
 use crate::listed::Page;
 use crate::page_request::PageRequest;
 use crate::plan::{NodePlans, plans};
-use cls_base::{Numbers, OutOfMemory};
-use cls_rulebook::RuleBook;
+use cls_base::{Numbers, OutOfMemory, RuleBook};
 use cls_term::{Bank, Term};
 use std::alloc::Global;
 

@@ -1,13 +1,12 @@
 ghost use Rattle.std.specs.Prelude.{◌≡◌, ℕ, List, ◌<◌, ◌^◌, ◌↔◌, IfOk, IsTrue, length, slice_index};
 ghost use Rattle.cls_base.specs.declared.rule.Rule.{Rule};
-ghost use Rattle.cls_rulebook.specs.Columns.{rule_of as referred_rule};
+ghost use Rattle.cls_base.specs.Columns.{rule_of as referred_rule};
 ghost use Rattle.cls_term.specs.Costs.{cost_of};
 ghost use Rattle.cls_enum.specs.Plans.{IsBarren, AllReady, AreReady, AreFree, IsReady, book_of, nodes_of, rule_of};
 ghost use Rattle.cls_enum.specs.Plans.{rules_of};
 
 use cls_base::limits::MAX_TERM_LENGTH;
-use cls_base::{Numbers, OutOfMemory};
-use cls_rulebook::{NodeRules, RuleBook, RuleRef};
+use cls_base::{NodeRules, Numbers, OutOfMemory, RuleBook, RuleRef};
 use std::alloc::Global;
 use std::marker::Model;
 

@@ -11,7 +11,7 @@ use Rattle.cls_base.proofs.Lists.{Contains-here, Contains-later, Contains-at}
 use Rattle.cls_core.specs.declared.answer.Answer.{Answer}
 use Rattle.cls_core.specs.declared.answer.Answer.TheVariants.{Rules, Wide}
 use Rattle.cls_core.specs.Arguments.{arguments_of, map_answer, rule_count}
-use Rattle.cls_rulebook.specs.Arguments.{arguments_of_rule, arguments_in, map_rule}
+use Rattle.cls_base.specs.Arguments.{arguments_of_rule, arguments_in, map_rule}
 use Rattle.cls_core.specs.Closure.{IsClosure, at_argument, goals_of}
 use Rattle.cls_core.specs.Machine.{rules_in, rules_weight}
 use Rattle.cls_core.specs.declared.state.RowState.{RowState}

@@ -9,7 +9,7 @@ use Rattle.cls_path.specs.Paths.{Paths, none, more, first_in, SuitsAll}
 use Rattle.cls_base.proofs.Lists.{Contains-nil}
 use Rattle.cls_cover.specs.Members.{Member, first, later}
 use Rattle.cls_cover.proofs.Lists.{contains_member, member_contains, member_append_left, member_append_right}
-use Rattle.cls_rulebook.specs.Arguments.{arguments_in}
+use Rattle.cls_base.specs.Arguments.{arguments_in}
 use Rattle.cls_library.specs.Libraries.{Library, IsLibrary, variances_in}
 use Rattle.cls_library.specs.Rules.{IsRules, HasRule, omega_rules, heads, numbers_from}
 use Rattle.cls_library.proofs.FirstOnes.{first_ones_from, first_ones_all}

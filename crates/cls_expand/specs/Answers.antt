@@ -5,7 +5,7 @@ use Rattle.cls_base.specs.declared.rule.Rule.{Rule}
 use Rattle.cls_path.specs.Paths.{TypePath, Paths, listed, type_of_paths}
 use Rattle.cls_path.specs.NormalForms.{IsNormal}
 use Rattle.cls_norm.specs.Fit.{IsFit}
-use Rattle.cls_rulebook.specs.Arguments.{map_rule}
+use Rattle.cls_base.specs.Arguments.{map_rule}
 use Rattle.cls_core.specs.declared.answer.Answer.{Answer}
 use Rattle.cls_core.specs.declared.answer.Answer.TheVariants.{Rules, Wide}
 use Rattle.cls_library.specs.Libraries.{Library, IsLibrary, below_in, variances_in}

@@ -4,7 +4,7 @@ use Rattle.cls_base.specs.Terms.{Applicative}
 use Rattle.cls_base.specs.declared.rule.Rule.{Rule}
 use Rattle.cls_base.specs.Languages.{Generates}
 use Rattle.cls_path.specs.Paths.{Paths, none, type_of_paths, SuitsAll}
-use Rattle.cls_rulebook.specs.Arguments.{arguments_in}
+use Rattle.cls_base.specs.Arguments.{arguments_in}
 use Rattle.cls_library.specs.Libraries.{Library, IsLibrary, variances_in}
 use Rattle.cls_library.specs.Rules.{IsRules, HasRule}
 use Rattle.cls_library.specs.Typing.{HasTypeIn}

@@ -6,7 +6,7 @@ use Rattle.cls_base.specs.declared.rule.Rule.{Rule}
 use Rattle.cls_base.specs.declared.rule.Rule.TheVariants.{Head, Any}
 use Rattle.cls_core.specs.declared.answer.Answer.TheVariants.{Rules, Wide}
 use Rattle.cls_core.specs.Arguments.{ArgumentsAreReady}
-use Rattle.cls_rulebook.specs.Arguments.{arguments_of_rule, arguments_in}
+use Rattle.cls_base.specs.Arguments.{arguments_of_rule, arguments_in}
 use Rattle.cls_path.specs.Paths.{TypePath, Paths, none, more, listed, type_of_paths}
 use Rattle.cls_norm.specs.Fit.{IsFit}
 use Rattle.cls_cover.specs.Members.{Member, first, later}

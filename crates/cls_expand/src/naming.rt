@@ -1,12 +1,11 @@
 //! Goals in place of the numbers of an answer.
 ghost use Rattle.std.specs.Prelude.{◌≡◌, ◌∷◌, ◌++◌, [], IfOk, OnOk, map, slice_index_or};
 ghost use Rattle.cls_core.specs.Arguments.{map_answer};
-ghost use Rattle.cls_rulebook.specs.Arguments.{map_rule};
-ghost use Rattle.cls_rulebook.specs.Columns.{rule_of};
+ghost use Rattle.cls_base.specs.Arguments.{map_rule};
+ghost use Rattle.cls_base.specs.Columns.{rule_of};
 
-use cls_base::{Key, OutOfMemory};
+use cls_base::{Key, NodeRules, OutOfMemory, RuleRef};
 use cls_core::{Answer, GoalRules, NodeAnswer};
-use cls_rulebook::{NodeRules, RuleRef};
 use std::alloc::Global;
 
 /// A copy of the goal with this number, or of the other goal if there is none.

@@ -3,8 +3,8 @@ use Rattle.std.proofs.Common.{◌≡◌, ℕ, ◌<◌, Bool, List, [], ◌∷◌
 use Rattle.std.specs.Prelude.{IsTrue}
 use Rattle.cls_base.specs.declared.rule.Rule.{Rule}
 use Rattle.cls_base.specs.Languages.{IsGenerated, rules_at}
-use Rattle.cls_rulebook.specs.Arguments.{arguments_of_rule}
-use Rattle.cls_rulebook.specs.Books.{HaveNodesBelow}
+use Rattle.cls_base.specs.Arguments.{arguments_of_rule}
+use Rattle.cls_base.specs.Books.{HaveNodesBelow}
 use Rattle.cls_grammar.specs.Ranks.{AreProductive}
 use Rattle.cls_grammar.specs.Trimming.{is_useful}
 use Rattle.cls_finite.specs.declared.descent.Mark.TheVariants.{Open, Done}

@@ -10,7 +10,7 @@ use Rattle.cls_base.specs.declared.rule.Rule.{Rule}
 use Rattle.cls_base.specs.declared.rule.Rule.TheVariants.{Head, Any}
 use Rattle.cls_base.specs.Languages.{Applies, by_head, by_any, done, next, NodeRule, IsGenerated, rules_at}
 use Rattle.cls_base.proofs.Lists.{Contains-nil, Contains-here, Contains-later, Contains-cases}
-use Rattle.cls_rulebook.specs.Arguments.{arguments_of_rule}
+use Rattle.cls_base.specs.Arguments.{arguments_of_rule}
 use Rattle.cls_grammar.specs.Ranks.{IsProductiveIn, AreProductive}
 use Rattle.cls_grammar.specs.Trimming.{is_useful}
 use Rattle.cls_grammar.proofs.Trees.{productive_exactly}

@@ -6,7 +6,7 @@ use Rattle.cls_base.specs.declared.rule.Rule.{Rule}
 use Rattle.cls_base.specs.declared.rule.Rule.TheVariants.{Head, Any}
 use Rattle.cls_base.specs.Languages.{Generates, Applies, by_head, by_any, done, next, NodeRule, IsGenerated, rules_at}
 use Rattle.cls_base.proofs.Lists.{Contains-nil, Contains-here, Contains-later, Contains-cases, Contains-at}
-use Rattle.cls_rulebook.specs.Arguments.{arguments_of_rule}
+use Rattle.cls_base.specs.Arguments.{arguments_of_rule}
 use Rattle.cls_grammar.specs.Ranks.{IsProductiveIn}
 use Rattle.cls_grammar.proofs.Trees.{productive_exactly}
 use Rattle.cls_finite.specs.declared.walk.Step.{Step}

@@ -5,7 +5,7 @@ use Rattle.cls_base.specs.declared.rule.Rule.{Rule}
 use Rattle.cls_base.specs.declared.rule.Rule.TheVariants.{Head, Any}
 use Rattle.cls_base.specs.Terms.{Applicative}
 use Rattle.cls_base.specs.Languages.{IsGenerated, rules_at}
-use Rattle.cls_rulebook.specs.Arguments.{arguments_of_rule}
+use Rattle.cls_base.specs.Arguments.{arguments_of_rule}
 use Rattle.cls_grammar.specs.Trimming.{is_useful}
 use Rattle.cls_finite.specs.declared.descent.Mark.{Mark}
 use Rattle.cls_finite.specs.declared.descent.Mark.TheVariants.{Unseen, Open, Done}

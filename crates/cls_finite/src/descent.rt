@@ -16,9 +16,8 @@ use crate::answer::{FiniteAnswer, MAX_FINITE_SIZE};
 use crate::sizes::{SIZE_CAP, greatest_by};
 use crate::steps::next_step;
 use crate::walk::{Step, Walk};
-use cls_base::{Numbers, OutOfMemory};
+use cls_base::{NodeRules, Numbers, OutOfMemory, RuleBook};
 use cls_grammar::{Flags, productive};
-use cls_rulebook::{NodeRules, RuleBook};
 use std::alloc::Global;
 use std::marker::Model;
 

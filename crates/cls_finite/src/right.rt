@@ -1,16 +1,15 @@
 //! Whether a walk comes round.
 ghost use Rattle.std.specs.Prelude.{◌≡◌, ◌==◌, ◌↔◌, ℕ, IsTrue, IfOk, IfSome, IfNone, option_map, slice_get};
 ghost use Rattle.std.specs.List.{list_any};
-ghost use Rattle.cls_rulebook.specs.Columns.{rule_of};
+ghost use Rattle.cls_base.specs.Columns.{rule_of};
 ghost use Rattle.cls_grammar.specs.Ranks.{AreProductive};
 ghost use Rattle.cls_finite.specs.declared.walk.Step as step_type;
 ghost use Rattle.cls_finite.specs.Walks.{LeadsTo, Leads, IsRightWalk};
 
 use crate::steps::argument;
 use crate::walk::{Step, Walk};
-use cls_base::OutOfMemory;
+use cls_base::{NodeRules, OutOfMemory, RuleBook, RuleRef};
 use cls_grammar::{Flags, productive};
-use cls_rulebook::{NodeRules, RuleBook, RuleRef};
 use std::alloc::Global;
 
 // The rule at the place.

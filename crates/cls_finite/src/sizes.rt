@@ -1,14 +1,14 @@
 //! The greatest sizes of terms, counted up to one more than what is told.
 ghost use Rattle.std.specs.Prelude.{◌≡◌, ◌+◌, ◌^◌, ℕ, List, [], min, length};
 ghost use Rattle.std.specs.List.{sum_by};
-ghost use Rattle.cls_rulebook.specs.Columns.{rule_of};
+ghost use Rattle.cls_base.specs.Columns.{rule_of};
 ghost use Rattle.cls_term.specs.Costs.{cost_of};
 ghost use Rattle.cls_finite.specs.Descents.{size_at, size_by, greatest_by};
 
 use crate::MAX_FINITE_SIZE;
 use crate::descent::Mark;
 use cls_grammar::Flags;
-use cls_rulebook::{NodeRules, RuleRef};
+use cls_base::{NodeRules, RuleRef};
 
 /// The first size that isn't told. Sizes are counted up to it.
 pub(crate) const SIZE_CAP: u64 = MAX_FINITE_SIZE + 1;

@@ -1,14 +1,14 @@
 //! Where the next step of a descent leads.
 ghost use Rattle.std.specs.Prelude.{◌≡◌, ◌<◌, ◌↔◌, ℕ, IsTrue, IfSome, IfNone, Some, slice_get, take};
-ghost use Rattle.cls_rulebook.specs.Arguments.{arguments_of_rule};
-ghost use Rattle.cls_rulebook.specs.Columns.{rule_of};
+ghost use Rattle.cls_base.specs.Arguments.{arguments_of_rule};
+ghost use Rattle.cls_base.specs.Columns.{rule_of};
 ghost use Rattle.cls_grammar.specs.Trimming.{is_useful};
 ghost use Rattle.cls_finite.specs.Descents.{IsDone, AreDone, AllAreDone, IsPassed, IsNext};
 
 use crate::descent::Mark;
 use crate::walk::Step;
 use cls_grammar::Flags;
-use cls_rulebook::{NodeRules, RuleRef};
+use cls_base::{NodeRules, RuleRef};
 
 /// The argument of the rule at the place.
 pub(crate) fn argument(rule: RuleRef<'_>, place: usize) -> Option<u32>

@@ -8,11 +8,11 @@ use Rattle.cls_base.specs.Languages.{rules_at}
 use Rattle.cls_base.specs.Lists.{AreBelow}
 use Rattle.cls_base.proofs.Lists.{Contains-cases, Contains-later}
 use Rattle.cls_core.proofs.Columns.{get-some}
-use Rattle.cls_rulebook.specs.Arguments.{arguments_of_rule}
+use Rattle.cls_base.specs.Arguments.{arguments_of_rule}
 use Rattle.cls_grammar.specs.declared.waiting.Waiting.{Waiting}
 use Rattle.cls_grammar.specs.Climbs.{State, with_rank, with_waiting, IsKnown, AllKnown, IsReady, IsCovered, settled, waits, pending, wait, node_waits, IsKept}
 use Rattle.cls_grammar.proofs.Climbing.{first, node-waits-have, arguments-within, argument-within, kept-known, kept-rank-new, kept-waiting}
-use Rattle.cls_rulebook.specs.Books.{HaveNodesBelow}
+use Rattle.cls_base.specs.Books.{HaveNodesBelow}
 
 rule-equal : (rs all : List (Rule ℕ)) (j : ℕ) (q r : Rule ℕ) → rs ≡ all → slice_get rs j ≡ Some q → slice_get all j ≡ Some r → q ≡ r
 rule-equal rs all j q r e f g = let h = subst (λ l. slice_get l j ≡ Some q) e f in cc

@@ -11,13 +11,13 @@ use Rattle.cls_base.specs.Languages.{NodeRule, rules_at}
 use Rattle.cls_base.specs.Lists.{AreBelow}
 use Rattle.cls_base.proofs.Lists.{Contains-nil, Contains-here, Contains-later, Contains-cases, Contains-head, Contains-at, Contains-place}
 use Rattle.cls_core.proofs.Columns.{get-set-same, get-set-other, get-some}
-use Rattle.cls_rulebook.specs.Arguments.{arguments_of_rule}
+use Rattle.cls_base.specs.Arguments.{arguments_of_rule}
 use Rattle.cls_grammar.specs.Ranks.{HasTree, HaveTrees, head_tree, any_tree, no_trees, more_trees, IsRankIn, AreRanks}
 use Rattle.cls_grammar.specs.declared.waiting.Waiting.{Waiting}
 use Rattle.cls_grammar.specs.Climbs.{State, begun, with_rank, waits_at, with_waiting, without_waiting, IsKnown, AllKnown, known_count, wait, node_waits, all_waits, Stands, Waits, IsReady, IsCovered, settled, waits, pending, IsKept}
 use Rattle.cls_grammar.proofs.Trees.{tree_up}
 use Rattle.cls_grammar.specs.Grammars.{BookHasNodesBelow}
-use Rattle.cls_rulebook.specs.Books.{HasNodesBelow, HaveNodesBelow}
+use Rattle.cls_base.specs.Books.{HasNodesBelow, HaveNodesBelow}
 
 pub equal-or-not : (a z : ℕ) → (a ≡ z) ⊎ (a ≢ z)
 equal-or-not a z = by (a == z) refl

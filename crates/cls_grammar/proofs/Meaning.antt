@@ -13,7 +13,7 @@ use Rattle.cls_base.proofs.Lists.{Contains-nil, Contains-here, Contains-later, C
 use Rattle.cls_core.specs.declared.answer.Answer.{Answer}
 use Rattle.cls_core.specs.declared.answer.Answer.TheVariants.{Rules, Wide}
 use Rattle.cls_core.specs.Arguments.{ArgumentsAreReady, arguments_of, rules_of, map_answer}
-use Rattle.cls_rulebook.specs.Arguments.{arguments_of_rule, arguments_in, map_rule}
+use Rattle.cls_base.specs.Arguments.{arguments_of_rule, arguments_in, map_rule}
 use Rattle.cls_core.specs.Renumbering.{answer_in, row_answer}
 use Rattle.cls_core.specs.Rows.{Row}
 use Rattle.cls_core.proofs.Renumbering.{place-is, place-of, the_answer, answer-is, argument-known, answer-at}

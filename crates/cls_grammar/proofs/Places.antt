@@ -14,7 +14,7 @@ use Rattle.cls_base.proofs.Lists.{Contains-nil, Contains-here, Contains-later, C
 use Rattle.cls_core.specs.declared.answer.Answer.{Answer}
 use Rattle.cls_core.specs.declared.answer.Answer.TheVariants.{Rules, Wide}
 use Rattle.cls_core.specs.Arguments.{HasUniqueAnswers, arguments_of, rules_of}
-use Rattle.cls_rulebook.specs.Arguments.{arguments_of_rule, arguments_in, map_rule}
+use Rattle.cls_base.specs.Arguments.{arguments_of_rule, arguments_in, map_rule}
 use Rattle.cls_core.specs.Machine.{numbered}
 use Rattle.cls_core.specs.Rows.{Row}
 use Rattle.cls_core.specs.Canonical.{FirstOnes, no_more, fresh, again, IsNumbering}
@@ -26,7 +26,7 @@ use Rattle.cls_core.proofs.Finding.{found-reached, found-numbering}
 use Rattle.cls_core.proofs.Renumbering.{place-is}
 use Rattle.cls_core.specs.Closure.{IsReached, at_start, at_argument, AllReached, goals_of}
 use Rattle.cls_grammar.specs.Grammars.{ruled_rows, book_of, wide_or, first_wide, MakeGrammar, BookHasNodesBelow}
-use Rattle.cls_rulebook.specs.Books.{HasNodesBelow, HaveNodesBelow}
+use Rattle.cls_base.specs.Books.{HasNodesBelow, HaveNodesBelow}
 
 pub nat-exact : (x y : ℕ) → nat_eq x y ≡ true → x ≡ y
 nat-exact x y e = grind (arith, nat_tests)

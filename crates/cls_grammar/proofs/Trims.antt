@@ -13,7 +13,7 @@ use Rattle.cls_base.proofs.Lists.{Contains-nil, Contains-here, Contains-later, C
 use Rattle.cls_core.specs.declared.answer.Answer.{Answer}
 use Rattle.cls_core.specs.declared.answer.Answer.TheVariants.{Rules, Wide}
 use Rattle.cls_core.specs.Arguments.{rules_of}
-use Rattle.cls_rulebook.specs.Arguments.{arguments_of_rule}
+use Rattle.cls_base.specs.Arguments.{arguments_of_rule}
 use Rattle.cls_core.specs.Rows.{Row}
 use Rattle.cls_core.proofs.Columns.{get-some}
 use Rattle.cls_grammar.specs.Grammars.{ruled_rows, book_of, BookHasNodesBelow}
@@ -22,7 +22,7 @@ use Rattle.cls_grammar.specs.Trimming.{is_flagged, is_useful, useful_answer, use
 use Rattle.cls_grammar.proofs.Places.{row-of, ruled-push, BookHasNodesBelow-push}
 use Rattle.cls_grammar.proofs.Trees.{makes_tree}
 use Rattle.cls_grammar.proofs.Climbing.{rules-none}
-use Rattle.cls_rulebook.specs.Books.{HaveNodesBelow}
+use Rattle.cls_base.specs.Books.{HaveNodesBelow}
 
 -- a rule relation within another one
 module _ (R S : ℕ → Rule ℕ → Type 0) (f : (i : ℕ) (r : Rule ℕ) → R i r → S i r) where

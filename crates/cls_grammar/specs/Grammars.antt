@@ -6,7 +6,7 @@ use Rattle.cls_core.specs.declared.answer.Answer.TheVariants.{Rules, Wide}
 use Rattle.cls_core.specs.Arguments.{rules_of}
 use Rattle.cls_core.specs.Rows.{Row}
 use Rattle.cls_core.specs.Grammar.{IsGrammar}
-use Rattle.cls_rulebook.specs.Books.{HaveNodesBelow}
+use Rattle.cls_base.specs.Books.{HaveNodesBelow}
 
 -- the arguments of all rules are nodes below n
 abbrev pub BookHasNodesBelow : ℕ → List (List (Rule ℕ)) → Type 0

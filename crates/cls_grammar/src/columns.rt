@@ -1,10 +1,10 @@
 //! What is known of each goal of a grammar, by its number.
 ghost use Rattle.std.specs.Prelude.{◌≡◌};
 ghost use Rattle.std.specs.List.{list_all};
-ghost use Rattle.cls_rulebook.specs.Columns.{rule_of};
+ghost use Rattle.cls_base.specs.Columns.{rule_of};
 ghost use Rattle.cls_grammar.specs.Trimming.{is_flagged as flag_at};
 
-use cls_rulebook::RuleRef;
+use cls_base::RuleRef;
 use std::marker::Model;
 
 /// A yes or no for each goal, seen as that list. It is made from a `Vec` and gives it back, neither of which takes

@@ -1,7 +1,7 @@
 ghost use Rattle.std.specs.Prelude.{◌≡◌, ◌<◌, ◌≤◌, Some, None, IfOk, IfErr, OnOk, length, slice_get, option_map, string_bytes};
 ghost use Rattle.cls_core.specs.declared.answer.Answer.TheVariants as answers;
 ghost use Rattle.cls_core.specs.Renumbering.{renumbered};
-ghost use Rattle.cls_rulebook.specs.Books.{HaveNodesBelow};
+ghost use Rattle.cls_base.specs.Books.{HaveNodesBelow};
 ghost use Rattle.cls_grammar.specs.Faults.{IfWide};
 ghost use Rattle.cls_syntax.specs.TypePrinting.{name_in};
 ghost use Rattle.cls_grammar.specs.GrammarTexts.{IsGrammarText};
@@ -15,11 +15,10 @@ use crate::numbering::{breadth_first, placed_rows};
 use crate::printing::{Tables, write_grammar};
 use crate::ranking::{productive, ranks_of};
 use crate::trimming::useful_rows;
-use cls_base::OutOfMemory;
+use cls_base::{NodeRules, OutOfMemory, RuleBook};
 use cls_core::Rows;
 use cls_lexer::Names;
 use cls_path::Nf;
-use cls_rulebook::{NodeRules, RuleBook};
 use std::alloc::Global;
 use std::marker::Model;
 

@@ -3,17 +3,16 @@ ghost use Rattle.std.specs.Prelude.{◌≡◌, ◌<◌, ◌^◌, ℕ, [], Some, 
 ghost use Rattle.std.specs.List.{position_or_len};
 ghost use Rattle.indexmap.specs.IndexSet.{insert_key, insert_all};
 ghost use Rattle.cls_core.specs.Arguments.{arguments_of};
-ghost use Rattle.cls_rulebook.specs.Arguments.{arguments_in, map_rule};
+ghost use Rattle.cls_base.specs.Arguments.{arguments_in, map_rule};
 ghost use Rattle.cls_core.specs.Renumbering.{order, renumbered};
 ghost use Rattle.cls_grammar.specs.Faults.{IfWide};
 ghost use Rattle.cls_grammar.specs.Grammars.{MakeGrammar, first_wide};
 
 use crate::fault::GrammarFault;
 use crate::grammar::Grammar;
-use cls_base::OutOfMemory;
+use cls_base::{NodeRules, OutOfMemory};
 use cls_core::{NodeAnswer, Rows};
 use cls_path::Nf;
-use cls_rulebook::NodeRules;
 use std::alloc::Global;
 use std::marker::Model;
 

@@ -3,18 +3,17 @@ ghost use Rattle.std.specs.Prelude.{◌≡◌, ◌<◌, ◌++◌, Some, OnOk, Op
 ghost use Rattle.std.specs.Fmt.{decimal};
 ghost use Rattle.std.specs.List.{sum_by};
 ghost use Rattle.cls_path.specs.Paths.{TypePath, listed, type_of_paths};
-ghost use Rattle.cls_rulebook.specs.Columns.{rule_of};
+ghost use Rattle.cls_base.specs.Columns.{rule_of};
 ghost use Rattle.cls_core.specs.Arguments.{rule_count};
 ghost use Rattle.cls_core.specs.Rows.{Row};
 ghost use Rattle.cls_syntax.specs.TypePrinting.{name_in};
 ghost use Rattle.cls_grammar.specs.GrammarTexts.{counts_text, numbers_text, line, rank_text, rule_text, rules_text, goal_text, row_text, rows_text, grammar_text};
 
 use crate::grammar::Grammar;
-use cls_base::{Name, OutOfMemory};
+use cls_base::{Name, NodeRules, OutOfMemory, RuleRef};
 use cls_lexer::Names;
 use cls_norm::type_of;
 use cls_path::Nf;
-use cls_rulebook::{NodeRules, RuleRef};
 use cls_syntax::write_type;
 use itoa::{Buffer, Integer};
 use std::alloc::Global;

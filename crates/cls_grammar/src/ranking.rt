@@ -7,15 +7,14 @@
 ghost use Rattle.std.specs.Prelude.{◌≡◌, ◌<◌, ◌≤◌, ◌+◌, ◌^◌, ◌↔◌, ℕ, List, [], ◌∷◌, ◌++◌, Option, Some, None, IsTrue, IfOk, OnOk, IfSome, IfNone, length, slice_get, take, map, is_some, option_copied};
 ghost use Rattle.cls_base.specs.Languages.{rules_at};
 ghost use Rattle.cls_base.specs.Lists.{AreBelow};
-ghost use Rattle.cls_rulebook.specs.Arguments.{arguments_of_rule};
-ghost use Rattle.cls_rulebook.specs.Columns.{rule_of};
+ghost use Rattle.cls_base.specs.Arguments.{arguments_of_rule};
+ghost use Rattle.cls_base.specs.Columns.{rule_of};
 ghost use Rattle.cls_grammar.specs.Ranks.{AreRanks, AreProductive};
 ghost use Rattle.cls_grammar.specs.Climbs.{IsKnown, AllKnown};
 
 use crate::columns::Flags;
 use crate::waiting::{Queue, Waiting, WaitingLists};
-use cls_base::OutOfMemory;
-use cls_rulebook::{NodeRules, RuleBook, RuleRef};
+use cls_base::{NodeRules, OutOfMemory, RuleBook, RuleRef};
 use std::alloc::Global;
 use std::marker::Model;
 

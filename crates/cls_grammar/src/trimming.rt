@@ -4,8 +4,7 @@ ghost use Rattle.cls_grammar.specs.Trimming.{is_useful, useful_row};
 
 use crate::columns::Flags;
 use crate::grammar::Grammar;
-use cls_base::OutOfMemory;
-use cls_rulebook::NodeRules;
+use cls_base::{NodeRules, OutOfMemory};
 use std::alloc::Global;
 
 // The rules each argument of which has the flag.

@@ -7,8 +7,8 @@ use Rattle.cls_base.specs.Lists.{AreBelow}
 use Rattle.cls_base.specs.declared.rule.Rule.{Rule}
 use Rattle.cls_base.specs.declared.rule.Rule.TheVariants.{Head, Any}
 use Rattle.cls_base.proofs.Lists.{Contains-here, Contains-later}
-use Rattle.cls_rulebook.specs.Arguments.{arguments_of_rule}
-use Rattle.cls_rulebook.specs.Books.{HasNodesBelow, HaveNodesBelow}
+use Rattle.cls_base.specs.Arguments.{arguments_of_rule}
+use Rattle.cls_base.specs.Books.{HasNodesBelow, HaveNodesBelow}
 use Rattle.cls_grammar.specs.Ranks.{IsProductiveIn, AreProductive}
 use Rattle.cls_grammar.specs.Trimming.{is_useful}
 use Rattle.cls_finite.specs.declared.walk.Step.{Step}

@@ -8,7 +8,7 @@ use Rattle.cls_base.specs.Types.{ClosedType}
 use Rattle.cls_base.proofs.Lists.{Contains-nil, Contains-here, Contains-later, Contains-cases}
 use Rattle.cls_path.specs.Paths.{TypePath, atom, inside, unit, left, right, function, sealed, Paths, none, more, listed}
 use Rattle.cls_taxon.specs.DecisionLaws.{is_below-reflexive, is_below-transitive, is_below-antisymmetric}
-use Rattle.cls_rulebook.specs.Arguments.{arguments_of_rule, arguments_in}
+use Rattle.cls_base.specs.Arguments.{arguments_of_rule, arguments_in}
 use Rattle.cls_core.specs.declared.answer.Answer.{Answer}
 use Rattle.cls_core.specs.declared.answer.Answer.TheVariants.{Rules, Wide}
 use Rattle.cls_core.specs.Arguments.{arguments_of}

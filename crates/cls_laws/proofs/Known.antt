@@ -13,7 +13,7 @@ use Rattle.cls_core.specs.declared.entry.Entry.{Entry}
 use Rattle.cls_core.specs.declared.entry.Entry.TheVariants.{Claim, File}
 use Rattle.cls_core.specs.Canonical.{IsCanonical}
 use Rattle.cls_core.specs.Rows.{Row}
-use Rattle.cls_rulebook.specs.Books.{HaveNodesBelow}
+use Rattle.cls_base.specs.Books.{HaveNodesBelow}
 use Rattle.cls_table.specs.Lawful.{NamesUpTo}
 use Rattle.cls_cert.specs.Conditions.{IsGrammarOf}
 use Rattle.cls_cert.proofs.Ruled.{some_goal, ruled_within}

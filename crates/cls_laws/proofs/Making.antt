@@ -12,7 +12,7 @@ use Rattle.cls_path.specs.Paths.{TypePath, Paths, none, more, type_of_paths}
 use Rattle.cls_cover.specs.Covers.{IsMinimal, AreMinimal}
 use Rattle.cls_cover.proofs.Lists.{member_contains, precedes_trans}
 use Rattle.cls_cover.proofs.Public.{ascending_members}
-use Rattle.cls_rulebook.specs.Arguments.{arguments_of_rule}
+use Rattle.cls_base.specs.Arguments.{arguments_of_rule}
 use Rattle.cls_core.specs.Rows.{Row}
 use Rattle.cls_grammar.specs.Grammars.{book_of}
 use Rattle.cls_grammar.specs.Ranks.{HasTree, HaveTrees, head_tree, any_tree, no_trees, more_trees, IsRank, IsProductiveIn}

@@ -6,7 +6,7 @@ use Rattle.cls_base.specs.Firsts.{IsDetermined}
 use Rattle.cls_base.specs.Terms.{size_of}
 use Rattle.cls_base.specs.Types.{ClosedType}
 use Rattle.cls_base.specs.declared.rule.Rule.{Rule}
-use Rattle.cls_rulebook.specs.Arguments.{arguments_of_rule}
+use Rattle.cls_base.specs.Arguments.{arguments_of_rule}
 use Rattle.cls_core.specs.Rows.{Row}
 use Rattle.cls_grammar.specs.Grammars.{book_of}
 use Rattle.cls_library.specs.Libraries.{Library}

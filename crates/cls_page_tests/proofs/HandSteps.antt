@@ -5,8 +5,8 @@ use Rattle.std.proofs.lemmas.Bool.Decides.{nat_tests}
 use Rattle.cls_base.specs.Languages.{rules_at}
 use Rattle.cls_base.specs.declared.rule.Rule.{Rule}
 use Rattle.cls_base.specs.declared.rule.Rule.TheVariants.{Head, Any}
-use Rattle.cls_rulebook.specs.Arguments.{arguments_of_rule, arguments_in}
-use Rattle.cls_rulebook.specs.Books.{HasNodesBelow, HaveNodesBelow}
+use Rattle.cls_base.specs.Arguments.{arguments_of_rule, arguments_in}
+use Rattle.cls_base.specs.Books.{HasNodesBelow, HaveNodesBelow}
 use Rattle.cls_base.specs.Lists.{AreBelow}
 use Rattle.cls_page_tests.specs.HandBooks.{are_nodes, all_within}
 

@@ -1,7 +1,7 @@
 -- internal: rule books that tests make by hand
 use Rattle.std.specs.Prelude.{ℕ, nat_lt, Bool, true, ◌&&◌, List, [], ◌∷◌}
 use Rattle.cls_base.specs.declared.rule.Rule.{Rule}
-use Rattle.cls_rulebook.specs.Arguments.{arguments_in}
+use Rattle.cls_base.specs.Arguments.{arguments_in}
 
 -- whether all are nodes below n
 abbrev pub are_nodes : ℕ → List ℕ → Bool

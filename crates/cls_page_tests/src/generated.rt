@@ -2,8 +2,7 @@
 ghost use Rattle.std.specs.Prelude.{◌<◌, length};
 
 use crate::hand_book::HandBook;
-use cls_base::{NumberLists, OutOfMemory};
-use cls_rulebook::{RuleBook, RuleRef};
+use cls_base::{NumberLists, OutOfMemory, RuleBook, RuleRef};
 use std::alloc::Global;
 
 /// The most terms of one node and size that are kept. A page is asked for with a smaller pool.

@@ -1,8 +1,7 @@
 ghost use Rattle.std.specs.Prelude.{◌≡◌, ℕ, ◌<◌, ◌≤◌, ◌^◌, true, map, length, List, IfOk};
 ghost use Rattle.cls_page_tests.specs.HandBooks.{are_nodes, all_within};
 
-use cls_base::OutOfMemory;
-use cls_rulebook::{NodeRules, RuleBook, RuleRef};
+use cls_base::{NodeRules, OutOfMemory, RuleBook, RuleRef};
 use std::alloc::Global;
 use std::test::Fail;
 

@@ -2,8 +2,7 @@
 ghost use Rattle.std.specs.Prelude.{◌≤◌, ◌<◌};
 
 use crate::hand_book::HandBook;
-use cls_base::OutOfMemory;
-use cls_rulebook::{NodeRules, RuleRef};
+use cls_base::{NodeRules, OutOfMemory, RuleRef};
 use std::alloc::Global;
 use std::test::Fail;
 

@@ -10,7 +10,7 @@ use Rattle.cls_base.specs.declared.rule.Rule.{Rule}
 use Rattle.cls_base.specs.declared.rule.Rule.TheVariants.{Head, Any}
 use Rattle.cls_base.specs.Languages.{NodeRule, rules_at}
 use Rattle.cls_base.proofs.Lists.{Contains-nil}
-use Rattle.cls_rulebook.specs.Books.{HaveNodesBelow, HasNodesBelow}
+use Rattle.cls_base.specs.Books.{HaveNodesBelow, HasNodesBelow}
 use Rattle.cls_enum.specs.Candidates.{over}
 use Rattle.cls_enum.specs.Members.{IsIn}
 use Rattle.cls_enum.proofs.Members.{none_in, in_from, take-whole}

@@ -1,10 +1,10 @@
 //! Whether no two rules of a node make the same term. Then the ways in which the rules make terms are as many terms.
 ghost use Rattle.std.specs.Prelude.{◌≡◌, ℕ, true, ◌∷◌, IfSome, List};
 ghost use Rattle.cls_base.specs.declared.rule.Rule.{Rule};
-ghost use Rattle.cls_rulebook.specs.Columns.{rule_of};
+ghost use Rattle.cls_base.specs.Columns.{rule_of};
 ghost use Rattle.cls_walk.specs.Apart.{AreAllApart, AreApart, AreApartBehind};
 
-use cls_rulebook::{NodeRules, RuleBook, RuleRef};
+use cls_base::{NodeRules, RuleBook, RuleRef};
 
 /// What is seen of the rules before a rule: the component of the last head rule and the least number of arguments that
 /// the next one with it may have, whether there is a pair of nodes, and the greatest number of arguments.

@@ -35,9 +35,8 @@ use crate::smallest::{head_sizes, smallest_sizes};
 use crate::table::Table;
 use crate::totals::size_of_cursor;
 use crate::walk::Walk;
-use cls_base::{NumberLists, Numbers, OutOfMemory};
+use cls_base::{NumberLists, Numbers, OutOfMemory, RuleBook};
 use cls_enum::Page;
-use cls_rulebook::RuleBook;
 use cls_term::{CodedTerms, Term};
 use std::alloc::Global;
 

@@ -7,8 +7,7 @@ use crate::lower::lower_column;
 use crate::stage::Stage;
 use crate::table::Table;
 use crate::upper::upper_column;
-use cls_base::{Numbers, OutOfMemory};
-use cls_rulebook::RuleBook;
+use cls_base::{Numbers, OutOfMemory, RuleBook};
 use std::alloc::Global;
 
 /// Adds the upper bounds for one more size.

@@ -2,7 +2,7 @@
 //! of itself and another node.
 ghost use Rattle.std.specs.Prelude.{◌≡◌, ℕ, ◌++◌, ◌∷◌, [], true, IfOk, IfSome, OnOk, List};
 ghost use Rattle.cls_base.specs.declared.rule.Rule.{Rule};
-ghost use Rattle.cls_rulebook.specs.Columns.{rule_of};
+ghost use Rattle.cls_base.specs.Columns.{rule_of};
 ghost use Rattle.cls_walk.specs.Counts.{HeadRule};
 ghost use Rattle.cls_walk.specs.Attempts.{AreFormsUpTo};
 ghost use Rattle.cls_walk.specs.Filled.{EachRise};
@@ -10,8 +10,7 @@ ghost use Rattle.cls_walk.specs.Forms.{AreRising, IsEarlier};
 ghost use Rattle.cls_walk.specs.Repeats.{copies, forms_by, repeated, IsRepeat};
 
 use crate::form::{Form, Forms};
-use cls_base::OutOfMemory;
-use cls_rulebook::{NodeRules, RuleBook, RuleRef};
+use cls_base::{NodeRules, OutOfMemory, RuleBook, RuleRef};
 use std::alloc::Global;
 
 /// What the node may be applied to again and again, with one rule more. None, if it isn't as the head of this file

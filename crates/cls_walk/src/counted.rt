@@ -11,8 +11,7 @@ use crate::bounds::add_upper;
 use crate::numbers::plus;
 use crate::table::Table;
 use crate::totals::{column_total, due_of, held_at, size_of_cursor};
-use cls_base::{Numbers, OutOfMemory};
-use cls_rulebook::RuleBook;
+use cls_base::{Numbers, OutOfMemory, RuleBook};
 use cls_term::Term;
 use std::alloc::Global;
 

@@ -3,14 +3,13 @@
 ghost use Rattle.std.specs.Prelude.{◌≡◌, ℕ, ◌≤◌, List};
 ghost use Rattle.cls_base.specs.Limits.{max_term_size};
 ghost use Rattle.cls_base.specs.declared.rule.Rule.TheVariants.{Head};
-ghost use Rattle.cls_rulebook.specs.Columns.{rule_of};
+ghost use Rattle.cls_base.specs.Columns.{rule_of};
 ghost use Rattle.cls_term.specs.Costs.{cost_of};
 ghost use Rattle.cls_walk.specs.Ends.{CostAtMost, EndsAt};
 
 use crate::numbers::{cost_at, plus, times};
-use cls_base::Numbers;
+use cls_base::{NodeRules, Numbers, RuleBook, RuleRef};
 use cls_base::limits::MAX_TERM_LENGTH;
-use cls_rulebook::{NodeRules, RuleBook, RuleRef};
 
 /// The cost of the component that heads the rule, 0 where none does.
 fn head_cost(rule: RuleRef<'_>, costs: &Numbers) -> u32

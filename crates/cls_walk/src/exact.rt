@@ -29,9 +29,8 @@ use crate::table::Table;
 use crate::totals::size_of_cursor;
 use crate::walk::Walk;
 use cls_base::limits::MAX_TERM_LENGTH;
-use cls_base::{Numbers, OutOfMemory};
+use cls_base::{Numbers, OutOfMemory, RuleBook};
 use cls_enum::{Page, PageFault};
-use cls_rulebook::RuleBook;
 use cls_term::Term;
 use std::alloc::Global;
 

@@ -3,7 +3,7 @@
 //! rule with arguments.
 ghost use Rattle.std.specs.Prelude.{◌≡◌, ℕ, IfOk, List, ◌∷◌, max};
 ghost use Rattle.cls_base.specs.declared.rule.Rule.{Rule};
-ghost use Rattle.cls_rulebook.specs.Columns.{rule_of};
+ghost use Rattle.cls_base.specs.Columns.{rule_of};
 ghost use Rattle.cls_walk.specs.Counts.{greatest, pair_ways, pairs_of};
 ghost use Rattle.cls_walk.specs.Stages.{counts, sure_count, IsColumn};
 ghost use Rattle.cls_walk.specs.Tables.{capped};
@@ -12,9 +12,8 @@ use crate::numbers::{greater, plus};
 use crate::run::runs_of;
 use crate::stage::Stage;
 use crate::ways::pair_ways_of;
-use cls_base::OutOfMemory;
+use cls_base::{NodeRules, OutOfMemory, RuleBook, RuleRef};
 use cls_base::limits::MAX_TERM_LENGTH;
-use cls_rulebook::{NodeRules, RuleBook, RuleRef};
 use std::alloc::Global;
 
 /// The greater of a number and the ways of the rule, where it is a pair of nodes.

@@ -1,11 +1,11 @@
 //! Whether head rules are in the order in which the codes of their terms begin, by which runs of them are counted.
 ghost use Rattle.std.specs.Prelude.{◌≡◌, true, IfSome, List, [], ◌∷◌, ◌++◌};
-ghost use Rattle.cls_rulebook.specs.Columns.{rule_of};
+ghost use Rattle.cls_base.specs.Columns.{rule_of};
 ghost use Rattle.cls_walk.specs.Counts.{HeadRule, heads_of};
 ghost use Rattle.cls_walk.specs.Lasts.{EndWith};
 ghost use Rattle.cls_walk.specs.Orders.{InOrder, IsOrdered};
 
-use cls_rulebook::{NodeRules, RuleBook, RuleRef};
+use cls_base::{NodeRules, RuleBook, RuleRef};
 
 /// The component and the number of arguments of the last head rule so far.
 #[derive(Clone, Copy)]

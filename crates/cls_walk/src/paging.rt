@@ -14,10 +14,9 @@ use crate::counted::{Counted, count, is_within};
 use crate::ends::last_size;
 use crate::exact::exact_page;
 use crate::refusal::is_refused;
-use cls_base::Numbers;
+use cls_base::{Numbers, RuleBook};
 use cls_base::limits::MAX_TERM_LENGTH;
 use cls_enum::{Page, PageFault};
-use cls_rulebook::RuleBook;
 use cls_term::Term;
 use std::alloc::Global;
 

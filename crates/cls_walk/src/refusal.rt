@@ -16,8 +16,7 @@ use crate::numbers::plus;
 use crate::order::is_ordered;
 use crate::table::Table;
 use crate::totals::{column_total, due_of, size_of_cursor};
-use cls_base::{Numbers, OutOfMemory};
-use cls_rulebook::RuleBook;
+use cls_base::{Numbers, OutOfMemory, RuleBook};
 use cls_term::Term;
 use std::alloc::Global;
 

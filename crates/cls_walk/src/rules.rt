@@ -1,13 +1,12 @@
 //! The rules of a book by their kinds: the head rules and the pairs of each node, and the pairs that begin with each.
 ghost use Rattle.std.specs.Prelude.{◌≡◌, ℕ, ◌<◌, [], ◌∷◌, ◌++◌, length, map, slice_index_or, IfOk, OnOk};
-ghost use Rattle.cls_rulebook.specs.Columns.{rule_of};
+ghost use Rattle.cls_base.specs.Columns.{rule_of};
 ghost use Rattle.cls_enum.specs.Candidates.{over};
 ghost use Rattle.cls_walk.specs.Counts.{heads_of, pairs_of};
 ghost use Rattle.cls_walk.specs.FrameColumns.{head_of, pair_of, AreRules};
 ghost use Rattle.cls_walk.specs.FrameRules.{made_by, made_one, mades_at, pairs_at, ArePairsWithin};
 
-use cls_base::OutOfMemory;
-use cls_rulebook::{NodeRules, RuleBook, RuleRef};
+use cls_base::{NodeRules, OutOfMemory, RuleBook, RuleRef};
 use std::alloc::Global;
 
 /// A component with the nodes of its arguments.

@@ -2,7 +2,7 @@
 //! greatest number of ways in each.
 ghost use Rattle.std.specs.Prelude.{◌≡◌, ℕ, true, false, IfOk, List, ◌∷◌, length};
 ghost use Rattle.cls_base.specs.declared.rule.Rule.{Rule};
-ghost use Rattle.cls_rulebook.specs.Columns.{rule_of};
+ghost use Rattle.cls_base.specs.Columns.{rule_of};
 ghost use Rattle.cls_walk.specs.Counts.{HeadRule, heads_of, runs};
 ghost use Rattle.cls_walk.specs.Runs.{KeepsSum};
 ghost use Rattle.cls_walk.specs.Stages.{ways_if};
@@ -12,8 +12,7 @@ ghost use Rattle.cls_walk.specs.declared.stage.Stage.{Stage};
 use crate::numbers::{greater, plus};
 use crate::stage::Stage;
 use crate::upper::{head_ways_of, leaf_ways_of};
-use cls_base::OutOfMemory;
-use cls_rulebook::{NodeRules, RuleRef};
+use cls_base::{NodeRules, OutOfMemory, RuleRef};
 use std::alloc::Global;
 
 /// A run of head rules: its component and number of arguments, the greatest number of ways so far, and the sum over

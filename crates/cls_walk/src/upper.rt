@@ -1,14 +1,13 @@
 //! The upper bound of the number of terms of a node and size: in how many ways its rules make one.
 ghost use Rattle.std.specs.Prelude.{◌≡◌, ◌≤◌, ℕ, [], IfOk};
-ghost use Rattle.cls_rulebook.specs.Columns.{rule_of};
+ghost use Rattle.cls_base.specs.Columns.{rule_of};
 ghost use Rattle.cls_term.specs.Costs.{cost_of};
 ghost use Rattle.cls_walk.specs.Stages.{head_count, rule_count, rules_count, IsColumn};
 
 use crate::numbers::{cost_at, plus};
 use crate::stage::Stage;
 use crate::ways::{pair_ways_of, ways_of};
-use cls_base::OutOfMemory;
-use cls_rulebook::{NodeRules, RuleBook, RuleRef};
+use cls_base::{NodeRules, OutOfMemory, RuleBook, RuleRef};
 use std::alloc::Global;
 
 /// In how many ways a component without arguments makes a term.

@@ -1,5 +1,5 @@
 use Rattle.std.proofs.Common.{length, sym, ◌∙◌, arith}
-use Rattle.cls_rulebook.specs.Columns.{rule_of}
+use Rattle.cls_base.specs.Columns.{rule_of}
 use Rattle.cls_cert.specs.Building.{HasLess}
 use Rattle.cls_cert.proofs.Lists.{none_so_far, past_end, differs}
 use Rattle.cls_cert.proofs.RowMaking.{nodes_at}

@@ -1,8 +1,8 @@
 use Rattle.std.proofs.Common.{ℕ, List, sym, subst, arith}
 use Rattle.cls_base.specs.Ty.{type_of}
 use Rattle.cls_path.specs.Paths.{listed}
-use Rattle.cls_rulebook.specs.Columns.{rule_of}
-use Rattle.cls_rulebook.specs.declared.rule_ref.RuleRef.{RuleRef}
+use Rattle.cls_base.specs.Columns.{rule_of}
+use Rattle.cls_base.specs.declared.rule_ref.RuleRef.{RuleRef}
 use Rattle.cls_grammar.specs.Grammars.{book_of}
 use Rattle.cls_cert.specs.Conditions.{forms_of}
 use Rattle.cls_cert.specs.Making.{IsFirst, IsRowFor}

@@ -1,4 +1,4 @@
-use Rattle.cls_rulebook.specs.Columns.{rule_of as referred_rule}
+use Rattle.cls_base.specs.Columns.{rule_of as referred_rule}
 use Rattle.cls_term.specs.Costs.{cost_of}
 use Rattle.cls_enum.specs.Plans.{rule_of}
 use Rattle.cls_enum.proofs.Planning.{map-taken, AreReady-push}

@@ -1,8 +1,8 @@
 use Rattle.std.proofs.Common.{ℕ, [], ◌∷◌, ◌++◌, slice_index_or, sym, ◌∙◌}
 use Rattle.std.proofs.lemmas.List.{map_more}
 use Rattle.std.proofs.lemmas.Option.{get_or_from_slice_get, slice_get_within}
-use Rattle.cls_rulebook.specs.Arguments.{map_rule}
-use Rattle.cls_rulebook.specs.Columns.{rule_of}
+use Rattle.cls_base.specs.Arguments.{map_rule}
+use Rattle.cls_base.specs.Columns.{rule_of}
 use Rattle.cls_expand.proofs.naming.name_rules.Goals as goal
 
 pub loop-place-preserved : goal.loop-place-preserved

@@ -1,5 +1,5 @@
 use Rattle.std.proofs.Common.{◌≡◌, map, take, slice_index_or}
-use Rattle.cls_rulebook.specs.Arguments.{map_rule}
+use Rattle.cls_base.specs.Arguments.{map_rule}
 use Rattle.cls_expand.proofs.naming.name_rules.Given as goal
 
 abbrev pub invariant-loop-place : goal.invariant-loop-place

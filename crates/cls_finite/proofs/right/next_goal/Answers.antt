@@ -1,5 +1,5 @@
 use Rattle.std.proofs.Common.{arith, sym, ◌∙◌}
-use Rattle.cls_rulebook.specs.Columns.{rule_of}
+use Rattle.cls_base.specs.Columns.{rule_of}
 use Rattle.cls_finite.proofs.Stepping.{no-goal, no-rule, useless-none, useful-leads, none-leads}
 use Rattle.cls_finite.proofs.right.next_goal.Goals as goal
 

@@ -1,5 +1,5 @@
 use Rattle.std.proofs.Common.{◌≡◌, ◌∙◌, ℕ, sym, max, true, false, arith}
-use Rattle.cls_rulebook.specs.Columns.{rule_of}
+use Rattle.cls_base.specs.Columns.{rule_of}
 use Rattle.cls_term.specs.Costs.{cost_of}
 use Rattle.cls_finite.specs.declared.sizes.TheConstants.{SIZE_CAP}
 use Rattle.cls_finite.proofs.Greatest.{greatest-next}

@@ -1,6 +1,6 @@
 use Rattle.std.proofs.Common.{List, ℕ, sym, subst}
 use Rattle.cls_base.specs.declared.rule.Rule.{Rule}
-use Rattle.cls_rulebook.specs.Columns.{rule_of}
+use Rattle.cls_base.specs.Columns.{rule_of}
 use Rattle.cls_walk.specs.Apart.{AreApartBehind}
 use Rattle.cls_walk.proofs.RunSteps.{rules-from}
 use Rattle.cls_walk.proofs.apart.is_apart.Goals as goal

@@ -1,4 +1,4 @@
-use Rattle.cls_rulebook.specs.Columns.{rule_of}
+use Rattle.cls_base.specs.Columns.{rule_of}
 use Rattle.cls_walk.proofs.Building.{forms-next}
 use Rattle.cls_walk.proofs.build.node_forms.Goals as goal
 

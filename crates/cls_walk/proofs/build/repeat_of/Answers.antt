@@ -1,4 +1,4 @@
-use Rattle.cls_rulebook.specs.Columns.{rule_of}
+use Rattle.cls_base.specs.Columns.{rule_of}
 use Rattle.cls_walk.proofs.Building.{repeat-next}
 use Rattle.cls_walk.proofs.build.repeat_of.Goals as goal
 

@@ -1,5 +1,5 @@
 use Rattle.std.proofs.Common.{arith, ap, sym, ◌∙◌}
-use Rattle.cls_rulebook.specs.Columns.{rule_of}
+use Rattle.cls_base.specs.Columns.{rule_of}
 use Rattle.cls_walk.proofs.Building.{repeat-any, repeat-rule}
 use Rattle.cls_walk.proofs.build.repeat_with.Goals as goal
 

@@ -1,7 +1,7 @@
 use Rattle.std.proofs.Common.{ℕ, List, arith, subst}
 use Rattle.cls_base.proofs.Lists.{take_whole}
 use Rattle.cls_base.specs.declared.rule.Rule.{Rule}
-use Rattle.cls_rulebook.specs.Columns.{rule_of}
+use Rattle.cls_base.specs.Columns.{rule_of}
 use Rattle.cls_term.specs.Costs.{cost_of}
 use Rattle.cls_walk.specs.Ends.{CostAtMost}
 use Rattle.cls_walk.proofs.Endings.{costs-next}

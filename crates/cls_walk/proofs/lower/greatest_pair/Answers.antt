@@ -1,6 +1,6 @@
 use Rattle.std.proofs.Common.{◌≡◌, ℕ, List, max, arith, subst}
 use Rattle.cls_base.specs.declared.rule.Rule.{Rule}
-use Rattle.cls_rulebook.specs.Columns.{rule_of}
+use Rattle.cls_base.specs.Columns.{rule_of}
 use Rattle.cls_walk.specs.Counts.{greatest, pair_ways, pairs_of}
 use Rattle.cls_walk.specs.Stages.{counts}
 use Rattle.cls_walk.specs.Tables.{capped}

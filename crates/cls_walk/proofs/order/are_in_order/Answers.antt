@@ -1,5 +1,5 @@
 use Rattle.std.proofs.Common.{List, take, subst}
-use Rattle.cls_rulebook.specs.Columns.{rule_of}
+use Rattle.cls_base.specs.Columns.{rule_of}
 use Rattle.cls_walk.specs.Counts.{HeadRule, heads_of}
 use Rattle.cls_walk.specs.Lasts.{EndWith}
 use Rattle.cls_walk.proofs.OrderSteps.{heads-next}

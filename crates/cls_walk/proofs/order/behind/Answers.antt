@@ -1,7 +1,7 @@
 use Rattle.std.proofs.Common.{ℕ, ◌≡◌, ◌<◌, ◌≤◌, [], ◌∷◌, ◌++◌, length, inl, inr, refl, sym, ap, subst}
 use Rattle.std.specs.Prelude.{◌⊎◌}
 use Rattle.cls_base.specs.declared.rule.Rule.{Rule}
-use Rattle.cls_rulebook.specs.Columns.{rule_of}
+use Rattle.cls_base.specs.Columns.{rule_of}
 use Rattle.cls_enum.specs.Members.{IsIn}
 use Rattle.cls_walk.specs.Counts.{HeadRule, heads_of}
 use Rattle.cls_walk.specs.Orders.{InOrder}

@@ -1,5 +1,5 @@
 use Rattle.std.proofs.Common.{map}
-use Rattle.cls_rulebook.specs.Columns.{rule_of}
+use Rattle.cls_base.specs.Columns.{rule_of}
 use Rattle.cls_walk.specs.FrameColumns.{pair_of}
 use Rattle.cls_walk.proofs.FrameRules.{pairs-step}
 use Rattle.cls_walk.proofs.rules.pairs_in.Goals as goal

@@ -1,7 +1,7 @@
 use Rattle.std.proofs.Common.{◌≡◌, ◌<◌, ℕ, [], length, map}
 use Rattle.std.specs.Prelude.{slice_index_or}
 use Rattle.cls_base.specs.Languages.{rules_at}
-use Rattle.cls_rulebook.specs.Books.{HaveNodesBelow}
+use Rattle.cls_base.specs.Books.{HaveNodesBelow}
 use Rattle.cls_walk.specs.Counts.{heads_of, pairs_of}
 use Rattle.cls_walk.specs.FrameColumns.{head_of}
 use Rattle.cls_walk.specs.FrameRules.{pairs_at}

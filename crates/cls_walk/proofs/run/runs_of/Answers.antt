@@ -1,6 +1,6 @@
 use Rattle.std.proofs.Common.{ℕ, List, true, false, subst}
 use Rattle.cls_base.specs.declared.rule.Rule.{Rule}
-use Rattle.cls_rulebook.specs.Columns.{rule_of}
+use Rattle.cls_base.specs.Columns.{rule_of}
 use Rattle.cls_walk.specs.Counts.{heads_of, runs}
 use Rattle.cls_walk.specs.Runs.{ComesTo}
 use Rattle.cls_walk.specs.Stages.{ways_if}

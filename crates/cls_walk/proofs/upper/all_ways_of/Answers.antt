@@ -1,4 +1,4 @@
-use Rattle.cls_rulebook.specs.Columns.{rule_of}
+use Rattle.cls_base.specs.Columns.{rule_of}
 use Rattle.cls_walk.specs.Stages.{counts, costs}
 use Rattle.cls_walk.proofs.Columns.{all_ways-step}
 use Rattle.cls_walk.proofs.upper.all_ways_of.Goals as goal

@@ -3,7 +3,7 @@ use Rattle.std.specs.Prelude.{slice_index_or}
 use Rattle.cls_base.specs.declared.rule.Rule.{Rule}
 use Rattle.cls_base.specs.declared.rule.Rule.TheVariants.{Head}
 use Rattle.cls_base.specs.Cuts.{cut}
-use Rattle.cls_rulebook.specs.Columns.{rules_with}
+use Rattle.cls_base.specs.Columns.{rules_with}
 use Rattle.cls_core.proofs.GoalColumns.{same-head, other-head}
 use Rattle.cls_core.proofs.goal_rules.GoalRules.is_head.Goals as goal
 

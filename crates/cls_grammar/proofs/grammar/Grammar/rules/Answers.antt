@@ -8,7 +8,7 @@ use Rattle.cls_grammar.specs.Grammars.{ruled_rows, book_of}
 use Rattle.cls_grammar.proofs.RowColumns.{rows-count, rows-answer, rows-rules, rows-book}
 use Rattle.cls_grammar.proofs.grammar.Grammar.rules.Goals as goal
 use Rattle.cls_grammar.proofs.Climbing.{node-within}
-use Rattle.cls_rulebook.specs.Books.{HaveNodesBelow}
+use Rattle.cls_base.specs.Books.{HaveNodesBelow}
 
 pub index-requires : goal.index-requires
 index-requires c =

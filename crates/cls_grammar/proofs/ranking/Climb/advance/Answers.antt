@@ -1,6 +1,6 @@
 use Rattle.std.proofs.Common.{◌<◌, length, refl, arith}
 use Rattle.cls_grammar.proofs.Advances.{rule-less, next-nodes, next-within, next-front, argument-less, kept-reached, kept-waits}
-use Rattle.cls_rulebook.specs.Columns.{rule_of}
+use Rattle.cls_base.specs.Columns.{rule_of}
 use Rattle.cls_grammar.proofs.ranking.Climb.advance.Goals as goal
 use Rattle.cls_grammar.proofs.Climbing.{node-less, rank-small, kept-known}
 

@@ -2,8 +2,8 @@ use Rattle.std.proofs.Common.{ℕ, [], ◌∷◌, sym, ap, subst, ◌∙◌}
 use Rattle.std.specs.Prelude.{IfSome, IfNone}
 use Rattle.cls_grammar.specs.Climbs.{State, IsKnown, AllKnown}
 use Rattle.cls_grammar.proofs.ranking.Climb.next_unknown.Goals as goal
-use Rattle.cls_rulebook.specs.Arguments.{arguments_of_rule}
-use Rattle.cls_rulebook.specs.Columns.{rule_of}
+use Rattle.cls_base.specs.Arguments.{arguments_of_rule}
+use Rattle.cls_base.specs.Columns.{rule_of}
 
 pub returns-in-Head-clause-unknown : goal.returns-in-Head-clause-unknown
 returns-in-Head-clause-unknown c =

@@ -1,10 +1,9 @@
 ghost use Rattle.std.specs.Prelude.{◌≡◌, ℕ, ◌<◌, Some, [], ◌∷◌, ◌++◌, length, map, slice_get, IfOk, OnOk, OnErr};
-ghost use Rattle.cls_rulebook.specs.Arguments.{arguments_in, map_rule};
+ghost use Rattle.cls_base.specs.Arguments.{arguments_in, map_rule};
 ghost use Rattle.cls_base.specs.Cuts.{AreEnds, cut};
-ghost use Rattle.cls_rulebook.specs.Columns.{AreColumns, HasArguments, rule_of, rule_with, rules_with};
+ghost use Rattle.cls_base.specs.Columns.{AreColumns, HasArguments, rule_of, rule_with, rules_with};
 
-use crate::RuleRef;
-use cls_base::{NumberLists, OutOfMemory};
+use crate::{NumberLists, OutOfMemory, RuleRef};
 use std::alloc::Global;
 use std::marker::Model;
 
@@ -20,7 +19,7 @@ pub struct NodeRules {
 impl Model for NodeRules {
     ghost use Rattle.std.specs.Prelude.{ℕ, List};
     ghost use Rattle.cls_base.specs.declared.rule.Rule.{Rule};
-    ghost use Rattle.cls_rulebook.specs.Columns.{AreColumns, rules_with};
+    ghost use Rattle.cls_base.specs.Columns.{AreColumns, rules_with};
 
     ghost Value = { List (Rule ℕ) };
 

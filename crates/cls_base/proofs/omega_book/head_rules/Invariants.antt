@@ -1,6 +1,6 @@
 use Rattle.std.proofs.Common.{◌≡◌}
-use Rattle.cls_rulebook.specs.Books.{heads}
-use Rattle.cls_rulebook.proofs.omega_book.head_rules.Given as goal
+use Rattle.cls_base.specs.Books.{heads}
+use Rattle.cls_base.proofs.omega_book.head_rules.Given as goal
 
 abbrev pub invariant-loop-component : goal.invariant-loop-component
 invariant-loop-component l = l.rules ≡ heads l.component

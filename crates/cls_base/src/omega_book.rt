@@ -1,9 +1,8 @@
 ghost use Rattle.std.specs.Prelude.{◌≡◌, ℕ, IfOk, map, ◌++◌, ◌∷◌, []};
 ghost use Rattle.cls_base.specs.declared.rule.Rule.{Rule};
-ghost use Rattle.cls_rulebook.specs.Books.{omega_book, omega_rules, heads};
+ghost use Rattle.cls_base.specs.Books.{omega_book, omega_rules, heads};
 
-use crate::{NodeRules, RuleBook, RuleRef};
-use cls_base::OutOfMemory;
+use crate::{NodeRules, OutOfMemory, RuleBook, RuleRef};
 use std::alloc::Global;
 use std::marker::Model;
 
@@ -17,7 +16,7 @@ pub struct OmegaBook {
 
 impl Model for OmegaBook {
     ghost use Rattle.std.specs.Prelude.{◌≡◌, ℕ, map};
-    ghost use Rattle.cls_rulebook.specs.Books.{omega_rules};
+    ghost use Rattle.cls_base.specs.Books.{omega_rules};
 
     ghost Value = { ℕ };
 

@@ -5,8 +5,8 @@ use Rattle.std.specs.List.{concat, flat_map}
 use Rattle.std.proofs.lemmas.List.Concat.{concat_is}
 use Rattle.cls_base.specs.declared.rule.Rule.{Rule}
 use Rattle.cls_base.specs.declared.rule.Rule.TheVariants.{Any}
-use Rattle.cls_rulebook.specs.Arguments.{arguments_of_rule, arguments_in, map_rule}
-use Rattle.cls_rulebook.specs.Columns.{rule_with, rules_with, HasArguments, AreColumns}
+use Rattle.cls_base.specs.Arguments.{arguments_of_rule, arguments_in, map_rule}
+use Rattle.cls_base.specs.Columns.{rule_with, rules_with, HasArguments, AreColumns}
 
 module _ {G : Type 0} where
   pub columns-length : (hs : List (Option ℕ)) (lists : List (List G)) → AreColumns hs lists → length hs ≡ length (rules_with hs lists)

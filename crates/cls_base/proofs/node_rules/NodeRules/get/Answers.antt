@@ -1,9 +1,9 @@
 use Rattle.std.proofs.Common.{◌≡◌, ◌<◌, ℕ, List, Some, length, arith, ap, ◌∙◌, subst}
 use Rattle.std.specs.Prelude.{Option, slice_get}
 use Rattle.cls_base.specs.declared.rule.Rule.{Rule}
-use Rattle.cls_rulebook.specs.Columns.{HasArguments, rule_with, rules_with}
-use Rattle.cls_rulebook.proofs.Columns.{rule-at, arguments-at, any-with}
-use Rattle.cls_rulebook.proofs.node_rules.NodeRules.get.Goals as goal
+use Rattle.cls_base.specs.Columns.{HasArguments, rule_with, rules_with}
+use Rattle.cls_base.proofs.Columns.{rule-at, arguments-at, any-with}
+use Rattle.cls_base.proofs.node_rules.NodeRules.get.Goals as goal
 
 pub bounds-args-0 : goal.bounds-args-0
 bounds-args-0 c =

@@ -2,7 +2,7 @@
 ghost use Rattle.std.specs.Prelude.{ℕ, ◌↔◌};
 ghost use Rattle.cls_base.specs.Terms.{Applicative, IsTermOver};
 ghost use Rattle.cls_base.specs.Languages.{IsGenerated};
-ghost use Rattle.cls_rulebook.specs.Books.{omega_book};
+ghost use Rattle.cls_base.specs.Books.{omega_book};
 
 /// The rule book of omega generates exactly the terms over its components.
 pub fn omega_book_generates_all_terms()

@@ -1,7 +1,7 @@
 ghost use Rattle.std.specs.Prelude.{◌≡◌, ℕ, ◌<◌, ◌≤◌, List, length, map};
 ghost use Rattle.cls_base.specs.declared.rule.Rule.{Rule};
 ghost use Rattle.cls_base.specs.Languages.{rules_at};
-ghost use Rattle.cls_rulebook.specs.Books.{HaveNodesBelow};
+ghost use Rattle.cls_base.specs.Books.{HaveNodesBelow};
 
 use crate::NodeRules;
 

@@ -2,8 +2,8 @@
 use Rattle.std.specs.Prelude.{ℕ, ◌≡◌, List, [], ◌∷◌, Option, Some, None, length}
 use Rattle.cls_base.specs.declared.rule.Rule.{Rule}
 use Rattle.cls_base.specs.declared.rule.Rule.TheVariants.{Head, Any}
-use Rattle.cls_rulebook.specs.declared.rule_ref.RuleRef.{RuleRef}
-use Rattle.cls_rulebook.specs.declared.rule_ref.RuleRef.TheVariants as refs
+use Rattle.cls_base.specs.declared.rule_ref.RuleRef.{RuleRef}
+use Rattle.cls_base.specs.declared.rule_ref.RuleRef.TheVariants as refs
 
 module _ {G : Type 0} where
   -- The rule with this component at its head, or with any term there, and these arguments. The last case has no

@@ -1,9 +1,9 @@
 use Rattle.std.proofs.Common.{◌≡◌, map, sym, ap, ◌∙◌}
 use Rattle.std.specs.List.{concat}
-use Rattle.cls_rulebook.specs.Arguments.{arguments_in, map_rule}
-use Rattle.cls_rulebook.specs.Columns.{rules_with}
-use Rattle.cls_rulebook.proofs.Columns.{arguments-concat, rules-map}
-use Rattle.cls_rulebook.proofs.node_rules.NodeRules.with_arguments.Goals as goal
+use Rattle.cls_base.specs.Arguments.{arguments_in, map_rule}
+use Rattle.cls_base.specs.Columns.{rules_with}
+use Rattle.cls_base.proofs.Columns.{arguments-concat, rules-map}
+use Rattle.cls_base.proofs.node_rules.NodeRules.with_arguments.Goals as goal
 
 pub returns : goal.returns
 returns c f e =

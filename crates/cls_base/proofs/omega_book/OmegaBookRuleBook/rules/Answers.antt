@@ -1,8 +1,8 @@
 use Rattle.std.proofs.Common.{◌≡◌, ℕ, arith, subst}
 use Rattle.cls_base.specs.Languages.{rules_at}
-use Rattle.cls_rulebook.specs.Books.{HaveNodesBelow, omega_book}
-use Rattle.cls_rulebook.proofs.Books.{omega_rules-within}
-use Rattle.cls_rulebook.proofs.omega_book.OmegaBookRuleBook.rules.Goals as goal
+use Rattle.cls_base.specs.Books.{HaveNodesBelow, omega_book}
+use Rattle.cls_base.proofs.Books.{omega_rules-within}
+use Rattle.cls_base.proofs.omega_book.OmegaBookRuleBook.rules.Goals as goal
 
 pub returns-clause-within : goal.returns-clause-within
 returns-clause-within c =

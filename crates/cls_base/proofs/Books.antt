@@ -7,7 +7,7 @@ use Rattle.cls_base.specs.Terms.{Applicative, component, apply, IsTermOver}
 use Rattle.cls_base.specs.declared.rule.Rule.{Rule}
 use Rattle.cls_base.specs.declared.rule.Rule.TheVariants.{Head, Any}
 use Rattle.cls_base.specs.Languages.{Applies, by_head, by_any, done, next, NodeRule, IsGenerated}
-use Rattle.cls_rulebook.specs.Books.{heads, omega_rules, omega_book, HaveNodesBelow, HasNodesBelow}
+use Rattle.cls_base.specs.Books.{heads, omega_rules, omega_book, HaveNodesBelow, HasNodesBelow}
 
 pub heads-next : (n : ℕ) → heads (n + 1) ≡ heads n ++ Head n [] ∷ []
 heads-next n = rw add-one refl
