@@ -70,3 +70,15 @@ max_text_bytes = 65536
 -- the greatest number of a hole in a template
 abbrev pub max_hole : ℕ
 max_hole = 16
+
+-- minimal covers of the first paths of a goal by the arrows of a component with one number of arguments
+abbrev pub max_covers : ℕ
+max_covers = 1024
+
+-- cost of a component
+abbrev pub max_cost : ℕ
+max_cost = 255
+
+-- size of a term that is told as a number
+abbrev pub max_finite_size : ℕ
+max_finite_size = 1000000000

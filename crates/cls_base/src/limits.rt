@@ -1,4 +1,5 @@
-//! The numbers that the language fixes. Definitions have them from `specs/Limits`, and the code has them from here.
+//! The numbers that the language fixes, and behind them those by which the program bounds what it keeps, which change no reply.
+//! Definitions have the former from `specs/Limits`, and the code has all from here.
 
 /// The most bytes of an input that count. If more come, only the lines that end within these do.
 pub const MAX_INPUT_BYTES: usize = 1_048_576;
@@ -50,3 +51,34 @@ pub const MAX_TEXT_BYTES: usize = 65_536;
 
 /// The greatest number of a hole in a template.
 pub const MAX_HOLE: u8 = 16;
+
+/// The most minimal covers of the first paths of a goal by the arrows of a component with one number of arguments. If there
+/// are more, the goal is wide.
+pub const MAX_COVERS: u32 = 1_024;
+
+/// The greatest cost of a component.
+pub const MAX_COST: u32 = 255;
+
+/// The greatest size of a term that is told as a number.
+pub const MAX_FINITE_SIZE: u64 = 1_000_000_000;
+
+/// Paths and spreads are counted up to this number, which no library has room for.
+pub const SPREAD_CAP: u64 = MAX_LIBRARY_WEIGHT + 1;
+
+/// The greatest number that a generator of test inputs takes.
+pub const MAX_GENERATED: u32 = 300;
+
+/// The most goals that a memo holds.
+pub const MAX_MEMO_GOALS: usize = 20_000;
+
+/// The most rules of goals together that a memo holds.
+pub const MAX_MEMO_RULES: u64 = 1_000_000;
+
+/// The most grammars that are kept for later queries.
+pub const MAX_KEPT_GRAMMARS: usize = 64;
+
+/// The most bytes that the kept grammars take together, if there are several: 64 MiB.
+pub const MAX_KEPT_BYTES: u64 = 67_108_864;
+
+/// The most goals whose outcomes are kept for later queries.
+pub const MAX_KEPT_OUTCOMES: usize = 64;

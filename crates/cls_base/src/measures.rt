@@ -4,6 +4,7 @@ ghost use Rattle.cls_base.specs.Types.{nodes, path_count, spread, depth, open_at
 ghost use Rattle.cls_base.specs.Ty.{type_of};
 ghost use Rattle.cls_base.specs.Measures.{capped, capped_weight, strength_of};
 
+use crate::limits::SPREAD_CAP;
 use crate::ty::Ty;
 
 /// Where a type stands in the text of another: what form is taken there without parentheses.
@@ -154,33 +155,32 @@ impl Ty {
     fn deep_weight(&self) -> (u64, u64)
         ensures { result ≡ capped_weight (type_of self.now) }
     {
-        const CAP: u64 = 1_000_001;
         match self {
             Ty::Omega => (0, 0),
             Ty::Bare(_) => (1, 1),
             Ty::Con(_, argument) => {
                 let (paths, spread) = argument.weight();
                 let paths = paths.max(1);
-                (paths, CAP.min(spread + paths))
+                (paths, SPREAD_CAP.min(spread + paths))
             }
             Ty::Prod(sides) => {
                 let (left, right) = &**sides;
                 let (p, s) = left.weight();
                 let (q, t) = right.weight();
-                let paths = CAP.min((p + q).max(1));
-                (paths, CAP.min(s + t + paths))
+                let paths = SPREAD_CAP.min((p + q).max(1));
+                (paths, SPREAD_CAP.min(s + t + paths))
             }
             Ty::Arrow(sides) => {
                 let (source, target) = &**sides;
                 let (_, s) = source.weight();
                 let (q, t) = target.weight();
-                (q, CAP.min(t + q * (1 + s)))
+                (q, SPREAD_CAP.min(t + q * (1 + s)))
             }
             Ty::Meet(sides) => {
                 let (left, right) = &**sides;
                 let (p, s) = left.weight();
                 let (q, t) = right.weight();
-                (CAP.min(p + q), CAP.min(s + t))
+                (SPREAD_CAP.min(p + q), SPREAD_CAP.min(s + t))
             }
         }
     }

@@ -5,6 +5,7 @@ use Rattle.std.proofs.lemmas.List.Elements.{Contains-push, Contains-push_cases, 
 use Rattle.std.proofs.lemmas.Option.{slice_get_within, get_or_from_slice_get}
 use Rattle.cls_base.specs.Lists.{AreDistinct}
 use Rattle.cls_base.proofs.Lists.{Contains-nil, Contains-here, Contains-later, Contains-head}
+use Rattle.cls_base.specs.Limits.{max_covers}
 use Rattle.cls_path.specs.Paths.{TypePath, Paths, none, more, listed, type_of_paths}
 use Rattle.cls_cover.specs.Lists.{IsAscending, Sublist, ends, drops}
 use Rattle.cls_cover.specs.Covers.{IsMinimal, AreMinimal, MeetsEach, AreCovers, HaveMore, AreWithinLimit}
@@ -13,7 +14,7 @@ use Rattle.cls_library.specs.Families.{IsNext, IsNextPlace, IsPlace, NoneBegins,
 use Rattle.cls_library.specs.Libraries.{Library, paths_at, arrows_at}
 use Rattle.cls_library.specs.declared.place.Place.{Place}
 use Rattle.cls_library.specs.Reaching.{CoversGoal}
-use Rattle.cls_library.specs.Rules.{IsWide, by_covers, max_covers}
+use Rattle.cls_library.specs.Rules.{IsWide, by_covers}
 use Rattle.cls_expand.proofs.FamilyCovers.{covers_goal, many_from}
 use Rattle.cls_expand.proofs.Unreached.{IsReached, reached}
 use Rattle.cls_proof.specs.Certificates as proof

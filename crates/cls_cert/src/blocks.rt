@@ -1,25 +1,24 @@
 //! The blocks of a member: for each component and number of arguments the minimal covers of the first paths of its goal.
 ghost use Rattle.std.specs.Prelude.{◌≡◌, ◌<◌, ◌↔◌, ◌∷◌, [], All, IfOk, IfSome, OnOk, IsTrue, length, map};
+ghost use Rattle.cls_base.specs.Limits.{max_covers};
 ghost use Rattle.cls_cover.specs.Lists.{IsAscending};
 ghost use Rattle.cls_cover.specs.Covers.{AreCovers, AreWithinLimit};
 ghost use Rattle.cls_cover.specs.Forced.{IsForced};
 ghost use Rattle.cls_path.specs.Paths.{listed};
 ghost use Rattle.cls_library.specs.Families.{IsPlace, alone};
-ghost use Rattle.cls_library.specs.Rules.{IsWide, max_covers};
+ghost use Rattle.cls_library.specs.Rules.{IsWide};
 ghost use Rattle.cls_expand.specs.Answers.{IsReady};
 ghost use Rattle.cls_proof.specs.Growing.{HasBlock, last_blocks};
 ghost use Rattle.cls_cert.specs.Building.{AddsCovers, AddsCoversOfFronts, HasFirstFamily, AddsBlock, AreBlocks, with_layers, with_last};
 
 use crate::forced::{forced_with, put};
+use cls_base::limits::MAX_COVERS;
 use cls_base::{NumberLists, Numbers, OutOfMemory};
 use cls_cover::{CoverFault, covers};
 use cls_library::{Families, Finder, Library, Place};
 use cls_path::Nf;
 use cls_proof::{Members, Positions};
 use std::alloc::Global;
-
-/// The greatest number of minimal covers that first paths of a goal have if the goal isn't wide.
-const MAX_COVERS: u32 = 1024;
 
 /// The minimal covers of the families, which have few.
 pub(crate) fn few_covers(alloc: Global, families: &[Numbers]) -> Result<NumberLists, OutOfMemory>

@@ -6,11 +6,9 @@ ghost use Rattle.cls_engine.specs.declared.outcomes.Outcome.TheVariants.{Inhabit
 ghost use Rattle.cls_engine.specs.Outcomes.{fault_in, IsDecidedAt, HasOutcome, HasFault};
 
 use crate::fault::EngineFault;
+use cls_base::limits::MAX_KEPT_OUTCOMES;
 use cls_path::Nf;
 use std::alloc::Global;
-
-/// The most goals whose outcomes are kept.
-const MOST_OUTCOMES: usize = 64;
 
 /// What came of a goal. Out of memory is none, since a later query may have more.
 #[derive(Drop)]
@@ -127,7 +125,7 @@ impl Outcomes {
     fn make_room(&mut self)
         ensures { (d : DecidedSeen) → Contains self.new.kept.items d → Contains self.old.kept.items d }
     {
-        if self.kept.len() < MOST_OUTCOMES {
+        if self.kept.len() < MAX_KEPT_OUTCOMES {
             return;
         }
         drop(self.kept.remove(0));

@@ -5,14 +5,9 @@ ghost use Rattle.cls_engine.specs.declared.recents.Kept.{Kept as KeptSeen};
 
 use cls_grammar::Grammar;
 use cls_path::Nf;
+use cls_base::limits::{MAX_KEPT_BYTES, MAX_KEPT_GRAMMARS};
 use cls_base::NodeRules;
 use std::alloc::Global;
-
-/// The most grammars that are kept.
-const MOST_GRAMMARS: usize = 64;
-
-/// The most bytes that the grammars take together, if there are several: 64 MiB.
-const MOST_BYTES: u64 = 67_108_864;
 
 /// About how many bytes a goal takes, beside its paths and its rules.
 const GOAL_BYTES: u64 = 256;
@@ -111,7 +106,7 @@ impl Recents {
         for kept in self.kept.as_slice() {
             together = together.saturating_add(kept.bytes);
         }
-        self.kept.len() < MOST_GRAMMARS && together <= MOST_BYTES
+        self.kept.len() < MAX_KEPT_GRAMMARS && together <= MAX_KEPT_BYTES
     }
 
     /// Drops the oldest grammars until there is room for one that takes so many bytes, or none is left.

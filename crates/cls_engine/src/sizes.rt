@@ -10,8 +10,9 @@ ghost use Rattle.cls_engine.specs.Sizes.{IsGreatest, IsGreatestOver, IsUnbounded
 
 use crate::engine::Engine;
 use crate::fault::EngineFault;
+use cls_base::limits::MAX_FINITE_SIZE;
 use cls_base::{Gate, OutOfMemory, Ty};
-use cls_finite::{FiniteAnswer, MAX_FINITE_SIZE, finite};
+use cls_finite::{FiniteAnswer, finite};
 use cls_grammar::Grammar;
 use std::alloc::Global;
 use std::sync::Wait;

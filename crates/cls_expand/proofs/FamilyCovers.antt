@@ -1,13 +1,14 @@
 -- Covers of the families of a goal are covers of the goal.
 use Rattle.std.proofs.Common.{ℕ, zero, suc, ◌≡◌, ◌≤◌, refl, sym, ◌∙◌, subst, ap, inl, inr, List, [], ◌∷◌, length, take, arith}
 use Rattle.cls_base.proofs.Lists.{Contains-nil, Contains-here, Contains-later, Contains-cases}
+use Rattle.cls_base.specs.Limits.{max_covers}
 use Rattle.cls_path.specs.Paths.{TypePath, Paths, none, more, first_in, later_in, listed}
 use Rattle.cls_cover.specs.Covers.{IsMinimal, AreMinimal, HasMore, MeetsEach, Meets}
 use Rattle.cls_library.specs.Arrows.{MultiArrow, arity_of}
 use Rattle.cls_library.specs.Families.{AreFamilies}
 use Rattle.cls_library.specs.Libraries.{Library, paths_at, arrows_at}
 use Rattle.cls_library.specs.Reaching.{CoversGoal}
-use Rattle.cls_library.specs.Rules.{Front, no_front, more_front, HasManyCovers, max_covers}
+use Rattle.cls_library.specs.Rules.{Front, no_front, more_front, HasManyCovers}
 
 module _ (l : Library) (arrows : List MultiArrow) where
   meets_from : (goal : List TypePath) (fs : List (List ℕ)) (s : List ℕ) → AreFamilies l arrows goal fs → CoversGoal l arrows (listed goal) s → MeetsEach fs s

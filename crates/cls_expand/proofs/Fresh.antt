@@ -20,7 +20,8 @@ use Rattle.cls_expand.specs.Answers.{rule_of}
 use Rattle.cls_expand.specs.declared.spine.Spine.{Spine}
 use Rattle.cls_expand.specs.Making.{AreBegun, PutsNew, rules_of_spines, choice_at}
 use Rattle.cls_expand.specs.Listing.{rule_component, rule_args, rule_given, append_nothing, append_last}
-use Rattle.cls_expand.proofs.Sources.{columns_length, library_arrows}
+use Rattle.cls_library.proofs.RuleTyping.{columns_length}
+use Rattle.cls_expand.proofs.Sources.{library_arrows}
 
 -- what stands before is kept
 pub kept_front : {A : Type 0} (some : List A) (x : A) (begin : ℕ) (start old new : List A) → PutsNew some x old new → begin ≤ length old → take begin old ≡ start → (begin ≤ length new) × (take begin new ≡ start)

@@ -19,6 +19,7 @@ use Rattle.cls_library.specs.Rules.{IsRuleFor}
 use Rattle.cls_library.proofs.ByCases.{At, at_first, at_later, member_at, at_got, Zip, zip_none, zip_more, zip_map, zip_all}
 use Rattle.cls_library.proofs.PathLemma.{from_sources, arrow_from}
 use Rattle.cls_library.proofs.LibraryTyping.{arrow_sources, declared, reflexive, transitive}
+use Rattle.cls_library.proofs.RuleTyping.{columns_length}
 use Rattle.cls_path.proofs.Completeness.{covers_refl}
 use Rattle.cls_expand.specs.Making.{no_arrow, picked_of, gathered, choice_at}
 use Rattle.cls_expand.specs.Listing.{all_last}
@@ -57,20 +58,6 @@ append_at [] (m ∷ ms) place e = absurd (let k : 0 ≡ suc (length ms) = e in o
 append_at (n ∷ ns) [] place e = absurd (let k : suc (length ns) ≡ 0 = e in omega arith)
 append_at (n ∷ ns) (m ∷ ms) zero e = refl
 append_at (n ∷ ns) (m ∷ ms) (suc place) e = append_at ns ms place (let k : suc (length ns) ≡ suc (length ms) = e in omega arith)
-
-none_length : (n : ℕ) → length (no_sources n) ≡ n
-none_length zero = refl
-none_length (suc n) = ap suc (none_length n)
-
-append_length : (ns ms : List Paths) (n : ℕ) → length ns ≡ n → length ms ≡ n → length (zip_append ns ms) ≡ n
-append_length [] ms n h k = h
-append_length (x ∷ ns) [] n h k = let e : suc (length ns) ≡ 0 = h ∙ sym k in absurd (omega arith)
-append_length (x ∷ ns) (y ∷ ms) zero h k = let e : suc (length ns) ≡ 0 = h in absurd (omega arith)
-append_length (x ∷ ns) (y ∷ ms) (suc n) h k = ap suc (append_length ns ms n (let e : suc (length ns) ≡ suc n = h in omega arith) (let e : suc (length ms) ≡ suc n = k in omega arith))
-
-pub columns_length : (n : ℕ) (arrows : List MultiArrow) → ((a : MultiArrow) → Member arrows a → length a.sources ≡ n) → length (columns n arrows) ≡ n
-columns_length n [] f = none_length n
-columns_length n (a ∷ rest) f = append_length a.sources (columns n rest) n (f a first) (columns_length n rest (λ b m. f b (later m)))
 
 -- the column at a place
 pub columns_at : (n place : ℕ) (arrows : List MultiArrow) → ((a : MultiArrow) → Member arrows a → length a.sources ≡ n) → get_or (columns n arrows) place none ≡ gathered place arrows

@@ -10,8 +10,9 @@ use Rattle.cls_library.specs.Arrows.{MultiArrow}
 use Rattle.cls_library.specs.Families.{IsFamilyIn, NoneBegins, NoneBeginsAt, IsEarlier, IsBefore, IsPlace, IsNextPlace}
 use Rattle.cls_library.specs.Libraries.{Library, arrows_at}
 use Rattle.cls_library.specs.Reaching.{CoversGoal}
-use Rattle.cls_library.specs.Rules.{Choice, IsChoice, HasManyCovers, Front, more_front, max_covers}
+use Rattle.cls_library.specs.Rules.{Choice, IsChoice, HasManyCovers, Front, more_front}
 use Rattle.cls_base.specs.declared.rule.Rule.{Rule}
+use Rattle.cls_base.specs.Limits.{max_covers}
 use Rattle.cls_expand.specs.Making.{AreBegun}
 
 none_in : (s : List ℕ) → Sublist [] s

@@ -11,6 +11,7 @@ ghost use Rattle.cls_expand.specs.Answers.{IsAnswer, IsAnswerBy, IsReady, rule_o
 ghost use Rattle.cls_expand.specs.Making.{AddsPlace, AreRulesBetween, IsNextBefore};
 
 use crate::cover_rules::{add_covers, add_lone};
+use cls_base::limits::MAX_COVERS;
 use cls_base::{Numbers, OutOfMemory};
 use cls_core::{Answer, Expand, GoalRules, TypedExpand};
 use cls_cover::{CoverFault, covers, lone_cover};
@@ -18,9 +19,6 @@ use cls_library::{Families, Finder, Library, Place};
 use cls_path::Nf;
 use std::alloc::Global;
 use std::marker::Model;
-
-/// The greatest number of minimal covers.
-const MAX_COVERS: u32 = 1024;
 
 /// The greatest number of rules that room is made for before they are found. What a goal doesn't need stays with its answer.
 const MAX_ROOM: usize = 64;

@@ -4,18 +4,13 @@ ghost use Rattle.cls_expand.specs.Memos.{rules_together, HasGoalsOf};
 use crate::additions::Additions;
 use crate::memo::Memo;
 use crate::naming::name_answer;
+use cls_base::limits::{MAX_MEMO_GOALS, MAX_MEMO_RULES};
 use cls_base::OutOfMemory;
 use cls_core::{Answer, Expand, NodeAnswer, Rows};
 use indexmap::IndexSet;
 use std::alloc::Global;
 use std::marker::Model;
 use std::snapshot::Snapshot;
-
-/// The most goals that a store holds.
-const MAX_GOALS: usize = 20_000;
-
-/// The most rules of goals together that a store holds.
-const MAX_RULES: u64 = 1_000_000;
 
 /// A memo that holds each goal once. An answer has numbers of goals in place of copies.
 #[derive(Drop)]
@@ -94,7 +89,7 @@ impl<E: Expand> Store<E> {
     {
         let goals = self.goals.len() + more.goals.len();
         let rules = count_rules(self.answers.as_slice()) + count_rules(more.answers.as_slice());
-        goals <= MAX_GOALS && rules <= MAX_RULES
+        goals <= MAX_MEMO_GOALS && rules <= MAX_MEMO_RULES
     }
 
     /// Puts what it lacks of the rows behind what it has.

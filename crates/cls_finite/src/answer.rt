@@ -5,11 +5,8 @@ use crate::walk::Walk;
 pub enum FiniteAnswer {
     /// The greatest size of a term, or 0 if there is none.
     Finite(u64),
-    /// There is a greatest size, and it is over [`MAX_FINITE_SIZE`].
+    /// There is a greatest size, and it is over `MAX_FINITE_SIZE`.
     Over,
     /// The sizes have no bound. The walk shows it.
     Infinite(Walk),
 }
-
-/// The greatest size that is told.
-pub const MAX_FINITE_SIZE: u64 = 1_000_000_000;

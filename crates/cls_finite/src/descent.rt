@@ -12,10 +12,11 @@ ghost use Rattle.cls_finite.specs.declared.answer.FiniteAnswer.TheVariants.{Over
 ghost use Rattle.cls_finite.specs.Answers.{IfFinite, IfInfinite, IsInfinite};
 ghost use Rattle.cls_finite.specs.Finiteness.{HasPositiveCosts, IsUnbounded, IsGreatest, IsGreatestOver, IsDetermined};
 
-use crate::answer::{FiniteAnswer, MAX_FINITE_SIZE};
+use crate::answer::FiniteAnswer;
 use crate::sizes::{SIZE_CAP, greatest_by};
 use crate::steps::next_step;
 use crate::walk::{Step, Walk};
+use cls_base::limits::MAX_FINITE_SIZE;
 use cls_base::{NodeRules, Numbers, OutOfMemory, RuleBook};
 use cls_grammar::{Flags, productive};
 use std::alloc::Global;

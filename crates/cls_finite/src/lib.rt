@@ -16,7 +16,7 @@ mod sizes;
 mod steps;
 mod walk;
 
-pub use answer::{FiniteAnswer, MAX_FINITE_SIZE};
+pub use answer::FiniteAnswer;
 pub use descent::finite;
 pub use right::right_walk;
 pub use walk::{Step, Walk};

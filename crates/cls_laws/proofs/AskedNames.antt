@@ -8,7 +8,8 @@ use Rattle.cls_syntax.specs.Forms.{type_parts, constructors_named}
 use Rattle.cls_syntax.specs.TypeSchemas.{type_schema}
 use Rattle.cls_syntax.specs.TypeTexts.{TypeText}
 use Rattle.cls_syntax.proofs.ReadTypes.{Below, AllHeld, held_by}
-use Rattle.cls_query.specs.Queries.{QueryText, verify, query_parts, with_query, query_of, closed, type_in}
+use Rattle.cls_syntax.specs.ClosedTypes.{closed}
+use Rattle.cls_query.specs.Queries.{QueryText, verify, query_parts, with_query, query_of, type_in}
 use Rattle.cls_replies.specs.Answering.{Asks}
 use Rattle.cls_replies.specs.Serving.{Serving, tables_in}
 use Rattle.cls_laws.proofs.DraftNames.{type_spelled, parts_known}

@@ -14,6 +14,7 @@ use Rattle.cls_core.specs.declared.entry.Entry.TheVariants.{Claim, File}
 use Rattle.cls_core.specs.Canonical.{IsCanonical}
 use Rattle.cls_core.specs.Rows.{Row}
 use Rattle.cls_base.specs.Books.{HaveNodesBelow}
+use Rattle.cls_base.specs.Limits.{max_finite_size}
 use Rattle.cls_table.specs.Lawful.{NamesUpTo}
 use Rattle.cls_cert.specs.Conditions.{IsGrammarOf}
 use Rattle.cls_cert.proofs.Ruled.{some_goal, ruled_within}
@@ -35,7 +36,7 @@ use Rattle.cls_engine.specs.Histories.{IsHistoryOf}
 use Rattle.cls_engine.proofs.Faulting.{closed-of}
 use Rattle.cls_engine.proofs.Finiteness.{type-greatest, type-unbounded, type-walk}
 use Rattle.cls_engine.proofs.Pages.{list-page}
-use Rattle.cls_replies.specs.Replies.{max_finite_size, TellsSizes}
+use Rattle.cls_replies.specs.Replies.{TellsSizes}
 use Rattle.cls_laws.specs.Histories.{AreBy}
 use Rattle.cls_laws.specs.Existence.{TypesHaveClosures, CertificatesExist, SizesExist, PagesExist, AuditsExist}
 use Rattle.cls_laws.specs.Possible.{IsPossible}

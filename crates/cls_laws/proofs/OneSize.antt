@@ -7,6 +7,7 @@ use Rattle.cls_base.specs.Terms.{size_of}
 use Rattle.cls_base.specs.Types.{ClosedType}
 use Rattle.cls_base.specs.declared.rule.Rule.{Rule}
 use Rattle.cls_base.specs.Arguments.{arguments_of_rule}
+use Rattle.cls_base.specs.Limits.{max_finite_size}
 use Rattle.cls_core.specs.Rows.{Row}
 use Rattle.cls_grammar.specs.Grammars.{book_of}
 use Rattle.cls_library.specs.Libraries.{Library}
@@ -20,7 +21,7 @@ use Rattle.cls_finite.specs.Walks.{LeadsTo}
 use Rattle.cls_engine.specs.Goals.{Goal}
 use Rattle.cls_engine.specs.Sizes.{IsGreatest, IsUnbounded, IsWalk}
 use Rattle.cls_engine.proofs.Goals.{closed_unique}
-use Rattle.cls_replies.specs.Replies.{max_finite_size, TellsSizes}
+use Rattle.cls_replies.specs.Replies.{TellsSizes}
 
 same_step : (s s' : Step) → s.goal ≡ s'.goal → s.rule ≡ s'.rule → s.argument ≡ s'.argument → s ≡ s'
 same_step s s' e f g = λ i. record { goal = e i; rule = f i; argument = g i }

@@ -1,5 +1,5 @@
 -- What holds of all libraries.
-use Rattle.std.specs.Prelude.{ℕ, ◌≡◌, ◌↔◌, List, [], ◌∷◌, ◌++◌, Contains}
+use Rattle.std.specs.Prelude.{ℕ, ◌≡◌, ◌↔◌, ◌<◌, List, [], ◌∷◌, ◌++◌, Contains, length, remove}
 use Rattle.std.specs.List.{AllZip}
 use Rattle.cls_base.specs.Types.{ClosedType, arrow, meet}
 use Rattle.cls_base.specs.Schemas.{OpenType}
@@ -25,6 +25,13 @@ abbrev pub AddingMakesLibraries : Type 0
 AddingMakesLibraries =
     (d : Declared) (kinds : List (ℕ × List ClosedType)) (schemas : List OpenType) (s : OpenType) (old new : Library)
     → IsLibraryOf d kinds schemas old → Adds d kinds s old new → IsLibraryOf d kinds (schemas ++ s ∷ []) new
+
+-- a list of schemas without one of them makes the library without that component
+abbrev pub RemovingMakesLibraries : Type 0
+RemovingMakesLibraries =
+    (d : Declared) (kinds : List (ℕ × List ClosedType)) (schemas : List OpenType) (l : Library) (x : ℕ)
+    → IsLibraryOf d kinds schemas l → x < length schemas
+    → IsLibraryOf d kinds (remove schemas x) (record { taxonomy = l.taxonomy; components = remove l.components x })
 
 -- a list of schemas has one library
 abbrev pub LibrariesAreUnique : Type 0

@@ -8,6 +8,7 @@ use Rattle.std.specs.List.{AllZip}
 use Rattle.cls_base.specs.Terms.{Precedes}
 use Rattle.cls_base.specs.declared.rule.Rule.{Rule}
 use Rattle.cls_base.specs.declared.rule.Rule.TheVariants.{Head, Any}
+use Rattle.cls_base.specs.Limits.{max_covers}
 use Rattle.cls_path.specs.Paths.{TypePath, Paths, none, more, type_of_paths}
 use Rattle.cls_norm.specs.Fit.{IsFit}
 use Rattle.cls_cover.specs.Lists.{Rises}
@@ -15,10 +16,6 @@ use Rattle.cls_cover.specs.Covers.{IsMinimal, HasMore}
 use Rattle.cls_library.specs.Arrows.{MultiArrow, arity_of}
 use Rattle.cls_library.specs.Libraries.{Library, paths_at, arrows_at}
 use Rattle.cls_library.specs.Reaching.{CoversGoal, IsReduced, columns}
-
--- the greatest number of minimal covers
-abbrev pub max_covers : ℕ
-max_covers = 1024
 
 -- One way to reach a goal: a component, a number of arguments, and positions of arrows that take so many.
 pub record Choice : Type 0 where

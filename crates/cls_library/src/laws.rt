@@ -1,9 +1,14 @@
 //! What holds of all libraries, as calls that do nothing and promise the law.
-ghost use Rattle.cls_library.specs.Laws.{AddingMakesLibraries, LibrariesAreUnique, RefusalsAreExact, ReadingsAgree, SubtypingIsByChains, TypingIsByChains, ApplicationsAreGenerated, IntersectionsAreBoth, PathsAreReached, RulesAreTheTyping};
+ghost use Rattle.cls_library.specs.Laws.{AddingMakesLibraries, RemovingMakesLibraries, LibrariesAreUnique, RefusalsAreExact, ReadingsAgree, SubtypingIsByChains, TypingIsByChains, ApplicationsAreGenerated, IntersectionsAreBoth, PathsAreReached, RulesAreTheTyping};
 
 /// The library of a list of schemas, with a schema added, is that of the longer list.
 pub fn adding_makes_libraries()
     ensures { AddingMakesLibraries }
+{}
+
+/// The library of a list of schemas, without one component, is that of the list without its schema.
+pub fn removing_makes_libraries()
+    ensures { RemovingMakesLibraries }
 {}
 
 /// A list of schemas has one library.

@@ -3,12 +3,10 @@ ghost use Rattle.std.specs.Prelude.{◌≡◌};
 ghost use Rattle.cls_base.specs.Measures.{capped_weight};
 ghost use Rattle.cls_path.specs.Paths.{type_of_path, type_of_paths, listed};
 
+use cls_base::limits::SPREAD_CAP;
 use cls_path::{Form, Nf, Path};
 
-/// Numbers are counted up to this one, as those of types are.
-const CAP: u64 = 1_000_001;
-
-/// The number of paths of the type of the list before any is dropped, and its spread, each at most [`CAP`].
+/// The number of paths of the type of the list before any is dropped, and its spread, each at most [`SPREAD_CAP`].
 #[cycle(weight)]
 pub(crate) fn list_weight(nf: &Nf) -> (u64, u64)
     ensures { result ≡ capped_weight (type_of_paths (listed nf.now)) }
@@ -17,8 +15,8 @@ pub(crate) fn list_weight(nf: &Nf) -> (u64, u64)
     let mut spread = 0;
     for path in nf.paths() {
         let (p, s) = path_weight(path);
-        paths = CAP.min(paths + p);
-        spread = CAP.min(spread + s);
+        paths = SPREAD_CAP.min(paths + p);
+        spread = SPREAD_CAP.min(spread + s);
     }
     (paths, spread)
 }
@@ -34,21 +32,21 @@ fn path_weight(path: &Path) -> (u64, u64)
         Form::Con(_, rest) | Form::Left(rest) | Form::Right(rest) => {
             let (p, s) = path_weight(rest);
             let paths = p.max(1);
-            (paths, CAP.min(s + paths))
+            (paths, SPREAD_CAP.min(s + paths))
         }
         Form::From(_, target) => {
             let (q, t) = path_weight(target);
-            (q, CAP.min(t + q * 2))
+            (q, SPREAD_CAP.min(t + q * 2))
         }
         Form::Arrow(arrow) => {
             let (_, s) = list_weight(&arrow.source);
             let (q, t) = path_weight(&arrow.target);
-            (q, CAP.min(t + q * (1 + s)))
+            (q, SPREAD_CAP.min(t + q * (1 + s)))
         }
         Form::Sealed(_, argument) => {
             let (p, s) = list_weight(argument);
             let paths = p.max(1);
-            (paths, CAP.min(s + paths))
+            (paths, SPREAD_CAP.min(s + paths))
         }
     }
 }

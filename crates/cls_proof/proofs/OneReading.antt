@@ -4,14 +4,11 @@ use Rattle.std.specs.List.{flat_map, list_any, IsDistinct}
 use Rattle.std.specs.Str.{bytes_eq}
 use Rattle.std.proofs.lemmas.Bool.{or_parts, true≢false}
 use Rattle.std.proofs.lemmas.Option.{slice_get_within, get_or_from_slice_get}
-use Rattle.cls_base.specs.Types as types
 use Rattle.cls_base.specs.Types.{ClosedType}
-use Rattle.cls_base.specs.Schemas as schema
-use Rattle.cls_base.specs.Schemas.{OpenType}
 use Rattle.cls_lexer.specs.Names.{number_of, with_texts}
 use Rattle.cls_lexer.specs.Words.{words_of}
-use Rattle.cls_syntax.specs.ClosedTypes.{opened, Spells}
 use Rattle.cls_syntax.specs.TypeTexts.{TypeText}
+use Rattle.cls_syntax.proofs.ClosedAgain.{spelled-once}
 use Rattle.cls_syntax.proofs.ReadBack.{number_back}
 use Rattle.cls_proof.specs.Certificates as certificate
 use Rattle.cls_proof.specs.Certificates.{ProofRow, Block, Member, Certificate}
@@ -157,27 +154,6 @@ exclusive = record {
   bad_or_lacking = λ components lines n b l. bad_whole components lines n b l.good;
 }
 
--- a type by the type that may have variables
-abbrev closed_again : OpenType → ClosedType
-closed_again schema.omega = types.omega
-closed_again (schema.constructor c s) = types.constructor c (closed_again s)
-closed_again (schema.product s t) = types.product (closed_again s) (closed_again t)
-closed_again (schema.arrow s t) = types.arrow (closed_again s) (closed_again t)
-closed_again (schema.meet s t) = types.meet (closed_again s) (closed_again t)
-closed_again (schema.variable v) = types.omega
-
-closed_is : (t : ClosedType) → closed_again (opened t) ≡ t
-closed_is types.omega = refl
-closed_is (types.constructor c s) = ap (types.constructor c) (closed_is s)
-closed_is (types.product s t) = λ i. types.product (closed_is s i) (closed_is t i)
-closed_is (types.arrow s t) = λ i. types.arrow (closed_is s i) (closed_is t i)
-closed_is (types.meet s t) = λ i. types.meet (closed_is s i) (closed_is t i)
-
-one_type : (number : List ℕ → ℕ) (text : TypeText) (s t : ClosedType) → Spells number text s → Spells number text t → s ≡ t
-one_type number text s t h k =
-    let v : List ℕ → ℕ = λ x. 0 in
-    sym (closed_is s) ∙ (ap closed_again (h v ∙ sym (k v)) ∙ closed_is t)
-
 numbers_one : (ds : List (List ℕ)) (ns ms : List ℕ) → AreNumbers ds ns → AreNumbers ds ms → ns ≡ ms
 numbers_one [] ns ms h k = h ∙ sym k
 numbers_one (d ∷ ds) ns ms (n, ns', a, h, e) (m, ms', b, k, f) = e ∙ ((λ i. (sym a.0 ∙ b.0) i ∷ numbers_one ds ns' ms' h k i) ∙ sym f)
@@ -191,7 +167,7 @@ module _ (number : List ℕ → ℕ) (components : List (List ℕ)) (distinct : 
 
   row_one : (t : TypeText) (x d : List ℕ) (ds : List (List ℕ)) (r r' : ProofRow) → IsRow number components t x d ds r → IsRow number components t x d ds r' → r ≡ r'
   row_one t x d ds r r' h k = λ i. record {
-    goal = one_type number t r.goal r'.goal h.goal_is.spells k.goal_is.spells i;
+    goal = spelled-once number t r.goal r'.goal h.goal_is.spells k.goal_is.spells i;
     component = component_one x r.component r'.component h.component_is k.component_is i;
     n = (sym h.n_is.0 ∙ k.n_is.0) i;
     cover = numbers_one ds r.cover r'.cover h.cover_is k.cover_is i;
@@ -201,7 +177,7 @@ module _ (number : List ℕ → ℕ) (components : List (List ℕ)) (distinct : 
   means_one written.inhabited s s' h k = h ∙ sym k
   means_one (written.row t x d ds) s s' h k = h.1 ∙ (ap (λ (r : ProofRow). row r) (row_one t x d ds h.0 k.0 h.2 k.2) ∙ sym k.1)
   means_one written.empty s s' h k = h ∙ sym k
-  means_one (written.member t) s s' h k = h.1 ∙ (ap (λ (g : ClosedType). member g) (one_type number t h.0 k.0 h.2.spells k.2.spells) ∙ sym k.1)
+  means_one (written.member t) s s' h k = h.1 ∙ (ap (λ (g : ClosedType). member g) (spelled-once number t h.0 k.0 h.2.spells k.2.spells) ∙ sym k.1)
   means_one (written.block x d) s s' h k = h.2 ∙ ((λ i. block (component_one x h.0 k.0 h.3 k.3 i) ((sym h.4.0 ∙ k.4.0) i)) ∙ sym k.2)
   means_one written.layer s s' h k = h ∙ sym k
   means_one (written.set ds) s s' h k = h.1 ∙ (ap (λ (ns : List ℕ). set ns) (numbers_one ds h.0 k.0 h.2 k.2) ∙ sym k.1)

@@ -14,4 +14,3 @@ pub mod QueryLines
 pub mod Readable
 pub mod RowParts
 pub mod Searches
-pub mod TablePlaces

@@ -7,34 +7,25 @@ use Rattle.std.proofs.lemmas.Bool.{true≢false}
 use Rattle.std.proofs.lemmas.List.Folds.{list_any-append}
 use Rattle.std.proofs.lemmas.Slice.Eq.{bytes_eq-Decides}
 use Rattle.cls_base.specs.Schemas as schemas
-use Rattle.cls_base.specs.Schemas.{OpenType}
-use Rattle.cls_base.specs.Types as types
 use Rattle.cls_base.specs.Types.{ClosedType}
 use Rattle.cls_lexer.specs.Names.{number_of, with_text, with_texts}
 use Rattle.cls_lexer.specs.Words.{Word, sign}
 use Rattle.cls_lexer.specs.declared.token.TokenKind.TheVariants.{To, And, Times, Close, Comma}
 use Rattle.cls_syntax.specs.declared.role.Role.TheVariants.{Constructor}
-use Rattle.cls_syntax.specs.ClosedTypes.{opened, Spells}
+use Rattle.cls_syntax.specs.ClosedTypes.{closed, Spells}
 use Rattle.cls_syntax.specs.Forms.{Part, fixed, naming, numeral, type_parts, meet_parts, product_parts, atom_parts, term_parts, terms_parts, constructors_named}
 use Rattle.cls_syntax.specs.TermTexts as term
 use Rattle.cls_syntax.specs.TermTexts.{TermText, TermList}
 use Rattle.cls_syntax.specs.TypeSchemas.{type_schema, meet_schema, product_schema, atom_schema, with_constructors}
 use Rattle.cls_syntax.specs.TypeTexts.{TypeText, MeetText, ProductText, AtomText, only_meet, arrow, only_product, meet, only_atom, product, omega, named, applied, variable, inside, type_words}
+use Rattle.cls_syntax.proofs.ClosedAgain.{closed-opened}
 use Rattle.cls_syntax.proofs.PartNames.{type_constructors}
-use Rattle.cls_query.specs.Queries.{closed, type_in, with_names}
+use Rattle.cls_query.specs.Queries.{type_in, with_names}
 use Rattle.cls_query.proofs.Searches.{all_first, all_last}
-
--- a closed type that is opened is closed to itself
-closed_again : (t : ClosedType) → closed (opened t) ≡ t
-closed_again types.omega = refl
-closed_again (types.constructor c s) = ap (types.constructor c) (closed_again s)
-closed_again (types.product s t) = λ i. types.product (closed_again s i) (closed_again t i)
-closed_again (types.arrow s t) = λ i. types.arrow (closed_again s i) (closed_again t i)
-closed_again (types.meet s t) = λ i. types.meet (closed_again s i) (closed_again t i)
 
 -- the type that a text spells is its meaning
 pub spelled_is : (constructors : List (List ℕ)) (t : TypeText) (type : ClosedType) → Spells (number_of constructors) t type → type ≡ type_in constructors t
-spelled_is constructors t type s = sym (closed_again type) ∙ ap closed (s (λ x. 0))
+spelled_is constructors t type s = sym (closed-opened type) ∙ ap closed (s (λ x. 0))
 
 -- names that are collected from two lists of parts
 pub named_both : (ps qs : List Part) → constructors_named (ps ++ qs) ≡ constructors_named ps ++ constructors_named qs

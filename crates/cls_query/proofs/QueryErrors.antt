@@ -19,6 +19,7 @@ use Rattle.cls_syntax.specs.Sorts.{begins_reserved}
 use Rattle.cls_syntax.specs.SyntaxFaults.{IsTooDeep}
 use Rattle.cls_syntax.specs.TypeSchemas.{is_dollar}
 use Rattle.cls_syntax.proofs.TypeFaults.{stops_at}
+use Rattle.cls_syntax.proofs.OnePlace.{one_byte}
 use Rattle.cls_query.specs.QueryReading.{query_read}
 use Rattle.cls_query.specs.Queries.{Tables, Query, QueryText, query_words, query_parts, QueryStands, with_query, query_of}
 use Rattle.cls_query.specs.QueryErrors.{query_types, is_large, is_outside, is_unknown, is_unknown_in_term, place_words, IsQuery, too_long, not_utf8, too_deep, leaves_table, too_many_nodes, has_variable, out_of_range, unknown_component, unknown_in_term, line_errors}
@@ -26,7 +27,6 @@ use Rattle.cls_query.specs.ReadQueries.{ReadsQuery}
 use Rattle.cls_query.specs.Laws.{ErrorsAreDetermined, LinesAreReadOnce, LinesAreDecided}
 use Rattle.cls_query.proofs.FirstErrors.{fourth_silent}
 use Rattle.cls_query.proofs.Searches.{find_passes, nothing_found, some_or}
-use Rattle.cls_query.proofs.TablePlaces.{one_byte}
 use Rattle.cls_query.proofs.QueryLines.{holds_of, stays_silent, stop_leaves, read_says, said_reads, said_one}
 
 said_alone : {T : Type 0} (A : Type 0) (c : T) → IsDetermined (λ t. A × (t ≡ c))

@@ -12,6 +12,7 @@ use Rattle.cls_syntax.specs.LineReading.{item_front, line_read}
 use Rattle.cls_syntax.specs.TermTexts.{TermText}
 use Rattle.cls_syntax.proofs.ItemFronts.{item_ok}
 use Rattle.cls_syntax.proofs.LineParts.{line_exactly, line_reads}
+use Rattle.cls_syntax.proofs.OnePlace.{line_stays}
 use Rattle.cls_query.specs.declared.query.Query.TheVariants.{Sub, Paths, Typed, About, Page}
 use Rattle.cls_query.specs.declared.word.GoalWord.{GoalWord}
 use Rattle.cls_query.specs.declared.word.GoalWord.TheVariants.{Inhabit}
@@ -24,7 +25,6 @@ use Rattle.cls_query.specs.QueryForms.{goal_word_text, listing_word_text, word_t
 use Rattle.cls_query.specs.QueryReading.{or_later, front_in, goal_front, listing_front, either_front, query_front, query_at, said_of, query_behind, query_read}
 use Rattle.cls_query.specs.Queries.{QueryText, word_of, values_of, query_words, QueryStands}
 use Rattle.cls_query.proofs.Searches.{nothing_found, some_or}
-use Rattle.cls_query.proofs.TablePlaces.{line_stays}
 
 -- THE WORD
 -- it is found in front of what follows it

@@ -1,14 +1,12 @@
 -- What a line says, in texts, and what it asks, with types, terms and numbers. Both are queries of one kind.
 use Rattle.std.specs.Prelude.{ℕ, List, ◌∷◌}
 use Rattle.std.specs.Option.{option_map}
-use Rattle.cls_base.specs.Types as types
 use Rattle.cls_base.specs.Types.{ClosedType}
-use Rattle.cls_base.specs.Schemas as schemas
-use Rattle.cls_base.specs.Schemas.{OpenType}
 use Rattle.cls_base.specs.Terms.{Applicative}
 use Rattle.cls_lexer.specs.Names.{number_of, with_texts}
 use Rattle.cls_lexer.specs.Numerals.{number_value}
 use Rattle.cls_lexer.specs.Words.{Word, name}
+use Rattle.cls_syntax.specs.ClosedTypes.{closed}
 use Rattle.cls_syntax.specs.Forms.{Values, Part, fixed, line_parts, line_words, LineStands, constructors_named}
 use Rattle.cls_syntax.specs.TermTexts.{TermText}
 use Rattle.cls_syntax.specs.TypeSchemas.{type_schema}
@@ -94,15 +92,6 @@ abbrev pub with_query : Tables → QueryText → Tables
 with_query tables said = tables_of (with_names tables.constructors (query_parts said)) tables.components
 
 -- WHAT THE LINE ASKS
--- The closed type where no variable stands in the type. A variable counts as omega.
-abbrev pub closed : OpenType → ClosedType
-closed schemas.omega = types.omega
-closed (schemas.constructor c s) = types.constructor c (closed s)
-closed (schemas.product s t) = types.product (closed s) (closed t)
-closed (schemas.arrow s t) = types.arrow (closed s) (closed t)
-closed (schemas.meet s t) = types.meet (closed s) (closed t)
-closed (schemas.variable v) = types.omega
-
 -- The type and the term that the texts spell, with the numbers of their names in the table.
 abbrev pub type_in : List (List ℕ) → TypeText → ClosedType
 type_in constructors t = closed (type_schema (number_of constructors) (λ x. 0) t)

@@ -3,12 +3,13 @@ use Rattle.std.proofs.Common.{◌≡◌, ℕ, inl, inr, refl}
 use Rattle.std.specs.Prelude.{◌↔◌}
 use Rattle.std.proofs.lemmas.Bool.{cases_lt}
 use Rattle.cls_base.specs.Types.{ClosedType}
+use Rattle.cls_base.specs.Limits.{max_finite_size}
 use Rattle.cls_finite.specs.declared.answer.FiniteAnswer.{FiniteAnswer}
 use Rattle.cls_finite.specs.declared.answer.FiniteAnswer.TheVariants.{Finite, Over, Infinite}
 use Rattle.cls_finite.specs.Answers.{IfFinite, IfInfinite, IsInfinite}
 use Rattle.cls_library.specs.Libraries.{Library}
 use Rattle.cls_engine.specs.Sizes.{IsGreatest, IsGreatestOver, IsUnbounded, IsWalk}
-use Rattle.cls_replies.specs.Replies.{max_finite_size, TellsSizes}
+use Rattle.cls_replies.specs.Replies.{TellsSizes}
 
 not_over : (n : ℕ) → ◌≡◌ {A = FiniteAnswer} (Finite n) Over → ⊥
 not_over n e = cc

@@ -4,6 +4,7 @@ use Rattle.cls_base.specs.Terms.{Applicative}
 use Rattle.cls_base.specs.Types.{ClosedType}
 use Rattle.cls_base.specs.Subtyping.{Subtype}
 use Rattle.cls_base.specs.Pages.{Request, IsPage}
+use Rattle.cls_base.specs.Limits.{max_finite_size}
 use Rattle.cls_core.specs.declared.entry.Entry.{Entry}
 use Rattle.cls_core.specs.Rows.{Row}
 use Rattle.cls_enum.specs.Requests.{request}
@@ -39,10 +40,6 @@ pub record ListsPage (IsListed : Applicative → Type 0) (r : Request) (shown : 
   pub more : Bool
   pub page : IsPage IsListed r terms more
   pub written : text ≡ page_text shown terms more
-
--- the greatest size that is told
-abbrev pub max_finite_size : ℕ
-max_finite_size = 1000000000
 
 -- How large the terms of the type are: the greatest size, which is 0 if there is no term; that it is over the limit; or
 -- the one walk that shows that the sizes have no bound.

@@ -6,7 +6,6 @@ pub mod Columns
 pub mod Endings
 pub mod Building
 pub mod Taking
-pub mod OnePlace
 pub mod OneFault
 pub mod OneRefusal
 pub mod OneEnding

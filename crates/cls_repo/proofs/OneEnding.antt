@@ -6,11 +6,11 @@ use Rattle.std.proofs.lemmas.List.Elements.{Contains-append_right}
 use Rattle.cls_base.specs.Firsts.{First, IsDetermined}
 use Rattle.cls_base.proofs.Firsts.{first-determined}
 use Rattle.cls_taxon.specs.Orders.{Declared, KeepsVariance, variance_in, IsLeastOnCycle, IsFirstMixed}
+use Rattle.cls_syntax.proofs.OnePlace.{same, longer, shorter, compared, heads}
 use Rattle.cls_repo.specs.Drafts.{Component, Draft}
 use Rattle.cls_repo.specs.EndFaults.{name_at, declared_in, schemas_in, cycle, variance_mix, refused_component, end_faults}
 use Rattle.cls_repo.specs.Readings.{Reading, closing_faults}
 use Rattle.cls_repo.proofs.OneFault.{some_one}
-use Rattle.cls_repo.proofs.OnePlace.{same, longer, shorter, compared, heads}
 use Rattle.cls_repo.proofs.OneRefusal.{refusal_one}
 
 least_one : (pairs : List (ℕ × ℕ)) (a b : ℕ) → IsLeastOnCycle pairs a → IsLeastOnCycle pairs b → a ≡ b

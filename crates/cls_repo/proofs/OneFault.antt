@@ -11,12 +11,12 @@ use Rattle.cls_base.proofs.Firsts.{first-determined}
 use Rattle.cls_lexer.specs.Tokens.{byte_at}
 use Rattle.cls_lexer.specs.Words.{words_of}
 use Rattle.cls_syntax.specs.LineGrammars.{row_words, RowStands}
+use Rattle.cls_syntax.proofs.OnePlace.{one_byte}
 use Rattle.cls_repo.specs.Declarations.{template_text}
 use Rattle.cls_repo.specs.Directives.{Directive, kind, comp, text, cost, variance, repository_rows, begins_directive}
 use Rattle.cls_repo.specs.Drafts.{Draft}
 use Rattle.cls_repo.specs.LineFaults.{too_deep, spelling_words, misspelled, nodes_in, duplicate_component, duplicate_kind, empty_kind, kind_variable, unknown_component, bad_template, template_words, cost_out_of_range, duplicate_variance, directive_faults, wrong_directive, line_faults}
 use Rattle.cls_repo.proofs.Lines.{said_one}
-use Rattle.cls_repo.proofs.OnePlace.{one_byte}
 
 pub said_alone : {T : Type 0} (A : Type 0) (c : T) → IsDetermined (λ t. A × (t ≡ c))
 said_alone A c t u p q = p.1 ∙ sym q.1

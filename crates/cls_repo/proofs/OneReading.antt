@@ -1,18 +1,16 @@
 -- Lines are taken in one way, and are refused for one fault.
-use Rattle.std.proofs.Common.{◌≡◌, ℕ, ◌+◌, true, false, List, [], ◌∷◌, refl, sym, ap, ◌∙◌, subst, inl, inr}
+use Rattle.std.proofs.Common.{◌≡◌, ℕ, ◌+◌, true, false, List, [], ◌∷◌, sym, ap, ◌∙◌, subst, inl, inr}
 use Rattle.std.specs.Prelude.{◌⊎◌, Option, Some, None}
 use Rattle.std.proofs.lemmas.Bool.{true≢false}
 use Rattle.cls_assemble.specs.declared.piece.Piece.{Piece}
 use Rattle.cls_assemble.proofs.Readings.{templates_are_unique}
 use Rattle.cls_base.specs.Firsts.{First, IsDetermined}
-use Rattle.cls_base.specs.Schemas as schemas
-use Rattle.cls_base.specs.Schemas.{OpenType}
-use Rattle.cls_base.specs.Types as types
 use Rattle.cls_base.specs.Types.{ClosedType}
 use Rattle.cls_lexer.specs.Names.{number_of}
 use Rattle.cls_lexer.specs.Words.{words_of}
-use Rattle.cls_syntax.specs.ClosedTypes.{opened, Spells, AreSpelled}
-use Rattle.cls_syntax.specs.TypeTexts.{TypeText, TypeList, last, more}
+use Rattle.cls_syntax.specs.ClosedTypes.{AreSpelled}
+use Rattle.cls_syntax.specs.TypeTexts.{TypeList, last, more}
+use Rattle.cls_syntax.proofs.ClosedAgain.{spelled-once}
 use Rattle.cls_repo.specs.Declarations.{with_names, with_kind, with_template, template_text, AreChoices, Declares}
 use Rattle.cls_repo.specs.Directives.{Directive, sub, kind, comp, text, end, cost, variance, LineSays, is_end}
 use Rattle.cls_repo.specs.Drafts.{Draft}
@@ -21,28 +19,9 @@ use Rattle.cls_repo.proofs.Lines.{said_one}
 use Rattle.cls_repo.proofs.OneEnding.{closing_one}
 use Rattle.cls_repo.proofs.OneFault.{fault_one}
 
-abbrev closed : OpenType → ClosedType
-closed schemas.omega = types.omega
-closed (schemas.constructor c s) = types.constructor c (closed s)
-closed (schemas.product s t) = types.product (closed s) (closed t)
-closed (schemas.arrow s t) = types.arrow (closed s) (closed t)
-closed (schemas.meet s t) = types.meet (closed s) (closed t)
-closed (schemas.variable v) = types.omega
-
-closed_again : (t : ClosedType) → closed (opened t) ≡ t
-closed_again types.omega = refl
-closed_again (types.constructor c s) = ap (types.constructor c) (closed_again s)
-closed_again (types.product s t) = λ i. types.product (closed_again s i) (closed_again t i)
-closed_again (types.arrow s t) = λ i. types.arrow (closed_again s i) (closed_again t i)
-closed_again (types.meet s t) = λ i. types.meet (closed_again s i) (closed_again t i)
-
--- a text spells one type
-type_one : (number : List ℕ → ℕ) (t : TypeText) (a b : ClosedType) → Spells number t a → Spells number t b → a ≡ b
-type_one number t a b p q = sym (closed_again a) ∙ (ap closed (p (λ x. 0) ∙ sym (q (λ x. 0))) ∙ closed_again b)
-
 types_one : (number : List ℕ → ℕ) (ts : TypeList) (xs ys : List ClosedType) → AreSpelled number ts xs → AreSpelled number ts ys → xs ≡ ys
-types_one number (last t) xs ys p q = p.2 ∙ (ap (λ (c : ClosedType). c ∷ []) (type_one number t p.0 q.0 p.1 q.1) ∙ sym q.2)
-types_one number (more t ts) xs ys p q = p.4 ∙ ((λ i. type_one number t p.0 q.0 p.2 q.2 i ∷ types_one number ts p.1 q.1 p.3 q.3 i) ∙ sym q.4)
+types_one number (last t) xs ys p q = p.2 ∙ (ap (λ (c : ClosedType). c ∷ []) (spelled-once number t p.0 q.0 p.1 q.1) ∙ sym q.2)
+types_one number (more t ts) xs ys p q = p.4 ∙ ((λ i. spelled-once number t p.0 q.0 p.2 q.2 i ∷ types_one number ts p.1 q.1 p.3 q.3 i) ∙ sym q.4)
 
 choices_one : (number : List ℕ → ℕ) (ts : Option TypeList) (xs ys : List ClosedType) → AreChoices number ts xs → AreChoices number ts ys → xs ≡ ys
 choices_one number None xs ys p q = p ∙ sym q

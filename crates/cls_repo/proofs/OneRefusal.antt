@@ -16,9 +16,9 @@ use Rattle.cls_library.specs.declared.fault.LibraryFault.{LibraryFault}
 use Rattle.cls_library.specs.declared.fault.LibraryKind.{LibraryKind}
 use Rattle.cls_library.specs.declared.fault.LibraryKind.TheVariants.{TooManyComponents, LibraryTooLarge, Kind, ArityTooLarge, OutOfMemory}
 use Rattle.cls_taxon.specs.Orders.{Declared}
+use Rattle.cls_syntax.proofs.OnePlace.{same, longer, shorter, compared, heads}
 use Rattle.cls_repo.specs.EndFaults.{name_at, library_words}
 use Rattle.cls_repo.proofs.OneFault.{said_alone, some_one, none_some}
-use Rattle.cls_repo.proofs.OnePlace.{same, longer, shorter, compared, heads}
 
 module _ (d : Declared) (kinds : List (ℕ × List ClosedType)) (variables : List (List ℕ)) where
   -- what is wrong with an instance behind others of this weight

@@ -7,11 +7,12 @@ use Rattle.cls_base.specs.Firsts.{Cause, First, IsSilent}
 use Rattle.cls_base.specs.Schemas.{OpenType}
 use Rattle.cls_taxon.specs.Orders.{Declared}
 use Rattle.cls_base.specs.Types.{ClosedType}
+use Rattle.cls_base.specs.Limits.{max_cost}
 use Rattle.cls_lexer.specs.Numerals.{number_value}
 use Rattle.cls_library.specs.Libraries as libraries
 use Rattle.cls_library.specs.Libraries.{AreComponentsOf, no_components, one_component}
 use Rattle.cls_repo.specs.Declarations.{Declares, changed_at}
-use Rattle.cls_repo.specs.Directives.{Directive, sub, kind, comp, text, end, cost, variance, LineSays, max_cost}
+use Rattle.cls_repo.specs.Directives.{Directive, sub, kind, comp, text, end, cost, variance, LineSays}
 use Rattle.cls_repo.specs.Drafts.{Component, Draft, no_draft}
 use Rattle.cls_repo.specs.EndFaults.{declared_in, schemas_in}
 use Rattle.cls_repo.specs.LineFaults.{Fault, line_faults, directive_faults, wrong_directive, cost_out_of_range, duplicate_variance}

@@ -1,5 +1,5 @@
 -- What is wrong with what a line says, form by form.
-use Rattle.cls_base.specs.Limits.{max_type_nodes}
+use Rattle.cls_base.specs.Limits.{max_type_nodes, max_cost}
 use Rattle.std.proofs.Common.{◌≡◌, ℕ, ◌-◌, ◌≤◌, ◌<◌, List, [], ◌++◌, length, map, refl, sym, ap, ◌∙◌, arith, inl, inr, Contains}
 use Rattle.std.specs.Prelude.{◌≢◌, codes, Option, Some, None, position}
 use Rattle.std.specs.Fmt.{decimal}
@@ -18,7 +18,7 @@ use Rattle.cls_syntax.specs.TypeLists.{types_nodes}
 use Rattle.cls_syntax.specs.TypeSchemas.{is_dollar}
 use Rattle.cls_syntax.specs.TypeTexts.{TypeText, TypeList, type_nodes}
 use Rattle.cls_repo.specs.Declarations.{template_text}
-use Rattle.cls_repo.specs.Directives.{Directive, sub, kind, comp, text, end, cost, variance, max_cost}
+use Rattle.cls_repo.specs.Directives.{Directive, sub, kind, comp, text, end, cost, variance}
 use Rattle.cls_repo.specs.Drafts.{Draft}
 use Rattle.cls_repo.specs.LineFaults.{nodes_in, too_many_nodes, duplicate_component, duplicate_kind, empty_kind, kind_variable, unknown_component, bad_template, template_words, cost_out_of_range, duplicate_variance, directive_faults}
 use Rattle.cls_repo.proofs.Causes.{each_silent}

@@ -1,6 +1,7 @@
 -- The lines of a repository: their forms, and what each one says.
 use Rattle.std.specs.Prelude.{ℕ, Bool, true, false, ◌||◌, List, [], ◌∷◌, codes, Option}
 use Rattle.std.proofs.Common.{inl, inr}
+use Rattle.cls_base.specs.Limits.{max_cost}
 use Rattle.cls_lexer.specs.declared.token.TokenKind.TheVariants.{Colon, Equals}
 use Rattle.cls_lexer.specs.Skipped.{IsText, IsSkipped}
 use Rattle.cls_lexer.specs.Words.{Word, words_of, name}
@@ -10,10 +11,6 @@ use Rattle.cls_syntax.specs.Forms.{nothing, ◌⨾◌, the_sign, a_name, a_numbe
 use Rattle.cls_syntax.specs.Fronts.{is_word}
 use Rattle.cls_syntax.specs.LineGrammars.{Row, LineOf, row_words, RowStands}
 use Rattle.cls_syntax.specs.TypeTexts.{TypeText, TypeList}
-
--- the greatest cost of a component
-abbrev pub max_cost : ℕ
-max_cost = 255
 
 -- What a line of a repository says, in the texts that stand in it.
 pub data Directive : Type 0 where

@@ -1,5 +1,5 @@
 -- The faults of a line of a repository, in the order in which they are tested. Each is a cause, which says its words.
-use Rattle.cls_base.specs.Limits.{max_line_bytes, max_type_depth, max_type_nodes}
+use Rattle.cls_base.specs.Limits.{max_line_bytes, max_type_depth, max_type_nodes, max_cost}
 use Rattle.std.specs.Prelude.{ℕ, ◌≡◌, ◌≢◌, ◌≤◌, ◌<◌, ◌+◌, ◌-◌, Bool, false, List, [], ◌∷◌, ◌++◌, length, map, codes, Contains, IsUtf8, Option, Some, None, position, if◌then◌else◌}
 use Rattle.std.specs.Fmt.{decimal}
 use Rattle.cls_base.specs.Firsts.{Cause, First}
@@ -17,7 +17,7 @@ use Rattle.cls_syntax.specs.TypeTexts.{type_nodes}
 use Rattle.cls_assemble.specs.declared.fault.TemplateFault.{TemplateFault}
 use Rattle.cls_assemble.specs.declared.fault.TemplateFault.TheVariants.{BadHole, HoleZero, HoleOver16, OutOfMemory}
 use Rattle.cls_assemble.specs.Faults.{IsFaultOf}
-use Rattle.cls_repo.specs.Directives.{Directive, kind, comp, text, cost, variance, max_cost, repository_rows, begins_word, begins_directive, LineSays}
+use Rattle.cls_repo.specs.Directives.{Directive, kind, comp, text, cost, variance, repository_rows, begins_word, begins_directive, LineSays}
 use Rattle.cls_repo.specs.Drafts.{Draft}
 use Rattle.cls_repo.specs.Declarations.{template_text}
 

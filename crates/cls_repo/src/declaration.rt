@@ -2,12 +2,13 @@
 ghost use Rattle.std.specs.Prelude.{◌≡◌, ◌+◌, ◌<◌, ◌≤◌, ◌^◌, List, length, map, IfErr, OnOk, OnErr};
 ghost use Rattle.cls_assemble.specs.Faults.{IsFaultOf};
 ghost use Rattle.std.specs.Option.{SomeIff, option_map};
+ghost use Rattle.cls_base.specs.Limits.{max_cost};
 ghost use Rattle.cls_lexer.specs.Numerals.{number_value};
 ghost use Rattle.cls_lexer.specs.Tokens.{tokens_of, located};
 ghost use Rattle.cls_lexer.specs.Words.{Word, words, words_of};
 ghost use Rattle.cls_syntax.specs.SpelledTypes.{type_text, types_text};
 ghost use Rattle.cls_repo.specs.Declarations.{template_text, without_blank};
-ghost use Rattle.cls_repo.specs.Directives.{WordsSay, kind, comp, text, cost, variance, max_cost};
+ghost use Rattle.cls_repo.specs.Directives.{WordsSay, kind, comp, text, cost, variance};
 ghost use Rattle.cls_repo.specs.FaultWords.{IsFirst, IsTemplateFault};
 ghost use Rattle.cls_repo.specs.LineFaults.{directive_faults};
 ghost use Rattle.cls_repo.specs.Written.{directive_of, draft_of, TakesDirective};
@@ -15,13 +16,11 @@ ghost use Rattle.cls_repo.specs.Written.{directive_of, draft_of, TakesDirective}
 use crate::directive::Directive;
 use crate::draft::Draft;
 use crate::fault::FaultKind;
+use cls_base::limits::MAX_COST;
 use cls_assemble::{Template, TemplateFault};
 use cls_lexer::{Numeral, Token, byte_at};
 use cls_syntax::{SpelledType, SpelledTypes, first_variable};
 use std::alloc::Global;
-
-/// The greatest cost of a component.
-pub const MAX_COST: u32 = 255;
 
 /// A line of a repository with its number, from 1, and its tokens.
 #[derive(Clone, Copy, Debug)]

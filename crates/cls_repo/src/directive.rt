@@ -2,12 +2,13 @@
 ghost use Rattle.cls_lexer.specs.Words.{words};
 ghost use Rattle.std.specs.Prelude.{◌≡◌};
 ghost use Rattle.std.specs.Option.{option_map};
+ghost use Rattle.cls_base.specs.Limits.{max_cost};
 ghost use Rattle.cls_lexer.specs.declared.token.TokenKind.TheVariants.{Colon, Equals};
 ghost use Rattle.cls_syntax.specs.declared.role.Role.TheVariants.{Constructor, NewVariable, Component, NewComponent, Variance};
 ghost use Rattle.cls_syntax.specs.Forms.{nothing, ◌⨾◌, the_sign, a_name, a_number, a_type, perhaps, types, anything};
 ghost use Rattle.cls_syntax.specs.Readings.{Reads, ReadsLine};
 ghost use Rattle.cls_syntax.specs.SpelledTypes.{type_text, types_text};
-ghost use Rattle.cls_repo.specs.Directives.{repository_rows, row_of, max_cost, is_end};
+ghost use Rattle.cls_repo.specs.Directives.{repository_rows, row_of, is_end};
 ghost use Rattle.cls_repo.specs.Written.{directive_of};
 
 use cls_lexer::{Numeral, Token, TokenKind};

@@ -23,7 +23,6 @@ mod reader;
 mod repository;
 mod spelling;
 
-pub use declaration::MAX_COST;
 pub use fault::{FaultKind, RepoFault};
 pub use reader::RepoReader;
 pub use repository::Repository;

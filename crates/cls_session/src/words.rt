@@ -7,15 +7,13 @@ ghost use Rattle.cls_session.specs.Commands.{texts_of, IsValue, IsGenerate, Asks
 ghost use Rattle.cls_session.specs.Settings.{BeginsWith, BeginsWithNone};
 
 use crate::settings::{OptionName, Values};
+use cls_base::limits::MAX_GENERATED;
 use cls_engine::Options;
 use cls_lexer::Numeral;
 use thiserror::Error;
 
 /// The most digits of a number.
 const MAX_DIGITS: usize = 9;
-
-/// The greatest number of a generator.
-const MAX_GENERATED: u32 = 300;
 
 /// What the words of the command line ask for.
 #[derive(Clone, Copy, Debug)]

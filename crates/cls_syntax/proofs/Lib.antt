@@ -1,4 +1,5 @@
 pub mod Building
+pub mod ClosedAgain
 pub mod ClosedLists
 pub mod ClosedReading
 pub mod Dollars
@@ -13,6 +14,9 @@ pub mod LineFronts
 pub mod LineParts
 pub mod MachineRuns
 pub mod Numbering
+pub mod OmegaTexts
+pub mod OnePlace
+pub mod Openings
 pub mod Outcomes
 pub mod PartNames
 pub mod PrintedTexts
@@ -40,6 +44,4 @@ pub mod TypeSpans
 pub mod TypeStates
 pub mod WholeReadings
 pub mod WordFronts
-pub mod OmegaTexts
-pub mod Openings
 pub mod WordLists

@@ -22,6 +22,15 @@ opened (types.product s t) = schemas.product (opened s) (opened t)
 opened (types.arrow s t) = schemas.arrow (opened s) (opened t)
 opened (types.meet s t) = schemas.meet (opened s) (opened t)
 
+-- The closed type where no variable stands in the type. A variable counts as omega.
+abbrev pub closed : OpenType → ClosedType
+closed schemas.omega = types.omega
+closed (schemas.constructor c s) = types.constructor c (closed s)
+closed (schemas.product s t) = types.product (closed s) (closed t)
+closed (schemas.arrow s t) = types.arrow (closed s) (closed t)
+closed (schemas.meet s t) = types.meet (closed s) (closed t)
+closed (schemas.variable v) = types.omega
+
 -- No `$` stands in the words.
 abbrev pub HasNoDollar : List Word → Type 0
 HasNoDollar ws = list_any is_dollar ws ≡ false

@@ -5,11 +5,12 @@ ghost use Rattle.cls_base.specs.Ty.{type_of};
 ghost use Rattle.cls_base.specs.Measures.{capped};
 
 use crate::tree::Tree;
+use cls_base::limits::SPREAD_CAP;
 use cls_base::{Name, OutOfMemory, Ty};
 use std::alloc::Global;
 
 /// No measure is greater.
-const CAP: u32 = 1_000_001;
+const CAP: u32 = SPREAD_CAP as u32;
 
 /// A closed type with its measures, which are found while it is built: so it needs no walk over the type to know them.
 #[derive(Drop)]

@@ -1,7 +1,7 @@
 use Rattle.std.proofs.Common.{ℕ, ◌+◌, List, take, subst, sym, ◌∙◌, IfSome, arith}
+use Rattle.cls_base.specs.Limits.{max_covers}
 use Rattle.cls_cover.specs.Forced.{IsForced}
 use Rattle.cls_cover.proofs.SingleFamilies.{forced_none}
-use Rattle.cls_library.specs.Rules.{max_covers}
 use Rattle.cls_cert.proofs.BlockLaws.{front_few, front_covered, added_none, added_next, added_block, added_all}
 use Rattle.cls_cert.proofs.Forcing.{forced_front}
 use Rattle.cls_cert.proofs.blocks.add_front_covers.Goals as goal

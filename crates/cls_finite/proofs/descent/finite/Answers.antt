@@ -1,7 +1,7 @@
 use Rattle.std.proofs.Common.{sym, ◌∙◌, ap, subst, arith, ℕ, List}
 use Rattle.cls_base.specs.Languages.{IsGenerated}
 use Rattle.cls_term.specs.Costs.{cost_of}
-use Rattle.cls_finite.specs.declared.answer.TheConstants.{MAX_FINITE_SIZE}
+use Rattle.cls_base.specs.declared.limits.TheConstants.{MAX_FINITE_SIZE}
 use Rattle.cls_finite.specs.declared.sizes.TheConstants.{SIZE_CAP}
 use Rattle.cls_finite.specs.Descents.{begun, IsKept, IsCapped}
 use Rattle.cls_finite.specs.Finiteness.{HasPositiveCosts, IsUnbounded}

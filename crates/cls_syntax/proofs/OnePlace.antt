@@ -1,9 +1,9 @@
 -- Words that aren't those of a line of a grammar leave it at one place.
-use Rattle.std.proofs.Common.{◌≡◌, ℕ, Bool, true, false, List, [], ◌∷◌, ◌++◌, length, refl, ap, sym, ◌∙◌, subst, append_assoc}
+use Rattle.std.proofs.Common.{◌≡◌, ℕ, Bool, true, false, List, [], ◌∷◌, ◌++◌, length, refl, ap, sym, ◌∙◌, subst, append_assoc, append-nil}
 use Rattle.std.specs.Prelude.{◌&&◌}
 use Rattle.cls_lexer.specs.Tokens.{byte_at}
 use Rattle.cls_lexer.specs.Words.{Word, words_of}
-use Rattle.cls_syntax.specs.Faults.{CanGoOn, Refuses, WantsName, IsFault}
+use Rattle.cls_syntax.specs.Faults.{CanGoOn, Refuses, WantsName, IsFault, Says}
 use Rattle.cls_syntax.specs.Sorts.{begins_reserved}
 use Rattle.cls_syntax.specs.SyntaxFaults.{LeavesAt}
 
@@ -48,6 +48,16 @@ same_bool false true p q = q refl
 same_bool false false p q = refl
 
 module _ {A : Type 0} (words : A → List Word) (Stands : A → Type 0) where
+  -- a line of the grammar doesn't leave it
+  pub line_stays : (a : A) (ws rest : List Word) (b : Bool) → Says words Stands a ws → IsFault words Stands ws rest b → ⊥
+  line_stays a ws [] b s f = f.refused a s.stands (s.spelled ∙ (f.split ∙ append-nil f.front))
+  line_stays a ws (w ∷ us) b s f = f.refused (record {
+    line = a;
+    stands = s.stands;
+    more = us;
+    begins = s.spelled ∙ (f.split ∙ sym (append_assoc f.front (w ∷ []) us));
+  })
+
   -- a front with which some line goes on isn't behind a word with which none does
   not_behind : (front rest other others us : List Word) (w : Word) → Refuses words Stands front rest → CanGoOn words Stands other → other ≡ front ++ w ∷ us → rest ≡ w ∷ (us ++ others) → ⊥
   not_behind front rest other others us w refused live e d =
