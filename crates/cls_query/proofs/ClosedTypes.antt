@@ -1,5 +1,5 @@
 -- The types of a line without a `$` have no variables.
-use Rattle.std.proofs.Common.{◌≡◌, false, List, [], ◌∷◌, ◌++◌, map, ap, sym, ◌∙◌, subst, inl, inr}
+use Rattle.std.proofs.Common.{◌≡◌, false, List, ◌∷◌, ◌++◌, map, ap, sym, ◌∙◌, subst}
 use Rattle.std.specs.Prelude.{Some, None}
 use Rattle.std.specs.List.{list_any, AllByRecursion}
 use Rattle.std.proofs.lemmas.List.{map-append}
@@ -8,11 +8,12 @@ use Rattle.cls_lexer.specs.Words.{sign}
 use Rattle.cls_lexer.specs.declared.token.TokenKind.TheVariants.{Bar}
 use Rattle.cls_syntax.specs.ClosedTypes.{HasNoDollar}
 use Rattle.cls_syntax.specs.Forms.{Form, nothing, ◌⨾◌, perhaps, names, numbers, types, anything, the_word, the_sign, a_name, a_number, a_type, a_term, Values, Part, fixed, part_word, type_parts, term_parts, types_parts, line_parts}
-use Rattle.cls_syntax.specs.LineGrammars.{Row, LineOf, row_words}
 use Rattle.cls_syntax.specs.TypeSchemas.{is_dollar}
 use Rattle.cls_syntax.specs.TypeTexts.{TypeText, TypeList, last, more, type_words}
 use Rattle.cls_syntax.proofs.LineParts.{type_same}
-use Rattle.cls_query.specs.QueryErrors.{list_of, line_types, row_types}
+use Rattle.cls_query.specs.QueryErrors.{list_of, line_types, query_types}
+use Rattle.cls_query.specs.QueryForms.{form_of}
+use Rattle.cls_query.specs.Queries.{QueryText, word_of, values_of, query_words}
 use Rattle.cls_query.proofs.Searches.{neither}
 
 abbrev HasNone : List Part → Type 0
@@ -50,7 +51,5 @@ closed_line (numbers l g) ds h = tt
 closed_line types ts h = closed_list ts h
 closed_line anything ws h = tt
 
-pub closed_row : (rows : List Row) (v : LineOf rows) → HasNoDollar (row_words rows v) → AreClosed (row_types rows v)
-closed_row [] v h = absurd v
-closed_row (row ∷ rows) (inl v) h = closed_line row.form v h
-closed_row (row ∷ rows) (inr v) h = closed_row rows v h
+pub closed_query : (q : QueryText) → HasNoDollar (query_words q) → AreClosed (query_types q)
+closed_query q h = closed_line (form_of (word_of q)) (values_of q) h

@@ -1,5 +1,5 @@
 -- A line is a comparison without errors where both its types are built.
-use Rattle.std.proofs.Common.{◌≡◌, ℕ, ◌*◌, ◌<◌, ◌≤◌, false, List, [], ◌∷◌, ◌++◌, length, refl, arith, ap, sym, ◌∙◌, subst, inl, append-nil}
+use Rattle.std.proofs.Common.{◌≡◌, ℕ, ◌*◌, ◌<◌, ◌≤◌, false, List, [], ◌∷◌, ◌++◌, length, refl, arith, ap, sym, ◌∙◌, subst, append-nil}
 use Rattle.std.specs.Prelude.{◌||◌, codes}
 use Rattle.std.specs.List.{list_any}
 use Rattle.std.proofs.lemmas.List.{length-map}
@@ -15,7 +15,6 @@ use Rattle.cls_syntax.specs.ClosedTypes.{HasNoDollar, Spells}
 use Rattle.cls_syntax.specs.Depths.{most_open}
 use Rattle.cls_syntax.specs.Faults.{Says}
 use Rattle.cls_syntax.specs.Forms.{type_parts}
-use Rattle.cls_syntax.specs.LineGrammars.{LineOf, row_words, RowStands}
 use Rattle.cls_syntax.specs.Spans as spans
 use Rattle.cls_syntax.specs.TypeSchemas.{is_dollar, constructors_in, with_constructors}
 use Rattle.cls_syntax.specs.TypeTexts.{TypeText, type_words}
@@ -24,9 +23,10 @@ use Rattle.cls_syntax.proofs.PrintedTexts.{join_opens}
 use Rattle.cls_syntax.proofs.ReadTypes.{none, type_open, type_opens, text_open}
 use Rattle.cls_syntax.proofs.TypeSpans.{spelled_words}
 use Rattle.cls_query.specs.Comparisons.{IsSmall, IsWholeClosed, AreBuilt}
-use Rattle.cls_query.specs.Queries.{sub, tables_of, row_parts, type_in, with_names}
+use Rattle.cls_query.specs.declared.query.Query.TheVariants.{Sub}
+use Rattle.cls_query.specs.Queries.{QueryText, sub, tables_of, query_words, query_parts, QueryStands, type_in, with_names}
 use Rattle.cls_query.specs.QueryErrors.{line_errors}
-use Rattle.cls_query.specs.QueryForms.{comparison_form, query_rows}
+use Rattle.cls_query.specs.QueryForms.{comparison_form}
 use Rattle.cls_query.specs.ReadQueries.{ReadsQuery}
 use Rattle.cls_query.proofs.FormParts.{comparison_inside, comparison_known, comparison_in_term, comparison_names}
 use Rattle.cls_query.proofs.LineSteps.{all_silent, text_silent, form_silent, types_silent, values_silent}
@@ -45,11 +45,11 @@ flat s t a b =
     omega (arith, all, lower, upper, a, b)
 
 -- the comparison of both texts
-abbrev compares : TypeText → TypeText → LineOf query_rows
-compares s t = inl (s, (t, tt))
+abbrev compares : TypeText → TypeText → QueryText
+compares s t = Sub s t
 
 module _ (line : List ℕ) (s t : TypeText) (spells : words_of line ≡ name (codes "sub") ∷ (type_words s ++ sign AtMost ∷ type_words t)) where
-  says : Says (row_words query_rows) (RowStands query_rows) (compares s t) (words_of line)
+  says : Says query_words QueryStands (compares s t) (words_of line)
   says = record {
     spelled = ap (λ (ws : List Word). name (codes "sub") ∷ ws) (sym (line_same comparison_form (s, (t, tt))) ∙ ap (λ (ws : List Word). type_words s ++ sign AtMost ∷ ws) (append-nil (type_words t))) ∙ sym spells;
     stands = line_stands comparison_form (s, (t, tt)) (tt, (tt, (tt, tt)));
@@ -84,7 +84,7 @@ module _ (old : List (List ℕ)) (ls ks : List Token) (new : List (List ℕ)) (l
   spelled_upper : words ks ≡ type_words t
   spelled_upper = spelled_words (words ks) b.whole
 
-  numbered : new ≡ with_names old (row_parts query_rows (compares s t))
+  numbered : new ≡ with_names old (query_parts (compares s t))
   numbered =
       built.numbered
       ∙ ((λ i. with_constructors (with_constructors old (spelled_lower i)) (spelled_upper i))

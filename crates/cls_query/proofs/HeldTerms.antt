@@ -13,14 +13,11 @@ use Rattle.cls_term.specs.Components.{greatest_of, greatest_in}
 use Rattle.cls_term.specs.TermReadings.{term_of, terms_of}
 use Rattle.cls_term.specs.TokenFaults as faults
 use Rattle.cls_term.proofs.Spines.{greatest_of-spine_of}
-use Rattle.cls_query.specs.declared.form.QueryForm.{QueryForm}
-use Rattle.cls_query.specs.declared.form.QueryForm.TheVariants.{Sub, Paths, Typed, Asks}
-use Rattle.cls_query.specs.declared.form.GoalForm.TheVariants.{Goal, Page}
-use Rattle.cls_query.specs.FormAnswers.{form_says, term_spelled, spelled_in}
-use Rattle.cls_query.specs.Queries.{row_parts}
+use Rattle.cls_query.specs.declared.query.Query.TheVariants.{Sub, Paths, Typed, About, Page}
+use Rattle.cls_query.specs.FormAnswers.{SpelledQuery, query_text, term_spelled, spelled_in}
+use Rattle.cls_query.specs.Queries.{query_parts}
 use Rattle.cls_query.specs.QueryErrors.{is_absent, is_unknown_in_term}
-use Rattle.cls_query.specs.QueryForms.{query_rows}
-use Rattle.cls_query.proofs.CodeForms.{sub_placed, one_placed, typed_placed, plain_placed, cursor_placed}
+use Rattle.cls_query.proofs.CodeForms.{sub_placed, about_placed, typed_placed, plain_placed, cursor_placed}
 use Rattle.cls_query.proofs.Searches.{both_none, place_none, behind}
 
 -- a name with a number of the table is in the table
@@ -57,11 +54,11 @@ module _ (table : List (List ℕ)) where
   no_stray : (x : SpelledTerm) → IsHeld x → (n : ℕ) → behind n (position stray (term_words (term_text x))) ≡ None
   no_stray x l n = ap (behind n) (place_none stray (term_words (term_text x)) (term_held (term_text x) l))
 
-  pub form_held : (f : QueryForm) → (o : Option SpelledTerm) → term_spelled f ≡ o → IfSome o IsHeld
-      → position (is_unknown_in_term table) (row_parts query_rows (form_says f)) ≡ None
+  pub form_held : (q : SpelledQuery) → (o : Option SpelledTerm) → term_spelled q ≡ o → IfSome o IsHeld
+      → position (is_unknown_in_term table) (query_parts (query_text q)) ≡ None
   form_held (Sub s t) o e h = sym (sub_placed table {s = s} {t = t} refl)
   form_held (Paths x) o e h = refl
   form_held (Typed x t) o e h = typed_placed table {e = x} {t = t} refl ∙ no_stray x (subst (λ (p : Option SpelledTerm). IfSome p IsHeld) (sym e) h) 1
-  form_held (Asks (Goal word t)) o e h = sym (one_placed table {t = t} refl)
-  form_held (Asks (Page word l)) None e h = sym (plain_placed table {l = l} refl e)
-  form_held (Asks (Page word l)) (Some x) e h = cursor_placed table {l = l} refl e _ refl ∙ no_stray x h _
+  form_held (About word t) o e h = sym (about_placed table {word = word} {t = t} refl)
+  form_held (Page word l) None e h = plain_placed table word l e
+  form_held (Page word l) (Some x) e h = cursor_placed table word l x e _ refl ∙ no_stray x h _

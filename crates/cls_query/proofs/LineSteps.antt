@@ -13,15 +13,14 @@ use Rattle.cls_syntax.specs.declared.role.Role.TheVariants.{Component}
 use Rattle.cls_syntax.specs.Depths.{most_open}
 use Rattle.cls_syntax.specs.Faults.{Says, stop}
 use Rattle.cls_syntax.specs.Forms.{naming}
-use Rattle.cls_syntax.specs.LineGrammars.{LineOf, row_words, RowStands, grammar_read}
 use Rattle.cls_syntax.specs.Sorts.{begins_reserved}
 use Rattle.cls_syntax.specs.SyntaxFaults.{IsFlat}
 use Rattle.cls_syntax.specs.TypeSchemas.{is_dollar}
 use Rattle.cls_syntax.proofs.TypeFaults.{stops_at}
 use Rattle.std.specs.Prelude.{Err}
-use Rattle.cls_query.specs.QueryForms.{query_rows}
-use Rattle.cls_query.specs.Queries.{Tables, row_parts}
-use Rattle.cls_query.specs.QueryErrors.{row_types, is_large, is_outside, is_unknown, is_unknown_in_term, place_words, too_deep, too_many_nodes, has_variable, out_of_range, unknown_component, unknown_in_term, line_errors}
+use Rattle.cls_query.specs.QueryReading.{query_read}
+use Rattle.cls_query.specs.Queries.{QueryText, Tables, query_words, query_parts, QueryStands}
+use Rattle.cls_query.specs.QueryErrors.{query_types, is_large, is_outside, is_unknown, is_unknown_in_term, place_words, too_deep, too_many_nodes, has_variable, out_of_range, unknown_component, unknown_in_term, line_errors}
 use Rattle.cls_query.specs.Steps.{text_errors, spelling_errors, type_errors, value_errors}
 use Rattle.cls_query.proofs.FirstErrors.{first_front, first_later, silent_both}
 use Rattle.cls_query.proofs.Searches.{nothing_found}
@@ -78,64 +77,64 @@ module _ (line : List ℕ) where
   not_deep : IsFlat line → IsSilent (too_deep line)
   not_deep flat t h = let l = h.0 in omega (arith, flat, l)
 
-  pub place_said : (rest : List Word) (wants : Bool) → IsFlat line → grammar_read query_rows (words_of line) ≡ Err (stop rest wants)
+  pub place_said : (rest : List Word) (wants : Bool) → IsFlat line → query_read (words_of line) ≡ Err (stop rest wants)
       → First (spelling_errors line) (place_words (wants && begins_reserved rest) (byte_at line (length (tokens_of line) - length rest)))
   place_said rest wants flat e =
-      let leaves = stops_at (row_words query_rows) (RowStands query_rows) line rest wants (stop_leaves (words_of line) rest wants e) in
+      let leaves = stops_at query_words QueryStands line rest wants (stop_leaves (words_of line) rest wants e) in
       inr (not_deep flat, inl (byte_at line (length (tokens_of line) - length rest), wants && begins_reserved rest, leaves, refl))
 
-  pub form_silent : (said : LineOf query_rows) → IsFlat line → Says (row_words query_rows) (RowStands query_rows) said (words_of line) → IsSilent (First (spelling_errors line))
+  pub form_silent : (said : QueryText) → IsFlat line → Says query_words QueryStands said (words_of line) → IsSilent (First (spelling_errors line))
   form_silent said flat says t h = elim h [
     | inl a ↦ not_deep flat t a
     | inr a ↦ elim a.1 [ inl b ↦ stays_silent line said says t b | inr b ↦ b.1 ]
   ]
 
 -- THE TYPES AND THE VALUES
-module _ (line : List ℕ) (said : LineOf query_rows) (says : Says (row_words query_rows) (RowStands query_rows) said (words_of line)) where
-  pub nodes_said : list_any is_large (row_types query_rows said) ≡ true → First (type_errors line) (codes "nodes")
+module _ (line : List ℕ) (said : QueryText) (says : Says query_words QueryStands said (words_of line)) where
+  pub nodes_said : list_any is_large (query_types said) ≡ true → First (type_errors line) (codes "nodes")
   nodes_said e = inl ((said, says, e), refl)
 
-  few_nodes : list_any is_large (row_types query_rows said) ≡ false → IsSilent (too_many_nodes line)
-  few_nodes e t h = true≢false (sym (holds_of line said says (λ v. list_any is_large (row_types query_rows v) ≡ true) h.0) ∙ e)
+  few_nodes : list_any is_large (query_types said) ≡ false → IsSilent (too_many_nodes line)
+  few_nodes e t h = true≢false (sym (holds_of line said says (λ v. list_any is_large (query_types v) ≡ true) h.0) ∙ e)
 
-  pub variable_said : list_any is_large (row_types query_rows said) ≡ false → (place : ℕ) → position is_dollar (words_of line) ≡ Some place → First (type_errors line) (codes "variable " ++ decimal (byte_at line place))
+  pub variable_said : list_any is_large (query_types said) ≡ false → (place : ℕ) → position is_dollar (words_of line) ≡ Some place → First (type_errors line) (codes "variable " ++ decimal (byte_at line place))
   variable_said e place p = inr (few_nodes e, inl (place, p, refl))
 
   no_variable : position is_dollar (words_of line) ≡ None → IsSilent (has_variable line)
   no_variable p t h = nothing_found h.0 (sym p ∙ h.1)
 
-  pub types_silent : list_any is_large (row_types query_rows said) ≡ false → position is_dollar (words_of line) ≡ None → IsSilent (First (type_errors line))
+  pub types_silent : list_any is_large (query_types said) ≡ false → position is_dollar (words_of line) ≡ None → IsSilent (First (type_errors line))
   types_silent e p t h = elim h [
     | inl a ↦ few_nodes e t a
     | inr a ↦ elim a.1 [ inl b ↦ no_variable p t b | inr b ↦ b.1 ]
   ]
 
   module _ (components : List (List ℕ)) where
-    pub range_said : list_any is_outside (row_parts query_rows said) ≡ true → First (value_errors line components) (codes "number")
+    pub range_said : list_any is_outside (query_parts said) ≡ true → First (value_errors line components) (codes "number")
     range_said e = inl ((said, says, e), refl)
 
-    in_range : list_any is_outside (row_parts query_rows said) ≡ false → IsSilent (out_of_range line)
-    in_range e t h = true≢false (sym (holds_of line said says (λ v. list_any is_outside (row_parts query_rows v) ≡ true) h.0) ∙ e)
+    in_range : list_any is_outside (query_parts said) ≡ false → IsSilent (out_of_range line)
+    in_range e t h = true≢false (sym (holds_of line said says (λ v. list_any is_outside (query_parts v) ≡ true) h.0) ∙ e)
 
-    pub unknown_said : list_any is_outside (row_parts query_rows said) ≡ false → (x : List ℕ) → find (is_unknown components) (row_parts query_rows said) ≡ Some (naming Component x) → First (value_errors line components) (codes "unknown " ++ x)
+    pub unknown_said : list_any is_outside (query_parts said) ≡ false → (x : List ℕ) → find (is_unknown components) (query_parts said) ≡ Some (naming Component x) → First (value_errors line components) (codes "unknown " ++ x)
     unknown_said e x f = inr (in_range e, inl (said, says, (x, f, refl)))
 
-    known : find (is_unknown components) (row_parts query_rows said) ≡ None → IsSilent (unknown_component line components)
+    known : find (is_unknown components) (query_parts said) ≡ None → IsSilent (unknown_component line components)
     known f t h =
-        let q = holds_of line said says (λ v. (x : List ℕ) × (find (is_unknown components) (row_parts query_rows v) ≡ Some (naming Component x)) × (t ≡ codes "unknown " ++ x)) h in
+        let q = holds_of line said says (λ v. (x : List ℕ) × (find (is_unknown components) (query_parts v) ≡ Some (naming Component x)) × (t ≡ codes "unknown " ++ x)) h in
         nothing_found (naming Component q.0) (sym f ∙ q.1)
 
-    pub term_said : list_any is_outside (row_parts query_rows said) ≡ false → find (is_unknown components) (row_parts query_rows said) ≡ None → (place : ℕ)
-        → position (is_unknown_in_term components) (row_parts query_rows said) ≡ Some place → First (value_errors line components) (codes "token " ++ decimal (byte_at line place))
+    pub term_said : list_any is_outside (query_parts said) ≡ false → find (is_unknown components) (query_parts said) ≡ None → (place : ℕ)
+        → position (is_unknown_in_term components) (query_parts said) ≡ Some place → First (value_errors line components) (codes "token " ++ decimal (byte_at line place))
     term_said e f place p = inr (in_range e, inr (known f, inl (said, says, (place, p, refl))))
 
-    known_in_term : position (is_unknown_in_term components) (row_parts query_rows said) ≡ None → IsSilent (unknown_in_term line components)
+    known_in_term : position (is_unknown_in_term components) (query_parts said) ≡ None → IsSilent (unknown_in_term line components)
     known_in_term p t h =
-        let q = holds_of line said says (λ v. (place : ℕ) × (position (is_unknown_in_term components) (row_parts query_rows v) ≡ Some place) × (t ≡ codes "token " ++ decimal (byte_at line place))) h in
+        let q = holds_of line said says (λ v. (place : ℕ) × (position (is_unknown_in_term components) (query_parts v) ≡ Some place) × (t ≡ codes "token " ++ decimal (byte_at line place))) h in
         nothing_found q.0 (sym p ∙ q.1)
 
-    pub values_silent : list_any is_outside (row_parts query_rows said) ≡ false → find (is_unknown components) (row_parts query_rows said) ≡ None
-        → position (is_unknown_in_term components) (row_parts query_rows said) ≡ None → IsSilent (First (value_errors line components))
+    pub values_silent : list_any is_outside (query_parts said) ≡ false → find (is_unknown components) (query_parts said) ≡ None
+        → position (is_unknown_in_term components) (query_parts said) ≡ None → IsSilent (First (value_errors line components))
     values_silent e f p t h = elim h [
       | inl a ↦ in_range e t a
       | inr a ↦ elim a.1 [ inl b ↦ known f t b | inr b ↦ elim b.1 [ inl d ↦ known_in_term p t d | inr d ↦ d.1 ] ]

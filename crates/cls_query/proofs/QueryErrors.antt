@@ -15,15 +15,14 @@ use Rattle.cls_syntax.specs.declared.role.Role.TheVariants.{Component}
 use Rattle.cls_syntax.specs.Depths.{most_open}
 use Rattle.cls_syntax.specs.Faults.{stop, Says}
 use Rattle.cls_syntax.specs.Forms.{Part, fixed, naming, numeral}
-use Rattle.cls_syntax.specs.LineGrammars.{LineOf, row_words, RowStands, grammar_read}
 use Rattle.cls_syntax.specs.Sorts.{begins_reserved}
 use Rattle.cls_syntax.specs.SyntaxFaults.{IsTooDeep}
 use Rattle.cls_syntax.specs.TypeSchemas.{is_dollar}
 use Rattle.cls_syntax.proofs.TypeFaults.{stops_at}
 use Rattle.cls_syntax.proofs.OnePlace.{one_byte}
-use Rattle.cls_query.specs.QueryForms.{query_rows}
-use Rattle.cls_query.specs.Queries.{Tables, Query, row_parts, with_query, query_of}
-use Rattle.cls_query.specs.QueryErrors.{row_types, is_large, is_outside, is_unknown, is_unknown_in_term, place_words, IsQuery, too_long, not_utf8, too_deep, leaves_table, too_many_nodes, has_variable, out_of_range, unknown_component, unknown_in_term, line_errors}
+use Rattle.cls_query.specs.QueryReading.{query_read}
+use Rattle.cls_query.specs.Queries.{Tables, Query, QueryText, query_words, query_parts, QueryStands, with_query, query_of}
+use Rattle.cls_query.specs.QueryErrors.{query_types, is_large, is_outside, is_unknown, is_unknown_in_term, place_words, IsQuery, too_long, not_utf8, too_deep, leaves_table, too_many_nodes, has_variable, out_of_range, unknown_component, unknown_in_term, line_errors}
 use Rattle.cls_query.specs.ReadQueries.{ReadsQuery}
 use Rattle.cls_query.specs.Laws.{ErrorsAreDetermined, LinesAreReadOnce, LinesAreDecided}
 use Rattle.cls_query.proofs.FirstErrors.{fourth_silent}
@@ -40,12 +39,12 @@ text_in (Some (naming r x)) = x
 text_in (Some (numeral l g d)) = d
 
 module _ (tables : Tables) (line : List ℕ) where
-  abbrev of_query : (LineOf query_rows → Type 0) → Type 0
+  abbrev of_query : (QueryText → Type 0) → Type 0
   of_query P = IsQuery line P
 
   place_one : IsDetermined (leaves_table line)
   place_one t u p q =
-      let one = one_byte (row_words query_rows) (RowStands query_rows) line p.0 q.0 p.1 q.1 p.2 q.2 in
+      let one = one_byte query_words QueryStands line p.0 q.0 p.1 q.1 p.2 q.2 in
       p.3 ∙ ((λ i. place_words (one.flags i) (one.bytes i)) ∙ sym q.3)
 
   variable_one : IsDetermined (has_variable line)
@@ -53,12 +52,12 @@ module _ (tables : Tables) (line : List ℕ) where
 
   unknown_one : IsDetermined (unknown_component line tables.components)
   unknown_one t u p q =
-      let r = holds_of line p.0 p.1 (λ v. (x : List ℕ) × (find (is_unknown tables.components) (row_parts query_rows v) ≡ Some (naming Component x)) × (u ≡ codes "unknown " ++ x)) q in
+      let r = holds_of line p.0 p.1 (λ v. (x : List ℕ) × (find (is_unknown tables.components) (query_parts v) ≡ Some (naming Component x)) × (u ≡ codes "unknown " ++ x)) q in
       p.2.2 ∙ (ap (λ (x : List ℕ). codes "unknown " ++ x) (ap text_in (sym p.2.1 ∙ r.1)) ∙ sym r.2)
 
   term_one : IsDetermined (unknown_in_term line tables.components)
   term_one t u p q =
-      let r = holds_of line p.0 p.1 (λ v. (place : ℕ) × (position (is_unknown_in_term tables.components) (row_parts query_rows v) ≡ Some place) × (u ≡ codes "token " ++ decimal (byte_at line place))) q in
+      let r = holds_of line p.0 p.1 (λ v. (place : ℕ) × (position (is_unknown_in_term tables.components) (query_parts v) ≡ Some place) × (u ≡ codes "token " ++ decimal (byte_at line place))) q in
       p.2.2 ∙ (ap (λ n. codes "token " ++ decimal (byte_at line n)) (ap (some_or 0) (sym p.2.1 ∙ r.1)) ∙ sym r.2)
 
   error_one : IsDetermined (First (line_errors tables line))
@@ -71,11 +70,11 @@ module _ (tables : Tables) (line : List ℕ) where
         (
           place_one,
           (
-            said_alone (of_query (λ said. list_any is_large (row_types query_rows said) ≡ true)) (codes "nodes"),
+            said_alone (of_query (λ said. list_any is_large (query_types said) ≡ true)) (codes "nodes"),
             (
               variable_one,
               (
-                said_alone (of_query (λ said. list_any is_outside (row_parts query_rows said) ≡ true)) (codes "number"),
+                said_alone (of_query (λ said. list_any is_outside (query_parts said) ≡ true)) (codes "number"),
                 (
                   unknown_one,
                   (
@@ -120,7 +119,7 @@ not_utf8_decided line = elim (true_decided (is_utf8 line)) [
 
 -- Whether the line is a query.
 abbrev IsSomeQuery : List ℕ → Type 0
-IsSomeQuery line = (said : LineOf query_rows) × Says (row_words query_rows) (RowStands query_rows) said (words_of line)
+IsSomeQuery line = (said : QueryText) × Says query_words QueryStands said (words_of line)
 
 no_ok : {A E : Type 0} (a : A) (e : E) → ◌≡◌ {A = Result A E} (Ok a) (Err e) → ⊥
 no_ok a e p = true≢false (ap is_ok p)
@@ -128,13 +127,13 @@ no_ok a e p = true≢false (ap is_ok p)
 -- the line is a query, or something is said of where it leaves the table
 query_or_place : (line : List ℕ) → IsSomeQuery line ⊎ (((t : List ℕ) × leaves_table line t) × (IsSomeQuery line → ⊥))
 query_or_place line =
-    (elim (grammar_read query_rows (words_of line)) as (λ r. grammar_read query_rows (words_of line) ≡ r → IsSomeQuery line ⊎ (((t : List ℕ) × leaves_table line t) × (IsSomeQuery line → ⊥))) [
+    (elim (query_read (words_of line)) as (λ r. query_read (words_of line) ≡ r → IsSomeQuery line ⊎ (((t : List ℕ) × leaves_table line t) × (IsSomeQuery line → ⊥))) [
       | Ok said ↦ λ e. inl (said, read_says (words_of line) said e)
       | Err (stop rest wants) ↦ λ e.
           let byte = byte_at line (length (tokens_of line) - length rest) in
           let reserved = wants && begins_reserved rest in
           inr (
-            (place_words reserved byte, (byte, reserved, stops_at (row_words query_rows) (RowStands query_rows) line rest wants (stop_leaves (words_of line) rest wants e), refl)),
+            (place_words reserved byte, (byte, reserved, stops_at query_words QueryStands line rest wants (stop_leaves (words_of line) rest wants e), refl)),
             λ q. no_ok q.0 (stop rest wants) (sym (said_reads (words_of line) q.0 q.1) ∙ e),
           )
     ]) refl
@@ -145,7 +144,7 @@ module _ (tables : Tables) (line : List ℕ) where
   place_decided (inr p) = inl p.0
 
   -- what is decided of a query is decided of a line
-  of_query_decided : {T : Type 0} (P : LineOf query_rows → Cause T) → ((said : LineOf query_rows) → IsDecided (P said)) → IsDecided (λ t. IsQuery line (λ said. P said t))
+  of_query_decided : {T : Type 0} (P : QueryText → Cause T) → ((said : QueryText) → IsDecided (P said)) → IsDecided (λ t. IsQuery line (λ said. P said t))
   of_query_decided {T} P d = elim (query_or_place line) [
     | inl q ↦ elim (d q.0) [
       | inl h ↦ inl (h.0, (q.0, q.1, h.1))
@@ -154,7 +153,7 @@ module _ (tables : Tables) (line : List ℕ) where
     | inr p ↦ inr (λ t h. p.1 (h.0, h.1))
   ]
 
-  fact_decided : (P : LineOf query_rows → Bool) → Decided (IsQuery line (λ said. P said ≡ true))
+  fact_decided : (P : QueryText → Bool) → Decided (IsQuery line (λ said. P said ≡ true))
   fact_decided P = elim (query_or_place line) [
     | inl q ↦ elim (true_decided (P q.0)) [
       | inl h ↦ inl (q.0, q.1, h)
@@ -169,8 +168,8 @@ module _ (tables : Tables) (line : List ℕ) where
     | Some place ↦ λ e. inl (codes "variable " ++ decimal (byte_at line place), (place, e, refl))
   ]) refl
 
-  abbrev says_unknown : LineOf query_rows → Cause (List ℕ)
-  says_unknown v t = (x : List ℕ) × (find (is_unknown tables.components) (row_parts query_rows v) ≡ Some (naming Component x)) × (t ≡ codes "unknown " ++ x)
+  abbrev says_unknown : QueryText → Cause (List ℕ)
+  says_unknown v t = (x : List ℕ) × (find (is_unknown tables.components) (query_parts v) ≡ Some (naming Component x)) × (t ≡ codes "unknown " ++ x)
 
   named : (p : Part) → is_unknown tables.components p ≡ true → (x : List ℕ) × (p ≡ naming Component x)
   named (fixed w) h = absurd (true≢false (sym h))
@@ -178,19 +177,19 @@ module _ (tables : Tables) (line : List ℕ) where
   named (naming _ x) h = absurd (true≢false (sym h))
   named (numeral l g d) h = absurd (true≢false (sym h))
 
-  unknown_of : (v : LineOf query_rows) → IsDecided (says_unknown v)
-  unknown_of v = (elim (find (is_unknown tables.components) (row_parts query_rows v)) as (λ o. find (is_unknown tables.components) (row_parts query_rows v) ≡ o → IsDecided (says_unknown v)) [
+  unknown_of : (v : QueryText) → IsDecided (says_unknown v)
+  unknown_of v = (elim (find (is_unknown tables.components) (query_parts v)) as (λ o. find (is_unknown tables.components) (query_parts v) ≡ o → IsDecided (says_unknown v)) [
     | None ↦ λ e. inr (λ t h. nothing_found (naming Component h.0) (sym e ∙ h.1))
     | Some p ↦ λ e.
-        let is = named p (find_passes (is_unknown tables.components) (row_parts query_rows v) p e) in
+        let is = named p (find_passes (is_unknown tables.components) (query_parts v) p e) in
         inl (codes "unknown " ++ is.0, (is.0, e ∙ ap (λ (q : Part). Some q) is.1, refl))
   ]) refl
 
-  abbrev says_in_term : LineOf query_rows → Cause (List ℕ)
-  says_in_term v t = (place : ℕ) × (position (is_unknown_in_term tables.components) (row_parts query_rows v) ≡ Some place) × (t ≡ codes "token " ++ decimal (byte_at line place))
+  abbrev says_in_term : QueryText → Cause (List ℕ)
+  says_in_term v t = (place : ℕ) × (position (is_unknown_in_term tables.components) (query_parts v) ≡ Some place) × (t ≡ codes "token " ++ decimal (byte_at line place))
 
-  in_term_of : (v : LineOf query_rows) → IsDecided (says_in_term v)
-  in_term_of v = (elim (position (is_unknown_in_term tables.components) (row_parts query_rows v)) as (λ o. position (is_unknown_in_term tables.components) (row_parts query_rows v) ≡ o → IsDecided (says_in_term v)) [
+  in_term_of : (v : QueryText) → IsDecided (says_in_term v)
+  in_term_of v = (elim (position (is_unknown_in_term tables.components) (query_parts v)) as (λ o. position (is_unknown_in_term tables.components) (query_parts v) ≡ o → IsDecided (says_in_term v)) [
     | None ↦ λ e. inr (λ t h. nothing_found h.0 (sym e ∙ h.1))
     | Some place ↦ λ e. inl (codes "token " ++ decimal (byte_at line place), (place, e, refl))
   ]) refl
@@ -205,11 +204,11 @@ module _ (tables : Tables) (line : List ℕ) where
         (
           place_decided (query_or_place line),
           (
-            alone_decided (IsQuery line (λ said. list_any is_large (row_types query_rows said) ≡ true)) (codes "nodes") (fact_decided (λ said. list_any is_large (row_types query_rows said))),
+            alone_decided (IsQuery line (λ said. list_any is_large (query_types said) ≡ true)) (codes "nodes") (fact_decided (λ said. list_any is_large (query_types said))),
             (
               variable_decided,
               (
-                alone_decided (IsQuery line (λ said. list_any is_outside (row_parts query_rows said) ≡ true)) (codes "number") (fact_decided (λ said. list_any is_outside (row_parts query_rows said))),
+                alone_decided (IsQuery line (λ said. list_any is_outside (query_parts said) ≡ true)) (codes "number") (fact_decided (λ said. list_any is_outside (query_parts said))),
                 (
                   of_query_decided says_unknown unknown_of,
                   (

@@ -17,25 +17,25 @@ use Rattle.cls_lexer.specs.Tokens.{token_at, located_at, tokens_from, tokens_of}
 use Rattle.cls_lexer.specs.Words.{Word, said, words_of, sign}
 use Rattle.cls_lexer.specs.declared.token.TokenKind.TheVariants.{Close, Comma}
 use Rattle.cls_syntax.specs.Faults.{Says}
-use Rattle.cls_syntax.specs.Forms.{Values, part_word}
-use Rattle.cls_syntax.specs.LineGrammars.{LineOf, row_words, RowStands}
+use Rattle.cls_syntax.specs.Forms.{part_word}
 use Rattle.cls_syntax.specs.TermTexts.{TermText, TermList, named, applied, last, more, term_words, terms_words}
 use Rattle.cls_syntax.specs.TypeTexts.{TypeText}
 use Rattle.cls_term.specs.TermReadings.{term_of, terms_of}
 use Rattle.cls_term.specs.TokenFaults as faults
 use Rattle.cls_term.specs.Weights.{length_of-spine}
 use Rattle.cls_term.proofs.TermFaults.{all_known}
-use Rattle.cls_query.specs.declared.form.ListingWord.{ListingWord}
-use Rattle.cls_query.specs.declared.form.ListingWord.TheVariants as listing
-use Rattle.cls_query.specs.Queries.{Tables, Query, row_parts, listing_of, query_of, with_query, term_in}
+use Rattle.cls_query.specs.declared.query.Query.TheVariants.{Sub, Paths, Typed, About, Page}
+use Rattle.cls_query.specs.declared.word.GoalWord.TheVariants.{Verify}
+use Rattle.cls_query.specs.declared.word.ListingWord.{ListingWord}
+use Rattle.cls_query.specs.declared.word.ListingWord.TheVariants as listing
+use Rattle.cls_query.specs.Queries.{ListingText, Tables, Query, QueryText, query_words, query_parts, QueryStands, listing_of, query_of, with_query, term_in}
 use Rattle.cls_query.specs.QueryErrors.{is_outside, is_absent, is_unknown_in_term, line_errors}
-use Rattle.cls_query.specs.QueryForms.{listing_form, query_rows}
 use Rattle.cls_query.specs.Readable.{IsPageAsked, IsReadable, IsVerify, begins_with}
 use Rattle.cls_query.specs.ReadQueries.{ReadsQuery}
 use Rattle.cls_query.specs.Steps.{value_errors}
 use Rattle.cls_query.proofs.CodeForms.{both_within}
 use Rattle.cls_query.proofs.FirstErrors.{each_silent}
-use Rattle.cls_query.proofs.FormParts.{listing_values, asks_page, page_outside, paths_unknown, typing_in_term, cursor_in_term, cursor_within}
+use Rattle.cls_query.proofs.FormParts.{page_outside, paths_unknown, typing_in_term, cursor_in_term, cursor_within}
 use Rattle.cls_query.proofs.RowParts.{words_of_parts}
 use Rattle.cls_query.proofs.Searches.{neither, behind}
 
@@ -122,10 +122,10 @@ unplaced : (k : ℕ) (o p : Option ℕ) → p ≡ behind k o → ((n : ℕ) → 
 unplaced k None p e n = refl
 unplaced k (Some i) p e n = absurd (n (k + i) e)
 
--- THE ROWS
+-- THE QUERIES
 module _ (tables : Tables) (line : List ℕ) (silent : IsSilent (First (line_errors tables line))) where
-  abbrev IsLine : LineOf query_rows → Type 0
-  IsLine v = Says (row_words query_rows) (RowStands query_rows) v (words_of line)
+  abbrev IsLine : QueryText → Type 0
+  IsLine q = Says query_words QueryStands q (words_of line)
 
   each : EachCause IsSilent (line_errors tables line)
   each = each_silent (line_errors tables line) silent
@@ -140,20 +140,20 @@ module _ (tables : Tables) (line : List ℕ) (silent : IsSilent (First (line_err
     | inr g ↦ g
   ]
 
-  in_range : (v : LineOf query_rows) → IsLine v → list_any is_outside (row_parts query_rows v) ≡ false
-  in_range v says = false_from_ne_true _ (λ e. of_values.0 (codes "number") ((v, says, e), refl))
+  in_range : (q : QueryText) → IsLine q → list_any is_outside (query_parts q) ≡ false
+  in_range q says = false_from_ne_true _ (λ e. of_values.0 (codes "number") ((q, says, e), refl))
 
-  named_known : (x : List ℕ) → IsLine (inr (inl (x, tt))) → is_absent tables.components x ≡ false
-  named_known x says = false_from_ne_true _ (λ e. of_values.1.0 _ (inr (inl (x, tt)), says, (x, paths_unknown tables.components x e, refl)))
+  named_known : (x : List ℕ) → IsLine (Paths x) → is_absent tables.components x ≡ false
+  named_known x says = false_from_ne_true _ (λ e. of_values.1.0 _ (Paths x, says, (x, paths_unknown tables.components x e, refl)))
 
-  none_stray : (v : LineOf query_rows) → IsLine v → (place : ℕ) → position (is_unknown_in_term tables.components) (row_parts query_rows v) ≡ Some place → ⊥
-  none_stray v says place e = of_values.1.1.0 _ (v, says, (place, e, refl))
+  none_stray : (q : QueryText) → IsLine q → (place : ℕ) → position (is_unknown_in_term tables.components) (query_parts q) ≡ Some place → ⊥
+  none_stray q says place e = of_values.1.1.0 _ (q, says, (place, e, refl))
 
   -- the parts of the line are at most its bytes
-  few_parts : (v : LineOf query_rows) → IsLine v → length (row_parts query_rows v) ≤ length line
-  few_parts v says =
-      let parts = row_parts query_rows v in
-      let a : length parts ≡ length (words_of line) = sym (length-map parts part_word) ∙ ap length (sym (words_of_parts query_rows v) ∙ says.spelled) in
+  few_parts : (q : QueryText) → IsLine q → length (query_parts q) ≤ length line
+  few_parts q says =
+      let parts = query_parts q in
+      let a : length parts ≡ length (words_of line) = sym (length-map parts part_word) ∙ ap length (sym (words_of_parts q) ∙ says.spelled) in
       let b = few_words line in
       omega (arith, a, b)
 
@@ -163,89 +163,58 @@ module _ (tables : Tables) (line : List ℕ) (silent : IsSilent (First (line_err
   term_readable : (e : TermText) → position (faults.is_unknown tables.components) (term_words e) ≡ None → IsTermOver n (term_in tables.components e)
   term_readable e h = term_over tables.components e (all_known tables.components (term_words e) h)
 
-  typed_readable : (e : TermText) (t : TypeText) → IsLine (inr (inr (inl (e, (t, tt))))) → IsTermOver n (term_in tables.components e)
-  typed_readable e t says =
-      let v = inr (inr (inl (e, (t, tt)))) in
-      term_readable e (unplaced 1 _ _ (typing_in_term tables.components e t) (none_stray v says))
+  typed_readable : (e : TermText) (t : TypeText) → IsLine (Typed e t) → IsTermOver n (term_in tables.components e)
+  typed_readable e t says = term_readable e (unplaced 1 _ _ (typing_in_term tables.components e t) (none_stray (Typed e t) says))
 
-  cursor_readable : (word : ListingWord) (t : TypeText) (max take : List ℕ) (e : TermText) → IsLine (asks_page word (listing_values t max take (Some e)))
-      → IsTermOver n (term_in tables.components e) × (length_of (term_in tables.components e) < 2 ^ 32)
-  cursor_readable word t max take e says =
-      let v = asks_page word (listing_values t max take (Some e)) in
-      let placed = cursor_in_term tables.components word t max take e (length (row_parts query_rows v)) refl in
-      let within = cursor_within tables.components word t max take e (length (row_parts query_rows v)) refl in
-      let parts = few_parts v says in
-      let long = term_short (number_of tables.components) e in
-      (term_readable e (unplaced _ _ _ placed (none_stray v says)), omega (arith, within, parts, long, short))
+  module _ (word : ListingWord) (l : ListingText) (says : IsLine (Page word l)) where
+    cursor_readable : (e : TermText) → l.after ≡ Some e → IsTermOver n (term_in tables.components e) × (length_of (term_in tables.components e) < 2 ^ 32)
+    cursor_readable e is =
+        let placed = cursor_in_term tables.components word l e is (length (query_parts (Page word l))) refl in
+        let within = cursor_within tables.components word l e is (length (query_parts (Page word l))) refl in
+        let parts = few_parts (Page word l) says in
+        let long = term_short (number_of tables.components) e in
+        (term_readable e (unplaced _ _ _ placed (none_stray (Page word l) says)), omega (arith, within, parts, long, short))
 
-  after_readable : (word : ListingWord) (t : TypeText) (max take : List ℕ) (o : Option TermText) → IsLine (asks_page word (listing_values t max take o))
-      → IfSome (option_map (term_in tables.components) o) (λ e. IsTermOver n e × (length_of e < 2 ^ 32))
-  after_readable word t max take None says = tt
-  after_readable word t max take (Some e) says = cursor_readable word t max take e says
+    after_readable : (o : Option TermText) → l.after ≡ o → IfSome (option_map (term_in tables.components) o) (λ e. IsTermOver n e × (length_of e < 2 ^ 32))
+    after_readable None is = tt
+    after_readable (Some e) is = cursor_readable e is
 
-  page_readable : (constructors : List (List ℕ)) (word : ListingWord) (t : TypeText) (max take : List ℕ) (o : Option TermText) → IsLine (asks_page word (listing_values t max take o))
-      → IsPageAsked n (listing_of (record { constructors = constructors; components = tables.components }) (listing_values t max take o))
-  page_readable constructors word t max take o says =
-      let range = both_within max take (sym (page_outside word t max take o) ∙ in_range (asks_page word (listing_values t max take o)) says) in
-      record {
-        max = range.0.1;
-        some = range.1.0;
-        cursor = subst (λ (p : Option Applicative). IfSome p (λ e. IsTermOver n e × (length_of e < 2 ^ 32))) (twice o) (after_readable word t max take o says);
-      }
-    where
-      twice : (o : Option TermText) → option_map (term_in tables.components) o ≡ option_map (λ (a : TermText × Unit {0}). term_in tables.components a.0) (option_map (λ e. (e, tt)) o)
-      twice None = refl
-      twice (Some e) = refl
+    page_readable : (constructors : List (List ℕ)) → IsPageAsked n (listing_of (record { constructors = constructors; components = tables.components }) l)
+    page_readable constructors =
+        let range = both_within l.max l.take (sym (page_outside word l) ∙ in_range (Page word l) says) in
+        record {
+          max = range.0.1;
+          some = range.1.0;
+          cursor = after_readable l.after refl;
+        }
 
-  -- each listing is written with its parts
-  parts_of : (o : Option (TermText × Unit {0})) → option_map (λ e. (e, tt)) (option_map (λ (a : TermText × Unit {0}). a.0) o) ≡ o
-  parts_of None = refl
-  parts_of (Some a) = refl
-
-  listed : (constructors : List (List ℕ)) (word : ListingWord) (v : Values listing_form) → IsLine (asks_page word v) → IsPageAsked n (listing_of (record { constructors = constructors; components = tables.components }) v)
-  listed constructors word v says =
-      let same : listing_values v.0 v.1.0 v.1.1.0 (option_map (λ (a : TermText × Unit {0}). a.0) v.1.1.1) ≡ v = λ i. (v.0, (v.1.0, (v.1.1.0, parts_of v.1.1.1 i))) in
-      subst (λ (u : Values listing_form). IsPageAsked n (listing_of (record { constructors = constructors; components = tables.components }) u)) same
-      (page_readable constructors word v.0 v.1.0 v.1.1.0 (option_map (λ (a : TermText × Unit {0}). a.0) v.1.1.1) (subst (λ (u : Values listing_form). IsLine (asks_page word u)) (sym same) says))
-
-  row_readable : (constructors : List (List ℕ)) (v : LineOf query_rows) → IsLine v → IsReadable n (query_of (record { constructors = constructors; components = tables.components }) v)
-  row_readable names (inl v) says = tt
-  row_readable names (inr (inl v)) says = held_below tables.components v.0 (named_known v.0 says)
-  row_readable names (inr (inr (inl v))) says = typed_readable v.0 v.1.0 says
-  row_readable names (inr (inr (inr (inl v)))) says = tt
-  row_readable names (inr (inr (inr (inr (inl v))))) says = tt
-  row_readable names (inr (inr (inr (inr (inr (inl v)))))) says = tt
-  row_readable names (inr (inr (inr (inr (inr (inr (inl v))))))) says = tt
-  row_readable names (inr (inr (inr (inr (inr (inr (inr (inl v)))))))) says = tt
-  row_readable names (inr (inr (inr (inr (inr (inr (inr (inr (inl v))))))))) says = tt
-  row_readable names (inr (inr (inr (inr (inr (inr (inr (inr (inr (inl v)))))))))) says = listed names listing.List v says
-  row_readable names (inr (inr (inr (inr (inr (inr (inr (inr (inr (inr (inl v))))))))))) says = listed names listing.Texts v says
-  row_readable names (inr (inr (inr (inr (inr (inr (inr (inr (inr (inr (inr v))))))))))) says = absurd v
+  query_readable_in : (constructors : List (List ℕ)) (q : QueryText) → IsLine q → IsReadable n (query_of (record { constructors = constructors; components = tables.components }) q)
+  query_readable_in names (Sub s t) says = tt
+  query_readable_in names (Paths x) says = held_below tables.components x (named_known x says)
+  query_readable_in names (Typed e t) says = typed_readable e t says
+  query_readable_in names (About word t) says = tt
+  query_readable_in names (Page word l) says = page_readable word l says names
 
 never : {A : Type 0} → (A → ⊥) → A ↔ (false ≡ true)
 never none = ((λ a. absurd (none a)), (λ h. absurd (true≢false (sym h))))
 
-row_verify : (tables : Tables) (v : LineOf query_rows) → IsVerify (query_of tables v) ↔ (begins_with (codes "verify") (row_words query_rows v) ≡ true)
-row_verify tables (inl v) = never (λ a. a)
-row_verify tables (inr (inl v)) = never (λ a. a)
-row_verify tables (inr (inr (inl v))) = never (λ a. a)
-row_verify tables (inr (inr (inr (inl v)))) = never (λ a. a)
-row_verify tables (inr (inr (inr (inr (inl v))))) = never (λ a. a)
-row_verify tables (inr (inr (inr (inr (inr (inl v)))))) = never (λ a. a)
-row_verify tables (inr (inr (inr (inr (inr (inr (inl v))))))) = never (λ a. a)
-row_verify tables (inr (inr (inr (inr (inr (inr (inr (inl v)))))))) = ((λ a. refl), (λ h. tt))
-row_verify tables (inr (inr (inr (inr (inr (inr (inr (inr (inl v))))))))) = never (λ a. a)
-row_verify tables (inr (inr (inr (inr (inr (inr (inr (inr (inr (inl v)))))))))) = never (λ a. a)
-row_verify tables (inr (inr (inr (inr (inr (inr (inr (inr (inr (inr (inl v))))))))))) = never (λ a. a)
-row_verify tables (inr (inr (inr (inr (inr (inr (inr (inr (inr (inr (inr v))))))))))) = absurd v
+-- what asks for a verification begins with its word
+verify_begins : (tables : Tables) (q : QueryText) → IsVerify (query_of tables q) ↔ (begins_with (codes "verify") (query_words q) ≡ true)
+verify_begins tables (Sub s t) = never (λ a. a)
+verify_begins tables (Paths x) = never (λ a. a)
+verify_begins tables (Typed e t) = never (λ a. a)
+verify_begins tables (About Verify t) = ((λ a. refl), (λ h. tt))
+verify_begins tables (About word t) = never (λ a. a)
+verify_begins tables (Page listing.List l) = never (λ a. a)
+verify_begins tables (Page word l) = never (λ a. a)
 
 -- THE QUERY
 module _ {tables : Tables} {line : List ℕ} {query : Query} {constructors : List (List ℕ)} (r : ReadsQuery tables line query constructors) where
   pub query_readable : IsReadable (length tables.components) query
-  query_readable = subst (IsReadable (length tables.components)) (sym r.asked) (row_readable tables line r.faultless (with_query tables r.said).constructors r.said r.spelled)
+  query_readable = subst (IsReadable (length tables.components)) (sym r.asked) (query_readable_in tables line r.faultless (with_query tables r.said).constructors r.said r.spelled)
 
   pub query_verify : IsVerify query ↔ (begins_with (codes "verify") (words_of line) ≡ true)
   query_verify =
       subst (λ (q : Query). IsVerify q ↔ (begins_with (codes "verify") (words_of line) ≡ true)) (sym r.asked)
       (subst (λ (ws : List Word). IsVerify (query_of (with_query tables r.said) r.said) ↔ (begins_with (codes "verify") ws ≡ true)) r.spelled.spelled
-      (row_verify (with_query tables r.said) r.said))
+      (verify_begins (with_query tables r.said) r.said))

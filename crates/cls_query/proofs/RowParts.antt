@@ -1,5 +1,5 @@
 -- What is found among the parts of a query's line.
-use Rattle.std.proofs.Common.{◌≡◌, ℕ, Bool, false, List, [], ◌∷◌, ◌++◌, map, refl, inl, inr}
+use Rattle.std.proofs.Common.{◌≡◌, ℕ, Bool, false, List, [], ◌∷◌, ◌++◌, map, refl}
 use Rattle.std.specs.Prelude.{Option, Some, None, ◌||◌}
 use Rattle.std.specs.List.{list_any}
 use Rattle.std.specs.Option.{option_map}
@@ -12,17 +12,14 @@ use Rattle.cls_syntax.specs.declared.role.Role.TheVariants.{Constructor, Variabl
 use Rattle.cls_syntax.specs.TypeTexts.{TypeText}
 use Rattle.cls_syntax.specs.TermTexts.{TermText}
 use Rattle.cls_syntax.specs.Forms.{Values, Part, fixed, naming, numeral, part_word, type_parts, term_parts, line_parts}
-use Rattle.cls_syntax.specs.LineGrammars.{Row, LineOf, row_words}
 use Rattle.cls_query.specs.QueryForms.{comparison_form, typing_form, goal_form, listing_form}
-use Rattle.cls_query.specs.Queries.{row_parts}
+use Rattle.cls_query.specs.Queries.{QueryText, query_words, query_parts}
 use Rattle.cls_query.proofs.Searches.{both_none}
 use Rattle.cls_query.proofs.PartSearches.{joined_none, type_none, term_none}
 
 -- the words of a line are those of its parts
-pub words_of_parts : (rows : List Row) (v : LineOf rows) → row_words rows v ≡ map part_word (row_parts rows v)
-words_of_parts [] v = absurd v
-words_of_parts (row ∷ rows) (inl v) = refl
-words_of_parts (row ∷ rows) (inr v) = words_of_parts rows v
+pub words_of_parts : (q : QueryText) → query_words q ≡ map part_word (query_parts q)
+words_of_parts q = refl
 
 -- the numbers of a listing, each behind its word
 abbrev pub number_parts : (max take : List ℕ) → List Part

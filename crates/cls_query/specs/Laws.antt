@@ -3,9 +3,7 @@ use Rattle.std.specs.Prelude.{ℕ, ◌≡◌, ◌⊎◌, List}
 use Rattle.cls_base.specs.Firsts.{First, IsDetermined}
 use Rattle.cls_lexer.specs.Words.{Word}
 use Rattle.cls_syntax.specs.Faults.{Says}
-use Rattle.cls_syntax.specs.LineGrammars.{LineOf, row_words, RowStands}
-use Rattle.cls_query.specs.QueryForms.{query_rows}
-use Rattle.cls_query.specs.Queries.{Tables, Query}
+use Rattle.cls_query.specs.Queries.{Tables, Query, QueryText, query_words, QueryStands}
 use Rattle.cls_query.specs.QueryErrors.{line_errors}
 use Rattle.cls_query.specs.ReadQueries.{ReadsQuery}
 
@@ -13,11 +11,11 @@ use Rattle.cls_query.specs.ReadQueries.{ReadsQuery}
 abbrev pub ErrorsAreDetermined : Type 0
 ErrorsAreDetermined = (tables : Tables) (line : List ℕ) → IsDetermined (First (line_errors tables line))
 
--- Words are a line of the table in one way at most.
+-- Words say one query at most.
 abbrev pub LinesAreReadOnce : Type 0
 LinesAreReadOnce =
-    (words : List Word) (said other : LineOf query_rows) → Says (row_words query_rows) (RowStands query_rows) said words
-    → Says (row_words query_rows) (RowStands query_rows) other words → said ≡ other
+    (words : List Word) (said other : QueryText) → Says query_words QueryStands said words
+    → Says query_words QueryStands other words → said ≡ other
 
 -- Of each line an error is said, or it is read as a query.
 abbrev pub LinesAreDecided : Type 0

@@ -5,6 +5,7 @@ pub mod Laws
 pub mod Queries
 pub mod QueryErrors
 pub mod QueryForms
+pub mod QueryReading
 pub mod ReadQueries
 pub mod Readable
 pub mod Steps

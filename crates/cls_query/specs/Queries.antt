@@ -1,47 +1,84 @@
--- What a line of the table asks, by the tables of names.
-use Rattle.std.specs.Prelude.{ℕ, List, [], ◌∷◌, Option}
+-- What a line says, in texts, and what it asks, with types, terms and numbers. Both are queries of one kind.
+use Rattle.std.specs.Prelude.{ℕ, List, ◌∷◌}
 use Rattle.std.specs.Option.{option_map}
-use Rattle.std.proofs.Common.{inl, inr}
 use Rattle.cls_base.specs.Types.{ClosedType}
 use Rattle.cls_base.specs.Terms.{Applicative}
 use Rattle.cls_lexer.specs.Names.{number_of, with_texts}
 use Rattle.cls_lexer.specs.Numerals.{number_value}
-use Rattle.cls_lexer.specs.Words.{name}
+use Rattle.cls_lexer.specs.Words.{Word, name}
 use Rattle.cls_syntax.specs.ClosedTypes.{closed}
-use Rattle.cls_syntax.specs.Forms.{Values, Part, fixed, line_parts, constructors_named}
-use Rattle.cls_syntax.specs.LineGrammars.{Row, LineOf}
+use Rattle.cls_syntax.specs.Forms.{Values, Part, fixed, line_parts, line_words, LineStands, constructors_named}
 use Rattle.cls_syntax.specs.TermTexts.{TermText}
 use Rattle.cls_syntax.specs.TypeSchemas.{type_schema}
 use Rattle.cls_syntax.specs.TypeTexts.{TypeText}
 use Rattle.cls_term.specs.TermReadings.{term_of}
-use Rattle.cls_query.specs.QueryForms.{listing_rows, goal_rows, query_rows, listing_form}
+use Rattle.cls_query.specs.declared.query.Listing as listings
+use Rattle.cls_query.specs.declared.query.Query as queries
+use Rattle.cls_query.specs.declared.query.Query.TheVariants.{Sub, Paths, Typed, About, Page}
+use Rattle.cls_query.specs.declared.word.GoalWord.TheVariants.{Inhabit, Grammar, Audit, Certify, Verify, Finite}
+use Rattle.cls_query.specs.declared.word.ListingWord.TheVariants as listing
+use Rattle.cls_query.specs.declared.word.QueryWord.{QueryWord}
+use Rattle.cls_query.specs.declared.word.QueryWord.TheVariants as word
+use Rattle.cls_query.specs.QueryForms.{word_text, form_of}
 
 -- A page that is asked for: terms of the type and of at most the size `max`, the first `take` of them after the cursor,
 -- if there is one.
-pub record Listing : Type 0 where
-  pub goal : ClosedType
-  pub max : ℕ
-  pub take : ℕ
-  pub after : Option Applicative
+abbrev pub Listing : Type 0
+Listing = listings.Listing ClosedType ℕ Applicative
 
 -- A query with its types, terms and numbers. A component is its number.
-pub data Query : Type 0 where
-  sub : (lower upper : ClosedType) → Query
-  paths : (component : ℕ) → Query
-  typed : (term : Applicative) → (type : ClosedType) → Query
-  inhabit grammar audit certify verify finite : (goal : ClosedType) → Query
-  list texts : Listing → Query
+abbrev pub Query : Type 0
+Query = queries.Query ClosedType ℕ Applicative ClosedType Listing
 
+-- A listing and a query in the texts that stand in a line.
+abbrev pub ListingText : Type 0
+ListingText = listings.Listing TypeText (List ℕ) TermText
+
+abbrev pub QueryText : Type 0
+QueryText = queries.Query TypeText (List ℕ) TermText TypeText ListingText
+
+-- The query with other parts, each in place of its own.
+abbrev pub map_query :
+    {C N E T L C' N' E' T' L' : Type 0} → (C → C') → (N → N') → (E → E') → (T → T') → (L → L')
+    → queries.Query C N E T L → queries.Query C' N' E' T' L'
+map_query c n e t l (Sub lower upper) = Sub (c lower) (c upper)
+map_query c n e t l (Paths component) = Paths (n component)
+map_query c n e t l (Typed term type) = Typed (e term) (t type)
+map_query c n e t l (About asks goal) = About asks (t goal)
+map_query c n e t l (Page asks page) = Page asks (l page)
+
+-- A LINE
+-- The word that it begins with, and what the form of the word says.
+abbrev pub word_of : {C N E T L : Type 0} → queries.Query C N E T L → QueryWord
+word_of (Sub lower upper) = word.Sub
+word_of (Paths component) = word.Paths
+word_of (Typed term type) = word.Typed
+word_of (About asks goal) = word.About asks
+word_of (Page asks page) = word.Page asks
+
+abbrev pub values_of : (q : QueryText) → Values (form_of (word_of q))
+values_of (Sub lower upper) = (lower, (upper, tt))
+values_of (Paths component) = (component, tt)
+values_of (Typed term type) = (term, (type, tt))
+values_of (About asks goal) = (goal, tt)
+values_of (Page asks page) = (page.goal, (page.max, (page.take, option_map (λ e. (e, tt)) page.after)))
+
+-- Its words, and its parts: the words, each with what it is for.
+abbrev pub query_words : QueryText → List Word
+query_words q = name (word_text (word_of q)) ∷ line_words (form_of (word_of q)) (values_of q)
+
+abbrev pub query_parts : QueryText → List Part
+query_parts q = fixed (name (word_text (word_of q))) ∷ line_parts (form_of (word_of q)) (values_of q)
+
+-- Each name of it may stand where it does.
+abbrev pub QueryStands : QueryText → Type 0
+QueryStands q = LineStands (form_of (word_of q)) (values_of q)
+
+-- THE TABLES OF NAMES
 -- The names that have numbers.
 pub record Tables : Type 0 where
   pub constructors : List (List ℕ)
   pub components : List (List ℕ)
-
--- The parts of a line of one of the rows: its words, each with what it is for.
-abbrev pub row_parts : (rows : List Row) → LineOf rows → List Part
-row_parts [] v = absurd v
-row_parts (row ∷ rows) (inl v) = fixed (name row.first) ∷ line_parts row.form v
-row_parts (row ∷ rows) (inr v) = row_parts rows v
 
 abbrev pub tables_of : (constructors components : List (List ℕ)) → Tables
 tables_of constructors components = record { constructors = constructors; components = components }
@@ -51,9 +88,10 @@ abbrev pub with_names : List (List ℕ) → List Part → List (List ℕ)
 with_names constructors parts = with_texts constructors (constructors_named parts)
 
 -- The tables that hold the names of the query.
-abbrev pub with_query : Tables → LineOf query_rows → Tables
-with_query tables said = tables_of (with_names tables.constructors (row_parts query_rows said)) tables.components
+abbrev pub with_query : Tables → QueryText → Tables
+with_query tables said = tables_of (with_names tables.constructors (query_parts said)) tables.components
 
+-- WHAT THE LINE ASKS
 -- The type and the term that the texts spell, with the numbers of their names in the table.
 abbrev pub type_in : List (List ℕ) → TypeText → ClosedType
 type_in constructors t = closed (type_schema (number_of constructors) (λ x. 0) t)
@@ -62,32 +100,49 @@ abbrev pub term_in : List (List ℕ) → TermText → Applicative
 term_in components e = term_of (number_of components) e
 
 module _ (tables : Tables) where
-  -- TYPE max N take K, with `after TERM` at will
-  abbrev pub listing_of : Values listing_form → Listing
-  listing_of v = record {
-    goal = type_in tables.constructors v.0;
-    max = number_value v.1.0;
-    take = number_value v.1.1.0;
-    after = option_map (λ a. term_in tables.components a.0) v.1.1.1;
+  abbrev pub listing_of : ListingText → Listing
+  listing_of l = record {
+    goal = type_in tables.constructors l.goal;
+    max = number_value l.max;
+    take = number_value l.take;
+    after = option_map (term_in tables.components) l.after;
   }
 
-  -- What a line of the rows asks, in their order.
-  abbrev pub listing_query : LineOf listing_rows → Query
-  listing_query (inl v) = list (listing_of v)
-  listing_query (inr (inl v)) = texts (listing_of v)
-  listing_query (inr (inr v)) = absurd v
+  abbrev pub query_of : QueryText → Query
+  query_of said =
+      map_query (type_in tables.constructors) (number_of tables.components) (term_in tables.components)
+      (type_in tables.constructors) listing_of said
 
-  abbrev pub goal_query : LineOf goal_rows → Query
-  goal_query (inl v) = inhabit (type_in tables.constructors v.0)
-  goal_query (inr (inl v)) = grammar (type_in tables.constructors v.0)
-  goal_query (inr (inr (inl v))) = audit (type_in tables.constructors v.0)
-  goal_query (inr (inr (inr (inl v)))) = certify (type_in tables.constructors v.0)
-  goal_query (inr (inr (inr (inr (inl v))))) = verify (type_in tables.constructors v.0)
-  goal_query (inr (inr (inr (inr (inr (inl v)))))) = finite (type_in tables.constructors v.0)
-  goal_query (inr (inr (inr (inr (inr (inr v)))))) = listing_query v
+-- THE QUERIES BY THEIR WORDS
+abbrev pub sub : (lower upper : ClosedType) → Query
+sub lower upper = Sub lower upper
 
-  abbrev pub query_of : LineOf query_rows → Query
-  query_of (inl v) = sub (type_in tables.constructors v.0) (type_in tables.constructors v.1.0)
-  query_of (inr (inl v)) = paths (number_of tables.components v.0)
-  query_of (inr (inr (inl v))) = typed (term_in tables.components v.0) (type_in tables.constructors v.1.0)
-  query_of (inr (inr (inr v))) = goal_query v
+abbrev pub paths : (component : ℕ) → Query
+paths component = Paths component
+
+abbrev pub typed : (term : Applicative) → (type : ClosedType) → Query
+typed term type = Typed term type
+
+abbrev pub inhabit : (goal : ClosedType) → Query
+inhabit goal = About Inhabit goal
+
+abbrev pub grammar : (goal : ClosedType) → Query
+grammar goal = About Grammar goal
+
+abbrev pub audit : (goal : ClosedType) → Query
+audit goal = About Audit goal
+
+abbrev pub certify : (goal : ClosedType) → Query
+certify goal = About Certify goal
+
+abbrev pub verify : (goal : ClosedType) → Query
+verify goal = About Verify goal
+
+abbrev pub finite : (goal : ClosedType) → Query
+finite goal = About Finite goal
+
+abbrev pub list : Listing → Query
+list page = Page listing.List page
+
+abbrev pub texts : Listing → Query
+texts page = Page listing.Texts page

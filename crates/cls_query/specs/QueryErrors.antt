@@ -3,7 +3,6 @@ use Rattle.std.specs.Prelude.{ℕ, ◌≡◌, ◌<◌, Bool, true, false, not, �
 use Rattle.std.specs.Fmt.{decimal}
 use Rattle.std.specs.List.{list_any}
 use Rattle.std.specs.Str.{bytes_eq}
-use Rattle.std.proofs.Common.{inl, inr}
 use Rattle.cls_base.specs.Firsts.{Cause}
 use Rattle.cls_base.specs.Limits.{max_line_bytes, max_type_nodes}
 use Rattle.cls_lexer.specs.Numerals.{number_value}
@@ -12,13 +11,12 @@ use Rattle.cls_lexer.specs.Words.{words_of}
 use Rattle.cls_syntax.specs.declared.role.Role.TheVariants.{Component, TermComponent}
 use Rattle.cls_syntax.specs.Faults.{Says}
 use Rattle.cls_syntax.specs.Forms.{Form, nothing, ◌⨾◌, perhaps, names, numbers, types, anything, the_word, the_sign, a_name, a_number, a_type, a_term, Values, Part, naming, numeral}
-use Rattle.cls_syntax.specs.LineGrammars.{Row, LineOf, row_words, RowStands}
 use Rattle.cls_syntax.specs.SyntaxFaults.{IsTooDeep, LeavesAt}
 use Rattle.cls_syntax.specs.TypeSchemas.{is_dollar}
 use Rattle.cls_syntax.specs.TypeTexts.{TypeText, TypeList, last, more, type_nodes}
 use Rattle.std.specs.Prelude.{None}
-use Rattle.cls_query.specs.QueryForms.{query_rows}
-use Rattle.cls_query.specs.Queries.{Tables, row_parts}
+use Rattle.cls_query.specs.QueryForms.{form_of}
+use Rattle.cls_query.specs.Queries.{QueryText, Tables, word_of, values_of, query_words, query_parts, QueryStands}
 
 -- The types of a line in turn.
 abbrev pub list_of : TypeList → List TypeText
@@ -40,10 +38,8 @@ line_types (numbers l g) ds = []
 line_types types ts = list_of ts
 line_types anything ws = []
 
-abbrev pub row_types : (rows : List Row) → LineOf rows → List TypeText
-row_types [] v = absurd v
-row_types (row ∷ rows) (inl v) = line_types row.form v
-row_types (row ∷ rows) (inr v) = row_types rows v
+abbrev pub query_types : QueryText → List TypeText
+query_types q = line_types (form_of (word_of q)) (values_of q)
 
 -- The type has too many nodes.
 abbrev pub is_large : TypeText → Bool
@@ -77,9 +73,8 @@ place_words false byte = codes "syntax " ++ decimal byte
 
 module _ (line : List ℕ) where
   -- The line is a query, of which this holds.
-  abbrev pub IsQuery : (LineOf query_rows → Type 0) → Type 0
-  IsQuery P =
-      (said : LineOf query_rows) × Says (row_words query_rows) (RowStands query_rows) said (words_of line) × P said
+  abbrev pub IsQuery : (QueryText → Type 0) → Type 0
+  IsQuery P = (said : QueryText) × Says query_words QueryStands said (words_of line) × P said
 
   abbrev pub too_long : Cause (List ℕ)
   too_long t = (max_line_bytes < length line) × (t ≡ codes "long")
@@ -92,11 +87,11 @@ module _ (line : List ℕ) where
 
   abbrev pub leaves_table : Cause (List ℕ)
   leaves_table t =
-      (byte : ℕ) × (reserved : Bool) × LeavesAt (row_words query_rows) (RowStands query_rows) line byte reserved
+      (byte : ℕ) × (reserved : Bool) × LeavesAt query_words QueryStands line byte reserved
       × (t ≡ place_words reserved byte)
 
   abbrev pub too_many_nodes : Cause (List ℕ)
-  too_many_nodes t = IsQuery (λ said. list_any is_large (row_types query_rows said) ≡ true) × (t ≡ codes "nodes")
+  too_many_nodes t = IsQuery (λ said. list_any is_large (query_types said) ≡ true) × (t ≡ codes "nodes")
 
   -- The first `$` stands at the place.
   abbrev pub has_variable : Cause (List ℕ)
@@ -105,21 +100,21 @@ module _ (line : List ℕ) where
       × (t ≡ codes "variable " ++ decimal (byte_at line place))
 
   abbrev pub out_of_range : Cause (List ℕ)
-  out_of_range t = IsQuery (λ said. list_any is_outside (row_parts query_rows said) ≡ true) × (t ≡ codes "number")
+  out_of_range t = IsQuery (λ said. list_any is_outside (query_parts said) ≡ true) × (t ≡ codes "number")
 
   module _ (components : List (List ℕ)) where
     -- The first name of that kind is this one.
     abbrev pub unknown_component : Cause (List ℕ)
     unknown_component t =
         IsQuery (λ said. (x : List ℕ)
-        × (find (is_unknown components) (row_parts query_rows said) ≡ Some (naming Component x))
+        × (find (is_unknown components) (query_parts said) ≡ Some (naming Component x))
         × (t ≡ codes "unknown " ++ x))
 
     -- The first name of that kind stands at the place.
     abbrev pub unknown_in_term : Cause (List ℕ)
     unknown_in_term t =
         IsQuery (λ said. (place : ℕ)
-        × (position (is_unknown_in_term components) (row_parts query_rows said) ≡ Some place)
+        × (position (is_unknown_in_term components) (query_parts said) ≡ Some place)
         × (t ≡ codes "token " ++ decimal (byte_at line place)))
 
 -- The first one of these that applies is the error.

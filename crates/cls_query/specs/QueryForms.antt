@@ -1,11 +1,44 @@
--- The table of queries: the first word of each, and the form of what follows it.
-use Rattle.std.specs.Prelude.{List, [], ◌∷◌, codes}
+-- The words that queries begin with, and the form of what follows each.
+use Rattle.std.specs.Prelude.{ℕ, List, [], ◌∷◌, codes}
 use Rattle.cls_base.specs.Limits.{max_term_size, max_page_terms}
 use Rattle.cls_lexer.specs.declared.token.TokenKind.TheVariants.{Colon, AtMost}
 use Rattle.cls_syntax.specs.declared.role.Role.TheVariants.{Component}
 use Rattle.cls_syntax.specs.Forms.{Form, nothing, ◌⨾◌, perhaps, the_word, the_sign, a_name, a_number, a_type, a_term}
-use Rattle.cls_syntax.specs.LineGrammars.{Row}
+use Rattle.cls_query.specs.declared.word.GoalWord.{GoalWord}
+use Rattle.cls_query.specs.declared.word.GoalWord.TheVariants.{Inhabit, Grammar, Audit, Certify, Verify, Finite}
+use Rattle.cls_query.specs.declared.word.ListingWord.{ListingWord}
+use Rattle.cls_query.specs.declared.word.ListingWord.TheVariants as listing
+use Rattle.cls_query.specs.declared.word.QueryWord.{QueryWord}
+use Rattle.cls_query.specs.declared.word.QueryWord.TheVariants.{Sub, Paths, Typed, About, Page}
 
+-- THE WORDS
+abbrev pub goal_word_text : GoalWord → List ℕ
+goal_word_text Inhabit = codes "inhabit"
+goal_word_text Grammar = codes "grammar"
+goal_word_text Audit = codes "audit"
+goal_word_text Certify = codes "certify"
+goal_word_text Verify = codes "verify"
+goal_word_text Finite = codes "finite"
+
+abbrev pub listing_word_text : ListingWord → List ℕ
+listing_word_text listing.List = codes "list"
+listing_word_text listing.Texts = codes "texts"
+
+abbrev pub word_text : QueryWord → List ℕ
+word_text Sub = codes "sub"
+word_text Paths = codes "paths"
+word_text Typed = codes "typed"
+word_text (About word) = goal_word_text word
+word_text (Page word) = listing_word_text word
+
+-- all words that stand before one type, and all that stand before a listing
+abbrev pub goal_words : List GoalWord
+goal_words = Inhabit ∷ Grammar ∷ Audit ∷ Certify ∷ Verify ∷ Finite ∷ []
+
+abbrev pub listing_words : List ListingWord
+listing_words = listing.List ∷ listing.Texts ∷ []
+
+-- THE FORMS
 -- TYPE <= TYPE
 abbrev pub comparison_form : Form
 comparison_form = a_type ⨾ the_sign AtMost ⨾ a_type ⨾ nothing
@@ -34,28 +67,10 @@ listing_form =
     ⨾ the_word (codes "take") ⨾ a_number 1 max_page_terms
     ⨾ perhaps cursor_form
 
--- The queries that ask for a page.
-abbrev pub listing_rows : List Row
-listing_rows =
-    record { first = codes "list"; form = listing_form }
-    ∷ record { first = codes "texts"; form = listing_form }
-    ∷ []
-
--- The queries that ask for a page or of one type.
-abbrev pub goal_rows : List Row
-goal_rows =
-    record { first = codes "inhabit"; form = goal_form }
-    ∷ record { first = codes "grammar"; form = goal_form }
-    ∷ record { first = codes "audit"; form = goal_form }
-    ∷ record { first = codes "certify"; form = goal_form }
-    ∷ record { first = codes "verify"; form = goal_form }
-    ∷ record { first = codes "finite"; form = goal_form }
-    ∷ listing_rows
-
--- All queries.
-abbrev pub query_rows : List Row
-query_rows =
-    record { first = codes "sub"; form = comparison_form }
-    ∷ record { first = codes "paths"; form = component_form }
-    ∷ record { first = codes "typed"; form = typing_form }
-    ∷ goal_rows
+-- what follows the word
+abbrev pub form_of : QueryWord → Form
+form_of Sub = comparison_form
+form_of Paths = component_form
+form_of Typed = typing_form
+form_of (About word) = goal_form
+form_of (Page word) = listing_form

@@ -4,7 +4,9 @@ use Rattle.cls_base.specs.Limits.{max_term_size}
 use Rattle.cls_base.specs.Terms.{IsTermOver, length_of}
 use Rattle.cls_lexer.specs.Words.{Word}
 use Rattle.cls_syntax.specs.Fronts.{is_word}
-use Rattle.cls_query.specs.Queries.{Listing, Query, paths, typed, verify, list, texts}
+use Rattle.cls_query.specs.declared.query.Query.TheVariants.{Paths, Typed, About, Page}
+use Rattle.cls_query.specs.declared.word.GoalWord.TheVariants.{Verify}
+use Rattle.cls_query.specs.Queries.{Listing, Query}
 
 -- The page can be listed where there are n components: the greatest size is one that is allowed, some terms are asked
 -- for, and the cursor is a term over the components whose length fits 32 bits.
@@ -15,15 +17,14 @@ pub record IsPageAsked (n : ℕ) (q : Listing) : Type 0 where
 
 -- Each component that the query names is one of the n, and the page that it asks for can be listed.
 abbrev pub IsReadable : (n : ℕ) → Query → Type 0
-IsReadable n (paths x) = x < n
-IsReadable n (typed e t) = IsTermOver n e
-IsReadable n (list q) = IsPageAsked n q
-IsReadable n (texts q) = IsPageAsked n q
+IsReadable n (Paths x) = x < n
+IsReadable n (Typed e t) = IsTermOver n e
+IsReadable n (Page word q) = IsPageAsked n q
 IsReadable n _ = Unit {0}
 
 -- The query asks whether a certificate is one for its type.
 abbrev pub IsVerify : Query → Type 0
-IsVerify (verify t) = Unit {0}
+IsVerify (About Verify t) = Unit {0}
 IsVerify _ = ⊥
 
 -- The first word is this very name.

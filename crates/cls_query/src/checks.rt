@@ -1,5 +1,5 @@
 //! The errors of a line that is a query: what its types, its numbers and the names of components decide.
-ghost use Rattle.std.specs.Prelude.{◌≡◌, false, ◌+◌, ◌<◌, ◌^◌, [], ◌∷◌, length, find, position, IfOk, OnOk};
+ghost use Rattle.std.specs.Prelude.{◌≡◌, false, ◌+◌, ◌<◌, ◌≤◌, ◌^◌, length, find, position, IfOk, IfSome, OnOk};
 ghost use Rattle.std.specs.List.{list_any};
 ghost use Rattle.std.specs.Option.{option_map, SomeIff};
 ghost use Rattle.cls_lexer.specs.Numerals.{number_value};
@@ -8,189 +8,170 @@ ghost use Rattle.cls_syntax.specs.declared.role.Role.TheVariants.{Component};
 ghost use Rattle.cls_syntax.specs.ClosedTypes.{HasNoDollar};
 ghost use Rattle.cls_syntax.specs.Faults.{Says};
 ghost use Rattle.cls_syntax.specs.Forms.{naming};
-ghost use Rattle.cls_syntax.specs.LineGrammars.{row_words, RowStands};
 ghost use Rattle.cls_syntax.specs.SpelledTerms.{term_text};
 ghost use Rattle.cls_syntax.specs.SpelledTypes.{type_text};
 ghost use Rattle.cls_syntax.specs.TermTexts.{term_words};
 ghost use Rattle.cls_term.specs.TokenFaults as faults;
-ghost use Rattle.cls_query.specs.FormAnswers.{IsWithin, AreInRange, goal_says, form_says, term_spelled, spelled_in};
-ghost use Rattle.cls_query.specs.Queries.{row_parts};
-ghost use Rattle.cls_query.specs.QueryErrors.{row_types, is_large, is_outside, is_unknown, is_unknown_in_term};
-ghost use Rattle.cls_query.specs.QueryForms.{goal_rows, query_rows};
+ghost use Rattle.cls_query.specs.FormAnswers.{IsWithin, AreInRange, query_text, term_spelled, spelled_in, place_behind};
+ghost use Rattle.cls_query.specs.Queries.{query_words, query_parts, QueryStands};
+ghost use Rattle.cls_query.specs.QueryErrors.{query_types, is_large, is_outside, is_unknown, is_unknown_in_term};
 ghost use Rattle.cls_query.specs.Steps.{type_errors, value_errors, Tests};
 
 use crate::fault::LineFault;
-use crate::form::{GoalForm, ListingForm, QueryForm};
 use crate::greatest::greatest;
 use crate::line::CutLine;
+use crate::query::{Query, SpelledListing, SpelledQuery};
 use cls_base::limits::{MAX_PAGE_TERMS, MAX_TERM_SIZE};
 use cls_lexer::{Names, Numeral};
 use cls_syntax::{SpelledTerm, SpelledType, first_variable};
 use cls_term::{CodedTerm, first_unknown, spelled_term};
 use std::alloc::Global;
 
-impl<'t, 'a> QueryForm<'t, 'a> {
-    /// Whether its types are small and without variables.
-    pub fn check_types(&self, line: &CutLine<'t, 'a>) -> Result<(), LineFault<'a>>
-        requires { Says (row_words query_rows) (RowStands query_rows)
-            (form_says self.now) (words_of line.now.text.now) }
-        ensures tested { Tests (type_errors line.now.text.now) result }
-        ensures closed { OnOk result (HasNoDollar (words_of line.now.text.now)) }
-    {
-        if self.is_large() {
-            return Err(LineFault::TooManyNodes);
-        }
-        match first_variable(line.tokens) {
-            Some(place) => Err(LineFault::Variable(line.byte(place))),
-            None => Ok(()),
-        }
+/// Whether the types of the query are small and without variables.
+pub(crate) fn check_types<'t, 'a>(
+    query: &SpelledQuery<'t, 'a>,
+    line: &CutLine<'t, 'a>,
+) -> Result<(), LineFault<'a>>
+    requires { Says query_words QueryStands (query_text query.now) (words_of line.now.text.now) }
+    ensures tested { Tests (type_errors line.now.text.now) result }
+    ensures closed { OnOk result (HasNoDollar (words_of line.now.text.now)) }
+{
+    if has_large_type(query) {
+        return Err(LineFault::TooManyNodes);
     }
-
-    /// Whether its numbers are in their ranges and its components known, and then its term, if it has one. Each name of
-    /// the term is looked up once, or once more where one is unknown, to find the first of these.
-    pub fn check_values(
-        &self,
-        alloc: Global,
-        components: &Names,
-        line: &CutLine<'t, 'a>,
-    ) -> Result<Option<CodedTerm>, LineFault<'a>>
-        requires { Says (row_words query_rows) (RowStands query_rows)
-            (form_says self.now) (words_of line.now.text.now) }
-        ensures tested { Tests (value_errors line.now.text.now components.now) result }
-        ensures in_range { OnOk result (list_any is_outside (row_parts query_rows (form_says self.now)) ≡ false) }
-        ensures term { IfOk result (λ term. term ≡ option_map (spelled_in components.now) (term_spelled self.now)) }
-    {
-        if self.is_outside() {
-            return Err(LineFault::OutOfRange);
-        }
-        if let Some(name) = self.unknown(components) {
-            return Err(LineFault::UnknownComponent(name));
-        }
-        let Some(spelled) = self.term() else {
-            return Ok(None);
-        };
-        // An unknown name gets the number of components, which no component has.
-        let term = spelled_term(alloc, components, &spelled)?;
-        if greatest(&term) < components.len() {
-            return Ok(Some(term));
-        }
-        match self.unknown_in_term(components, line.tokens.len()) {
-            Some(place) => Err(LineFault::UnknownInTerm(line.byte(place))),
-            None => Ok(Some(term)),
-        }
-    }
-
-    /// Its term, if it has one.
-    fn term(&self) -> Option<SpelledTerm<'t, 'a>>
-        ensures { result ≡ term_spelled self.now }
-    {
-        match self {
-            QueryForm::Typed(term, _) => Some(*term),
-            QueryForm::Asks(GoalForm::Page(_, form)) => form.after,
-            _ => None,
-        }
-    }
-
-    /// Whether one of its types has too many nodes.
-    fn is_large(&self) -> bool
-        ensures { result ≡ list_any is_large (row_types query_rows (form_says self.now)) }
-    {
-        match self {
-            QueryForm::Sub(lower, upper) => is_large(lower) || is_large(upper),
-            QueryForm::Paths(_) => false,
-            QueryForm::Typed(_, goal) => is_large(goal),
-            QueryForm::Asks(form) => is_large(&form.goal()),
-        }
-    }
-
-    /// Whether one of its numbers isn't in its range.
-    fn is_outside(&self) -> bool
-        ensures { result ≡ list_any is_outside (row_parts query_rows (form_says self.now)) }
-    {
-        match self {
-            QueryForm::Sub(..) => false,
-            QueryForm::Paths(_) => false,
-            QueryForm::Typed(..) => false,
-            QueryForm::Asks(form) => form.is_outside(),
-        }
-    }
-
-    /// The component whose paths are asked for, if there is none of its name.
-    fn unknown(&self, components: &Names) -> Option<&'a str>
-        ensures { find (is_unknown components.now) (row_parts query_rows (form_says self.now))
-            ≡ option_map (λ name. naming Component name.now) result }
-    {
-        match self {
-            QueryForm::Sub(..) => None,
-            QueryForm::Paths(name) => match components.find(name) {
-                Some(_) => None,
-                None => Some(name),
-            },
-            QueryForm::Typed(..) => None,
-            QueryForm::Asks(_) => None,
-        }
-    }
-
-    /// The place of the first name in its term that is no component. The line has so many tokens.
-    fn unknown_in_term(&self, components: &Names, count: usize) -> Option<usize>
-        requires { length (row_parts query_rows (form_says self.now)) ≡ count }
-        ensures { result ≡ position (is_unknown_in_term components.now) (row_parts query_rows (form_says self.now)) }
-    {
-        match self {
-            QueryForm::Sub(..) => None,
-            QueryForm::Paths(_) => None,
-            QueryForm::Typed(term, _) => unknown_behind(components, term, 1),
-            QueryForm::Asks(form) => form.unknown_in_term(components, count),
-        }
+    match first_variable(line.tokens) {
+        Some(place) => Err(LineFault::Variable(line.byte(place))),
+        None => Ok(()),
     }
 }
 
-impl<'t, 'a> GoalForm<'t, 'a> {
-    /// The type that it asks of, or of whose terms it asks for a page.
-    pub fn goal(&self) -> SpelledType<'t, 'a>
-        ensures { row_types goal_rows (goal_says self.now) ≡ type_text result ∷ [] }
-    {
-        match self {
-            GoalForm::Goal(_, goal) => *goal,
-            GoalForm::Page(_, form) => form.goal,
-        }
+/// Whether the numbers of the query are in their ranges and its components known, and then its term, if it has one. Each
+/// name of the term is looked up once, or once more where one is unknown, to find the first of these.
+pub(crate) fn check_values<'t, 'a>(
+    alloc: Global,
+    query: &SpelledQuery<'t, 'a>,
+    components: &Names,
+    line: &CutLine<'t, 'a>,
+) -> Result<Option<CodedTerm>, LineFault<'a>>
+    requires { Says query_words QueryStands (query_text query.now) (words_of line.now.text.now) }
+    ensures tested { Tests (value_errors line.now.text.now components.now) result }
+    ensures in_range { OnOk result (list_any is_outside (query_parts (query_text query.now)) ≡ false) }
+    ensures term { IfOk result (λ term. term ≡ option_map (spelled_in components.now) (term_spelled query.now)) }
+{
+    if is_outside(query) {
+        return Err(LineFault::OutOfRange);
     }
-
-    /// Whether one of its numbers isn't in its range.
-    fn is_outside(&self) -> bool
-        ensures { result ≡ list_any is_outside (row_parts goal_rows (goal_says self.now)) }
-    {
-        match self {
-            GoalForm::Goal(..) => false,
-            GoalForm::Page(_, form) => form.numbers().is_none(),
-        }
+    if let Some(name) = unknown(query, components) {
+        return Err(LineFault::UnknownComponent(name));
     }
-
-    /// The place of the first name in its term that is no component. The line has so many tokens.
-    fn unknown_in_term(&self, components: &Names, count: usize) -> Option<usize>
-        requires { length (row_parts goal_rows (goal_says self.now)) ≡ count }
-        ensures { result ≡ position (is_unknown_in_term components.now) (row_parts goal_rows (goal_says self.now)) }
-    {
-        match self {
-            GoalForm::Goal(..) => None,
-            GoalForm::Page(_, form) => match &form.after {
-                Some(term) => unknown_behind(components, term, count - term.as_slice().len()),
-                None => None,
-            },
-        }
+    let Some(spelled) = term(query) else {
+        return Ok(None);
+    };
+    // An unknown name gets the number of components, which no component has.
+    let term = spelled_term(alloc, components, &spelled)?;
+    if greatest(&term) < components.len() {
+        return Ok(Some(term));
+    }
+    match unknown_in_term(query, components, line.tokens.len()) {
+        Some(place) => Err(LineFault::UnknownInTerm(line.byte(place))),
+        None => Ok(Some(term)),
     }
 }
 
-impl ListingForm<'_, '_> {
-    /// The numbers behind `max` and `take`, if both are in their ranges.
-    pub fn numbers(&self) -> Option<(u32, u32)>
-        ensures { SomeIff result (AreInRange self.now.max.text.now self.now.take.text.now)
-            (number_value self.now.max.text.now, number_value self.now.take.text.now) }
-    {
-        let max = number_within(&self.max, MAX_TERM_SIZE)?;
-        let take = number_within(&self.take, MAX_PAGE_TERMS)?;
-        Some((max, take))
+/// The term of the query, if it has one.
+fn term<'t, 'a>(query: &SpelledQuery<'t, 'a>) -> Option<SpelledTerm<'t, 'a>>
+    ensures { result ≡ term_spelled query.now }
+{
+    match query {
+        Query::Typed(term, _) => Some(*term),
+        Query::Page(_, listing) => listing.after,
+        _ => None,
     }
+}
+
+/// Whether one of the types of the query has too many nodes.
+fn has_large_type(query: &SpelledQuery) -> bool
+    ensures { result ≡ list_any is_large (query_types (query_text query.now)) }
+{
+    match query {
+        Query::Sub(lower, upper) => is_large(lower) || is_large(upper),
+        Query::Paths(_) => false,
+        Query::Typed(_, ty) => is_large(ty),
+        Query::About(_, goal) => is_large(goal),
+        Query::Page(_, listing) => has_large_goal(listing),
+    }
+}
+
+/// Whether the type of the listing has too many nodes.
+fn has_large_goal(listing: &SpelledListing) -> bool
+    ensures { result ≡ is_large (type_text listing.now.goal) }
+{
+    is_large(&listing.goal)
+}
+
+/// Whether one of the numbers of the query isn't in its range.
+fn is_outside(query: &SpelledQuery) -> bool
+    ensures { result ≡ list_any is_outside (query_parts (query_text query.now)) }
+{
+    match query {
+        Query::Sub(..) => false,
+        Query::Paths(_) => false,
+        Query::Typed(..) => false,
+        Query::About(..) => false,
+        Query::Page(_, listing) => numbers(listing).is_none(),
+    }
+}
+
+/// The component whose paths are asked for, if there is none of its name.
+fn unknown<'a>(query: &SpelledQuery<'_, 'a>, components: &Names) -> Option<&'a str>
+    ensures { find (is_unknown components.now) (query_parts (query_text query.now))
+        ≡ option_map (λ name. naming Component name.now) result }
+{
+    match query {
+        Query::Sub(..) => None,
+        Query::Paths(name) => match components.find(name) {
+            Some(_) => None,
+            None => Some(name),
+        },
+        Query::Typed(..) => None,
+        Query::About(..) => None,
+        Query::Page(..) => None,
+    }
+}
+
+/// The place of the first name in the term of the query that is no component. The line has so many tokens.
+fn unknown_in_term(query: &SpelledQuery, components: &Names, count: usize) -> Option<usize>
+    requires { length (query_parts (query_text query.now)) ≡ count }
+    ensures { result ≡ position (is_unknown_in_term components.now) (query_parts (query_text query.now)) }
+{
+    match query {
+        Query::Sub(..) => None,
+        Query::Paths(_) => None,
+        Query::Typed(term, _) => unknown_behind(components, term, 1),
+        Query::About(..) => None,
+        Query::Page(_, listing) => unknown_in_cursor(components, &listing.after, count),
+    }
+}
+
+/// The place of the first name of the cursor, if there is one, that is no component. It ends a line of so many tokens.
+fn unknown_in_cursor(components: &Names, after: &Option<SpelledTerm>, count: usize) -> Option<usize>
+    requires { IfSome after.now (λ term. length (term_words (term_text term)) ≤ count) }
+    ensures { result ≡ place_behind components.now count after.now }
+{
+    match after {
+        Some(term) => unknown_behind(components, term, count - term.as_slice().len()),
+        None => None,
+    }
+}
+
+/// The numbers behind `max` and `take`, if both are in their ranges.
+pub(crate) fn numbers(listing: &SpelledListing) -> Option<(u32, u32)>
+    ensures { SomeIff result (AreInRange listing.now.max.text.now listing.now.take.text.now)
+        (number_value listing.now.max.text.now, number_value listing.now.take.text.now) }
+{
+    let max = number_within(&listing.max, MAX_TERM_SIZE)?;
+    let take = number_within(&listing.take, MAX_PAGE_TERMS)?;
+    Some((max, take))
 }
 
 /// The number, if it is from 1 to the greatest one.

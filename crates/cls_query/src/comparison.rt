@@ -11,7 +11,7 @@ ghost use Rattle.cls_query.specs.ReadQueries.{asked_of, ReadsQuery};
 ghost use Rattle.cls_query.specs.Comparisons.{is_at_most, IsSmall, IsWholeClosed, AreBuilt};
 
 use crate::line::CutLine;
-use crate::query::Query;
+use crate::query::{BuiltQuery, Query};
 use cls_base::OutOfMemory;
 use cls_base::limits::MAX_TYPE_NODES;
 use cls_lexer::{Names, Token, TokenKind};
@@ -25,7 +25,7 @@ impl<'t, 'a> CutLine<'t, 'a> {
         &self,
         alloc: Global,
         constructors: &mut Names,
-    ) -> Result<Option<Query>, OutOfMemory>
+    ) -> Result<Option<BuiltQuery>, OutOfMemory>
         requires { IsText self.now.text.now }
         ensures read { IfOk result (λ read. IfSome read (λ query. (components : _)
             → ReadsQuery (tables_of constructors.old components) self.now.text.now (asked_of query) constructors.new)) }

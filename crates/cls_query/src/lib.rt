@@ -1,17 +1,19 @@
-//! Reads the line of a query: which of the eleven forms it is, with types, terms and numbers in place of texts, or the
-//! first of its errors.
+//! Reads the line of a query: its word, and what follows it with types, terms and numbers in place of texts, or the first
+//! of its errors.
 //!
-//! - [`read_query`] gives the [`Query`] or the [`LineFault`]. The names of constructors are numbered exactly if there
-//!   is no fault.
+//! - [`read_query`] gives the query or the [`LineFault`]. The names of constructors are numbered exactly if there is no
+//!   fault.
+//! - [`Query`] is a query, spelled or built: a [`BuiltQuery`] is what [`read_query`] gives.
 //! - [`LineFault::write_to`] writes the words of a fault.
 //! - [`laws`] holds what is true of every line.
 //!
-//! The table of forms stands in `specs/QueryForms`, and the errors in their order in `specs/QueryErrors`.
+//! The words and the forms of what follows them stand in `specs/QueryForms`, and the errors in their order in
+//! `specs/QueryErrors`.
 //!
-//! Inside, `comparison` reads a line with `sub` in one pass, where both its types can be built. Any other line is read
-//! by `form`, a table of forms; `checks` has the errors that come after the form, in their order, `greatest` finds the
-//! greatest number of a component in a term, `build` makes the query and numbers its names, and `reader` puts these
-//! together.
+//! Inside, `comparison` reads a line with `sub` in one pass, where both its types can be built. For any other line `word`
+//! finds the word and `form` reads what follows it; `checks` has the errors that come after the form, in their order,
+//! `greatest` finds the greatest number of a component in a term, `build` makes the query and numbers its names, and
+//! `reader` puts these together.
 #![tactic(auto)]
 
 mod build;
@@ -24,7 +26,9 @@ pub mod laws;
 mod line;
 mod query;
 mod reader;
+mod word;
 
 pub use fault::LineFault;
-pub use query::{Listing, Query};
+pub use query::{BuiltListing, BuiltQuery, Listing, Query};
 pub use reader::read_query;
+pub use word::{GoalWord, ListingWord, QueryWord};

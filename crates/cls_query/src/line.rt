@@ -3,7 +3,8 @@ ghost use Rattle.cls_lexer.specs.Tokens.{tokens_of, located};
 ghost use Rattle.cls_lexer.specs.Words.{words, words_of};
 
 use crate::fault::LineFault;
-use crate::form::{QueryForm, query_form};
+use crate::form::spelled_query;
+use crate::query::SpelledQuery;
 use cls_lexer::{Token, byte_at};
 use cls_syntax::{Stop, is_too_deep};
 
@@ -23,11 +24,10 @@ impl<'t, 'a> CutLine<'t, 'a> {
     ghost use Rattle.std.specs.Prelude.{◌-◌, ◌&&◌, Some, IfOk};
     ghost use Rattle.cls_lexer.specs.Tokens.{byte_at};
     ghost use Rattle.cls_syntax.specs.Faults.{Says};
-    ghost use Rattle.cls_syntax.specs.LineGrammars.{row_words, RowStands};
     ghost use Rattle.cls_syntax.specs.Sorts.{begins_reserved};
-    ghost use Rattle.cls_query.specs.FormAnswers.{form_says};
+    ghost use Rattle.cls_query.specs.FormAnswers.{query_text};
+    ghost use Rattle.cls_query.specs.Queries.{query_words, QueryStands};
     ghost use Rattle.cls_query.specs.QueryErrors.{place_words};
-    ghost use Rattle.cls_query.specs.QueryForms.{query_rows};
     ghost use Rattle.cls_query.specs.ReadQueries.{fault_words};
     ghost use Rattle.cls_query.specs.Steps.{spelling_errors, Tests};
 
@@ -38,22 +38,22 @@ impl<'t, 'a> CutLine<'t, 'a> {
         byte_at(self.text, self.tokens, place)
     }
 
-    /// The query as it is written.
-    pub fn form(&self) -> Result<QueryForm<'t, 'a>, LineFault<'a>>
+    /// The query as it is spelled.
+    pub fn spelled(&self) -> Result<SpelledQuery<'t, 'a>, LineFault<'a>>
         ensures tested { Tests (spelling_errors self.now.text.now) result }
-        ensures says { IfOk result (λ form. Says (row_words query_rows) (RowStands query_rows) (form_says form)
+        ensures says { IfOk result (λ query. Says query_words QueryStands (query_text query)
             (words_of self.now.text.now)) }
     {
         if is_too_deep(self.tokens) {
             return Err(LineFault::TooDeep);
         }
-        match query_form(self.tokens) {
-            Ok(form) => Ok(form),
+        match spelled_query(self.tokens) {
+            Ok(query) => Ok(query),
             Err(stop) => Err(self.left_at(&stop)),
         }
     }
 
-    /// The fault of a line that leaves the table of forms there.
+    /// The fault of a line that is no query any more there.
     fn left_at(&self, stop: &Stop) -> LineFault<'a>
         ensures { fault_words result
             ≡ Some (place_words (stop.now.wants_name && begins_reserved (words stop.now.rest.now))

@@ -1,43 +1,53 @@
+//! Queries, as they are spelled and as they are built.
+use crate::word::{GoalWord, ListingWord};
 use cls_base::{Name, Ty};
-use cls_syntax::MeasuredTy;
+use cls_lexer::Numeral;
+use cls_syntax::{MeasuredTy, SpelledTerm, SpelledType};
 use cls_term::{CodedTerm, Term};
 
-/// A page that is asked for.
+/// A page that is asked for: its type is a `T`, its numbers are of type `D`, and its cursor is an `E`.
 #[derive(Drop)]
-pub struct Listing {
+pub struct Listing<T, D, E> {
     /// The type of its terms.
-    pub goal: Ty,
+    pub goal: T,
     /// Their greatest size, from 1 to [`MAX_TERM_SIZE`](cls_base::limits::MAX_TERM_SIZE).
-    pub max: u32,
+    pub max: D,
     /// How many there may be, from 1 to [`MAX_PAGE_TERMS`](cls_base::limits::MAX_PAGE_TERMS).
-    pub take: u32,
+    pub take: D,
     /// The term after which the page begins.
-    pub after: Option<Term>,
+    pub after: Option<E>,
 }
 
-/// What a line asks.
+/// What a line asks. Types that are compared are of type `C`, names of type `N`, terms of type `E`, other types of
+/// type `T` and listings of type `L`.
 #[derive(Drop)]
-pub enum Query {
+pub enum Query<C, N, E, T, L> {
     /// `sub TYPE <= TYPE`: whether the first type is below the second.
-    Sub(MeasuredTy, MeasuredTy),
+    Sub(C, C),
     /// `paths NAME`: the paths of the component.
-    Paths(Name),
+    Paths(N),
     /// `typed TERM : TYPE`: whether the term has the type.
-    Typed(CodedTerm, Ty),
-    /// `inhabit TYPE`: whether a term has the type.
-    Inhabit(Ty),
-    /// `grammar TYPE`: the tree grammar of the terms of the type.
-    Grammar(Ty),
-    /// `audit TYPE`: which worker took and stored which row.
-    Audit(Ty),
-    /// `certify TYPE`: a certificate that a term has the type, or that none has.
-    Certify(Ty),
-    /// `verify TYPE`: whether the certificate that follows is one for the type.
-    Verify(Ty),
-    /// `finite TYPE`: how large the terms of the type are.
-    Finite(Ty),
-    /// `list TYPE max N take K`, with `after TERM` at will: a page of terms.
-    List(Listing),
-    /// `texts TYPE max N take K`, with `after TERM` at will: a page of terms with their texts.
-    Texts(Listing),
+    Typed(E, T),
+    /// `WORD TYPE`: what the word asks of the type.
+    About(GoalWord, T),
+    /// `WORD TYPE max N take K`, with `after TERM` at will: the page, as the word shows it.
+    Page(ListingWord, L),
 }
+
+/// A listing as it is spelled. Its numbers are any numerals.
+pub type SpelledListing<'t, 'a> = Listing<SpelledType<'t, 'a>, Numeral<'a>, SpelledTerm<'t, 'a>>;
+
+/// A query as it is spelled.
+pub type SpelledQuery<'t, 'a> = Query<
+    SpelledType<'t, 'a>,
+    &'a str,
+    SpelledTerm<'t, 'a>,
+    SpelledType<'t, 'a>,
+    SpelledListing<'t, 'a>,
+>;
+
+/// A listing with a type and a term in place of their texts. Its numbers are within their ranges.
+pub type BuiltListing = Listing<Ty, u32, Term>;
+
+/// A query with types and terms in place of their texts, and numbers in place of names.
+pub type BuiltQuery = Query<MeasuredTy, Name, CodedTerm, Ty, BuiltListing>;

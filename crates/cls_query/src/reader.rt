@@ -9,9 +9,11 @@ ghost use Rattle.cls_query.specs.ReadQueries.{fault_words, asked_of, ReadsQuery}
 ghost use Rattle.cls_query.specs.Readable.{IsReadable, IsVerify, begins_with};
 ghost use Rattle.cls_query.specs.Steps.{text_errors, Tests};
 
+use crate::build::build;
+use crate::checks::{check_types, check_values};
 use crate::fault::LineFault;
 use crate::line::CutLine;
-use crate::query::Query;
+use crate::query::BuiltQuery;
 use cls_lexer::{Line, Names, TextFault, Token};
 use std::alloc::Global;
 
@@ -26,7 +28,7 @@ pub fn read_query<'a, 'p>(
     components: &Names,
     line: &'a Line<'p>,
     room: &mut Vec<Token<'p>>,
-) -> Result<Query, LineFault<'a>>
+) -> Result<BuiltQuery, LineFault<'a>>
     ensures query { IfOk result (λ query.
         ReadsQuery (tables_of constructors.old components.now) line.now (asked_of query) constructors.new) }
     ensures fault { IfErr result (λ fault. IfSome (fault_words fault)
@@ -57,7 +59,7 @@ fn by_form<'a>(
     constructors: &mut Names,
     components: &Names,
     line: &CutLine<'_, 'a>,
-) -> Result<Query, LineFault<'a>>
+) -> Result<BuiltQuery, LineFault<'a>>
     requires { IsText line.now.text.now }
     ensures query { IfOk result (λ query. ReadsQuery (tables_of constructors.old components.now)
         line.now.text.now (asked_of query) constructors.new) }
@@ -65,10 +67,10 @@ fn by_form<'a>(
         (First (line_errors (tables_of constructors.old components.now) line.now.text.now))) }
     ensures stay { OnErr result (constructors.new ≡ constructors.old) }
 {
-    let form = line.form()?;
-    form.check_types(line)?;
-    let term = form.check_values(alloc, components, line)?;
-    Ok(form.query(alloc, constructors, components, term)?)
+    let spelled = line.spelled()?;
+    check_types(&spelled, line)?;
+    let term = check_values(alloc, &spelled, components, line)?;
+    Ok(build(alloc, &spelled, constructors, components, term)?)
 }
 
 /// The line as a text.

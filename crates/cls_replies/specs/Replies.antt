@@ -15,7 +15,10 @@ use Rattle.cls_library.specs.Libraries.{Library, below_in, variances_in, paths_a
 use Rattle.cls_library.specs.Typing.{HasTypeIn}
 use Rattle.cls_proof.specs.Certificates.{Certificate}
 use Rattle.cls_proof.specs.Texts.{certificate_text}
-use Rattle.cls_query.specs.Queries.{Listing, Query, sub, paths, typed, inhabit, grammar, audit, certify, verify, finite, list, texts}
+use Rattle.cls_query.specs.declared.query.Query.TheVariants.{Sub, Paths, Typed, About, Page}
+use Rattle.cls_query.specs.declared.word.GoalWord.TheVariants as word
+use Rattle.cls_query.specs.declared.word.ListingWord.TheVariants as listing
+use Rattle.cls_query.specs.Queries.{Listing, Query}
 use Rattle.cls_syntax.specs.TypePrinting.{name_in}
 use Rattle.cls_term.specs.Costs.{cost_of}
 use Rattle.cls_term.specs.Texts.{name_at}
@@ -54,23 +57,23 @@ module _ (s : Serving) where
 
   -- A query for a certificate isn't answered by its line alone.
   abbrev pub Reply : Query → List ℕ → Type 0
-  Reply (sub a b) text =
+  Reply (Sub a b) text =
       Says (Subtype (below_in s.engine.library.taxonomy) (variances_in s.engine.library.taxonomy) a b)
       (codes "yes") (codes "no") text
-  Reply (paths x) text = text ≡ paths_text s.names (paths_at s.engine.library x)
-  Reply (typed e t) text = Says (HasTypeIn s.engine.library e t) (codes "yes") (codes "no") text
-  Reply (inhabit t) text =
+  Reply (Paths x) text = text ≡ paths_text s.names (paths_at s.engine.library x)
+  Reply (Typed e t) text = Says (HasTypeIn s.engine.library e t) (codes "yes") (codes "no") text
+  Reply (About word.Inhabit t) text =
       Says ((e : Applicative) × HasTypeIn s.engine.library e t) (codes "inhabited") (codes "uninhabited") text
-  Reply (grammar t) text =
+  Reply (About word.Grammar t) text =
       (rows : List (Row Goal)) × IsClosed s.engine.library t rows
       × IsGrammarText (name_in s.names) (name_in s.components) rows text
-  Reply (audit t) text =
+  Reply (About word.Audit t) text =
       (events : List Entry) × IsHistoryOf s.engine.library s.engine.options.workers t events
       × (text ≡ history_text events)
-  Reply (certify t) text =
+  Reply (About word.Certify t) text =
       (c : Certificate) × IsCertified s.engine.library t c × (text ≡ certificate_text s.names s.components c)
-  Reply (verify t) text = ⊥
-  Reply (finite t) text =
+  Reply (About word.Verify t) text = ⊥
+  Reply (About word.Finite t) text =
       (sizes : FiniteAnswer) × TellsSizes s.engine.library (cost_of s.engine.costs) t sizes × (text ≡ sizes_text sizes)
-  Reply (list q) text = Lists q (term_line (name_at s.components)) text
-  Reply (texts q) text = Lists q (term_lines (name_at s.components) s.templates) text
+  Reply (Page listing.List q) text = Lists q (term_line (name_at s.components)) text
+  Reply (Page listing.Texts q) text = Lists q (term_lines (name_at s.components) s.templates) text

@@ -6,6 +6,7 @@ ghost use Rattle.cls_base.specs.Ty.{type_of};
 ghost use Rattle.cls_syntax.specs.MeasuredTypes.{measured_type};
 ghost use Rattle.cls_proof.specs.Seen.{certificate_of};
 ghost use Rattle.cls_check.specs.Verdicts.{rows_in};
+ghost use Rattle.cls_query.specs.declared.query.Query.TheVariants as queries;
 ghost use Rattle.cls_query.specs.Queries.{sub, typed, inhabit, grammar, audit, certify, finite, list, texts};
 ghost use Rattle.cls_query.specs.Readable.{IsPageAsked, IsReadable, IsVerify};
 ghost use Rattle.cls_query.specs.ReadQueries.{listing_of, asked_of};
@@ -26,7 +27,7 @@ use cls_base::{Gate, OutOfMemory, Ty};
 use cls_engine::EngineFault;
 use cls_enum::Page;
 use cls_proof::Certificate;
-use cls_query::{Listing, Query};
+use cls_query::{BuiltListing, BuiltQuery, GoalWord, Listing, ListingWord, Query};
 use cls_syntax::MeasuredTy;
 use cls_term::CodedTerm;
 use std::alloc::Global;
@@ -39,7 +40,7 @@ impl Serving {
         &mut self,
         rt: &R,
         alloc: Global,
-        query: &Query,
+        query: &BuiltQuery,
         gate: &G,
     ) -> Result<Printing, OutOfMemory>
         requires readable { IsReadable (length self.old.components) (asked_of query.now) }
@@ -52,14 +53,54 @@ impl Serving {
             Query::Sub(lower, upper) => text_printing(self.sub(alloc, lower, upper)),
             Query::Paths(name) => Ok(paths_printing(name.0)),
             Query::Typed(term, ty) => text_printing(self.typed(alloc, term, ty)),
-            Query::Inhabit(ty) => text_printing(self.inhabit(rt, alloc, ty, gate)),
-            Query::Grammar(ty) => self.grammar(rt, alloc, ty, gate),
-            Query::Audit(ty) => self.audit(rt, alloc, ty, gate),
-            Query::Certify(ty) => self.certify(rt, alloc, ty, gate),
-            Query::Verify(_) => unreachable!(),
-            Query::Finite(ty) => self.finite(rt, alloc, ty, gate),
-            Query::List(listing) => self.list(rt, alloc, listing, gate),
-            Query::Texts(listing) => self.texts(rt, alloc, listing, gate),
+            Query::About(asks, ty) => self.about(rt, alloc, *asks, ty, gate),
+            Query::Page(asks, listing) => self.show(rt, alloc, *asks, listing, gate),
+        }
+    }
+
+    /// What is written for a query about the type.
+    fn about<R: Threads + Wait + Sync, G: Gate + Sync>(
+        &mut self,
+        rt: &R,
+        alloc: Global,
+        asks: GoalWord,
+        ty: &Ty,
+        gate: &G,
+    ) -> Result<Printing, OutOfMemory>
+        requires { IsVerify (queries.About asks (type_of ty.now)) → ⊥ }
+        ensures answers { IfOk result (λ p.
+            Answers self.old (queries.About asks (type_of ty.now)) (left_of self.old p)) }
+        ensures printable { IfOk result (IsPrintable self.old) }
+        ensures same { self.new ≡ self.old }
+    {
+        match asks {
+            GoalWord::Inhabit => text_printing(self.inhabit(rt, alloc, ty, gate)),
+            GoalWord::Grammar => self.grammar(rt, alloc, ty, gate),
+            GoalWord::Audit => self.audit(rt, alloc, ty, gate),
+            GoalWord::Certify => self.certify(rt, alloc, ty, gate),
+            GoalWord::Verify => unreachable!(),
+            GoalWord::Finite => self.finite(rt, alloc, ty, gate),
+        }
+    }
+
+    /// What is written for a query for the page.
+    fn show<R: Threads + Wait + Sync, G: Gate + Sync>(
+        &mut self,
+        rt: &R,
+        alloc: Global,
+        asks: ListingWord,
+        listing: &BuiltListing,
+        gate: &G,
+    ) -> Result<Printing, OutOfMemory>
+        requires { IsPageAsked (length self.old.components) (listing_of listing.now) }
+        ensures answers { IfOk result (λ p.
+            Answers self.old (queries.Page asks (listing_of listing.now)) (left_of self.old p)) }
+        ensures printable { IfOk result (IsPrintable self.old) }
+        ensures same { self.new ≡ self.old }
+    {
+        match asks {
+            ListingWord::List => self.list(rt, alloc, listing, gate),
+            ListingWord::Texts => self.texts(rt, alloc, listing, gate),
         }
     }
 
@@ -184,7 +225,7 @@ impl Serving {
         &mut self,
         rt: &R,
         alloc: Global,
-        listing: &Listing,
+        listing: &BuiltListing,
         gate: &G,
     ) -> Result<Printing, OutOfMemory>
         requires { IsPageAsked (length self.old.components) (listing_of listing.now) }
@@ -202,7 +243,7 @@ impl Serving {
         &mut self,
         rt: &R,
         alloc: Global,
-        listing: &Listing,
+        listing: &BuiltListing,
         gate: &G,
     ) -> Result<Printing, OutOfMemory>
         requires { IsPageAsked (length self.old.components) (listing_of listing.now) }
@@ -221,7 +262,7 @@ impl Serving {
         &mut self,
         rt: &R,
         alloc: Global,
-        listing: &Listing,
+        listing: &BuiltListing,
         gate: &G,
     ) -> Result<Page, EngineFault>
         requires { IsPageAsked (length self.old.components) (listing_of listing.now) }

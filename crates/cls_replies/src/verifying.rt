@@ -1,14 +1,18 @@
 //! Queries about a certificate.
 ghost use Rattle.std.specs.Prelude.{◌≡◌, ◌<◌, ◌^◌, length, IfOk, OnOk, string_bytes};
+ghost use Rattle.cls_base.specs.Ty.{type_of};
+ghost use Rattle.cls_query.specs.Queries.{verify};
+ghost use Rattle.cls_query.specs.Readable.{IsVerify};
+ghost use Rattle.cls_query.specs.ReadQueries.{asked_of};
 ghost use Rattle.cls_replies.specs.Answering.{Verified};
 ghost use Rattle.cls_replies.specs.LineKinds.{Opens};
 
 use crate::faults::{line_fault, proof_fault};
 use crate::serving::Serving;
-use cls_base::OutOfMemory;
+use cls_base::{OutOfMemory, Ty};
 use cls_lexer::Line;
 use cls_proof::{HeldLines, read_certificate};
-use cls_query::{Query, read_query};
+use cls_query::{BuiltQuery, Query, read_query};
 use std::alloc::Global;
 
 impl Serving {
@@ -27,13 +31,26 @@ impl Serving {
     {
         let mut room = Vec::new(alloc);
         let goal = match read_query(alloc, &mut self.names, &self.components, line, &mut room) {
-            Ok(Query::Verify(goal)) => goal,
-            Ok(_) => unreachable!(),
+            Ok(query) => verified(query),
             Err(fault) => return line_fault(alloc, &fault),
         };
         match read_certificate(alloc, &mut self.names, &self.components, certificate) {
             Ok(read) => self.judge(alloc, &goal, &read),
             Err(fault) => proof_fault(alloc, &fault),
         }
+    }
+}
+
+/// The type of a query that asks for a verification.
+fn verified(query: BuiltQuery) -> Ty
+    requires { IsVerify (asked_of query) }
+    ensures { asked_of query ≡ verify (type_of result) }
+{
+    match query {
+        Query::About(_, goal) => goal,
+        Query::Sub(..) => unreachable!(),
+        Query::Paths(_) => unreachable!(),
+        Query::Typed(..) => unreachable!(),
+        Query::Page(..) => unreachable!(),
     }
 }

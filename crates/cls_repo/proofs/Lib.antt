@@ -1,9 +1,5 @@
 pub mod Causes
 pub mod Lines
-pub mod Tables
-pub mod TypeMeanings
-pub mod KindTypes
-pub mod FirstTypes
 pub mod Wrong
 pub mod Changes
 pub mod Columns

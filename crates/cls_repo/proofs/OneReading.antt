@@ -8,9 +8,10 @@ use Rattle.cls_base.specs.Firsts.{First, IsDetermined}
 use Rattle.cls_base.specs.Types.{ClosedType}
 use Rattle.cls_lexer.specs.Names.{number_of}
 use Rattle.cls_lexer.specs.Words.{words_of}
+use Rattle.cls_syntax.specs.ClosedTypes.{AreSpelled}
 use Rattle.cls_syntax.specs.TypeTexts.{TypeList, last, more}
 use Rattle.cls_syntax.proofs.ClosedAgain.{spelled-once}
-use Rattle.cls_repo.specs.Declarations.{with_names, with_kind, with_template, template_text, AreSpelled, AreChoices, Declares}
+use Rattle.cls_repo.specs.Declarations.{with_names, with_kind, with_template, template_text, AreChoices, Declares}
 use Rattle.cls_repo.specs.Directives.{Directive, sub, kind, comp, text, end, cost, variance, LineSays, is_end}
 use Rattle.cls_repo.specs.Drafts.{Draft}
 use Rattle.cls_repo.specs.Readings.{Reading, Takes, skipped, declares, Refuses, TakesAll, FirstFault, closing_faults}

@@ -30,7 +30,7 @@ use Rattle.cls_repo.specs.Declarations.{with_names, with_pair, with_kind, with_c
 use Rattle.cls_repo.specs.Directives.{sub, kind, comp, variance}
 use Rattle.cls_repo.specs.Drafts.{Component, Draft}
 use Rattle.cls_repo.proofs.Changes.{changed_set}
-use Rattle.cls_repo.proofs.KindTypes.{front_left, front_right}
+use Rattle.cls_syntax.proofs.ClosedLists.{front_left, front_right}
 
 -- one more pair
 pub pair_put : (d : Draft) (names : List (List ℕ)) (a b : List ℕ) (m n : ℕ) (pairs : List (ℕ × ℕ)) → names ≡ with_text (with_text d.names a) b → m ≡ number_of names a → n ≡ number_of names b

@@ -7,10 +7,10 @@ use Rattle.cls_base.specs.Taxonomies.{Variance, contravariant, invariant}
 use Rattle.cls_lexer.specs.Names.{number_of, with_texts}
 use Rattle.cls_lexer.specs.Numerals.{number_value}
 use Rattle.cls_lexer.specs.Tokens.{tokens_of, end_of}
-use Rattle.cls_syntax.specs.ClosedTypes.{Spells}
+use Rattle.cls_syntax.specs.ClosedTypes.{AreSpelled}
 use Rattle.cls_syntax.specs.Forms.{constructors_named, variables_named}
 use Rattle.cls_syntax.specs.TypeSchemas.{type_schema}
-use Rattle.cls_syntax.specs.TypeTexts.{TypeText, TypeList, last, more}
+use Rattle.cls_syntax.specs.TypeTexts.{TypeText, TypeList}
 use Rattle.cls_assemble.specs.declared.piece.Piece.{Piece}
 use Rattle.cls_assemble.specs.declared.piece.Piece.TheVariants.{Byte}
 use Rattle.cls_assemble.specs.Spelling.{IsTemplate}
@@ -43,13 +43,7 @@ with_names d said = record d {
   variables = with_texts d.variables (variables_named (parts_of said));
 }
 
--- The types that the texts spell, in order.
-abbrev pub AreSpelled : (List ℕ → ℕ) → TypeList → List ClosedType → Type 0
-AreSpelled number (last t) types = (type : ClosedType) × Spells number t type × (types ≡ type ∷ [])
-AreSpelled number (more t ts) types =
-    (type : ClosedType) × (rest : List ClosedType)
-    × Spells number t type × AreSpelled number ts rest × (types ≡ type ∷ rest)
-
+-- The types that the texts spell, none where there is no text.
 abbrev pub AreChoices : (List ℕ → ℕ) → Option TypeList → List ClosedType → Type 0
 AreChoices number None types = types ≡ []
 AreChoices number (Some ts) types = AreSpelled number ts types

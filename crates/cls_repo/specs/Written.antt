@@ -1,20 +1,15 @@
 -- internal: what the code's values say, and what its parts do with a line
-use Rattle.std.specs.Prelude.{ℕ, ◌≡◌, ◌<◌, Bool, false, List, [], ◌∷◌, ◌++◌, map, length, codes, Option, Some, None, MatchOption, IsTrue}
+use Rattle.std.specs.Prelude.{ℕ, ◌≡◌, Bool, false, List, [], ◌∷◌, ◌++◌, map, codes, Option, Some, None}
 use Rattle.std.specs.Option.{option_map}
 use Rattle.cls_base.specs.Firsts.{IsSilent, First}
 use Rattle.cls_base.specs.Schemas.{schema_of}
 use Rattle.cls_base.specs.Types.{ClosedType}
-use Rattle.cls_lexer.specs.declared.token.Token.{Token}
-use Rattle.cls_lexer.specs.declared.token.TokenKind.TheVariants.{Bar}
-use Rattle.cls_lexer.specs.Names.{number_of, with_texts}
+use Rattle.cls_lexer.specs.Names.{number_of}
 use Rattle.cls_lexer.specs.Skipped.{IsSkipped}
 use Rattle.cls_lexer.specs.Words.{words}
-use Rattle.cls_syntax.specs.ClosedTypes.{Spells, HasNoDollar}
+use Rattle.cls_syntax.specs.ClosedTypes.{AreSpelled}
 use Rattle.cls_syntax.specs.SpelledTypes.{type_text, types_text}
-use Rattle.cls_syntax.specs.Spans.{is_whole, types_in}
-use Rattle.cls_syntax.specs.TypeLists.{types_front}
-use Rattle.cls_syntax.specs.TypeSchemas.{constructors_in}
-use Rattle.cls_syntax.specs.TypeTexts.{TypeText, TypeList, last, more, type_words}
+use Rattle.cls_syntax.specs.TypeTexts.{TypeList}
 use Rattle.cls_taxon.specs.declared.fault.TaxonFault.{TaxonFault}
 use Rattle.cls_taxon.specs.declared.fault.TaxonFault.TheVariants.{Cycle, Mix, OutOfMemory}
 use Rattle.cls_taxon.specs.Faults.{IsFaultOf}
@@ -27,7 +22,7 @@ use Rattle.cls_repo.specs.declared.draft.Draft as code_draft
 use Rattle.cls_repo.specs.declared.repository.Columns as code_columns
 use Rattle.cls_repo.specs.Directives.{Directive, sub, kind, comp, text, end, cost, variance, LineSays, is_end}
 use Rattle.cls_repo.specs.Drafts.{Component, Draft}
-use Rattle.cls_repo.specs.Declarations.{with_names, with_kind, AreSpelled, Declares}
+use Rattle.cls_repo.specs.Declarations.{with_names, with_kind, Declares}
 use Rattle.cls_repo.specs.EndFaults.{declared_in, name_at}
 use Rattle.cls_repo.specs.LineFaults.{Fault, unknown_directive, too_deep, misspelled, directive_faults, line_faults}
 
@@ -65,22 +60,6 @@ pub record PutsKind (old : code_draft.Draft) (x : List ℕ) (ts : TypeList) (new
 -- nothing differs but the tables of names and variables
 abbrev pub IsBesideTables : code_draft.Draft → code_draft.Draft → Type 0
 IsBesideTables old new = draft_of new ≡ record (draft_of old) { names = new.names; variables = new.variables }
-
--- The rest are further types, fewer than before.
-pub record IsRest (tokens : List Token) (text : TypeText) (rest : List Token) : Type 0 where
-  pub list : types_in Bar (words tokens) ≡ more text (types_in Bar (words rest))
-  pub whole : IsTrue (is_whole (types_front Bar (words rest)))
-  pub closed : HasNoDollar (words rest)
-  pub fewer : length rest < length tokens
-
--- The first of the types that tokens spell was read, and the tokens behind the bar are left if there are more types.
-pub record FirstType
-    (tokens : List Token) (names : List (List ℕ)) (type : ClosedType) (rest : Option (List Token)) (new : List (List ℕ))
-    : Type 0 where
-  pub text : TypeText
-  pub spelled : Spells (number_of new) text type
-  pub table : new ≡ with_texts names (constructors_in false (type_words text))
-  pub left : MatchOption rest (types_in Bar (words tokens) ≡ last text) (IsRest tokens text)
 
 -- the faults of a line's words: no line of the table is spelled so
 abbrev pub spelling_faults : List ℕ → List Fault

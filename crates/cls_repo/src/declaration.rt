@@ -128,8 +128,7 @@ fn declare_kind(
     if let Some(place) = first_variable(line.tokens) {
         return Err(FaultKind::KindHasVariable(byte_at(line.text, line.tokens, place)));
     }
-    let (_, spelled) = line.tokens.split_at(3);
-    Ok(draft.put_kind(alloc, variable, spelled)?)
+    Ok(draft.put_kind(alloc, variable, &types)?)
 }
 
 /// Declares a component.

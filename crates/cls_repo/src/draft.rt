@@ -4,13 +4,12 @@ ghost use Rattle.std.specs.Prelude.{◌≡◌, length};
 ghost use Rattle.cls_base.specs.Taxa.{variance_of};
 ghost use Rattle.cls_repo.specs.Declarations.{variance_named};
 
-use crate::kind_types::read_types;
 use crate::numbering::{number_both, number_name};
 use cls_assemble::Template;
 use cls_base::{Name, OutOfMemory, Schema, Variance};
 use cls_kind::{Choices, Kinds};
-use cls_lexer::{Names, Token};
-use cls_syntax::SpelledType;
+use cls_lexer::Names;
+use cls_syntax::{SpelledType, SpelledTypes};
 use indexmap::IndexMap;
 use std::alloc::Global;
 
@@ -53,11 +52,9 @@ impl Draft {
     ghost use Rattle.cls_kind.specs.Kinds.{kind_of};
     ghost use Rattle.cls_lexer.specs.declared.token.TokenKind.TheVariants.{Bar};
     ghost use Rattle.cls_lexer.specs.Names.{number_of};
-    ghost use Rattle.cls_lexer.specs.Words.{words};
     ghost use Rattle.cls_syntax.specs.ClosedTypes.{HasNoDollar};
-    ghost use Rattle.cls_syntax.specs.Spans.{is_whole, types_in};
-    ghost use Rattle.cls_syntax.specs.SpelledTypes.{type_text};
-    ghost use Rattle.cls_syntax.specs.TypeLists.{types_front};
+    ghost use Rattle.cls_syntax.specs.SpelledTypes.{type_text, types_text};
+    ghost use Rattle.cls_syntax.specs.TypeLists.{types_words};
     ghost use Rattle.cls_repo.specs.Drafts.{no_draft};
     ghost use Rattle.cls_repo.specs.Declarations.{with_names, with_pair, with_component, with_template, with_cost, with_variance};
     ghost use Rattle.cls_repo.specs.Directives.{sub, comp, variance};
@@ -164,22 +161,21 @@ impl Draft {
         }
     }
 
-    /// Gives the types that the tokens spell as its kind to a variable that has none.
+    /// Gives the types that are spelled as its kind to a variable that has none.
     pub(crate) fn put_kind(
         &mut self,
         alloc: Global,
         variable: &str,
-        tokens: &[Token],
+        spelled: &SpelledTypes,
     ) -> Result<(), OutOfMemory>
         requires has_none { kind_of self.old.kinds (number_of self.old.variables variable.now) ≡ [] }
-        requires whole { IsTrue (is_whole (types_front Bar (words tokens.now))) }
-        requires closed { HasNoDollar (words tokens.now) }
-        ensures put { OnOk result (PutsKind self.old variable.now (types_in Bar (words tokens.now)) self.new) }
+        requires closed { HasNoDollar (types_words Bar (types_text spelled.now)) }
+        ensures put { OnOk result (PutsKind self.old variable.now (types_text spelled.now) self.new) }
         ensures unchanged { OnErr result (draft_of self.new ≡ draft_of self.old) }
     {
         let count = self.names.len();
         let variable_count = self.variables.len();
-        let made = self.push_kind(alloc, variable, tokens);
+        let made = self.push_kind(alloc, variable, spelled);
         if made.is_err() {
             self.names.cut(count);
             self.variables.cut(variable_count);
@@ -192,17 +188,16 @@ impl Draft {
         &mut self,
         alloc: Global,
         variable: &str,
-        tokens: &[Token],
+        spelled: &SpelledTypes,
     ) -> Result<(), OutOfMemory>
         requires has_none { kind_of self.old.kinds (number_of self.old.variables variable.now) ≡ [] }
-        requires whole { IsTrue (is_whole (types_front Bar (words tokens.now))) }
-        requires closed { HasNoDollar (words tokens.now) }
-        ensures put { OnOk result (PutsKind self.old variable.now (types_in Bar (words tokens.now)) self.new) }
+        requires closed { HasNoDollar (types_words Bar (types_text spelled.now)) }
+        ensures put { OnOk result (PutsKind self.old variable.now (types_text spelled.now) self.new) }
         ensures kept { take (length self.old.names) self.new.names ≡ self.old.names }
         ensures variables_kept { take (length self.old.variables) self.new.variables ≡ self.old.variables }
         ensures unchanged { OnErr result (IsBesideTables self.old self.new) }
     {
-        let choices = Choices::new(read_types(alloc, &mut self.names, tokens)?);
+        let choices = Choices::new(spelled.types(alloc, &mut self.names)?);
         let name = number_name(alloc, &mut self.variables, variable)?;
         self.kinds.add(name, choices)?;
         Ok(())

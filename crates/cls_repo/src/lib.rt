@@ -8,16 +8,15 @@
 //!   (`LineFaults`, `EndFaults`, `Readings`).
 //!
 //! Inside, `spelling` reads the tokens of a line by the table of forms in `directive`, `declaration` tests what a line
-//! says and declares it in a `draft`, where `numbering` and `kind_types` number its names, `reader` counts lines and
-//! goes from one to the next, and `repository` makes a library of a draft. In `specs/`, a `Draft` is what the code
-//! keeps; `LineFaults` and `EndFaults` are lists of causes, of which the first that applies is the fault.
+//! says and declares it in a `draft`, where `numbering` numbers its names, `reader` counts lines and goes from one to the
+//! next, and `repository` makes a library of a draft. In `specs/`, a `Draft` is what the code keeps; `LineFaults` and
+//! `EndFaults` are lists of causes, of which the first that applies is the fault.
 #![tactic(auto)]
 
 mod declaration;
 mod directive;
 mod draft;
 mod fault;
-mod kind_types;
 pub mod laws;
 mod numbering;
 mod reader;

@@ -7,7 +7,7 @@ use cls_lexer::Names;
 use std::alloc::Global;
 
 /// The number of the text. A new one goes last.
-#[tactic(auto, using(crate::proofs::Tables::numbers))]
+#[tactic(auto, using(cls_syntax::proofs::Tables::numbers))]
 pub(crate) fn number_name(alloc: Global, names: &mut Names, text: &str) -> Result<Name, OutOfMemory>
     ensures number { IfOk result (λ name. name.0 ≡ number_of names.new text.now) }
     ensures old_number { IfOk result (λ name. name.0 ≡ number_of names.old text.now) }
@@ -22,7 +22,7 @@ pub(crate) fn number_name(alloc: Global, names: &mut Names, text: &str) -> Resul
 }
 
 /// The numbers of two texts. New ones go last, the first of them first.
-#[tactic(auto, using(crate::proofs::Tables::numbers))]
+#[tactic(auto, using(cls_syntax::proofs::Tables::numbers))]
 pub(crate) fn number_both(
     alloc: Global,
     names: &mut Names,

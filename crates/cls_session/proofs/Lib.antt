@@ -13,15 +13,6 @@ pub mod Portions
 pub mod Outputs
 pub mod InputLoop
 pub mod Asked
-pub mod OnePage
-pub mod OneSize
-pub mod OneReply
-pub mod OneLine
-pub mod ByWorkers
-pub mod SameLine
-pub mod SkippedLines
 pub mod ComponentNames
 pub mod OneRepository
-pub mod OneTranscript
-pub mod OneOutput
-pub mod AuditLines
+pub mod RepositoryAnswers

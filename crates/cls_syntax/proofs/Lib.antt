@@ -1,9 +1,11 @@
 pub mod Building
 pub mod ClosedAgain
+pub mod ClosedLists
 pub mod ClosedReading
 pub mod Dollars
 pub mod Exactness
 pub mod FirstBars
+pub mod FirstTypes
 pub mod FrontFaults
 pub mod GrammarFronts
 pub mod GrowingTables
@@ -23,6 +25,7 @@ pub mod ReadTypes
 pub mod Regrouping
 pub mod ReservedNames
 pub mod SchemaImages
+pub mod Tables
 pub mod Tails
 pub mod TermReads
 pub mod TermShapeReads
@@ -33,6 +36,7 @@ pub mod TypeBytes
 pub mod TypeFaults
 pub mod TypeListReads
 pub mod TypeListSpans
+pub mod TypeMeanings
 pub mod TypeReads
 pub mod TypeRuns
 pub mod TypeShapeReads

@@ -1,5 +1,5 @@
 -- Types without variables among the types that may have some.
-use Rattle.std.specs.Prelude.{ℕ, ◌≡◌, false, List, Some, position}
+use Rattle.std.specs.Prelude.{ℕ, ◌≡◌, false, List, [], ◌∷◌, Some, position}
 use Rattle.std.specs.List.{list_any}
 use Rattle.cls_base.specs.Types as types
 use Rattle.cls_base.specs.Types.{ClosedType}
@@ -10,7 +10,7 @@ use Rattle.cls_syntax.specs.declared.syntax_fault.SyntaxFault.TheVariants.{TooDe
 use Rattle.cls_lexer.specs.Names.{number_of}
 use Rattle.cls_lexer.specs.Words.{Word, words_of}
 use Rattle.cls_lexer.specs.Tokens.{byte_at}
-use Rattle.cls_syntax.specs.TypeTexts.{TypeText}
+use Rattle.cls_syntax.specs.TypeTexts.{TypeText, TypeList, last, more}
 use Rattle.cls_syntax.specs.TypeSchemas.{is_dollar, type_schema}
 use Rattle.cls_syntax.specs.SyntaxFaults.{IsWholeType, IsNoType}
 
@@ -38,6 +38,13 @@ HasNoDollar ws = list_any is_dollar ws ≡ false
 -- The text spells the closed type, whatever numbers variables have.
 abbrev pub Spells : (List ℕ → ℕ) → TypeText → ClosedType → Type 0
 Spells constructor t closed = (variable : List ℕ → ℕ) → opened closed ≡ type_schema constructor variable t
+
+-- The types that the texts spell, in order.
+abbrev pub AreSpelled : (List ℕ → ℕ) → TypeList → List ClosedType → Type 0
+AreSpelled number (last t) types = (type : ClosedType) × Spells number t type × (types ≡ type ∷ [])
+AreSpelled number (more t ts) types =
+    (type : ClosedType) × (rest : List ClosedType)
+    × Spells number t type × AreSpelled number ts rest × (types ≡ type ∷ rest)
 
 -- The line spells the type, with the numbers that the table gives its names.
 pub record IsTypeIn (constructors : List (List ℕ)) (line : List ℕ) (type : ClosedType) : Type 0 where

@@ -3,6 +3,7 @@
 pub mod ClosedTypes
 pub mod Depths
 pub mod Faults
+pub mod FirstTypes
 pub mod Forms
 pub mod Fronts
 pub mod GoodForms

@@ -4,8 +4,8 @@
 //!   [`sign_at`], [`type_at`], [`types_at`], [`term_at`] and [`end_at`]. Each answers what stands there and what follows, or the
 //!   [`Stop`]: the first token that can't follow.
 //! - What spells a type is recognised with no memory, as [`SpelledType`]; [`SpelledType::schema`], [`SpelledType::ty`] and
-//!   [`SpelledType::measured_ty`] build it, with a stack of their own. [`read_measured_type`] builds over tokens that may spell a
-//!   type, [`closed_type`] over tokens that are known to spell one. A [`MeasuredTy`] is a closed type with its measures.
+//!   [`SpelledType::measured_ty`] build it, with a stack of their own, and [`SpelledTypes::types`] builds each of a list.
+//!   [`read_measured_type`] builds over tokens that may spell a type. A [`MeasuredTy`] is a closed type with its measures.
 //! - [`read_schema`] and [`read_type`] read a text that is one type, and [`print_type`] prints a type, [`write_type`] at the
 //!   end of a text.
 //! - [`laws`] holds what is true of every form of line and of every type.
@@ -14,7 +14,8 @@
 //! count parentheses. `schema_builder` builds a type that was recognised, by operator precedence (the shunting yard of
 //! Dijkstra, 1961) over the stack of `waiting_stack`, and `tree` has the trees that it builds: schemas, or the closed
 //! types of `measured`, which know their measures. `type_builder` builds closed types, also over tokens that may spell
-//! none. `interning` numbers the names of what is built, and `depth` counts open parentheses.
+//! none, and `type_list` those with bars between them. `interning` numbers the names of what is built, and `depth` counts
+//! open parentheses.
 //!
 //! In `specs/`, `Forms` has the forms of lines and their parts, `Roles` which names may stand where, `LineReading` and
 //! `LineGrammars` how a line is read, and `Faults` what the place of a fault is. A line of an own form is a constant of
@@ -40,6 +41,7 @@ mod syntax_fault;
 mod term_shape;
 mod tree;
 mod type_builder;
+mod type_list;
 mod type_shape;
 mod waiting_stack;
 mod word_list;
@@ -57,5 +59,5 @@ pub use spelled_type::SpelledType;
 pub use spelled_types::SpelledTypes;
 pub use stop::Stop;
 pub use syntax_fault::SyntaxFault;
-pub use type_builder::{closed_type, read_measured_type};
+pub use type_builder::read_measured_type;
 pub use word_list::{names_at, numbers_at};

@@ -62,7 +62,7 @@ pub(crate) fn measured_closed_type(
 
 /// The type that the tokens spell, which has no variable. Its names are numbered in the order of their tokens. The only
 /// error is out of memory, after which the table may have grown.
-pub fn closed_type(
+pub(crate) fn closed_type(
     alloc: Global,
     constructors: &mut Names,
     tokens: &[Token],

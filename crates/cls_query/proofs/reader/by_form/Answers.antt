@@ -1,49 +1,48 @@
 use Rattle.std.proofs.Common.{List, ℕ, sym, ap, ◌∙◌, subst, rules}
 use Rattle.cls_lexer.specs.Words.{Word}
 use Rattle.cls_syntax.specs.ClosedTypes.{HasNoDollar}
-use Rattle.cls_query.specs.FormAnswers.{form_says}
+use Rattle.cls_query.specs.FormAnswers.{query_text}
 use Rattle.cls_query.specs.Queries.{tables_of, query_of}
-use Rattle.cls_query.specs.QueryForms.{query_rows}
 use Rattle.cls_query.specs.ReadQueries.{fault_words}
-use Rattle.cls_query.proofs.ClosedTypes.{closed_row}
+use Rattle.cls_query.proofs.ClosedTypes.{closed_query}
 use Rattle.cls_query.proofs.LineSteps.{text_silent, by_spelling, by_types, by_values, all_silent}
 use Rattle.cls_query.proofs.reader.by_form.Goals as goal
 
-pub returns-in_err-form-clause-fault : goal.returns-in_err-form-clause-fault
-returns-in_err-form-clause-fault c =
+pub returns-in_err-spelled-clause-fault : goal.returns-in_err-spelled-clause-fault
+returns-in_err-spelled-clause-fault c =
     let tables = tables_of c.args.constructors.now c.args.components.now in
     let line = c.args.line.now.text.now in
-    let failed = by_spelling tables line (text_silent line c.requires) (fault_words c.in_err-form.field-0.0) c.in_err-form.ensures.tested in
+    let failed = by_spelling tables line (text_silent line c.requires) (fault_words c.in_err-spelled.field-0.0) c.in_err-spelled.ensures.tested in
     search (rules, failed)
 
 pub returns-in_err-check_types-clause-fault : goal.returns-in_err-check_types-clause-fault
 returns-in_err-check_types-clause-fault c =
     let tables = tables_of c.args.constructors.now c.args.components.now in
     let line = c.args.line.now.text.now in
-    let failed = by_types tables line (text_silent line c.requires) c.in_ok-form.ensures.tested (fault_words c.in_err-check_types.field-0.0) c.in_err-check_types.ensures.tested in
+    let failed = by_types tables line (text_silent line c.requires) c.in_ok-spelled.ensures.tested (fault_words c.in_err-check_types.field-0.0) c.in_err-check_types.ensures.tested in
     search (rules, failed)
 
 pub returns-in_err-term-clause-fault : goal.returns-in_err-term-clause-fault
 returns-in_err-term-clause-fault c =
     let tables = tables_of c.args.constructors.now c.args.components.now in
     let line = c.args.line.now.text.now in
-    let failed = by_values tables line (text_silent line c.requires) c.in_ok-form.ensures.tested c.in_ok-check_types.ensures.tested (fault_words c.in_err-term.field-0.0) c.in_err-term.ensures.tested in
+    let failed = by_values tables line (text_silent line c.requires) c.in_ok-spelled.ensures.tested c.in_ok-check_types.ensures.tested (fault_words c.in_err-term.field-0.0) c.in_err-term.ensures.tested in
     search (rules, failed)
 
-pub query-requires-clause-closed : goal.query-requires-clause-closed
-query-requires-clause-closed c =
-    closed_row query_rows (form_says c.in_ok-form.form)
-    (subst (λ (ws : List Word). HasNoDollar ws) (sym c.in_ok-form.ensures.says.spelled) c.in_ok-check_types.ensures.closed)
+pub build-requires-clause-closed : goal.build-requires-clause-closed
+build-requires-clause-closed c =
+    closed_query (query_text c.in_ok-spelled.spelled)
+    (subst (λ (ws : List Word). HasNoDollar ws) (sym c.in_ok-spelled.ensures.says.spelled) c.in_ok-check_types.ensures.closed)
 
 pub returns-clause-query : goal.returns-clause-query
 returns-clause-query c =
     let tables = tables_of c.args.constructors.now c.args.components.now in
     let line = c.args.line.now.text.now in
-    let said = form_says c.in_ok-form.form in
+    let said = query_text c.in_ok-spelled.spelled in
     record {
-      faultless = all_silent tables line (text_silent line c.requires) c.in_ok-form.ensures.tested c.in_ok-check_types.ensures.tested c.in_ok-term.ensures.tested;
+      faultless = all_silent tables line (text_silent line c.requires) c.in_ok-spelled.ensures.tested c.in_ok-check_types.ensures.tested c.in_ok-term.ensures.tested;
       said = said;
-      spelled = c.in_ok-form.ensures.says;
-      asked = c.in_ok-query.ensures.query ∙ ap (λ (names : List (List ℕ)). query_of (tables_of names c.args.components.now) said) c.in_ok-query.ensures.constructors;
-      numbered = c.in_ok-query.ensures.constructors;
+      spelled = c.in_ok-spelled.ensures.says;
+      asked = c.in_ok-build.ensures.query ∙ ap (λ (names : List (List ℕ)). query_of (tables_of names c.args.components.now) said) c.in_ok-build.ensures.constructors;
+      numbered = c.in_ok-build.ensures.constructors;
     }

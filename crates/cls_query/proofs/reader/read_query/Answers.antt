@@ -2,11 +2,10 @@ use Rattle.std.proofs.Common.{ℕ, List, subst}
 use Rattle.std.specs.Prelude.{IfErr, IfSome, length}
 use Rattle.cls_base.specs.Firsts.{First}
 use Rattle.cls_query.specs.declared.fault.LineFault.{LineFault}
-use Rattle.cls_query.specs.declared.query.Query as code
 use Rattle.cls_query.specs.Queries.{tables_of}
 use Rattle.cls_query.specs.QueryErrors.{line_errors}
 use Rattle.cls_query.specs.Readable.{IsReadable}
-use Rattle.cls_query.specs.ReadQueries.{fault_words, asked_of, ReadsQuery}
+use Rattle.cls_query.specs.ReadQueries.{BuiltQuery, fault_words, asked_of, ReadsQuery}
 use Rattle.cls_query.proofs.Readable.{query_readable, query_verify}
 use Rattle.cls_query.proofs.Searches.{if_ok_then}
 use Rattle.cls_query.proofs.reader.read_query.Goals as goal
@@ -29,4 +28,4 @@ returns-clause-fault c =
     subst (λ (l : List ℕ). IfErr c.by_form.result (λ (fault : LineFault). IfSome (fault_words fault) (First (line_errors tables l)))) c.in_ok-text.ensures.same c.by_form.ensures.fault
 
 pub returns-clause-readable : goal.returns-clause-readable
-returns-clause-readable c = if_ok_then (λ (q : code.Query). IsReadable (length c.args.components.now) (asked_of q)) c.by_form.result (λ q r. query_readable r) c.by_form.ensures.query
+returns-clause-readable c = if_ok_then (λ (q : BuiltQuery). IsReadable (length c.args.components.now) (asked_of q)) c.by_form.result (λ q r. query_readable r) c.by_form.ensures.query

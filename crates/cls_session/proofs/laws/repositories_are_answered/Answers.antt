@@ -1,4 +1,4 @@
-use Rattle.cls_session.proofs.OneOutput.{repositories_answered}
+use Rattle.cls_session.proofs.RepositoryAnswers.{repositories_answered}
 use Rattle.cls_session.proofs.laws.repositories_are_answered.Goals as goal
 
 pub returns : goal.returns

@@ -25,7 +25,5 @@ returns-in-Typed-clause-answers g c =
     let s = c.args.self.now in
     printing_as c.typed.result c.text_printing-in-Typed.result s (λ (t : List ℕ). Answers s (asked_of c.args.query.now) t) c.text_printing-in-Typed.ensures.text (rw c.in-Typed.is c.typed.ensures.answers)
 
-pub returns-in-Inhabit-clause-answers : goal.returns-in-Inhabit-clause-answers
-returns-in-Inhabit-clause-answers g c =
-    let s = c.args.self.now in
-    printing_as c.inhabit.result c.text_printing-in-Inhabit.result s (λ (t : List ℕ). Answers s (asked_of c.args.query.now) t) c.text_printing-in-Inhabit.ensures.text (rw c.in-Inhabit.is c.inhabit.ensures.answers)
+pub about-requires : goal.about-requires
+about-requires g c = rw c.in-About.is at c.requires.not_verify

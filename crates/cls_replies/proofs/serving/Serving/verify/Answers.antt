@@ -1,4 +1,4 @@
-use Rattle.std.proofs.Common.{◌≡◌, ◌≤◌, length, refl, ap, subst, arith}
+use Rattle.std.proofs.Common.{◌≡◌, ◌≤◌, length, refl, subst, arith}
 use Rattle.std.specs.Prelude.{Some, IfOk, string_bytes}
 use Rattle.std.specs.Option.{option_map}
 use Rattle.std.proofs.lemmas.Result.{IfOk-weaker}
@@ -6,7 +6,7 @@ use Rattle.cls_base.specs.Ty.{type_of}
 use Rattle.cls_check.specs.Verdicts.{rows_in}
 use Rattle.cls_proof.specs.Seen.{certificate_of}
 use Rattle.cls_query.specs.Queries.{Query, verify}
-use Rattle.cls_query.specs.ReadQueries.{asked_of, ReadsQuery}
+use Rattle.cls_query.specs.ReadQueries.{ReadsQuery}
 use Rattle.cls_query.specs.ReadQueries as queries
 use Rattle.cls_replies.specs.Answering.{Judges, Verifies, Verified}
 use Rattle.cls_replies.specs.Answering as answering
@@ -28,6 +28,9 @@ returns-in-Err-clause-verified c =
     (λ text e. answering.Verified.misread (misreads s m c.args.line.now (string_bytes text) (queries.fault_words c.in-Err.fault) c.in-Err.ensures.fault e
     (λ k. serving_of (c.in-Err.ensures.stay k) i.components i.templates i.engine (held_lines i.held)))) c.line_fault.ensures)
 
+pub verified-requires : goal.verified-requires
+verified-requires c = c.in-Ok.ensures.verify.1 c.requires.opens.begins
+
 pub judge-requires : goal.judge-requires
 judge-requires c =
     let h : rows_in (certificate_of c.in-Ok-read_certificate.read) ≤ length c.args.certificate = rows_few _ _ _ _ _ c.in-Ok-read_certificate.ensures.exact in
@@ -39,9 +42,9 @@ returns-in-Ok-read_certificate-clause-verified c =
     let s = serving_of i.names i.components i.templates i.engine (held_lines i.held) in
     let m = serving_of c.read_query.new.constructors i.components i.templates i.engine (held_lines i.held) in
     let n = serving_of c.read_certificate.new.names i.components i.templates i.engine (held_lines i.held) in
-    let t = type_of c.in-Ok-Verify.goal in
+    let t = type_of c.verified.result in
     let p = certificate_of c.in-Ok-read_certificate.read in
-    let reads : ReadsQuery (tables_in s) c.args.line.now (verify t) m.names = subst (λ (q : Query). ReadsQuery (tables_in s) c.args.line.now q m.names) (ap asked_of c.in-Ok-Verify.field-0-is) c.in-Ok-Verify.ensures.query in
+    let reads : ReadsQuery (tables_in s) c.args.line.now (verify t) m.names = subst (λ (q : Query). ReadsQuery (tables_in s) c.args.line.now q m.names) c.verified.ensures c.in-Ok.ensures.query in
     subst (λ (z : Serving). IfOk c.judge.result (λ text. Verified z c.args.line.now c.args.certificate (string_bytes text) n)) c.self.view_is
     (IfOk-weaker c.judge.result (λ text. Judges n t p (string_bytes text)) (λ text. Verified s c.args.line.now c.args.certificate (string_bytes text) n)
     (λ text j. answering.Verified.asked t m (reads, refl) (answering.Verifies.read p c.in-Ok-read_certificate.ensures.exact refl j)) c.judge.ensures)
@@ -52,8 +55,8 @@ returns-clause-verified c =
     let s = serving_of i.names i.components i.templates i.engine (held_lines i.held) in
     let m = serving_of c.read_query.new.constructors i.components i.templates i.engine (held_lines i.held) in
     let n = serving_of c.read_certificate.new.names i.components i.templates i.engine (held_lines i.held) in
-    let t = type_of c.in-Ok-Verify.goal in
-    let reads : ReadsQuery (tables_in s) c.args.line.now (verify t) m.names = subst (λ (q : Query). ReadsQuery (tables_in s) c.args.line.now q m.names) (ap asked_of c.in-Ok-Verify.field-0-is) c.in-Ok-Verify.ensures.query in
+    let t = type_of c.verified.result in
+    let reads : ReadsQuery (tables_in s) c.args.line.now (verify t) m.names = subst (λ (q : Query). ReadsQuery (tables_in s) c.args.line.now q m.names) c.verified.ensures c.in-Ok.ensures.query in
     subst (λ (z : Serving). IfOk c.proof_fault.result (λ text. Verified z c.args.line.now c.args.certificate (string_bytes text) n)) c.self.view_is
     (IfOk-weaker c.proof_fault.result (λ text. option_map error_line (proof_words c.in-Err-read_certificate.fault) ≡ Some (string_bytes text)) (λ text. Verified s c.args.line.now c.args.certificate (string_bytes text) n)
     (λ text e. answering.Verified.asked t m (reads, refl) (bads m n t c.args.certificate (string_bytes text) c.in-Err-read_certificate.fault (proof_words c.in-Err-read_certificate.fault) refl c.in-Err-read_certificate.ensures.exact e

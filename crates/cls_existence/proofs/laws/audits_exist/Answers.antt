@@ -1,5 +1,0 @@
-use Rattle.cls_existence.proofs.Known.{audits_exist}
-use Rattle.cls_existence.proofs.laws.audits_exist.Goals as goal
-
-pub returns : goal.returns
-returns c = audits_exist

@@ -1,5 +1,0 @@
-use Rattle.cls_existence.proofs.Known.{certificates_exist}
-use Rattle.cls_existence.proofs.laws.certificates_exist.Goals as goal
-
-pub returns : goal.returns
-returns c = certificates_exist

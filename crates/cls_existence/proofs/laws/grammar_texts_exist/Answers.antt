@@ -1,5 +1,0 @@
-use Rattle.cls_existence.proofs.Grammars.{grammar_texts_exist}
-use Rattle.cls_existence.proofs.laws.grammar_texts_exist.Goals as goal
-
-pub returns : goal.returns
-returns c = grammar_texts_exist

@@ -1,5 +1,0 @@
-use Rattle.cls_existence.proofs.Beginnings.{room_for_outputs_is_enough}
-use Rattle.cls_existence.proofs.laws.room_for_outputs_is_enough.Goals as goal
-
-pub returns : goal.returns
-returns c = room_for_outputs_is_enough

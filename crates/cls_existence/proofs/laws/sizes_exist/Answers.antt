@@ -1,5 +1,0 @@
-use Rattle.cls_existence.proofs.Known.{sizes_exist}
-use Rattle.cls_existence.proofs.laws.sizes_exist.Goals as goal
-
-pub returns : goal.returns
-returns c = sizes_exist

@@ -1,5 +1,0 @@
-use Rattle.cls_existence.proofs.Transcripts.{transcripts_go_on}
-use Rattle.cls_existence.proofs.laws.transcripts_go_on.Goals as goal
-
-pub returns : goal.returns
-returns c = transcripts_go_on

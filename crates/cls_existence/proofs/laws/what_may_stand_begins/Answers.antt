@@ -1,5 +1,0 @@
-use Rattle.cls_existence.proofs.Beginnings.{what_may_stand_begins}
-use Rattle.cls_existence.proofs.laws.what_may_stand_begins.Goals as goal
-
-pub returns : goal.returns
-returns c = what_may_stand_begins

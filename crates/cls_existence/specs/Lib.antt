@@ -1,4 +1,0 @@
-pub mod FedBack
-pub mod Histories
-pub mod Laws
-pub mod Possible

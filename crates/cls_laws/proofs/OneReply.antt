@@ -1,0 +1,141 @@
+-- What is written for a query that isn't an audit is one text.
+use Rattle.std.proofs.Common.{ℕ, suc, ◌≡◌, refl, sym, ◌∙◌, ap, subst, inl, inr, List, [], ◌∷◌, length, slice_get, Bool, codes, Option, Some, None, arith}
+use Rattle.cls_base.specs.Firsts.{First, IsDetermined}
+use Rattle.cls_base.specs.Pages.{Request}
+use Rattle.cls_base.specs.Terms.{Applicative}
+use Rattle.cls_base.specs.Types.{ClosedType}
+use Rattle.cls_base.specs.declared.rule.Rule.{Rule}
+use Rattle.cls_base.proofs.Firsts.{first-determined}
+use Rattle.cls_cert.specs.Conditions.{forms_of}
+use Rattle.cls_cert.specs.Making.{IsMadeFor}
+use Rattle.cls_cert.proofs.Ranking.{rank_same}
+use Rattle.cls_cert.proofs.Unique.{one_made}
+use Rattle.cls_core.specs.Rows.{Row}
+use Rattle.cls_grammar.specs.Grammars.{book_of, first_wide}
+use Rattle.cls_grammar.specs.GrammarTexts.{grammar_text}
+use Rattle.cls_grammar.specs.Ranks.{IsRankIn, AreRanks}
+use Rattle.cls_library.specs.Libraries.{Library}
+use Rattle.cls_library.specs.Typing.{HasTypeIn}
+use Rattle.cls_enum.specs.Requests.{request}
+use Rattle.cls_proof.specs.Certificates.{Certificate}
+use Rattle.cls_proof.specs.Texts.{certificate_text}
+use Rattle.cls_query.specs.declared.query.Query.TheVariants.{Sub, Paths, Typed, About, Page}
+use Rattle.cls_query.specs.declared.word.GoalWord.TheVariants as word
+use Rattle.cls_query.specs.declared.word.ListingWord.TheVariants as listing
+use Rattle.cls_query.specs.Queries.{Listing, Query, grammar, audit, certify, finite}
+use Rattle.cls_syntax.specs.TypePrinting.{name_in}
+use Rattle.cls_term.specs.Costs.{cost_of}
+use Rattle.cls_term.specs.Texts.{name_at}
+use Rattle.cls_term.proofs.Orders.{Before-strict_total}
+use Rattle.cls_engine.specs.declared.fault.EngineFault.{EngineFault}
+use Rattle.cls_engine.specs.declared.fault.EngineFault.TheVariants.{Wide}
+use Rattle.cls_engine.specs.Engines.{EngineSeen}
+use Rattle.cls_engine.specs.Faults.{compare_faults, closure_faults, list_faults}
+use Rattle.cls_engine.specs.Goals.{Goal, IsFirstWide}
+use Rattle.cls_engine.proofs.Goals.{closed_unique}
+use Rattle.cls_replies.specs.Serving.{Serving}
+use Rattle.cls_replies.specs.Texts.{page_text, sizes_text, term_line, term_lines, error_line, fault_words}
+use Rattle.cls_replies.specs.Errors.{faults_of}
+use Rattle.cls_replies.specs.Replies.{Says, Lists, Reply}
+use Rattle.cls_replies.specs.Answering.{Answers}
+use Rattle.cls_replies.specs.Answering as answering
+use Rattle.cls_laws.proofs.OnePage.{page_one, more_one}
+use Rattle.cls_laws.proofs.OneSize.{sizes_one}
+
+some_is : {A : Type 0} (o : Option A) (a b : A) → o ≡ Some a → o ≡ Some b → a ≡ b
+some_is o a b e f = cc
+
+says_one : (Fact : Type 0) (so not_so : List ℕ) → IsDetermined (Says Fact so not_so)
+says_one Fact so not_so t u (inl p) (inl q) = p.1 ∙ sym q.1
+says_one Fact so not_so t u (inl p) (inr q) = absurd (q.0 p.0)
+says_one Fact so not_so t u (inr p) (inl q) = absurd (p.0 q.0)
+says_one Fact so not_so t u (inr p) (inr q) = p.1 ∙ sym q.1
+
+-- WHAT THE ENGINE CAN'T DO
+module _ (lib : Library) (t : ClosedType) where
+  wide_one : IsDetermined (λ f. (g : Goal) × IsFirstWide lib t g × (f ≡ Wide g))
+  wide_one f f' p q =
+      let rows : p.1.0 ≡ q.1.0 = closed_unique lib t p.1.0 q.1.0 p.1.1 q.1.1 in
+      let goal : p.0 ≡ q.0 = some_is (first_wide q.1.0) p.0 q.0 (subst (λ (rs : List (Row Goal)). first_wide rs ≡ Some p.0) rows p.1.2) q.1.2 in
+      p.2 ∙ (ap (λ (g : Goal). Wide g) goal ∙ sym q.2)
+
+module _ (e : EngineSeen) where
+  compare_one : (ts : List ClosedType) → IsDetermined (First (compare_faults ts))
+  compare_one ts = first-determined (compare_faults ts) ((λ f g p q. p.1 ∙ sym q.1), tt)
+
+  closure_one : (t : ClosedType) → IsDetermined (First (closure_faults e.library e.options t))
+  closure_one t = first-determined (closure_faults e.library e.options t) ((λ f g p q. p.1 ∙ sym q.1), ((λ f g p q. p.1 ∙ sym q.1), (wide_one e.library t, tt)))
+
+  list_one : (t : ClosedType) (r : Request) → IsDetermined (First (list_faults e.library e.options t r))
+  list_one t r = first-determined (list_faults e.library e.options t r)
+      ((λ f g p q. p.1 ∙ sym q.1), ((λ f g p q. p.1 ∙ sym q.1), (wide_one e.library t, ((λ f g p q. p.1 ∙ sym q.1), tt))))
+
+  pub fault_one : (q : Query) → IsDetermined (First (faults_of e q))
+  fault_one (Sub a b) = compare_one (a ∷ b ∷ [])
+  fault_one (Paths x) = λ f g h k. absurd h
+  fault_one (Typed u t) = compare_one (t ∷ [])
+  fault_one (About word.Verify t) = compare_one (t ∷ [])
+  fault_one (About asks t) = closure_one t
+  fault_one (Page asks q) = list_one q.goal (request e.costs q.after q.max q.take)
+
+-- THE REPLIES
+-- lists of one length with the same elements at each place
+same_at_each : {A : Type 0} (xs ys : List A) → length xs ≡ length ys → ((i : ℕ) (x y : A) → slice_get xs i ≡ Some x → slice_get ys i ≡ Some y → x ≡ y) → xs ≡ ys
+same_at_each [] [] l h = refl
+same_at_each [] (y ∷ ys) l h = absurd (omega arith)
+same_at_each (x ∷ xs) [] l h = absurd (omega arith)
+same_at_each (x ∷ xs) (y ∷ ys) l h = ap (λ z. z ∷ xs) (h 0 x y refl refl) ∙ ap (λ zs. y ∷ zs) (same_at_each xs ys (omega arith) (λ i a b e f. h (suc i) a b e f))
+
+module _ (book : List (List (Rule ℕ))) where
+  rank_one : (i : ℕ) (a b : Option ℕ) → IsRankIn book i a → IsRankIn book i b → a ≡ b
+  rank_one i None None h k = refl
+  rank_one i None (Some m) h k = absurd (h (m, k.tree))
+  rank_one i (Some n) None h k = absurd (k (n, h.tree))
+  rank_one i (Some n) (Some m) h k = ap (λ (x : ℕ). Some x) (rank_same book i n m h k)
+
+  ranks_one : (xs ys : List (Option ℕ)) → AreRanks book xs → AreRanks book ys → xs ≡ ys
+  ranks_one xs ys h k = same_at_each xs ys (h.count ∙ sym k.count) (λ i x y e f. rank_one i x y (h.each i x e) (k.each i y f))
+
+module _ (s : Serving) where
+  lists_one : (q : Listing) (shown : Applicative → List ℕ) → IsDetermined (Lists s q shown)
+  lists_one q shown t u h k =
+      let r = request s.engine.costs q.after q.max q.take in
+      let IsListed : Applicative → Type 0 = λ e. HasTypeIn s.engine.library e q.goal in
+      let order = Before-strict_total r.cost in
+      h.written
+      ∙ (ap (λ (es : List Applicative). page_text shown es h.more) (page_one IsListed r order h.terms k.terms h.more k.more h.page k.page)
+      ∙ (ap (λ (m : Bool). page_text shown k.terms m) (more_one IsListed r order h.terms k.terms h.more k.more h.page k.page) ∙ sym k.written))
+
+  grammar_one : (t : ClosedType) → IsDetermined (Reply s (grammar t))
+  grammar_one t u w p q =
+      let rows : p.0 ≡ q.0 = closed_unique s.engine.library t p.0 q.0 p.1 q.1 in
+      let ranks : p.2.0 ≡ q.2.0 = ranks_one (book_of q.0) p.2.0 q.2.0 (subst (λ (rs : List (Row Goal)). AreRanks (book_of rs) p.2.0) rows p.2.1) q.2.1 in
+      p.2.2 ∙ ((λ i. grammar_text (name_in s.names) (name_in s.components) (rows i) (ranks i)) ∙ sym q.2.2)
+
+  certificate_one : (t : ClosedType) → IsDetermined (Reply s (certify t))
+  certificate_one t u w p q =
+      let rows : p.1.0 ≡ q.1.0 = closed_unique s.engine.library t p.1.0 q.1.0 p.1.1 q.1.1 in
+      let same : p.0 ≡ q.0 = one_made s.engine.library (forms_of q.1.0) (book_of q.1.0) p.0 q.0 (subst (λ (rs : List (Row Goal)). IsMadeFor s.engine.library rs p.0) rows p.1.2) q.1.2 in
+      p.2 ∙ (ap (λ (c : Certificate). certificate_text s.names s.components c) same ∙ sym q.2)
+
+  finite_one : (t : ClosedType) → IsDetermined (Reply s (finite t))
+  finite_one t u w p q = p.2 ∙ (ap sizes_text (sizes_one s.engine.library (cost_of s.engine.costs) t p.0 q.0 p.1 q.1) ∙ sym q.2)
+
+  reply_one : (q : Query) → ((t : ClosedType) → q ≡ audit t → ⊥) → IsDetermined (Reply s q)
+  reply_one (Sub a b) n = says_one _ (codes "yes") (codes "no")
+  reply_one (Paths x) n = λ t u p q. p ∙ sym q
+  reply_one (Typed e t) n = says_one _ (codes "yes") (codes "no")
+  reply_one (About word.Inhabit t) n = says_one _ (codes "inhabited") (codes "uninhabited")
+  reply_one (About word.Grammar t) n = grammar_one t
+  reply_one (About word.Audit t) n = absurd (n t refl)
+  reply_one (About word.Certify t) n = certificate_one t
+  reply_one (About word.Verify t) n = λ u w p q. absurd p
+  reply_one (About word.Finite t) n = finite_one t
+  reply_one (Page listing.List q) n = lists_one q (term_line (name_at s.components))
+  reply_one (Page listing.Texts q) n = lists_one q (term_lines (name_at s.components) s.templates)
+
+  pub answer_one : (q : Query) → ((t : ClosedType) → q ≡ audit t → ⊥) → IsDetermined (Answers s q)
+  answer_one q n t u (answering.Answers.failed f h e) (answering.Answers.failed g k d) = e ∙ (ap (λ (x : EngineFault). error_line (fault_words s.names x)) (fault_one s.engine q f g h k) ∙ sym d)
+  answer_one q n t u (answering.Answers.failed f h e) (answering.Answers.replied silent r) = absurd (silent f h)
+  answer_one q n t u (answering.Answers.replied silent r) (answering.Answers.failed g k d) = absurd (silent g k)
+  answer_one q n t u (answering.Answers.replied silent p) (answering.Answers.replied silent' r) = reply_one q n t u p r

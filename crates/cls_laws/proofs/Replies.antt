@@ -1,0 +1,300 @@
+-- Each line has a reply, by whatever answers the lines after a repository.
+use Rattle.std.proofs.Common.{ℕ, ◌≡◌, ◌≤◌, ◌<◌, ◌⊎◌, inl, inr, refl, sym, subst, arith, List, [], ◌∷◌, ◌++◌, length}
+use Rattle.std.specs.Prelude.{codes}
+use Rattle.std.specs.Fmt.{decimal}
+use Rattle.cls_base.specs.Firsts.{Cause, First, IsSilent}
+use Rattle.cls_base.specs.Limits.{max_line_bytes}
+use Rattle.cls_base.specs.Subtyping.{Subtype}
+use Rattle.cls_base.specs.Terms.{Applicative}
+use Rattle.cls_base.specs.Types.{ClosedType}
+use Rattle.cls_core.specs.declared.entry.Entry.{Entry}
+use Rattle.cls_core.specs.Rows.{Row}
+use Rattle.cls_enum.specs.Requests.{request}
+use Rattle.cls_finite.specs.declared.answer.FiniteAnswer.{FiniteAnswer}
+use Rattle.cls_grammar.specs.GrammarTexts.{IsGrammarText}
+use Rattle.cls_lexer.specs.Skipped.{IsSkipped}
+use Rattle.cls_library.specs.Libraries.{IsLibrary, below_in, variances_in, paths_at}
+use Rattle.cls_library.specs.Typing.{HasTypeIn}
+use Rattle.cls_proof.specs.declared.proof_fault.ProofFault.TheVariants.{BadLine, NoQed}
+use Rattle.cls_proof.specs.Certificates.{Certificate}
+use Rattle.cls_proof.specs.Reading.{SaysCertificate}
+use Rattle.cls_proof.specs.Texts.{certificate_text}
+use Rattle.cls_query.specs.declared.query.Query.TheVariants.{Sub, Paths, Typed, About, Page}
+use Rattle.cls_query.specs.declared.word.GoalWord.TheVariants as word
+use Rattle.cls_query.specs.declared.word.ListingWord.TheVariants as listing
+use Rattle.cls_query.specs.Queries.{Listing, Query, grammar, audit, certify, verify, finite}
+use Rattle.cls_query.specs.QueryErrors.{line_errors}
+use Rattle.cls_query.specs.Readable.{IsReadable, IsVerify}
+use Rattle.cls_query.specs.ReadQueries.{ReadsQuery}
+use Rattle.cls_query.proofs.QueryErrors.{lines_decided}
+use Rattle.cls_query.proofs.Readable.{query_readable, query_verify}
+use Rattle.cls_syntax.specs.TypePrinting.{name_in}
+use Rattle.cls_term.specs.Costs.{cost_of}
+use Rattle.cls_term.specs.Texts.{name_at}
+use Rattle.cls_engine.specs.declared.fault.EngineFault.{EngineFault}
+use Rattle.cls_engine.specs.declared.fault.EngineFault.TheVariants.{TooManyTerms}
+use Rattle.cls_engine.specs.declared.verdict.Verdict.TheVariants.{Accepted, Refused}
+use Rattle.cls_engine.specs.Certified.{IsCertified}
+use Rattle.cls_engine.specs.Faults.{closure_faults, AreSilent}
+use Rattle.cls_engine.specs.Goals.{Goal, IsClosed, HasLargePool}
+use Rattle.cls_engine.specs.Histories.{IsHistoryOf}
+use Rattle.cls_replies.specs.Answering.{Answers, Answered, Judges, Verifies, Verified, IsMisread}
+use Rattle.cls_replies.specs.Answering as answering
+use Rattle.cls_replies.specs.Errors.{faults_of}
+use Rattle.cls_replies.specs.LineKinds.{Opens, IsQed}
+use Rattle.cls_replies.specs.Lines.{Goes, Ends, Replies}
+use Rattle.cls_replies.specs.Lines as lines
+use Rattle.cls_replies.specs.Replies.{Says, Lists, Reply, TellsSizes}
+use Rattle.cls_replies.specs.Serving.{Serving, tables_in, with_names, holding, AreHeld}
+use Rattle.cls_replies.specs.Texts.{reply_line, error_line, fault_words, verdict_text, paths_text, history_text, sizes_text, term_line, term_lines, page_text}
+use Rattle.cls_laws.specs.Existence.{HasReading, HasVerdict}
+use Rattle.cls_laws.specs.Possible.{IsPossible}
+use Rattle.cls_laws.proofs.Classical.{surely, then, after, either_way, first_decided}
+use Rattle.cls_laws.proofs.Grammars.{grammar_texts_exist}
+use Rattle.cls_laws.proofs.Known.{types_have_closures, audits_exist, certificates_exist, sizes_exist, pages_exist}
+use Rattle.cls_laws.proofs.Readings.{readings_exist}
+use Rattle.cls_laws.proofs.Verdicts.{verdicts_exist}
+
+-- What answers lines by a library, whose components cost at least 1. The lines that are held were opened.
+pub record CanAnswer (s : Serving) : Type 0 where
+  pub library : IsLibrary s.engine.library
+  pub costly : (x : ℕ) → 0 < cost_of s.engine.costs x
+  pub opened : AreHeld s.held
+
+-- no front of causes applies if none of all of them does
+front_silent : (xs ys : List (Cause EngineFault)) → AreSilent (xs ++ ys) → AreSilent xs
+front_silent [] ys h f k = k
+front_silent (x ∷ xs) ys h f (inl k) = h f (inl k)
+front_silent (x ∷ xs) ys h f (inr (none, k)) = front_silent xs ys (λ g m. h g (inr (none, m))) f k
+
+-- THE REPLY TO A QUERY
+module _ (s : Serving) (can : CanAnswer s) where
+  says_by : (Fact : Type 0) (so not_so : List ℕ) → Fact ⊎ (Fact → ⊥) → (text : List ℕ) × Says Fact so not_so text
+  says_by Fact so not_so (inl f) = (reply_line so, inl (f, refl))
+  says_by Fact so not_so (inr n) = (reply_line not_so, inr (n, refl))
+
+  says_exist : (Fact : Type 0) (so not_so : List ℕ) → IsPossible ((text : List ℕ) × Says Fact so not_so text)
+  says_exist Fact so not_so = after (either_way Fact) (says_by Fact so not_so)
+
+  lists_exist : (q : Listing) (shown : Applicative → List ℕ) → AreSilent (closure_faults s.engine.library s.engine.options q.goal) → 1 ≤ q.take → IsPossible ((text : List ℕ) × Lists s q shown text)
+  lists_exist q shown silent some =
+      after (pages_exist s.engine.library can.library s.engine.options q.goal silent (request s.engine.costs q.after q.max q.take) can.costly (omega arith))
+      (λ p. (page_text shown p.0 p.1, record { terms = p.0; more = p.1; page = p.2; written = refl }))
+
+  abbrev HasReply : Query → Type 0
+  HasReply q = (text : List ℕ) × Reply s q text
+
+  grammar_reply : (t : ClosedType) (rows : List (Row Goal)) → IsClosed s.engine.library t rows → (g : (text : List ℕ) × IsGrammarText (name_in s.names) (name_in s.components) rows text) → HasReply (grammar t)
+  grammar_reply t rows closed (text, is) = (text, (rows, closed, is))
+
+  audit_reply : (t : ClosedType) → (h : (events : List Entry) × IsHistoryOf s.engine.library s.engine.options.workers t events) → HasReply (audit t)
+  audit_reply t (events, is) = (history_text events, (events, is, refl))
+
+  certificate_reply : (t : ClosedType) → (h : (c : Certificate) × IsCertified s.engine.library t c) → HasReply (certify t)
+  certificate_reply t (c, is) = (certificate_text s.names s.components c, (c, is, refl))
+
+  sizes_reply : (t : ClosedType) → (h : (sizes : FiniteAnswer) × TellsSizes s.engine.library (cost_of s.engine.costs) t sizes) → HasReply (finite t)
+  sizes_reply t (sizes, tells) = (sizes_text sizes, (sizes, tells, refl))
+
+  abbrev pool_faults : Listing → List (Cause EngineFault)
+  pool_faults q = (λ f. HasLargePool s.engine.library s.engine.options.pool q.goal (request s.engine.costs q.after q.max q.take) × (f ≡ TooManyTerms)) ∷ []
+
+  reply_exists : (q : Query) → AreSilent (faults_of s.engine q) → IsReadable (length s.components) q → (IsVerify q → ⊥) → IsPossible (HasReply q)
+  reply_exists (Sub a b) silent readable asks = says_exist (Subtype (below_in s.engine.library.taxonomy) (variances_in s.engine.library.taxonomy) a b) (codes "yes") (codes "no")
+  reply_exists (Paths x) silent readable asks = surely (paths_text s.names (paths_at s.engine.library x), refl)
+  reply_exists (Typed e t) silent readable asks = says_exist (HasTypeIn s.engine.library e t) (codes "yes") (codes "no")
+  reply_exists (About word.Inhabit t) silent readable asks = says_exist ((e : Applicative) × HasTypeIn s.engine.library e t) (codes "inhabited") (codes "uninhabited")
+  reply_exists (About word.Grammar t) silent readable asks =
+      then (types_have_closures s.engine.library can.library s.engine.options t silent) (λ r.
+      after (grammar_texts_exist (name_in s.names) (name_in s.components) r.0) (grammar_reply t r.0 r.1))
+  reply_exists (About word.Audit t) silent readable asks = after (audits_exist s.engine.library can.library s.engine.options t silent) (audit_reply t)
+  reply_exists (About word.Certify t) silent readable asks = after (certificates_exist s.engine.library can.library s.engine.options t silent) (certificate_reply t)
+  reply_exists (About word.Verify t) silent readable asks = absurd (asks tt)
+  reply_exists (About word.Finite t) silent readable asks = after (sizes_exist s.engine.library can.library s.engine.options t silent (cost_of s.engine.costs) can.costly) (sizes_reply t)
+  reply_exists (Page listing.List q) silent readable asks =
+      lists_exist q (term_line (name_at s.components)) (front_silent (closure_faults s.engine.library s.engine.options q.goal) (pool_faults q) silent) readable.some
+  reply_exists (Page listing.Texts q) silent readable asks =
+      lists_exist q (term_lines (name_at s.components) s.templates) (front_silent (closure_faults s.engine.library s.engine.options q.goal) (pool_faults q) silent) readable.some
+
+  abbrev HasAnswer : Query → Type 0
+  HasAnswer q = (text : List ℕ) × Answers s q text
+
+  replied : (q : Query) → AreSilent (faults_of s.engine q) → HasReply q → HasAnswer q
+  replied q silent (text, r) = (text, answering.Answers.replied silent r)
+
+  answer_by : (q : Query) → IsReadable (length s.components) q → (IsVerify q → ⊥) → ((f : EngineFault) × First (faults_of s.engine q) f) ⊎ IsSilent (First (faults_of s.engine q)) → IsPossible (HasAnswer q)
+  answer_by q readable asks (inl (f, first)) = surely (error_line (fault_words s.names f), answering.Answers.failed f first refl)
+  answer_by q readable asks (inr silent) = after (reply_exists q silent readable asks) (replied q silent)
+
+  answer_exists : (q : Query) → IsReadable (length s.components) q → (IsVerify q → ⊥) → IsPossible (HasAnswer q)
+  answer_exists q readable asks = then (first_decided (faults_of s.engine q)) (answer_by q readable asks)
+
+  -- THE REPLY TO A CERTIFICATE
+  abbrev HasJudgement : ClosedType → Certificate → Type 0
+  HasJudgement goal c = (text : List ℕ) × Judges s goal c text
+
+  judged : (goal : ClosedType) (c : Certificate) → AreSilent (faults_of s.engine (verify goal)) → HasVerdict s.engine.library goal c → HasJudgement goal c
+  judged goal c silent (inl a) = (verdict_text Accepted, answering.Judges.judged silent Accepted a refl)
+  judged goal c silent (inr (p, r)) = (verdict_text (Refused p.0 p.1), answering.Judges.judged silent (Refused p.0 p.1) r refl)
+
+  judgement_by : (goal : ClosedType) (c : Certificate) → ((f : EngineFault) × First (faults_of s.engine (verify goal)) f) ⊎ IsSilent (First (faults_of s.engine (verify goal))) → IsPossible (HasJudgement goal c)
+  judgement_by goal c (inl (f, first)) = surely (error_line (fault_words s.names f), answering.Judges.failed f first refl)
+  judgement_by goal c (inr silent) = after (verdicts_exist s.engine.library goal c) (judged goal c silent)
+
+  judgement_exists : (goal : ClosedType) (c : Certificate) → IsPossible (HasJudgement goal c)
+  judgement_exists goal c = then (first_decided (faults_of s.engine (verify goal))) (judgement_by goal c)
+
+-- with other names, or with other lines held, lines are answered as well
+named_can : (s : Serving) (names : List (List ℕ)) → CanAnswer s → CanAnswer (with_names s names)
+named_can s names can = record { library = can.library; costly = can.costly; opened = can.opened }
+
+holding_can : (s : Serving) (held : List (List ℕ)) → AreHeld held → CanAnswer s → CanAnswer (holding s held)
+holding_can s held opened can = record { library = can.library; costly = can.costly; opened = opened }
+
+module _ (m : Serving) (can : CanAnswer m) (goal : ClosedType) (certificate : List (List ℕ)) where
+  abbrev HasVerification : Type 0
+  HasVerification = (text : List ℕ) × (s' : Serving) × Verifies m goal certificate text s'
+
+  verified_as : (new : List (List ℕ)) (c : Certificate) → SaysCertificate m.names new m.components certificate c → HasJudgement (with_names m new) (named_can m new can) goal c → HasVerification
+  verified_as new c says (text, j) = (text, with_names m new, answering.Verifies.read c says refl j)
+
+  verification_by : HasReading m.names m.components certificate → IsPossible HasVerification
+  verification_by (inl (new, c, says)) = after (judgement_exists (with_names m new) (named_can m new can) goal c) (verified_as new c says)
+  verification_by (inr (inl (n, bad))) =
+      let words = codes "certificate " ++ decimal n in
+      surely (error_line words, m, answering.Verifies.bad (BadLine n) words bad refl refl refl)
+  verification_by (inr (inr lacks)) = surely (error_line (codes "no-qed"), m, answering.Verifies.bad NoQed (codes "no-qed") lacks refl refl refl)
+
+  verification_exists : IsPossible HasVerification
+  verification_exists = then (readings_exist m.names m.components certificate) verification_by
+
+-- ONE LINE
+goal_of : (q : Query) → IsVerify q → (t : ClosedType) × (q ≡ verify t)
+goal_of (Sub a b) h = absurd h
+goal_of (Paths x) h = absurd h
+goal_of (Typed e t) h = absurd h
+goal_of (About word.Verify t) h = (t, refl)
+goal_of (About asks t) h = absurd h
+goal_of (Page asks q) h = absurd h
+
+module _ (s : Serving) (can : CanAnswer s) where
+  abbrev IsDecided : List ℕ → Type 0
+  IsDecided line = ((words : List ℕ) × First (line_errors (tables_in s) line) words)
+      ⊎ ((query : Query) × (constructors : List (List ℕ)) × ReadsQuery (tables_in s) line query constructors)
+
+  misread : (line words : List ℕ) → First (line_errors (tables_in s) line) words → IsMisread s line (error_line words) s
+  misread line words first = record { words = words; first = first; written = refl; same = refl }
+
+  -- a certificate that has ended
+  abbrev HasEnd : List ℕ → List (List ℕ) → Type 0
+  HasEnd line certificate = (text : List ℕ) × (s' : Serving) × Verified s line certificate text s'
+
+  verified_by : (line : List ℕ) (certificate names : List (List ℕ)) (goal : ClosedType) → ReadsQuery (tables_in s) line (verify goal) names
+      → HasVerification (with_names s names) (named_can s names can) goal certificate → HasEnd line certificate
+  verified_by line certificate names goal reads (text, s', v) = (text, s', answering.Verified.asked goal (with_names s names) (reads, refl) v)
+
+  end_by : (line : List ℕ) (certificate : List (List ℕ)) → Opens line → IsDecided line → IsPossible (HasEnd line certificate)
+  end_by line certificate opens (inl (words, first)) = surely (error_line words, s, answering.Verified.misread (misread line words first))
+  end_by line certificate opens (inr (q, names, reads)) =
+      let g = goal_of q ((query_verify reads).1 opens.begins) in
+      let asks : ReadsQuery (tables_in s) line (verify g.0) names = subst (λ (p : Query). ReadsQuery (tables_in s) line p names) g.1 reads in
+      after (verification_exists (with_names s names) (named_can s names can) g.0 certificate) (verified_by line certificate names g.0 asks)
+
+  end_exists : (line : List ℕ) (certificate : List (List ℕ)) → Opens line → IsPossible (HasEnd line certificate)
+  end_exists line certificate opens = end_by line certificate opens (lines_decided (tables_in s) line)
+
+  -- a line by itself
+  abbrev IsAnsweredLine : List ℕ → Type 0
+  IsAnsweredLine line = (text : List ℕ) × (s' : Serving) × Answered s line text s'
+
+  asks_none : (line : List ℕ) (q : Query) (names : List (List ℕ)) → (Opens line → ⊥) → ReadsQuery (tables_in s) line q names → IsVerify q → ⊥
+  asks_none line q names closed reads v =
+      let silent = reads.faultless in
+      let short : length line ≤ max_line_bytes = at_most (length line) (λ l. silent (codes "long") (inl (l, refl))) in
+      silent (codes "utf8") (inr ((λ t h. silent t (inl h)), inl ((λ u. closed (record { text = (short, u); begins = (query_verify reads).0 v })), refl)))
+    where
+      at_most : (n : ℕ) → (max_line_bytes < n → ⊥) → n ≤ max_line_bytes
+      at_most n f = omega arith
+
+  answered : (line : List ℕ) (q : Query) (names : List (List ℕ)) → ReadsQuery (tables_in s) line q names → HasAnswer (with_names s names) (named_can s names can) q → IsAnsweredLine line
+  answered line q names reads (text, a) = (text, with_names s names, answering.Answered.asked q (reads, refl) a)
+
+  answered_by : (line : List ℕ) → (Opens line → ⊥) → IsDecided line → IsPossible (IsAnsweredLine line)
+  answered_by line closed (inl (words, first)) = surely (error_line words, s, answering.Answered.misread (misread line words first))
+  answered_by line closed (inr (q, names, reads)) =
+      after (answer_exists (with_names s names) (named_can s names can) q (query_readable reads) (asks_none line q names closed reads)) (answered line q names reads)
+
+  abbrev HasNext : List ℕ → Type 0
+  HasNext line = (text : List ℕ) × (s' : Serving) × Goes s line text s'
+
+  asked : (line : List ℕ) → s.held ≡ [] → (IsSkipped line → ⊥) → (Opens line → ⊥) → IsAnsweredLine line → HasNext line
+  asked line e unskipped closed (text, s', a) = (text, s', lines.Goes.asks e (record { unskipped = unskipped; closed = closed }) a)
+
+  closed_next : (line : List ℕ) → s.held ≡ [] → (IsSkipped line → ⊥) → Opens line ⊎ (Opens line → ⊥) → IsPossible (HasNext line)
+  closed_next line e unskipped (inl opens) = surely ([], holding s (line ∷ []), lines.Goes.opens e opens refl refl)
+  closed_next line e unskipped (inr closed) = after (answered_by line closed (lines_decided (tables_in s) line)) (asked line e unskipped closed)
+
+  free_next : (line : List ℕ) → s.held ≡ [] → IsSkipped line ⊎ (IsSkipped line → ⊥) → IsPossible (HasNext line)
+  free_next line e (inl skipped) = surely ([], s, lines.Goes.skips e skipped refl refl)
+  free_next line e (inr unskipped) = then (either_way (Opens line)) (closed_next line e unskipped)
+
+-- the lines that are held end, or one more is held
+module _ (s : Serving) (can : CanAnswer s) where
+  free_can : CanAnswer (holding s [])
+  free_can = holding_can s [] tt can
+
+  ended : (line first : List ℕ) (inside : List (List ℕ)) → s.held ≡ first ∷ inside → IsQed line → HasEnd (holding s []) free_can first (inside ++ line ∷ []) → HasNext s can line
+  ended line first inside e q (text, s', v) = (text, s', lines.Goes.ends first inside e q v)
+
+  held_next : (line first : List ℕ) (inside : List (List ℕ)) → s.held ≡ first ∷ inside → IsQed line ⊎ (IsQed line → ⊥) → IsPossible (HasNext s can line)
+  held_next line first inside e (inl q) = after (end_exists (holding s []) free_can first (inside ++ line ∷ []) (subst AreHeld e can.opened)) (ended line first inside e q)
+  held_next line first inside e (inr n) = surely ([], holding s (first ∷ (inside ++ line ∷ [])), lines.Goes.holds first inside e n refl refl)
+
+  next_by : (line : List ℕ) (held : List (List ℕ)) → s.held ≡ held → IsPossible (HasNext s can line)
+  next_by line [] e = then (either_way (IsSkipped line)) (free_next s can line e)
+  next_by line (first ∷ inside) e = then (either_way (IsQed line)) (held_next line first inside e)
+
+  pub next_exists : (line : List ℕ) → IsPossible ((text : List ℕ) × (s' : Serving) × Goes s line text s')
+  next_exists line = next_by line s.held refl
+
+  -- THE END OF THE LINES
+  abbrev HasLast : Type 0
+  HasLast = (text : List ℕ) × Ends s text
+
+  last_ended : (first : List ℕ) (inside : List (List ℕ)) → s.held ≡ first ∷ inside → HasEnd (holding s []) free_can first inside → HasLast
+  last_ended first inside e (text, s', v) = (text, lines.Ends.held first inside s' e v)
+
+  last_by : (held : List (List ℕ)) → s.held ≡ held → IsPossible HasLast
+  last_by [] e = surely ([], lines.Ends.free e refl)
+  last_by (first ∷ inside) e = after (end_exists (holding s []) free_can first inside (subst AreHeld e can.opened)) (last_ended first inside e)
+
+  pub last_exists : IsPossible ((text : List ℕ) × Ends s text)
+  last_exists = last_by s.held refl
+
+-- WHAT ANSWERS AFTER A LINE
+same_can : (s s' : Serving) → s' ≡ s → CanAnswer s → CanAnswer s'
+same_can s s' e can = subst CanAnswer (sym e) can
+
+verifies_can : (m : Serving) (goal : ClosedType) (certificate : List (List ℕ)) (text : List ℕ) (s' : Serving) → Verifies m goal certificate text s' → CanAnswer m → CanAnswer s'
+verifies_can m goal certificate text s' (answering.Verifies.bad fault words is w t e) can = same_can m s' e can
+verifies_can m goal certificate text s' (answering.Verifies.read c says e j) can = same_can (with_names m s'.names) s' e (named_can m s'.names can)
+
+verified_can : (s : Serving) (line : List ℕ) (certificate : List (List ℕ)) (text : List ℕ) (s' : Serving) → Verified s line certificate text s' → CanAnswer s → CanAnswer s'
+verified_can s line certificate text s' (answering.Verified.misread m) can = same_can s s' m.same can
+verified_can s line certificate text s' (answering.Verified.asked goal m asks v) can = verifies_can m goal certificate text s' v (same_can (with_names s m.names) m asks.1 (named_can s m.names can))
+
+answered_can : (s : Serving) (line text : List ℕ) (s' : Serving) → Answered s line text s' → CanAnswer s → CanAnswer s'
+answered_can s line text s' (answering.Answered.misread m) can = same_can s s' m.same can
+answered_can s line text s' (answering.Answered.asked q asks a) can = same_can (with_names s s'.names) s' asks.1 (named_can s s'.names can)
+
+goes_can : (s : Serving) (line text : List ℕ) (s' : Serving) → Goes s line text s' → CanAnswer s → CanAnswer s'
+goes_can s line text s' (lines.Goes.skips e skipped t same) can = same_can s s' same can
+goes_can s line text s' (lines.Goes.asks e single a) can = answered_can s line text s' a can
+goes_can s line text s' (lines.Goes.opens e opens t same) can = same_can (holding s (line ∷ [])) s' same (holding_can s (line ∷ []) opens can)
+goes_can s line text s' (lines.Goes.holds first inside e n t same) can =
+    same_can (holding s (first ∷ (inside ++ line ∷ []))) s' same (holding_can s (first ∷ (inside ++ line ∷ [])) (subst AreHeld e can.opened) can)
+goes_can s line text s' (lines.Goes.ends first inside e q v) can = verified_can (holding s []) first (inside ++ line ∷ []) text s' v (holding_can s [] tt can)
+
+pub replies_can : (s : Serving) (rest : List (List ℕ)) (text : List ℕ) (s' : Serving) → Replies s rest text s' → CanAnswer s → CanAnswer s'
+replies_can s [] text s' h can = same_can s s' h.1 can
+replies_can s (line ∷ rest) text s' (m, first, others, goes, hs, e) can = replies_can m rest others s' hs (goes_can s line first m goes can)

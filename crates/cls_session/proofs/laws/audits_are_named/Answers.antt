@@ -1,5 +1,0 @@
-use Rattle.cls_session.proofs.AuditLines.{audits_named}
-use Rattle.cls_session.proofs.laws.audits_are_named.Goals as goal
-
-pub returns : goal.returns
-returns c = audits_named
