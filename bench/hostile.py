@@ -77,17 +77,17 @@ def certificates() -> Iterator[Case]:
 def repeated_queries() -> Iterator[Case]:
     """What a query found is kept for the next one, also where that is an error."""
     asked = make.filled(make.too_large(), "inhabit X")
-    yield Case("104,000 times error too-large", asked, "error too-large", 0.5, 40, open_seconds=2)
+    yield Case("104,000 times error too-large", asked, "error too-large", 0.5, 40)
     wide = f"error wide {make.meet(make.numbered('W', 11))}"
-    yield Case("104,000 times error wide, 19,457 goals", make.filled(make.wide(), "inhabit X"), wide, 1, 60, MOST_GOALS, open_seconds=2)
+    yield Case("104,000 times error wide, 19,457 goals", make.filled(make.wide(), "inhabit X"), wide, 1, 60, MOST_GOALS)
     goals = make.many_goals() + "end\n"
-    yield Case("20 times grammar of 19,457 goals", goals + "grammar X\n" * 20, "done", 0.5, 60, MOST_GOALS, open_seconds=2)
+    yield Case("20 times grammar of 19,457 goals", goals + "grammar X\n" * 20, "done", 0.5, 60, MOST_GOALS)
     turns = "inhabit X\nlist X max 9 take 9\nfinite X\ngrammar X\ncertify X\n" * 4
     yield Case("five queries of 19,457 goals, four times in turn", goals + turns, "qed", 0.5, 60, MOST_GOALS)
     two = make.two_large_goals(200) + "inhabit X\ninhabit Y\n" * 3
     yield Case("two goals of 204,800 rules of 32 arguments, in turn", two, "uninhabited", 2.5, 220, MOST_RULES, open_seconds=3)
     two = make.dense() + "inhabit n0\ninhabit n1\n" * 50
-    yield Case("two goals of 244,800 rules, 50 times in turn", two, "inhabited", 1, 60, MOST_RULES, open_seconds=2)
+    yield Case("two goals of 244,800 rules, 50 times in turn", two, "inhabited", 1, 60, MOST_RULES)
     yield Case("100 times finite of 244,800 rules", make.dense() + "finite n0\n" * 100, "done", 0.8, 60, MOST_RULES, open_seconds=2)
 
 

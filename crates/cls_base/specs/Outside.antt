@@ -1,10 +1,11 @@
 -- What a source and a sink show of themselves, and what their calls do to it.
 use Rattle.std.specs.Prelude.{ℕ, ◌≡◌, ◌+◌, ◌-◌, ◌^◌, ◌<◌, ◌≤◌, ◌⊎◌, List, Option, None, Some}
 
--- What a source shows: the bytes that are left to read, if it tells them, and how many reads have failed. The count
--- stands still at the end of its type.
+-- What a source shows: the bytes that are left to read and those that the last read gave, if it tells them, and how many
+-- reads have failed. The count stands still at the end of its type.
 pub record SourceSeen : Type 0 where
   pub left : Option (List ℕ)
+  pub last : Option (List ℕ)
   pub faults : ℕ
 
 -- What a sink shows: the bytes that were taken so far, if it tells them, how many bytes it is sure to take yet, if it

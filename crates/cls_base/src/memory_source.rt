@@ -6,8 +6,8 @@ use crate::source::{Failed, Source};
 use crate::sure::SureSource;
 use std::marker::Model;
 
-/// A source over memory, some of whose reads fail. It is seen as an `Input`: the bytes that are left, how they are
-/// given, and how many reads there were and failed.
+/// A source over memory, some of whose reads fail. It is seen as an `Input`: the bytes that are left, those that the last
+/// read gave, how they are given, and how many reads there were and failed.
 #[derive(Drop)]
 pub struct MemorySource {
     bytes: SureSource,
@@ -24,7 +24,8 @@ impl Model for MemorySource {
     ghost Value = { Input };
 
     ghost view = { λ s. record {
-      left = s.bytes;
+      left = s.bytes.left;
+      last = s.bytes.last;
       chunk = s.chunk;
       fails = s.fails;
       reads = s.reads;
@@ -41,6 +42,7 @@ impl MemorySource {
         requires { 0 < chunk }
         ensures { result ≡ record {
           left = bytes.items;
+          last = [];
           chunk = chunk;
           fails = fails;
           reads = 0;
@@ -58,7 +60,7 @@ impl MemorySource {
 }
 
 impl Source for MemorySource {
-    ghost seen = { λ s. record { left = Some s.left; faults = s.faults } };
+    ghost seen = { λ s. record { left = Some s.left; last = Some s.last; faults = s.faults } };
 
     /// Gives all that fits and is left, up to the source's chunk. Fails if the number of this read is one of those
     /// that fail.
@@ -73,6 +75,7 @@ impl Source for MemorySource {
         ensures copied { IfOk result (λ n. into.new ≡ take n self.old.left ++ drop n into.old) }
         ensures given { IfOk result (λ n. self.new ≡ record self.old {
           left = drop n self.old.left;
+          last = take n self.old.left;
           reads = next_count self.old.reads;
         }) }
 

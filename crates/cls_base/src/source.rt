@@ -1,4 +1,4 @@
-ghost use Rattle.std.specs.Prelude.{◌≡◌, ℕ, ◌<◌, ◌≤◌, length, take, OnOk, OnErr, IfOk};
+ghost use Rattle.std.specs.Prelude.{◌≡◌, ℕ, ◌<◌, ◌≤◌, length, take, OnOk, OnErr, IfOk, IfSome};
 ghost use Rattle.std.specs.Io.KnownBytes.{Consumes, IsAtEnd, Keeps};
 ghost use Rattle.cls_base.specs.Outside.{SourceSeen, HasRisen};
 
@@ -8,7 +8,8 @@ pub struct Failed;
 
 /// Where the bytes of a run come from.
 pub trait Source {
-    /// What the source shows of itself: the bytes that are left, if it tells them, and how many reads have failed.
+    /// What the source shows of itself: the bytes that are left and those that the last read gave, if it tells them, and how
+    /// many reads have failed.
     ghost seen: { Self → SourceSeen };
 
     /// Reads the next bytes into the front of `into`, and says how many there are.
@@ -19,6 +20,7 @@ pub trait Source {
         ensures within { IfOk result (λ n. n ≤ length into.new) }
         // What was read are the next bytes, and is left no longer.
         ensures bytes { IfOk result (λ n. Consumes (seen self.old).left (seen self.new).left (take n into.new)) }
+        ensures last { IfOk result (λ n. IfSome (seen self.new).last (λ given. given ≡ take n into.new)) }
         // If there is room for a byte, none comes at the end alone.
         ensures end { IfOk result (λ n. n ≡ 0 → 0 < length into.old → IsAtEnd (seen self.new).left) }
         ensures no_fault { OnOk result ((seen self.new).faults ≡ (seen self.old).faults) }

@@ -6,50 +6,64 @@ use crate::source::{Failed, Source};
 use std::alloc::Global;
 use std::marker::Model;
 
-/// A source over memory that never fails, seen as the bytes that are left.
+/// A source over memory that never fails, seen as the bytes that are left and those that the last read gave.
 #[derive(Drop)]
 pub struct SureSource {
     bytes: Vec<u8>,
     at: usize,
+    // How many bytes the last read gave.
+    given: usize,
 }
 
 impl Model for SureSource {
-    ghost Value = { List ℕ };
+    ghost use Rattle.std.specs.Prelude.{◌-◌, ◌≤◌, length, take, drop};
+    ghost use Rattle.cls_base.specs.Memory.{SureInput};
 
-    ghost view = { λ s. drop s.at s.bytes.items };
+    ghost Value = { SureInput };
 
-    ghost invariant = { λ s. s.at ≤ length s.bytes.items };
+    ghost view = { λ s. record {
+      left = drop s.at s.bytes.items;
+      last = take s.given (drop (s.at - s.given) s.bytes.items);
+    } };
+
+    ghost invariant = { λ s. (s.at ≤ length s.bytes.items) × (s.given ≤ s.at) };
 }
 
 impl SureSource {
     /// A source of these bytes. Takes no memory.
     pub fn new(bytes: Vec<u8>) -> SureSource
-        ensures { result ≡ bytes.items }
+        ensures { result ≡ record { left = bytes.items; last = [] } }
     {
-        SureSource { bytes, at: 0 }
+        SureSource {
+            bytes,
+            at: 0,
+            given: 0,
+        }
     }
 
     /// Copies the next bytes to the front of `into`, as many as fit and are left, and says how many.
     pub(crate) fn copy_next(&mut self, into: &mut [u8]) -> usize
-        ensures count { result ≡ min (length into.old) (length self.old) }
-        ensures copied { into.new ≡ take result self.old ++ drop result into.old }
-        ensures left { self.new ≡ drop result self.old }
+        ensures count { result ≡ min (length into.old) (length self.old.left) }
+        ensures copied { into.new ≡ take result self.old.left ++ drop result into.old }
+        ensures left { self.new ≡ record { left = drop result self.old.left; last = take result self.old.left } }
     {
         let count = (self.bytes.len() - self.at).min(into.len());
         into[..count].copy_from_slice(&self.bytes[self.at..self.at + count]);
         self.at += count;
+        self.given = count;
         count
     }
 }
 
 impl Source for SureSource {
-    ghost seen = { λ s. record { left = Some s; faults = 0 } };
+    ghost seen = { λ s. record { left = Some s.left; last = Some s.last; faults = 0 } };
 
     /// Gives all that fits and is left.
     fn read(&mut self, into: &mut [u8]) -> Result<usize, Failed>
-        ensures count { result ≡ Ok (min (length into.old) (length self.old)) }
-        ensures copied { IfOk result (λ n. into.new ≡ take n self.old ++ drop n into.old) }
-        ensures left { IfOk result (λ n. self.new ≡ drop n self.old) }
+        ensures count { result ≡ Ok (min (length into.old) (length self.old.left)) }
+        ensures copied { IfOk result (λ n. into.new ≡ take n self.old.left ++ drop n into.old) }
+        ensures given { IfOk result (λ n.
+            self.new ≡ record { left = drop n self.old.left; last = take n self.old.left }) }
     {
         Ok(self.copy_next(into))
     }

@@ -57,7 +57,7 @@ both_same a b = grind arith
 pub same_place : (x y : Place) → same x y ≡ true → x ≡ y
 same_place x y h = let r = both_true x.component y.component x.n y.n h in λ i. record { component = r.0 i; n = r.1 i }
 
-same_itself : (x : Place) → same x x ≡ true
+pub same_itself : (x : Place) → same x x ≡ true
 same_itself x = both_same x.component x.n
 
 pub place_found : (keys : List Place) (p : Place) → list_any (same p) keys ≡ true → Contains keys p

@@ -9,6 +9,7 @@ pub mod GoalLaws
 pub mod Indexing
 pub mod Keeping
 pub mod Keys
+pub mod KnownSets
 pub mod Lists
 pub mod Loops
 pub mod MemberLaws

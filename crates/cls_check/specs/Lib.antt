@@ -4,6 +4,7 @@ pub mod Asking
 pub mod Checking
 pub mod Deciding
 pub mod Goals
+pub mod Known
 pub mod Laws
 pub mod Layers
 pub mod Near

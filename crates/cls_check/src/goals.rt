@@ -1,5 +1,5 @@
 //! Goals that are known, as a table.
-ghost use Rattle.std.specs.Prelude.{◌≡◌, ◌↔◌, ◌⊎◌, List, [], Contains, IsTrue, OnOk};
+ghost use Rattle.std.specs.Prelude.{◌≡◌, ◌↔◌, ◌⊎◌, List, [], length, Contains, IsTrue, OnOk};
 ghost use Rattle.cls_path.specs.Paths.{TypePath, listed, type_of_paths, SuitsAll};
 ghost use Rattle.cls_library.specs.Libraries.{variances_in};
 ghost use Rattle.cls_check.specs.Goals.{IsAboveGoal, IsBelowGoal, AllSuit};
@@ -38,6 +38,13 @@ impl Goals {
         Goals {
             goals: IndexSet::new(alloc),
         }
+    }
+
+    /// The number of goals.
+    pub fn len(&self) -> usize
+        ensures { result ≡ length self.now }
+    {
+        self.goals.len()
     }
 
     /// Puts a goal into the table. The only error is out of memory.

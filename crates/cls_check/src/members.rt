@@ -6,10 +6,11 @@ ghost use Rattle.cls_proof.specs.Certificates.{empty};
 ghost use Rattle.cls_check.specs.Checking.{Accepts, IsPlace, PassesLayers, path_total, empty_layers};
 ghost use Rattle.cls_check.specs.Goals.{AllSuit, AreForms, AreGoals};
 ghost use Rattle.cls_check.specs.Places.{Stands, block_place};
-ghost use Rattle.cls_check.specs.Tests.{TellsMember, IsBlockWalked, IsOtherWalked, IsWalkedAt};
+ghost use Rattle.cls_check.specs.Tests.{AreRight, TellsMember, IsBlockWalked, IsOtherWalked, IsWalkedAt};
 ghost use Rattle.cls_check.specs.Verdicts.{IsRefusedAs};
 
 use crate::fault::{CheckFault, Reason};
+use crate::findings::Findings;
 use crate::goals::Goals;
 use crate::layers::{block_places, place_of};
 use crate::place::Place;
@@ -38,9 +39,10 @@ pub(crate) fn check_members(
 {
     let forms = forms_of(alloc, lib, members)?;
     let goals = goals_of(alloc, &forms)?;
+    let mut known = Findings::new(alloc);
     for i in 0..members.len() {
         let member = members.get(i);
-        match member_fault(alloc, lib, &goals, &forms[i], &member.blocks)? {
+        match member_fault(alloc, lib, &goals, &mut known, &forms[i], &member.blocks)? {
             Some(reason) => {
                 return Err(CheckFault::Refused {
                     row: i as u32 + 1,
@@ -87,19 +89,22 @@ fn member_fault(
     alloc: Global,
     lib: &Library,
     goals: &Goals,
+    known: &mut Findings,
     form: &Nf,
     blocks: &BlocksRef,
 ) -> Result<Option<Reason>, OutOfMemory>
     requires goals { AllSuit lib.now goals.now }
+    requires known { AreRight lib.now goals.now known.old }
     requires suits { SuitsAll (variances_in lib.now.taxonomy) (listed form.now) }
-    ensures { IfOk result (TellsMember lib.now goals.now blocks.now (listed form.now)) }
+    ensures tells { IfOk result (TellsMember lib.now goals.now blocks.now (listed form.now)) }
+    ensures known { OnOk result (AreRight lib.now goals.now known.new) }
 {
     let count = form.paths().len();
     let places = match block_places(alloc, lib, count, blocks)? {
         None => return Ok(Some(Reason::Layers)),
         Some(places) => places,
     };
-    if !is_unblocked(alloc, lib, goals, form, blocks, &places)? {
+    if !is_unblocked(alloc, lib, goals, known, form, blocks, &places)? {
         return Ok(Some(Reason::Unblocked));
     }
     Ok(None)
@@ -110,26 +115,29 @@ fn is_unblocked(
     alloc: Global,
     lib: &Library,
     goals: &Goals,
+    known: &mut Findings,
     form: &Nf,
     blocks: &BlocksRef,
     places: &IndexSet<Place>,
 ) -> Result<bool, OutOfMemory>
     requires goals { AllSuit lib.now goals.now }
+    requires known { AreRight lib.now goals.now known.old }
     requires suits { SuitsAll (variances_in lib.now.taxonomy) (listed form.now) }
     requires layers { PassesLayers lib.now blocks.now (path_total (listed form.now)) }
     requires places { places.now.keys ≡ map block_place blocks.now }
-    ensures { IfOk result (λ answer. IsTrue answer ↔ ((x n : ℕ) → IsPlace lib.now x n
+    ensures unblocked { IfOk result (λ answer. IsTrue answer ↔ ((x n : ℕ) → IsPlace lib.now x n
         → IsWalkedAt lib.now goals.now blocks.now (listed form.now) x n)) }
+    ensures known { OnOk result (AreRight lib.now goals.now known.new) }
 {
     let count = lib.count();
     if form.paths().is_empty() {
         // A component without an argument has omega: there the empty set isn't blocked.
         return Ok(count == 0);
     }
-    if !are_blocks_walked(alloc, lib, goals, form, blocks)? {
+    if !are_blocks_walked(alloc, lib, goals, known, form, blocks)? {
         return Ok(false);
     }
-    are_others_walked(alloc, lib, goals, form, places)
+    are_others_walked(alloc, lib, goals, known, form, places)
 }
 
 /// Whether the layers of each block do so.
@@ -137,19 +145,22 @@ fn are_blocks_walked(
     alloc: Global,
     lib: &Library,
     goals: &Goals,
+    known: &mut Findings,
     form: &Nf,
     blocks: &BlocksRef,
 ) -> Result<bool, OutOfMemory>
     requires goals { AllSuit lib.now goals.now }
+    requires known { AreRight lib.now goals.now known.old }
     requires suits { SuitsAll (variances_in lib.now.taxonomy) (listed form.now) }
     requires layers { PassesLayers lib.now blocks.now (path_total (listed form.now)) }
-    ensures { IfOk result (λ answer. IsTrue answer
+    ensures walked { IfOk result (λ answer. IsTrue answer
         ↔ All (IsBlockWalked lib.now goals.now (listed form.now)) blocks.now) }
+    ensures known { OnOk result (AreRight lib.now goals.now known.new) }
 {
     for i in 0..blocks.len() {
         let block = blocks.get(i);
         let place = place_of(&block);
-        if !is_walked(alloc, lib, goals, place, form, &block.layers)? {
+        if !is_walked(alloc, lib, goals, known, place, form, &block.layers)? {
             return Ok(false);
         }
     }
@@ -161,15 +172,18 @@ fn are_others_walked(
     alloc: Global,
     lib: &Library,
     goals: &Goals,
+    known: &mut Findings,
     form: &Nf,
     places: &IndexSet<Place>,
 ) -> Result<bool, OutOfMemory>
     requires library { IsLibrary lib.now }
     requires goals { AllSuit lib.now goals.now }
+    requires known { AreRight lib.now goals.now known.old }
     requires suits { SuitsAll (variances_in lib.now.taxonomy) (listed form.now) }
     requires path { 0 < length form.now }
-    ensures { IfOk result (λ answer. IsTrue answer ↔ ((x n : ℕ) → IsPlace lib.now x n
+    ensures walked { IfOk result (λ answer. IsTrue answer ↔ ((x n : ℕ) → IsPlace lib.now x n
         → IsOtherWalked lib.now goals.now places.now.keys (listed form.now) (record { component = x; n = n }))) }
+    ensures known { OnOk result (AreRight lib.now goals.now known.new) }
 {
     let Some(mut finder) = Finder::new(alloc, lib, form)? else {
         return Ok(true);
@@ -184,7 +198,7 @@ fn are_others_walked(
             component: found.component,
             n: found.count,
         };
-        if !is_other_walked(alloc, lib, goals, form, places, &none.all(), place)? {
+        if !is_other_walked(alloc, lib, goals, known, form, places, &none.all(), place)? {
             return Ok(false);
         }
         from = cls_library::Place {
@@ -200,6 +214,7 @@ fn is_other_walked(
     alloc: Global,
     lib: &Library,
     goals: &Goals,
+    known: &mut Findings,
     form: &Nf,
     places: &IndexSet<Place>,
     none: &LayersRef,
@@ -207,15 +222,17 @@ fn is_other_walked(
 ) -> Result<bool, OutOfMemory>
     requires place { Stands lib.now place }
     requires goals { AllSuit lib.now goals.now }
+    requires known { AreRight lib.now goals.now known.old }
     requires suits { SuitsAll (variances_in lib.now.taxonomy) (listed form.now) }
     requires none { none.now ≡ empty_layers (path_total (listed form.now)) }
-    ensures { IfOk result (λ answer. IsTrue answer
+    ensures walked { IfOk result (λ answer. IsTrue answer
         ↔ IsOtherWalked lib.now goals.now places.now.keys (listed form.now) place) }
+    ensures known { OnOk result (AreRight lib.now goals.now known.new) }
 {
     if places.contains(&place) {
         return Ok(true);
     }
-    is_walked(alloc, lib, goals, place, form, none)
+    is_walked(alloc, lib, goals, known, place, form, none)
 }
 
 /// So many layers without a set.

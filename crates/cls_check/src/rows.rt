@@ -1,21 +1,21 @@
 //! The rows of a certificate.
-ghost use Rattle.std.specs.Prelude.{ℕ, ◌<◌, ◌↔◌, ◌^◌, length, IfOk, OnOk, IfErr, IsTrue};
+ghost use Rattle.std.specs.Prelude.{◌<◌, ◌↔◌, ◌^◌, length, IfOk, OnOk, IfErr, IsTrue};
 ghost use Rattle.cls_base.specs.Lists.{AreBelow};
 ghost use Rattle.cls_base.specs.Ty.{type_of};
 ghost use Rattle.cls_path.specs.Paths.{listed, type_of_paths, SuitsAll};
 ghost use Rattle.cls_library.specs.Libraries.{variances_in};
 ghost use Rattle.cls_proof.specs.Certificates.{inhabited};
 ghost use Rattle.cls_proof.specs.Rows.{row_seen};
-ghost use Rattle.cls_check.specs.Arguments.{argument_type};
 ghost use Rattle.cls_check.specs.Checking.{Accepts, EndsBelow, IsForm};
-ghost use Rattle.cls_check.specs.Goals.{IsAboveGoal, AllSuit};
+ghost use Rattle.cls_check.specs.Goals.{AllSuit};
 ghost use Rattle.cls_check.specs.Places.{Stands, arrows_in};
-ghost use Rattle.cls_check.specs.Tests.{TellsRow};
+ghost use Rattle.cls_check.specs.Tests.{AreMet, Meets, TellsRow};
 ghost use Rattle.cls_check.specs.Verdicts.{IsRefusedAs};
 
 use crate::argument::arguments;
 use crate::fault::{CheckFault, Reason};
 use crate::goals::Goals;
+use crate::met::MetCovers;
 use crate::place::Place;
 use crate::positions::are_positions;
 use crate::targets::cover_goal;
@@ -41,10 +41,11 @@ pub(crate) fn check_rows(
         (IsRefusedAs lib.now (type_of_paths (listed asked.now)) (inhabited rows.now)) }
 {
     let mut goals = Goals::new(alloc);
+    let mut known = MetCovers::new(alloc);
     for i in 0..rows.len() {
         let row = rows.get(i);
         let goal = normal(alloc, lib.taxonomy(), row.goal)?;
-        match row_fault(alloc, lib, &goals, row, &goal)? {
+        match row_fault(alloc, lib, &goals, &mut known, row, &goal)? {
             Some(reason) => {
                 return Err(CheckFault::Refused {
                     row: i as u32 + 1,
@@ -68,12 +69,15 @@ fn row_fault(
     alloc: Global,
     lib: &Library,
     goals: &Goals,
+    known: &mut MetCovers,
     row: RowRef,
     goal: &Nf,
 ) -> Result<Option<Reason>, OutOfMemory>
     requires goals { AllSuit lib.now goals.now }
+    requires known { AreMet lib.now goals.now known.old }
     requires form { IsForm lib.now (type_of row.goal.now) (listed goal.now) }
-    ensures { IfOk result (TellsRow lib.now goals.now (row_seen row.entry)) }
+    ensures tells { IfOk result (TellsRow lib.now goals.now (row_seen row.entry)) }
+    ensures known { OnOk result (AreMet lib.now goals.now known.new) }
 {
     let place = Place {
         component: row.component,
@@ -86,10 +90,36 @@ fn row_fault(
     if !cover_goal(lib, place, positions, goal) {
         return Ok(Some(Reason::Target));
     }
-    if !meets_arguments(alloc, lib, goals, place, positions)? {
+    if !is_known_to_meet(alloc, lib, goals, known, place, positions)? {
         return Ok(Some(Reason::Argument));
     }
     Ok(None)
+}
+
+/// Whether the positions meet the arguments. Equal ones are looked at once, since further goals change nothing of a yes.
+fn is_known_to_meet(
+    alloc: Global,
+    lib: &Library,
+    goals: &Goals,
+    known: &mut MetCovers,
+    place: Place,
+    positions: &[u32],
+) -> Result<bool, OutOfMemory>
+    requires place { Stands lib.now place }
+    requires goals { AllSuit lib.now goals.now }
+    requires known { AreMet lib.now goals.now known.old }
+    requires within { AreBelow (length (arrows_in lib.now place)) positions.now }
+    ensures meets { IfOk result (λ meets. IsTrue meets ↔ Meets lib.now goals.now place positions.now) }
+    ensures known { OnOk result (AreMet lib.now goals.now known.new) }
+{
+    if known.covers.has(alloc, place, positions)? {
+        return Ok(true);
+    }
+    if !meets_arguments(alloc, lib, goals, known, place, positions)? {
+        return Ok(false);
+    }
+    known.covers.put(alloc, place, positions)?;
+    Ok(true)
 }
 
 /// Whether for each argument the intersection of what the arrows at the positions take is above a goal.
@@ -97,18 +127,20 @@ fn meets_arguments(
     alloc: Global,
     lib: &Library,
     goals: &Goals,
+    known: &mut MetCovers,
     place: Place,
     positions: &[u32],
 ) -> Result<bool, OutOfMemory>
     requires place { Stands lib.now place }
     requires goals { AllSuit lib.now goals.now }
+    requires known { AreMet lib.now goals.now known.old }
     requires within { AreBelow (length (arrows_in lib.now place)) positions.now }
-    ensures { IfOk result (λ meets. IsTrue meets ↔ ((i : ℕ) → i < place.n
-        → IsAboveGoal lib.now goals.now (argument_type (arrows_in lib.now place) positions.now i))) }
+    ensures meets { IfOk result (λ meets. IsTrue meets ↔ Meets lib.now goals.now place positions.now) }
+    ensures known { OnOk result (AreMet lib.now goals.now known.new) }
 {
     let arguments = arguments(alloc, lib, place, positions)?;
     for argument in &arguments {
-        if !goals.any_below(lib, argument) {
+        if !known.is_above(alloc, lib, goals, argument)? {
             return Ok(false);
         }
     }

@@ -47,7 +47,8 @@ module _ (lib : Library) (is : IsLibrary lib) (o : Options) (t : ClosedType) (si
   none_wide : first_wide rows ≡ None
   none_wide = none_wide_at (first_wide rows) refl
 
-  known : IsKnownOf lib o t rows
+  -- a closure is known if no cause applies
+  pub known : IsKnownOf lib o t rows
   known = record {
     goal = closed.goal;
     is_goal = closed.is_goal;

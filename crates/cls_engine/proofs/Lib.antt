@@ -1,6 +1,7 @@
 pub mod Causes
 pub mod Certifying
 pub mod Completions
+pub mod Deciding
 pub mod Faulting
 pub mod Finiteness
 pub mod Goals

@@ -3,8 +3,10 @@ use Rattle.std.specs.Prelude.{ℕ, ◌≡◌, ◌<◌, List}
 use Rattle.cls_term.specs.Costs.{cost_of}
 use Rattle.cls_library.specs.Libraries.{Library}
 use Rattle.cls_engine.specs.declared.options.Options.{Options}
+use Rattle.cls_engine.specs.declared.outcomes.Decided.{Decided}
 use Rattle.cls_engine.specs.declared.recents.Kept.{Kept}
 use Rattle.cls_engine.specs.Options.{AreInRange}
+use Rattle.cls_engine.specs.Outcomes.{AreOutcomes}
 use Rattle.cls_engine.specs.Recents.{AreKnown}
 
 -- The library, the costs of its components, and what bounds the work on a query.
@@ -16,10 +18,11 @@ pub record EngineSeen : Type 0 where
 abbrev pub seen_as : Library → List ℕ → Options → EngineSeen
 seen_as lib costs o = record { library = lib; costs = costs; options = o }
 
--- What holds of each engine. The answers that it keeps are those of its library, and each grammar that it keeps is that
--- of a goal, within the options.
-pub record IsEngine (e : EngineSeen) (kept_by : Library) (recents : List Kept) : Type 0 where
+-- What holds of each engine. The answers that it keeps are those of its library, each grammar that it keeps is that of
+-- a goal, within the options, and what it keeps to have come of a goal is so.
+pub record IsEngine (e : EngineSeen) (kept_by : Library) (recents : List Kept) (outcomes : List Decided) : Type 0 where
   pub in_range : AreInRange e.options
   pub costly : (x : ℕ) → 0 < cost_of e.costs x
   pub kept : kept_by ≡ e.library
   pub known : AreKnown e.library e.options recents
+  pub decided : AreOutcomes e.library e.options outcomes

@@ -7,6 +7,7 @@ pub mod Goals
 pub mod Histories
 pub mod Laws
 pub mod Options
+pub mod Outcomes
 pub mod Recents
 pub mod Sizes
 pub mod Verdicts

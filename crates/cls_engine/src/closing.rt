@@ -1,4 +1,4 @@
-//! The closure of a goal, worked out by the workers.
+//! The closure of a goal, worked out by the workers unless it is kept why it isn't made.
 ghost use Rattle.std.specs.Prelude.{◌≡◌, IfOk, IfErr};
 ghost use Rattle.cls_core.specs.Rows.{Row};
 ghost use Rattle.cls_expand.specs.Answers.{IsAnswer, IsReady};
@@ -12,6 +12,7 @@ ghost use Rattle.cls_engine.specs.Histories.{IsHistoryFrom};
 use crate::engine::Engine;
 use crate::fault::EngineFault;
 use crate::library_expander::LibraryExpander;
+use crate::outcomes::Outcome;
 use cls_base::{Gate, OutOfMemory};
 use cls_core::laws::{complete_histories_make_grammars, renumbered_rows_are_canonical};
 use cls_core::{Finished, History, Rows};
@@ -71,7 +72,7 @@ impl Engine {
     }
 
     /// Works out the closure of the goal, and keeps its answers for later queries.
-    pub(crate) fn close<R: Threads + Wait + Sync, T: Gate + Sync>(
+    fn work_out<R: Threads + Wait + Sync, T: Gate + Sync>(
         &mut self,
         rt: &R,
         alloc: Global,
@@ -95,5 +96,42 @@ impl Engine {
         self.keep(alloc, rows)?;
         let grammar = made?;
         Ok(Closed { grammar, history })
+    }
+
+    /// Keeps the fault of the goal's closure for later queries, if it is the goal's own and there is memory for it.
+    fn keep_fault(&mut self, alloc: Global, goal: &Nf, fault: &EngineFault)
+        requires { IsClosingFault self.old.library self.old.options goal.now fault.now }
+        ensures same { self.new ≡ self.old }
+    {
+        let Some(outcome) = Outcome::of(alloc, fault) else {
+            return;
+        };
+        self.keep_outcome(alloc, goal, outcome);
+    }
+
+    /// Works out the closure of the goal, unless it is kept why it isn't made. Keeps its answers, or why it isn't made,
+    /// for later queries.
+    pub(crate) fn close<R: Threads + Wait + Sync, T: Gate + Sync>(
+        &mut self,
+        rt: &R,
+        alloc: Global,
+        goal: Nf,
+        gate: &T,
+    ) -> Result<Closed, EngineFault>
+        requires ready { IsReady self.old.library goal }
+        ensures same { self.new ≡ self.old }
+        ensures known { IfOk result (λ c. IsKnown self.old.library self.old.options goal c.grammar) }
+        ensures history { IfOk result (λ c. IsHistoryFrom self.old.library self.old.options.workers goal c.history) }
+        ensures fault { IfErr result (IsClosingFault self.old.library self.old.options goal) }
+    {
+        self.recall(alloc, &goal)?;
+        let asked = goal.copy(alloc)?;
+        match self.work_out(rt, alloc, goal, gate) {
+            Ok(closed) => Ok(closed),
+            Err(fault) => {
+                self.keep_fault(alloc, &asked, &fault);
+                Err(fault)
+            }
+        }
     }
 }

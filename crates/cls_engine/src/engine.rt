@@ -2,16 +2,17 @@ ghost use Rattle.std.specs.Prelude.{◌≡◌, ℕ, ◌<◌, IfOk, IfErr, IfSome
 ghost use Rattle.cls_base.specs.Ty.{type_of};
 ghost use Rattle.cls_term.specs.Costs.{cost_of};
 ghost use Rattle.cls_expand.specs.Answers.{IsReady};
-ghost use Rattle.cls_engine.specs.Closing.{IsKnown};
+ghost use Rattle.cls_engine.specs.Closing.{IsClosingFault, IsKnown};
 ghost use Rattle.cls_engine.specs.Engines.{seen_as};
 ghost use Rattle.cls_engine.specs.Faults.{IsOversizedOr};
 ghost use Rattle.cls_engine.specs.Goals.{Goal, IsGoalOf, IsSpread};
 ghost use Rattle.cls_engine.specs.Options.{AreInRange};
-ghost use Rattle.cls_engine.specs.Recents.{IsVerdict, IsVerdictOn};
+ghost use Rattle.cls_engine.specs.Outcomes.{IsOutcome, IsVerdictOn};
 
 use crate::fault::EngineFault;
 use crate::library_expander::LibraryExpander;
 use crate::options::Options;
+use crate::outcomes::{Outcome, Outcomes};
 use crate::recents::Recents;
 use cls_base::limits::MAX_TYPE_SPREAD;
 use cls_base::{Numbers, OutOfMemory, Ty};
@@ -26,8 +27,8 @@ use std::marker::Model;
 /// Answers queries by a library that it owns, with workers and within bounds. It is seen as the library, the costs of
 /// the components and the options.
 ///
-/// It keeps the answers of the goals of earlier queries, and the grammars of the goals that it was asked for last: if a
-/// query has such a goal again, nothing is worked out anew.
+/// It keeps the answers of the goals of earlier queries, the grammars of the goals that it was asked for last, and what
+/// came of the last goals that it worked on: if a query has such a goal again, nothing is worked out anew.
 pub struct Engine {
     pub(crate) expander: LibraryExpander,
     pub(crate) costs: Numbers,
@@ -36,6 +37,8 @@ pub struct Engine {
     pub(crate) store: Store<LibraryExpander>,
     // The grammars of the goals of the last queries.
     pub(crate) recents: Recents,
+    // What came of the last goals that were worked on.
+    pub(crate) outcomes: Outcomes,
 }
 
 // Not derived, for the prover: so a caller's proof has one step where a value is dropped, and not one for each part of it.
@@ -47,6 +50,7 @@ impl Drop for Engine {
             options: _,
             store: _,
             recents: _,
+            outcomes: _,
         } = self;
     }
 }
@@ -62,7 +66,8 @@ impl Model for Engine {
 
     ghost view = { λ e. seen_as e.expander.library e.costs e.options };
 
-    ghost invariant = { λ e. IsEngine (seen_as e.expander.library e.costs e.options) e.store.tag e.recents.kept.items };
+    ghost invariant = { λ e. IsEngine (seen_as e.expander.library e.costs e.options)
+        e.store.tag e.recents.kept.items e.outcomes.kept.items };
 }
 
 impl Engine {
@@ -81,6 +86,7 @@ impl Engine {
             options,
             store,
             recents: Recents::new(alloc),
+            outcomes: Outcomes::new(alloc),
         }
     }
 
@@ -135,19 +141,33 @@ impl Engine {
         self.recents.take(goal)
     }
 
+    /// Keeps the grammar of a goal for later queries, if there is memory for it.
+    pub(crate) fn keep_recent(&mut self, grammar: Grammar)
+        requires { (start : Goal) × IsKnown self.old.library self.old.options start grammar }
+        ensures same { self.new ≡ self.old }
+    {
+        self.recents.put(grammar);
+    }
+
     /// Whether the start of the goal's grammar is productive, if that is kept.
     pub(crate) fn recent_verdict(&self, goal: &Nf) -> Option<bool>
         ensures { IfSome result (IsVerdictOn self.now.library self.now.options goal.now) }
     {
-        self.recents.productive(goal)
+        self.outcomes.verdict(goal)
     }
 
-    /// Keeps the grammar of a goal for later queries, and whether its start is productive, if there is memory for it.
-    pub(crate) fn keep_recent(&mut self, grammar: Grammar, productive: Option<bool>)
-        requires known { (start : Goal) × IsKnown self.old.library self.old.options start grammar }
-        requires verdict { IfSome productive (IsVerdict grammar) }
+    /// Fails with the fault of the goal's closure, if that is kept.
+    pub(crate) fn recall(&self, alloc: Global, goal: &Nf) -> Result<(), EngineFault>
+        ensures { IfErr result (IsClosingFault self.now.library self.now.options goal.now) }
+    {
+        self.outcomes.recall(alloc, goal)
+    }
+
+    /// Keeps what came of a goal for later queries, if there is memory for it.
+    pub(crate) fn keep_outcome(&mut self, alloc: Global, goal: &Nf, outcome: Outcome)
+        requires { IsOutcome self.old.library self.old.options goal.now outcome }
         ensures same { self.new ≡ self.old }
     {
-        self.recents.put(grammar, productive);
+        self.outcomes.put(alloc, goal, outcome);
     }
 }

@@ -7,8 +7,9 @@
 //!   isn't answered.
 //!
 //! Inside, `engine` has the goal of a type, and `closure` the grammar of a goal, which `closing` has the workers find.
-//! `recents` has the grammars of the last goals. `compare`, `questions`, `sizes`, `listing` and `verify` answer the
-//! queries. `library_expander` is an expander that owns its library, so that a memo can be kept beside it.
+//! `recents` has the grammars of the last goals, and `outcomes` has whether terms have them, or why their closures
+//! aren't made. `compare`, `questions`, `sizes`, `listing` and `verify` answer the queries. `library_expander` is an
+//! expander that owns its library, so that a memo can be kept beside it.
 #![tactic(auto)]
 
 mod closing;
@@ -20,6 +21,7 @@ pub mod laws;
 mod library_expander;
 mod listing;
 mod options;
+mod outcomes;
 mod questions;
 mod recents;
 mod sizes;

@@ -74,7 +74,7 @@ impl Engine {
         self.facts();
         let grammar = self.closure(rt, alloc, ty, gate)?;
         let page = self.page_of(alloc, &grammar, after, max, take);
-        self.keep_recent(grammar, None);
+        self.keep_recent(grammar);
         Ok(page?)
     }
 }

@@ -2,6 +2,7 @@
 ghost use Rattle.std.specs.Prelude.{◌≡◌, ◌↔◌, IfOk, IfErr, OnOk, IsTrue};
 ghost use Rattle.cls_base.specs.Ty.{type_of};
 ghost use Rattle.cls_base.specs.Terms.{Applicative};
+ghost use Rattle.cls_base.specs.Types.{ClosedType};
 ghost use Rattle.cls_grammar.specs.Grammars.{book_of};
 ghost use Rattle.cls_grammar.specs.Ranks.{IsProductiveIn};
 ghost use Rattle.cls_library.specs.Typing.{HasTypeIn};
@@ -13,6 +14,7 @@ ghost use Rattle.cls_engine.specs.Histories.{IsHistoryOf};
 
 use crate::engine::Engine;
 use crate::fault::EngineFault;
+use crate::outcomes::Outcome;
 use cls_base::{Gate, OutOfMemory, Ty};
 use cls_cert::certify;
 use cls_core::History;
@@ -54,11 +56,12 @@ impl Engine {
         }
         let grammar = self.closure(rt, alloc, ty, gate)?;
         let inhabited = is_productive(alloc, &grammar)?;
-        self.keep_recent(grammar, Some(inhabited));
+        self.keep_outcome(alloc, &goal, Outcome::Inhabited(inhabited));
+        self.keep_recent(grammar);
         Ok(inhabited)
     }
 
-    /// The grammar of the type's goal.
+    /// The grammar of the type's goal. It is no longer kept then, unless it is given back by [`Engine::take_back`].
     pub fn grammar<R: Threads + Wait + Sync, T: Gate + Sync>(
         &mut self,
         rt: &R,
@@ -74,6 +77,17 @@ impl Engine {
     {
         let grammar = self.closure(rt, alloc, ty, gate)?;
         Ok(grammar)
+    }
+
+    /// Takes back the grammar of a type's goal, and keeps it for later queries if there is memory for it.
+    pub fn take_back(&mut self, grammar: Grammar)
+        requires { (t : ClosedType) × IsClosed self.old.library t grammar
+            × AreSilent (closure_faults self.old.library self.old.options t) }
+        ensures same { self.new ≡ self.old }
+    {
+        // For the prover: what holds of each library.
+        let _count = self.library().count();
+        self.keep_recent(grammar);
     }
 
     /// The certificate of the type's goal, of a term or that there is none.
@@ -93,7 +107,7 @@ impl Engine {
     {
         let grammar = self.closure(rt, alloc, ty, gate)?;
         let certificate = certify(alloc, self.library(), &grammar)?;
-        self.keep_recent(grammar, None);
+        self.keep_recent(grammar);
         Ok(certificate)
     }
 
@@ -116,7 +130,7 @@ impl Engine {
         // A history is of work done anew. The grammar that comes of it stands in place of the one that is kept.
         drop(self.take_recent(&goal));
         let closed = self.close(rt, alloc, goal, gate)?;
-        self.keep_recent(closed.grammar, None);
+        self.keep_recent(closed.grammar);
         Ok(closed.history)
     }
 }

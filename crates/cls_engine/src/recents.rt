@@ -1,44 +1,64 @@
 //! The grammars of the goals that were asked for last.
 ghost use Rattle.std.specs.Prelude.{◌≡◌, ◌⊎◌, [], Contains, IfSome, IsTrue};
-ghost use Rattle.cls_engine.specs.Recents.{HasFirstGoal, IsOneOf, HasVerdict};
+ghost use Rattle.cls_engine.specs.Recents.{HasFirstGoal, IsOneOf};
 ghost use Rattle.cls_engine.specs.declared.recents.Kept.{Kept as KeptSeen};
 
 use cls_grammar::Grammar;
 use cls_path::Nf;
+use cls_rulebook::NodeRules;
 use std::alloc::Global;
 
 /// The most grammars that are kept.
 const MOST_GRAMMARS: usize = 64;
 
-/// The most goals and rules that the grammars have together, if there are several.
-const MOST_TOGETHER: u64 = 200_000;
+/// The most bytes that the grammars take together, if there are several: 64 MiB.
+const MOST_BYTES: u64 = 67_108_864;
+
+/// About how many bytes a goal takes, beside its paths and its rules.
+const GOAL_BYTES: u64 = 256;
+
+/// About how many bytes each path of a goal takes.
+const PATH_BYTES: u64 = 16;
+
+/// How many bytes a rule takes, beside its arguments.
+const RULE_BYTES: u64 = 12;
+
+/// How many bytes an argument of a rule takes.
+const ARGUMENT_BYTES: u64 = 4;
 
 /// A grammar that is kept.
 #[derive(Drop)]
 pub(crate) struct Kept {
     pub(crate) grammar: Grammar,
-    // Whether its start is productive, if that was asked.
-    pub(crate) productive: Option<bool>,
-    // How many goals and rules it has.
-    size: u64,
+    // About how many bytes it takes.
+    bytes: u64,
 }
 
 /// The grammars of the goals that were asked for last, the latest at the end. There are at most 64 of them. Several
-/// have at most 200,000 goals and rules together.
+/// take at most about 64 MiB together.
 #[derive(Drop)]
 pub(crate) struct Recents {
     pub(crate) kept: Vec<Kept>,
 }
 
-/// How many goals and rules the grammar has.
-fn size_of(grammar: &Grammar) -> u64 {
-    let mut size: u64 = 0;
+/// About how many bytes the goal takes with its rules.
+fn bytes_of_goal(goal: &Nf, rules: &NodeRules) -> u64 {
+    let paths = (goal.paths().len() as u64).saturating_mul(PATH_BYTES);
+    let heads = (rules.len() as u64).saturating_mul(RULE_BYTES);
+    let arguments = (rules.arguments().len() as u64).saturating_mul(ARGUMENT_BYTES);
+    GOAL_BYTES
+        .saturating_add(paths)
+        .saturating_add(heads)
+        .saturating_add(arguments)
+}
+
+/// About how many bytes the grammar takes.
+fn bytes_of(grammar: &Grammar) -> u64 {
+    let mut bytes: u64 = 0;
     for goal in 0..grammar.count() {
-        size = size
-            .saturating_add(1)
-            .saturating_add(grammar.rules(goal).len() as u64);
+        bytes = bytes.saturating_add(bytes_of_goal(grammar.goal(goal), grammar.rules(goal)));
     }
-    size
+    bytes
 }
 
 impl Kept {
@@ -85,45 +105,33 @@ impl Recents {
         Some(grammar)
     }
 
-    /// Whether the start of the goal's grammar is productive, if that is kept.
-    pub(crate) fn productive(&self, goal: &Nf) -> Option<bool>
-        ensures { IfSome result (λ yes. HasVerdict self.now.kept.items goal.now yes) }
-    {
-        let place = self.place_of(goal)?;
-        self.kept[place].productive
-    }
-
-    /// Whether a grammar with so many goals and rules may be kept beside the others.
-    fn has_room(&self, size: u64) -> bool {
-        let mut together = size;
+    /// Whether a grammar that takes so many bytes may be kept beside the others.
+    fn has_room(&self, bytes: u64) -> bool {
+        let mut together = bytes;
         for kept in self.kept.as_slice() {
-            together = together.saturating_add(kept.size);
+            together = together.saturating_add(kept.bytes);
         }
-        self.kept.len() < MOST_GRAMMARS && together <= MOST_TOGETHER
+        self.kept.len() < MOST_GRAMMARS && together <= MOST_BYTES
     }
 
-    /// Drops the oldest grammars until there is room for one with so many goals and rules, or none is left.
-    fn make_room(&mut self, size: u64)
+    /// Drops the oldest grammars until there is room for one that takes so many bytes, or none is left.
+    fn make_room(&mut self, bytes: u64)
         ensures { (k : KeptSeen) → Contains self.new.kept.items k → Contains self.old.kept.items k }
     {
-        while !self.kept.is_empty() && !self.has_room(size) {
+        while !self.kept.is_empty() && !self.has_room(bytes) {
             drop(self.kept.remove(0));
         }
     }
 
-    /// Keeps the grammar and whether its start is productive, and drops the oldest grammars that there is no room for
-    /// beside it. If memory runs out it isn't kept.
-    pub(crate) fn put(&mut self, grammar: Grammar, productive: Option<bool>)
+    /// Keeps the grammar, and drops the oldest ones that there is no room for beside it. If memory runs out it isn't
+    /// kept.
+    pub(crate) fn put(&mut self, grammar: Grammar)
         ensures { (k : KeptSeen) → Contains self.new.kept.items k
-            → Contains self.old.kept.items k ⊎ ((k.grammar ≡ grammar) × (k.productive ≡ productive)) }
+            → Contains self.old.kept.items k ⊎ (k.grammar ≡ grammar) }
     {
-        let size = size_of(&grammar);
-        self.make_room(size);
-        let kept = Kept {
-            grammar,
-            productive,
-            size,
-        };
+        let bytes = bytes_of(&grammar);
+        self.make_room(bytes);
+        let kept = Kept { grammar, bytes };
         drop(self.kept.push(kept));
     }
 }

@@ -55,7 +55,7 @@ impl Engine {
     {
         let grammar = self.closure(rt, alloc, ty, gate)?;
         let answer = self.sizes_of(alloc, &grammar);
-        self.keep_recent(grammar, None);
+        self.keep_recent(grammar);
         Ok(answer?)
     }
 }

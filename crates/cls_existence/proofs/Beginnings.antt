@@ -1,6 +1,6 @@
 -- What may stand written at one time or another in a run begins an output.
 use Rattle.std.specs.Prelude.{IfSome}
-use Rattle.std.proofs.Common.{ℕ, ◌≡◌, ◌≤◌, ◌<◌, ◌+◌, ◌⊎◌, inl, inr, refl, sym, subst, ◌∙◌, arith, List, [], ◌++◌, length, length-append, append_assoc, append-nil, Option, None, Some}
+use Rattle.std.proofs.Common.{ℕ, ◌≤◌, ◌<◌, ◌⊎◌, inl, inr, refl, sym, subst, ◌∙◌, arith, List, [], ◌++◌, length, length-append, append_assoc, append-nil, Option, None, Some}
 use Rattle.cls_base.specs.Limits.{max_input_bytes}
 use Rattle.cls_lexer.specs.Lines.{lines_of}
 use Rattle.cls_engine.specs.declared.options.Options.{Options}

@@ -1,3 +1,4 @@
+pub mod FedBack
 pub mod Histories
 pub mod Laws
 pub mod Possible

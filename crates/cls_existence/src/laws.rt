@@ -1,5 +1,8 @@
-//! What can't fail to exist, as calls that do nothing and promise the law. No law names a way of finding it.
+//! What can't fail to exist, as calls that do nothing and promise the law.
+ghost use Rattle.cls_existence.specs.FedBack.{CertificatesAreAccepted};
 ghost use Rattle.cls_existence.specs.Laws.{AnswersExist, HistoriesExist, ClosuresExist, GrammarTextsExist, VerdictsExist, ReadingsExist, TypesHaveClosures, AuditsExist, CertificatesExist, SizesExist, PagesExist, LinesHaveReplies, TranscriptsGoOn, OutputsExist, WhatMayStandBegins, RoomForOutputsIsEnough};
+
+use cls_engine::laws::certificates_decide;
 
 /// Law: each goal has an answer by each library.
 pub fn answers_exist()
@@ -81,3 +84,12 @@ pub fn what_may_stand_begins()
 pub fn room_for_outputs_is_enough()
     ensures { RoomForOutputsIsEnough }
 {}
+
+/// Law: a certificate that `certify` prints of a type is accepted for it: if its lines are fed back behind one that asks for
+/// its verification, `accepted` is written and nothing else, and no name is new. What it says has to be within the limits of
+/// lines.
+pub fn printed_certificates_are_accepted()
+    ensures { CertificatesAreAccepted }
+{
+    certificates_decide();
+}

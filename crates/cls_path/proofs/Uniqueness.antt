@@ -87,7 +87,7 @@ module _ (below : ℕ → ℕ → Type 0) (variance : ℕ → Variance) (reflexi
   in_order (more p n) h = ((λ q i. (led p q n h.1 i).0), in_order n h.2)
 
   -- no path of a canonical list is below another
-  antichain : (n : Paths) (p q : TypePath) → Canonical n → In p n → In q n → Le p q → p ≡ q
+  pub antichain : (n : Paths) (p q : TypePath) → Canonical n → In p n → In q n → Le p q → p ≡ q
   antichain none p q h i j d = elim i [ ]
   antichain (more r n) _ _ h first_in first_in d = refl
   antichain (more r n) _ q h first_in (later_in j) d = absurd ((led r q n h.1 j).1 d)

@@ -20,7 +20,7 @@ impl StdSource {
 }
 
 impl Source for StdSource {
-    ghost seen = { λ s. record { left = None; faults = s.faults } };
+    ghost seen = { λ s. record { left = None; last = None; faults = s.faults } };
 
     /// Reads what standard input has next.
     fn read(&mut self, into: &mut [u8]) -> Result<usize, Failed> {

@@ -55,7 +55,7 @@ distinct_one texts x d =
       | false ↦ λ e. IsDistinct-push bytes_equal texts x d e
     ]) refl
 
-distinct_all : (texts xs : List (List ℕ)) → IsDistinct bytes_eq texts → IsDistinct bytes_eq (with_texts texts xs)
+pub distinct_all : (texts xs : List (List ℕ)) → IsDistinct bytes_eq texts → IsDistinct bytes_eq (with_texts texts xs)
 distinct_all texts [] d = d
 distinct_all texts (x ∷ xs) d = distinct_all (with_text texts x) xs (distinct_one texts x d)
 

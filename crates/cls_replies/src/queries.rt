@@ -123,7 +123,11 @@ impl Serving {
         ensures same { self.new ≡ self.old }
     {
         match self.engine.grammar(rt, alloc, ty, gate) {
-            Ok(grammar) => grammar.print(alloc, &self.names, &self.components),
+            Ok(grammar) => {
+                let text = grammar.print(alloc, &self.names, &self.components);
+                self.engine.take_back(grammar);
+                text
+            }
             Err(fault) => engine_fault(alloc, &self.names, fault),
         }
     }

@@ -1,7 +1,8 @@
 -- How the input is answered while it comes.
 use Rattle.std.proofs.Common.{◌≡◌, ℕ, length-take-le, ◌+◌, ◌<◌, ◌≤◌, List, [], ◌++◌, length, take, drop, refl, sym, ap, ◌∙◌, subst, inl, inr, arith, append_assoc, append-nil, length-append, take-append-drop}
-use Rattle.std.specs.Prelude.{◌⊎◌, Option, None, Some, Err}
+use Rattle.std.specs.Prelude.{◌⊎◌, IfSome, Option, None, Some, Err}
 use Rattle.std.specs.Io.KnownBytes.{Appends, Consumes, Keeps, IsAtEnd}
+use Rattle.std.proofs.lemmas.Option.{IfSome_then}
 use Rattle.std.proofs.KnownBytes.{Appends-trans, Consumes-nil, Consumes-trans, Consumes-kept}
 use Rattle.cls_base.specs.Limits.{max_input_bytes, max_read_bytes}
 use Rattle.cls_base.specs.Outside.{SourceSeen, SinkSeen}
@@ -78,17 +79,19 @@ none_more {source = source} {source' = source'} source'' count buffer u none con
   writes = u.writes;
 }
 
--- A piece was read, and bytes that are too many.
+-- A piece was read, and bytes that are too many. The last read gave both, if that is told.
 pub record IsPiece (source source' : SourceSeen) (piece over : List ℕ) (count : ℕ) : Type 0 where
+  pub given : IfSome source'.last (λ read. piece ++ over ≡ read)
   pub consumes : Consumes source.left source'.left (piece ++ over)
   pub lengths : length piece + length over ≡ count
 
 -- what was read is cut into the two
 pub cut_piece : (source source' : SourceSeen) (buffer piece over : List ℕ) (count place : ℕ) → piece ≡ take place (take count buffer) → over ≡ drop place (take count buffer)
-    → Consumes source.left source'.left (take count buffer) → count ≤ length buffer → IsPiece source source' piece over count
-cut_piece source source' buffer piece over count place front back consumes within =
+    → Consumes source.left source'.left (take count buffer) → IfSome source'.last (λ read. read ≡ take count buffer) → count ≤ length buffer → IsPiece source source' piece over count
+cut_piece source source' buffer piece over count place front back consumes last within =
     let joined : piece ++ over ≡ take count buffer = (λ i. front i ++ back i) ∙ take-append-drop place (take count buffer) in
     record {
+      given = IfSome_then source'.last {P = λ read. read ≡ take count buffer} {Q = λ read. piece ++ over ≡ read} last (λ read e. joined ∙ sym e);
       consumes = subst (λ (x : List ℕ). Consumes source.left source'.left x) (sym joined) consumes;
       lengths = sym (length-append piece over) ∙ (ap length joined ∙ length-take-le count buffer within);
     }
@@ -227,7 +230,7 @@ module _ {o : Options} {source source' : SourceSeen} {sink sink' : SinkSeen} {se
     -- more than what was written for the lines before, and all bytes
     pace : (sink'' : SinkSeen) (more : List ℕ) → Appends sink.held sink''.held (u.written ++ more) → SessionPace o source source' sink sink''
     pace sink'' more w =
-        keeps_pace o sink sink'' source source' u.bytes [] u.written more (subst (λ (x : List ℕ). Consumes source.left source'.left x) (sym (append-nil u.bytes)) u.consumes) (omega arith) transcript w
+        keeps_pace o sink sink'' source source' u.bytes [] u.written more (subst (λ (x : List ℕ). Consumes source.left source'.left x) (sym (append-nil u.bytes)) u.consumes) (inl refl) (omega arith) transcript w
 
     last_keeps_pace : {sink'' : SinkSeen} → BreaksLast sink' sink'' session reader → SessionPace o source source' sink sink''
     last_keeps_pace {sink'' = sink''} (before_last none) = (let w = Writes-trans u.writes none in pace sink'' [] w.held)
@@ -301,7 +304,7 @@ module _ {o : Options} {source source' : SourceSeen} {sink sink' : SinkSeen} {se
     lines_keep_pace : {sink'' : SinkSeen} → count ≤ max_read_bytes → BreaksLines sink' sink'' session (reader ++ piece) → SessionPace o source source'' sink sink''
     lines_keep_pace {sink'' = sink''} most h =
         let (more, rest, reply, cs, w, f) = h.reply o u.lines u.written u.stands in
-        keeps_pace o sink sink'' source source'' u.bytes (piece ++ over) u.written f.front (subst (λ (x : List ℕ). Consumes source.left source''.left x) (append_assoc u.bytes piece over) read)
+        keeps_pace o sink sink'' source source'' u.bytes (piece ++ over) u.written f.front (subst (λ (x : List ℕ). Consumes source.left source''.left x) (append_assoc u.bytes piece over) read) (inr p.given)
         (let a = length-append piece over in let b = p.lengths in omega arith) transcript (Appends-trans sink.held sink'.held sink''.held u.written f.front u.writes.held f.held)
 
     -- A line of the piece stopped the run.

@@ -1,6 +1,6 @@
 -- How lines that were answered one after another make an output.
 use Rattle.std.proofs.Common.{◌≡◌, ℕ, ◌-◌, ◌<◌, ◌≤◌, List, [], ◌∷◌, ◌++◌, length, take, refl, sym, ap, ◌∙◌, subst, inl, inr, arith, append_assoc, append-nil, length-append, Bool}
-use Rattle.std.specs.Prelude.{Option, None, Some, IfSome, if◌then◌else◌}
+use Rattle.std.specs.Prelude.{◌⊎◌, Option, None, Some, IfSome, if◌then◌else◌}
 use Rattle.std.proofs.Math.Seq.{take-append-add, take-append_seam}
 use Rattle.std.proofs.lemmas.Bool.{cases_lt, le-ltb, lt-ltb}
 use Rattle.std.specs.Io.KnownBytes.{Appends, Consumes}
@@ -97,32 +97,34 @@ module _ {sink sink' : SinkSeen} (o : Options) (source source' : SourceSeen) (by
 
 -- more was taken with the last read, and more was written
 pub keeps_pace : (o : Options) (sink sink' : SinkSeen) (source source' : SourceSeen) (before last text more : List ℕ)
-    → Consumes source.left source'.left (before ++ last) → length last ≤ max_read_bytes → Transcript o (ended_lines before) text → Appends sink.held sink'.held (text ++ more) → SessionPace o source source' sink sink'
-keeps_pace o sink sink' source source' before last text more consumes short t w =
-    if_told source.left source'.left (before ++ last) (λ all rest. AnswersBeforeLast o all rest sink sink') consumes (λ all rest e.
-    record { before = before; last = last; text = text; more = more; taken = e; short = short; transcript = t; written = w })
+    → Consumes source.left source'.left (before ++ last) → (last ≡ []) ⊎ IfSome source'.last (λ read. last ≡ read)
+    → length last ≤ max_read_bytes → Transcript o (ended_lines before) text → Appends sink.held sink'.held (text ++ more) → SessionPace o source source' sink sink'
+keeps_pace o sink sink' source source' before last text more consumes one short t w =
+    if_told source.left source'.left (before ++ last) (λ all rest. AnswersBeforeLast o source'.last all rest sink sink') consumes (λ all rest e.
+    record { before = before; last = last; text = text; more = more; taken = e; one_read = one; short = short; transcript = t; written = w })
 
 -- nothing was taken for the usage line
 pub usage_keeps_pace : (words : List (List ℕ)) (source : SourceSeen) (sink sink' : SinkSeen) → AsksNothing words → KeepsPace words source source sink sink'
 usage_keeps_pace words source sink sink' n = λ o asks. absurd (n (Session o) asks)
 
 -- what was written for the lines that were taken whole keeps pace
-ended_keeps_pace : (o : Options) (bytes : Option (List ℕ)) (rest : Option (List ℕ)) (sink sink' : SinkSeen) → IfTold bytes rest (λ bytes rest. AnswersEnded o bytes rest sink sink') → IfTold bytes rest (λ bytes rest. AnswersBeforeLast o bytes rest sink sink')
-ended_keeps_pace o None rest sink sink' a = tt
-ended_keeps_pace o (Some bytes) None sink sink' a = a
-ended_keeps_pace o (Some bytes) (Some rest) sink sink' a = record {
+ended_keeps_pace : (o : Options) (given bytes rest : Option (List ℕ)) (sink sink' : SinkSeen) → IfTold bytes rest (λ bytes rest. AnswersEnded o bytes rest sink sink') → IfTold bytes rest (λ bytes rest. AnswersBeforeLast o given bytes rest sink sink')
+ended_keeps_pace o given None rest sink sink' a = tt
+ended_keeps_pace o given (Some bytes) None sink sink' a = a
+ended_keeps_pace o given (Some bytes) (Some rest) sink sink' a = record {
   before = a.taken;
   last = [];
   text = a.text;
   more = [];
   taken = a.split ∙ ap (λ (x : List ℕ). x ++ rest) (sym (append-nil a.taken));
+  one_read = inl refl;
   short = omega arith;
   transcript = a.transcript;
   written = subst (λ (x : List ℕ). Appends sink.held sink'.held x) (sym (append-nil a.text)) a.written;
 }
 
 pub taken_keeps_pace : (o : Options) (source source' : SourceSeen) (sink sink' : SinkSeen) → SessionTaken o source source' sink sink' → SessionPace o source source' sink sink'
-taken_keeps_pace o source source' sink sink' a = ended_keeps_pace o source.left source'.left sink sink' a
+taken_keeps_pace o source source' sink sink' a = ended_keeps_pace o source'.last source.left source'.left sink sink' a
 
 -- The source tells these bytes, or none.
 abbrev pub MayTell : Option (List ℕ) → List ℕ → Type 0

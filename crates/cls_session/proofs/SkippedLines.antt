@@ -1,4 +1,4 @@
--- A line that says nothing opens no certificate.
+-- A line that says nothing begins with no name, so it opens no certificate.
 use Rattle.std.proofs.Common.{ℕ, ◌≡◌, ◌+◌, Bool, true, false, List, [], ◌∷◌, refl, sym, ◌∙◌, ap, map, codes, arith}
 use Rattle.std.specs.Prelude.{◌==◌}
 use Rattle.std.proofs.lemmas.Bool.{true≢false}
@@ -35,6 +35,9 @@ unfolding tokens_from
 no_name x at [] h k = true≢false (sym k)
 no_name x at (b ∷ bs) h k = step x at b bs (is_blank b) refl (no_name x (at + 1) bs) h k
 
-pub skipped_opens : (line : List ℕ) → IsSkipped line → Opens line → ⊥
+pub skipped_nameless : (x line : List ℕ) → IsSkipped line → begins_with x (words_of line) ≡ true → ⊥
 unfolding words_of
-skipped_opens line h k = no_name (codes "verify") 0 line h.1 k.begins
+skipped_nameless x line h k = no_name x 0 line h.1 k
+
+pub skipped_opens : (line : List ℕ) → IsSkipped line → Opens line → ⊥
+skipped_opens line h k = skipped_nameless (codes "verify") line h k.begins

@@ -1,5 +1,5 @@
 -- The output of a run.
-use Rattle.std.specs.Prelude.{ℕ, ◌≡◌, ◌≤◌, ◌<◌, List, ◌++◌, length, take, nat_lt, if◌then◌else◌, Option, Some, None, IfSome}
+use Rattle.std.specs.Prelude.{ℕ, ◌≡◌, ◌⊎◌, ◌≤◌, ◌<◌, List, [], ◌++◌, length, take, nat_lt, if◌then◌else◌, Option, Some, None, IfSome}
 use Rattle.std.specs.Io.KnownBytes.{Appends}
 use Rattle.cls_base.specs.Limits.{max_input_bytes, max_read_bytes}
 use Rattle.cls_base.specs.Outside.{SourceSeen, SinkSeen}
@@ -156,23 +156,24 @@ abbrev pub BeginsTaken : List (List ℕ) → SourceSeen → SourceSeen → SinkS
 BeginsTaken words source source' sink sink' =
     IfTold source.left source'.left (λ bytes rest. BeginsForTaken words bytes rest sink sink')
 
--- Of the bytes `before` were taken and then `last`, which are at most `max_read_bytes`. All replies to the lines that
--- end in `before` stand written, and more may follow them.
-pub record AnswersBeforeLast (o : Options) (bytes rest : List ℕ) (sink sink' : SinkSeen) : Type 0 where
+-- Of the bytes `before` were taken and then `last`, which is what the last read gave, if that is told, or nothing. All replies
+-- to the lines that end in `before` stand written, and more may follow them.
+pub record AnswersBeforeLast (o : Options) (given : Option (List ℕ)) (bytes rest : List ℕ) (sink sink' : SinkSeen) : Type 0 where
   pub before : List ℕ
   pub last : List ℕ
   pub text : List ℕ
   pub more : List ℕ
   pub taken : bytes ≡ before ++ last ++ rest
+  pub one_read : (last ≡ []) ⊎ IfSome given (λ read. last ≡ read)
   pub short : length last ≤ max_read_bytes
   pub transcript : Transcript o (ended_lines before) text
   pub written : Appends sink.held sink'.held (text ++ more)
 
--- If a session broke off: all lines that had come whole before the last `max_read_bytes` that it took, or fewer, were
--- answered. Any write may be the one that fails, so a session that reads on before it has answered doesn't keep pace.
+-- If a session broke off: all lines that had come whole before its last read were answered. Any write may be the one that
+-- fails, so a session that reads on before it has answered doesn't keep pace.
 abbrev pub SessionPace : Options → SourceSeen → SourceSeen → SinkSeen → SinkSeen → Type 0
 SessionPace o source source' sink sink' =
-    IfTold source.left source'.left (λ bytes rest. AnswersBeforeLast o bytes rest sink sink')
+    IfTold source.left source'.left (λ bytes rest. AnswersBeforeLast o source'.last bytes rest sink sink')
 
 -- The same of a run that was asked for a session.
 abbrev pub KeepsPace : List (List ℕ) → SourceSeen → SourceSeen → SinkSeen → SinkSeen → Type 0

@@ -54,14 +54,7 @@ pub fn outcome_under<R: Threads + Wait + Sync, G: Gate + Sync>(
     let mut source = MemorySource::new(input.to_vec(alloc)?, outside.chunk, fails);
     let fails = Numbers::new(outside.failing_writes.to_vec(alloc)?);
     let mut sink = MemorySink::new(alloc, SPARE, outside.chunk, fails)?;
-    let status = run(
-        rt,
-        alloc,
-        owned.as_slice(),
-        &mut source,
-        &mut sink,
-        gate,
-    );
+    let status = run(rt, alloc, owned.as_slice(), &mut source, &mut sink, gate);
     let output = String::from_str(alloc, str::from_utf8(sink.held())?)?;
     Ok((status, output))
 }

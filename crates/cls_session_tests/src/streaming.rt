@@ -24,7 +24,7 @@ struct Watcher<'a> {
 }
 
 impl<'a> Source for Watcher<'a> {
-    ghost seen = { λ s. record { left = None; faults = s.bytes.faults } };
+    ghost seen = { λ s. record { left = None; last = None; faults = s.bytes.faults } };
 
     fn read(&mut self, into: &mut [u8]) -> Result<usize, Failed> {
         if self.reads < 64 {

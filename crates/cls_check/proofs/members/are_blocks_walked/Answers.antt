@@ -47,8 +47,8 @@ is_walked-requires-clause-within c =
     let formed = All-contains (IsFormed l k) bs b c.requires.layers.formed (i, low, sym is) in
     formed_within l k b c.place_of-place.result c.get-block.result.layers c.place_of-place.ensures refl formed
 
-pub returns-then-not-branch : goal.returns-then-not-branch
-returns-then-not-branch c =
+pub returns-then-not-branch-clause-walked : goal.returns-then-not-branch-clause-walked
+returns-then-not-branch-clause-walked c =
     let l = c.args.lib.now in
     let bs = c.args.blocks.now in
     let k = path_total (listed c.args.form.now) in
@@ -58,7 +58,7 @@ returns-then-not-branch c =
     let low : i < length bs = omega arith in
     let form = listed c.args.form.now in (
       (λ t. absurd (not-false t)),
-      (λ h. absurd (differs (sym c.if-not-branch.true ∙ c.in_ok-is_walked.ensures.1
+      (λ h. absurd (differs (sym c.if-not-branch.true ∙ c.in_ok-is_walked.ensures.walked.1
           (walked_here l k b c.place_of-place.result c.get-block.result.layers c.place_of-place.ensures refl c.args.goals.now form (All-contains (IsBlockWalked l c.args.goals.now form) bs b h (i, low, sym is)))))),
     )
 
@@ -72,11 +72,14 @@ loop-i-preserved c =
     let is = got-some c.args.blocks.now i (block_seen c.get-block.result) c.get-block.ensures in
     let low : i < length bs = omega arith in
     let P = IsBlockWalked l c.args.goals.now (listed c.args.form.now) in
-    subst (λ (q : List Block). All P q) (sym (take-one bs i b is low)) (All-push P (take i bs) b c.loop-i.invariant
-    (walked_there l k b c.place_of-place.result c.get-block.result.layers c.place_of-place.ensures refl c.args.goals.now (listed c.args.form.now) (c.in_ok-is_walked.ensures.0 c.if-not-branch.false)))
+    let one = walked_there l k b c.place_of-place.result c.get-block.result.layers c.place_of-place.ensures refl c.args.goals.now (listed c.args.form.now) (c.in_ok-is_walked.ensures.walked.0 c.if-not-branch.false) in
+    record {
+      walked = subst (λ (q : List Block). All P q) (sym (take-one bs i b is low)) (All-push P (take i bs) b c.loop-i.invariant.walked one);
+      known = c.in_ok-is_walked.ensures.known;
+    }
 
-pub returns : goal.returns
-returns c =
+pub returns-clause-walked : goal.returns-clause-walked
+returns-clause-walked c =
     let bs = c.args.blocks.now in
     let P = IsBlockWalked c.args.lib.now c.args.goals.now (listed c.args.form.now) in
-    ((λ t. subst (λ (q : List Block). All P q) (take_all c.loop-i.i bs (let m = c.loop-i-test.false in omega arith)) c.loop-i.invariant), (λ h. is-true))
+    ((λ t. subst (λ (q : List Block). All P q) (take_all c.loop-i.i bs (let m = c.loop-i-test.false in omega arith)) c.loop-i.invariant.walked), (λ h. is-true))

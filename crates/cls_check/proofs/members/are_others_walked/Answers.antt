@@ -11,8 +11,8 @@ use Rattle.cls_check.proofs.Loops.{not-false, is-true, differs}
 use Rattle.cls_check.proofs.Stepping.{total_length}
 use Rattle.cls_check.proofs.members.are_others_walked.Goals as goal
 
-pub returns-in_default : goal.returns-in_default
-returns-in_default c =
+pub returns-in_default-clause-walked : goal.returns-in_default-clause-walked
+returns-in_default-clause-walked c =
     let l = c.args.lib.now in
     let form = listed c.args.form.now in
     let keys = c.args.places.now.keys in
@@ -28,6 +28,7 @@ loop-found-init c = record {
   walked = walked_start c.args.lib.now c.args.goals.now c.args.places.now.keys (listed c.args.form.now);
   size = omega arith;
   count = omega arith;
+  known = c.requires.known;
 }
 
 pub next-requires : goal.next-requires
@@ -49,11 +50,11 @@ overflow_add-from c =
     let within : c.in-Some-next.found.count ≤ arity_of (paths_at c.args.lib.now c.in-Some-next.found.component) = h.place.within in
     omega arith
 
-pub returns-then-not-branch : goal.returns-then-not-branch
-returns-then-not-branch c =
+pub returns-then-not-branch-clause-walked : goal.returns-then-not-branch-clause-walked
+returns-then-not-branch-clause-walked c =
     let h = subst (λ (f : Finder). IsNext f.library (listed f.goal) c.loop-found.from (Some c.in-Some-next.found)) c.loop-found.invariant.finder c.in-Some-next.ensures.next in (
       (λ t. absurd (not-false t)),
-      (λ all. absurd (differs (sym c.if-not-branch.true ∙ c.in_ok-is_other_walked.ensures.1
+      (λ all. absurd (differs (sym c.if-not-branch.true ∙ c.in_ok-is_other_walked.ensures.walked.1
           (all c.in-Some-next.found.component c.in-Some-next.found.count (record { declared = h.place.declared; within = h.place.within }))))),
     )
 
@@ -69,9 +70,10 @@ loop-found-preserved c =
     let declared : p.component < length l.components = h.place.declared in
     record {
       finder = c.in-Some-next.ensures.same ∙ inv.finder;
-      walked = walked_next l c.args.goals.now c.args.places.now.keys (listed c.args.form.now) from inv.walked p h (c.in_ok-is_other_walked.ensures.0 c.if-not-branch.false);
+      walked = walked_next l c.args.goals.now c.args.places.now.keys (listed c.args.form.now) from inv.walked p h (c.in_ok-is_other_walked.ensures.walked.0 c.if-not-branch.false);
       size = omega arith;
       count = omega arith;
+      known = c.in_ok-is_other_walked.ensures.known;
     }
 
 pub loop-found-smaller : goal.loop-found-smaller
@@ -85,8 +87,8 @@ loop-found-smaller c =
     let within : p.count ≤ arity_of (paths_at l p.component) = h.place.within in
     fewer_left (length l.components) from.component from.count p.component p.count h.later inv.size inv.count h.place.declared (omega arith)
 
-pub returns : goal.returns
-returns c =
+pub returns-clause-walked : goal.returns-clause-walked
+returns-clause-walked c =
     let h = subst (λ (f : Finder). IsNext f.library (listed f.goal) c.loop-found.from None) c.loop-found.invariant.finder c.in_default-next.ensures.next in (
       (λ t. walked_all c.args.lib.now c.args.goals.now c.args.places.now.keys (listed c.args.form.now) c.loop-found.from c.loop-found.invariant.walked h),
       (λ all. is-true),

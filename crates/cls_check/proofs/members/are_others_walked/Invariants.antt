@@ -1,5 +1,6 @@
 use Rattle.std.proofs.Common.{◌≡◌, ◌+◌, ◌-◌, ◌*◌, ◌≤◌, length}
 use Rattle.cls_path.specs.Paths.{listed}
+use Rattle.cls_check.specs.Tests.{AreRight}
 use Rattle.cls_check.proofs.Finding.{AreWalkedBefore}
 use Rattle.cls_check.proofs.members.are_others_walked.Given as goal
 
@@ -9,6 +10,7 @@ invariant-loop-found l = record {
   walked : AreWalkedBefore l.lib l.goals l.places.keys (listed l.form) l.from.component l.from.count;
   size : l.from.component ≤ length l.lib.components;
   count : l.from.count ≤ 33;
+  known : AreRight l.lib l.goals l.known;
 }
 
 abbrev pub decreases-loop-found : goal.decreases-loop-found

@@ -9,8 +9,8 @@ use Rattle.cls_check.proofs.Keys.{place_found}
 use Rattle.cls_check.proofs.Loops.{is-true}
 use Rattle.cls_check.proofs.members.is_other_walked.Goals as goal
 
-pub returns-then-contains : goal.returns-then-contains
-returns-then-contains c = ((λ t absent. absurd (absent (place_found c.args.places.now.keys c.args.place (sym c.contains.ensures ∙ c.if-contains.true)))), (λ h. is-true))
+pub returns-then-contains-clause-walked : goal.returns-then-contains-clause-walked
+returns-then-contains-clause-walked c = ((λ t absent. absurd (absent (place_found c.args.places.now.keys c.args.place (sym c.contains.ensures ∙ c.if-contains.true)))), (λ h. is-true))
 
 pub is_walked-requires-clause-as_many : goal.is_walked-requires-clause-as_many
 is_walked-requires-clause-as_many c = ap (λ (q : List (List (List ℕ))). length q) c.requires.none ∙ empty_length (path_total (listed c.args.form.now))

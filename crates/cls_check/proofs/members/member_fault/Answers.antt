@@ -5,8 +5,8 @@ use Rattle.cls_check.proofs.Loops.{differs}
 use Rattle.cls_check.proofs.Stepping.{total_length}
 use Rattle.cls_check.proofs.members.member_fault.Goals as goal
 
-pub returns-in-None : goal.returns-in-None
-returns-in-None c =
+pub returns-in-None-clause-tells : goal.returns-in-None-clause-tells
+returns-in-None-clause-tells c =
     let k = ap (λ (q : List TypePath). length q) c.paths-count.ensures ∙ sym (total_length c.args.form.now) in
     let h = rw c.in-None.is at c.in_ok-block_places.ensures in
     λ p. h (subst (λ (n : ℕ). PassesLayers c.args.lib.now c.args.blocks.now n) (sym k) p)
@@ -20,16 +20,16 @@ is_unblocked-requires-clause-layers c =
 pub is_unblocked-requires-clause-places : goal.is_unblocked-requires-clause-places
 is_unblocked-requires-clause-places c = let h = rw c.in-Some.is at c.in_ok-block_places.ensures in h.1
 
-pub returns-then-not-branch : goal.returns-then-not-branch
-returns-then-not-branch c =
+pub returns-then-not-branch-clause-tells : goal.returns-then-not-branch-clause-tells
+returns-then-not-branch-clause-tells c =
     let k = ap (λ (q : List TypePath). length q) c.paths-count.ensures ∙ sym (total_length c.args.form.now) in
     let h = rw c.in-Some.is at c.in_ok-block_places.ensures in
     let a = subst (λ (n : ℕ). PassesLayers c.args.lib.now c.args.blocks.now n) k h.0 in
-    (a, (λ u. differs (sym c.if-not-branch.true ∙ c.in_ok-is_unblocked.ensures.1 u)))
+    (a, (λ u. differs (sym c.if-not-branch.true ∙ c.in_ok-is_unblocked.ensures.unblocked.1 u)))
 
-pub returns : goal.returns
-returns c =
+pub returns-clause-tells : goal.returns-clause-tells
+returns-clause-tells c =
     let k = ap (λ (q : List TypePath). length q) c.paths-count.ensures ∙ sym (total_length c.args.form.now) in
     let h = rw c.in-Some.is at c.in_ok-block_places.ensures in
     let a = subst (λ (n : ℕ). PassesLayers c.args.lib.now c.args.blocks.now n) k h.0 in
-    (a, c.in_ok-is_unblocked.ensures.0 c.if-not-branch.false)
+    (a, c.in_ok-is_unblocked.ensures.unblocked.0 c.if-not-branch.false)

@@ -20,8 +20,8 @@ covers_seen l r n f h = covers_up l (arrows_at l r.component r.n) n (paths_of (v
 covers_back : (l : Library) (r : ProofRow) (n : Paths) → IsForm l r.goal n → PassesTarget l r → CoversGoal l (arrows_at l r.component r.n) n r.cover
 covers_back l r n f h = covers_up l (arrows_at l r.component r.n) (paths_of (variances_in l.taxonomy) r.goal) n r.cover f.upper h
 
-pub returns-then-not-cover_goal : goal.returns-then-not-cover_goal
-returns-then-not-cover_goal c =
+pub returns-then-not-cover_goal-clause-tells : goal.returns-then-not-cover_goal-clause-tells
+returns-then-not-cover_goal-clause-tells c =
     let l = c.args.lib.now in
     let r = row_seen c.args.row in
     let arrow : PassesArrow l r = (c.stands.ensures.0 c.if-not-stands.false, positions_seen (arrows_at l r.component r.n) c.arrows.result c.arrows.ensures.arrows c.len.result c.len.ensures r.cover (c.are_positions.ensures.0 c.if-not-are_positions.false)) in
@@ -30,8 +30,8 @@ returns-then-not-cover_goal c =
       inl ((λ p. differs (sym c.if-not-cover_goal.true ∙ c.cover_goal.ensures.1 (covers_back l r (listed c.args.goal.now) c.requires.form p))), refl),
     )
 
-pub returns-then-not-branch : goal.returns-then-not-branch
-returns-then-not-branch c =
+pub returns-then-not-branch-clause-tells : goal.returns-then-not-branch-clause-tells
+returns-then-not-branch-clause-tells c =
     let l = c.args.lib.now in
     let r = row_seen c.args.row in
     let arrow : PassesArrow l r = (c.stands.ensures.0 c.if-not-stands.false, positions_seen (arrows_at l r.component r.n) c.arrows.result c.arrows.ensures.arrows c.len.result c.len.ensures r.cover (c.are_positions.ensures.0 c.if-not-are_positions.false)) in
@@ -41,19 +41,19 @@ returns-then-not-branch c =
       inr (
         (λ t h. h.0 target),
         inl (
-          (λ p. differs (sym c.if-not-branch.true ∙ c.in_ok-meets_arguments.ensures.1
+          (λ p. differs (sym c.if-not-branch.true ∙ c.in_ok-is_known_to_meet.ensures.meets.1
               p)),
           refl,
         ),
       ),
     )
 
-pub returns : goal.returns
-returns c =
+pub returns-clause-tells : goal.returns-clause-tells
+returns-clause-tells c =
     let l = c.args.lib.now in
     let r = row_seen c.args.row in
     record {
       arrow = (c.stands.ensures.0 c.if-not-stands.false, positions_seen (arrows_at l r.component r.n) c.arrows.result c.arrows.ensures.arrows c.len.result c.len.ensures r.cover (c.are_positions.ensures.0 c.if-not-are_positions.false));
       target = covers_seen l r (listed c.args.goal.now) c.requires.form (c.cover_goal.ensures.0 c.if-not-cover_goal.false);
-      argument = c.in_ok-meets_arguments.ensures.0 c.if-not-branch.false;
+      argument = c.in_ok-is_known_to_meet.ensures.meets.0 c.if-not-branch.false;
     }

@@ -12,6 +12,9 @@ use Rattle.cls_check.proofs.Order.{suits_item}
 use Rattle.cls_check.proofs.Stepping.{total_length, sets_below, Settled, from_step, from_end}
 use Rattle.cls_check.proofs.steps.is_walked.Goals as goal
 
+pub loop-step-init : goal.loop-step-init
+loop-step-init c = record { walked = ((λ h. h), (λ h. h)); known = c.requires.known }
+
 pub sets_at-sets-requires : goal.sets_at-sets-requires
 sets_at-sets-requires c =
     let n = ap (λ (q : List TypePath). length q) c.paths-path-items.ensures in
@@ -40,8 +43,8 @@ all_step-requires-clause-layer c =
     subst (λ (q : List (List ℕ)). AllBelow (length (arrows_in c.args.lib.now c.args.place)) q) (sym c.get-layer.ensures)
     (All-get_or (AllBelow (length (arrows_in c.args.lib.now c.args.place))) c.args.layers.now c.loop-step.step [] h c.requires.within)
 
-pub returns-then-not-branch : goal.returns-then-not-branch
-returns-then-not-branch c =
+pub returns-then-not-branch-clause-walked : goal.returns-then-not-branch-clause-walked
+returns-then-not-branch-clause-walked c =
     let l = c.args.lib.now in
     let P = IsBelowGoal l c.args.goals.now in
     let items : c.paths-path-items.result.now ≡ c.args.goal.now = c.paths-path-items.ensures in
@@ -53,10 +56,10 @@ returns-then-not-branch c =
     let one = from_step l P (arrows_in l c.args.place) c.args.place.n c.args.goal.now ([] ∷ []) c.args.layers.now c.loop-step.step c.path-item.result
     (c.path-item.is ∙ ap (λ (q : List TypePath). get_or q c.loop-step.step c.path-item.result) items) (let m = c.loop-step-test.true in omega arith) (let m = c.requires.as_many in omega arith) in (
       (λ f. absurd (not-false f)),
-      (λ w. absurd (differs (sym c.if-not-branch.true ∙ c.in_ok-all_step.ensures.1
+      (λ w. absurd (differs (sym c.if-not-branch.true ∙ c.in_ok-all_step.ensures.step.1
           (subst (λ (q : List (List ℕ)). All (Settled l P (arrows_in l c.args.place) c.args.place.n c.path-item.result c.get-layer.result) q) (sym sets)
           (subst (λ (q : List (List ℕ)). All (Settled l P (arrows_in l c.args.place) c.args.place.n c.path-item.result q) (sets_at ([] ∷ []) c.args.layers.now c.loop-step.step)) (sym layer)
-          (one.0 (c.loop-step.invariant.1 w)).0))))),
+          (one.0 (c.loop-step.invariant.walked.1 w)).0))))),
     )
 
 pub loop-step-preserved : goal.loop-step-preserved
@@ -72,16 +75,19 @@ loop-step-preserved c =
     let one = from_step l P (arrows_in l c.args.place) c.args.place.n c.args.goal.now ([] ∷ []) c.args.layers.now c.loop-step.step c.path-item.result
     (c.path-item.is ∙ ap (λ (q : List TypePath). get_or q c.loop-step.step c.path-item.result) items) (let m = c.loop-step-test.true in omega arith) (let m = c.requires.as_many in omega arith) in
     let settled = subst (λ (q : List (List ℕ)). All (Settled l P (arrows_in l c.args.place) c.args.place.n c.path-item.result q) (sets_at ([] ∷ []) c.args.layers.now c.loop-step.step)) layer
-    (subst (λ (q : List (List ℕ)). All (Settled l P (arrows_in l c.args.place) c.args.place.n c.path-item.result c.get-layer.result) q) sets (c.in_ok-all_step.ensures.0 c.if-not-branch.false)) in
-    ((λ f. c.loop-step.invariant.0 (one.1 (settled, f))), (λ w. (one.0 (c.loop-step.invariant.1 w)).1))
+    (subst (λ (q : List (List ℕ)). All (Settled l P (arrows_in l c.args.place) c.args.place.n c.path-item.result c.get-layer.result) q) sets (c.in_ok-all_step.ensures.step.0 c.if-not-branch.false)) in
+    record {
+      walked = ((λ f. c.loop-step.invariant.walked.0 (one.1 (settled, f))), (λ w. (one.0 (c.loop-step.invariant.walked.1 w)).1));
+      known = c.in_ok-all_step.ensures.known;
+    }
 
 pub all_blocked-requires-clause-within : goal.all_blocked-requires-clause-within
 all_blocked-requires-clause-within c =
     let e = c.sets_at-last.ensures ∙ (λ j. sets_at (c.in_ok-start.ensures j) c.args.layers.now (c.len.ensures j)) in
     subst (λ (q : List (List ℕ)). AllBelow (length (arrows_in c.args.lib.now c.args.place)) q) (sym e) (sets_below (length (arrows_in c.args.lib.now c.args.place)) c.args.layers.now (length c.args.layers.now) c.requires.within)
 
-pub returns : goal.returns
-returns c =
+pub returns-clause-walked : goal.returns-clause-walked
+returns-clause-walked c =
     let l = c.args.lib.now in
     let P = IsBelowGoal l c.args.goals.now in
     let n = ap (λ (q : List TypePath). length q) c.paths-path-items.ensures in
@@ -92,5 +98,5 @@ returns c =
     let e = c.sets_at-last.ensures ∙ (λ j. sets_at (c.in_ok-start.ensures j) c.args.layers.now (c.len.ensures j)) in
     let last : c.sets_at-last.result ≡ sets_at ([] ∷ []) c.args.layers.now c.loop-step.step = e ∙ ap (λ (k : ℕ). sets_at ([] ∷ []) c.args.layers.now k) (sym end) in
     let x = from_end l P (arrows_in l c.args.place) c.args.place.n c.args.goal.now ([] ∷ []) c.args.layers.now c.loop-step.step long in
-    let blocked = subst (λ (q : List (List ℕ)). IsTrue c.in_ok-all_blocked.field-0 ↔ All (IsBlocked l P (arrows_in l c.args.place) c.args.place.n) q) last c.in_ok-all_blocked.ensures in
-    ((λ f. c.loop-step.invariant.0 (x.1 (blocked.0 f))), (λ w. blocked.1 (x.0 (c.loop-step.invariant.1 w))))
+    let blocked = subst (λ (q : List (List ℕ)). IsTrue c.in_ok-all_blocked.field-0 ↔ All (IsBlocked l P (arrows_in l c.args.place) c.args.place.n) q) last c.in_ok-all_blocked.ensures.blocked in
+    ((λ f. c.loop-step.invariant.walked.0 (x.1 (blocked.0 f))), (λ w. blocked.1 (x.0 (c.loop-step.invariant.walked.1 w))))

@@ -80,34 +80,34 @@ returns-in-Err-clause-keeps_pace g c =
 
 pub answer_lines-requires-clause-room : goal.answer_lines-requires-clause-room
 answer_lines-requires-clause-room g c κs within =
-    let p = cut_piece (g.S.Source.seen c.pieces.source) (g.S.Source.seen c.read.new.self) c.read.new.into _ _ c.in-Ok.count c.min.result c.split_at.ensures.front c.split_at.ensures.back c.in-Ok.ensures.bytes c.in-Ok.ensures.within in
+    let p = cut_piece (g.S.Source.seen c.pieces.source) (g.S.Source.seen c.read.new.self) c.read.new.into _ _ c.in-Ok.count c.min.result c.split_at.ensures.front c.split_at.ensures.back c.in-Ok.ensures.bytes c.in-Ok.ensures.last c.in-Ok.ensures.within in
     let short : c.pieces.taken + length c.split_at.result.0.now ≤ max_input_bytes = omega (arith, c.split_at.ensures.front_len, c.min.ensures, c.pieces.invariant.short) in
     piece_has_room c.pieces.invariant.under_way p short c.requires.room
 
 pub returns-in-Err-answer_lines-clause-output : goal.returns-in-Err-answer_lines-clause-output
 returns-in-Err-answer_lines-clause-output g c =
-    let p = cut_piece (g.S.Source.seen c.pieces.source) (g.S.Source.seen c.read.new.self) c.read.new.into _ _ c.in-Ok.count c.min.result c.split_at.ensures.front c.split_at.ensures.back c.in-Ok.ensures.bytes c.in-Ok.ensures.within in
+    let p = cut_piece (g.S.Source.seen c.pieces.source) (g.S.Source.seen c.read.new.self) c.read.new.into _ _ c.in-Ok.count c.min.result c.split_at.ensures.front c.split_at.ensures.back c.in-Ok.ensures.bytes c.in-Ok.ensures.last c.in-Ok.ensures.within in
     let short : c.pieces.taken + length c.split_at.result.0.now ≤ max_input_bytes = omega (arith, c.split_at.ensures.front_len, c.min.ensures, c.pieces.invariant.short) in
     answers_stopped c.pieces.invariant.under_way p short _ (g.K.Sink.seen c.answer_lines.new.sink) c.answer_lines.new.session c.answer_lines.new.reader
     c.in-Err-answer_lines.stop c.into-in-Err-answer_lines.result c.in-Err-answer_lines.ensures.answers c.into-in-Err-answer_lines.ensures
 
 pub returns-in-Err-answer_lines-clause-begins : goal.returns-in-Err-answer_lines-clause-begins
 returns-in-Err-answer_lines-clause-begins g c =
-    let p = cut_piece (g.S.Source.seen c.pieces.source) (g.S.Source.seen c.read.new.self) c.read.new.into _ _ c.in-Ok.count c.min.result c.split_at.ensures.front c.split_at.ensures.back c.in-Ok.ensures.bytes c.in-Ok.ensures.within in
+    let p = cut_piece (g.S.Source.seen c.pieces.source) (g.S.Source.seen c.read.new.self) c.read.new.into _ _ c.in-Ok.count c.min.result c.split_at.ensures.front c.split_at.ensures.back c.in-Ok.ensures.bytes c.in-Ok.ensures.last c.in-Ok.ensures.within in
     let short : c.pieces.taken + length c.split_at.result.0.now ≤ max_input_bytes = omega (arith, c.split_at.ensures.front_len, c.min.ensures, c.pieces.invariant.short) in
     begins_stopped c.pieces.invariant.under_way p short _ (g.K.Sink.seen c.answer_lines.new.sink) c.answer_lines.new.session c.answer_lines.new.reader
     c.in-Err-answer_lines.stop c.into-in-Err-answer_lines.result c.in-Err-answer_lines.ensures.answers c.into-in-Err-answer_lines.ensures
 
 pub returns-in-Err-answer_lines-clause-keeps_pace : goal.returns-in-Err-answer_lines-clause-keeps_pace
 returns-in-Err-answer_lines-clause-keeps_pace g c =
-    let p = cut_piece (g.S.Source.seen c.pieces.source) (g.S.Source.seen c.read.new.self) c.read.new.into _ _ c.in-Ok.count c.min.result c.split_at.ensures.front c.split_at.ensures.back c.in-Ok.ensures.bytes c.in-Ok.ensures.within in
+    let p = cut_piece (g.S.Source.seen c.pieces.source) (g.S.Source.seen c.read.new.self) c.read.new.into _ _ c.in-Ok.count c.min.result c.split_at.ensures.front c.split_at.ensures.back c.in-Ok.ensures.bytes c.in-Ok.ensures.last c.in-Ok.ensures.within in
     let short : c.pieces.taken + length c.split_at.result.0.now ≤ max_input_bytes = omega (arith, c.split_at.ensures.front_len, c.min.ensures, c.pieces.invariant.short) in
     stopped_keeps_pace c.pieces.invariant.under_way p short _ (g.K.Sink.seen c.answer_lines.new.sink) c.answer_lines.new.session c.answer_lines.new.reader
     c.in-Err-answer_lines.stop c.into-in-Err-answer_lines.result c.in-Err-answer_lines.ensures.answers c.into-in-Err-answer_lines.ensures (omega (arith, c.in-Ok.ensures.within))
 
 pub returns-then-not-is_empty-clause-output : goal.returns-then-not-is_empty-clause-output
 returns-then-not-is_empty-clause-output g c = λ whole.
-    let p = cut_piece (g.S.Source.seen c.pieces.source) (g.S.Source.seen c.read.new.self) c.read.new.into _ _ c.in-Ok.count c.min.result c.split_at.ensures.front c.split_at.ensures.back c.in-Ok.ensures.bytes c.in-Ok.ensures.within in
+    let p = cut_piece (g.S.Source.seen c.pieces.source) (g.S.Source.seen c.read.new.self) c.read.new.into _ _ c.in-Ok.count c.min.result c.split_at.ensures.front c.split_at.ensures.back c.in-Ok.ensures.bytes c.in-Ok.ensures.last c.in-Ok.ensures.within in
     let short : c.pieces.taken + length c.split_at.result.0.now ≤ max_input_bytes = omega (arith, c.split_at.ensures.front_len, c.min.ensures, c.pieces.invariant.short) in
     let some = some_over (length c.split_at.result.1.now) c.if-not-is_empty.ensures in
     answers_too_long c.pieces.invariant.under_way p short c.in_default-answer_lines.ensures.answers c.in_default-answer_lines.ensures.no_feed
@@ -115,7 +115,7 @@ returns-then-not-is_empty-clause-output g c = λ whole.
 
 pub pieces-preserved : goal.pieces-preserved
 pieces-preserved g c =
-    let p = cut_piece (g.S.Source.seen c.pieces.source) (g.S.Source.seen c.read.new.self) c.read.new.into _ _ c.in-Ok.count c.min.result c.split_at.ensures.front c.split_at.ensures.back c.in-Ok.ensures.bytes c.in-Ok.ensures.within in
+    let p = cut_piece (g.S.Source.seen c.pieces.source) (g.S.Source.seen c.read.new.self) c.read.new.into _ _ c.in-Ok.count c.min.result c.split_at.ensures.front c.split_at.ensures.back c.in-Ok.ensures.bytes c.in-Ok.ensures.last c.in-Ok.ensures.within in
     let short : c.pieces.taken + length c.split_at.result.0.now ≤ max_input_bytes = omega (arith, c.split_at.ensures.front_len, c.min.ensures, c.pieces.invariant.short) in
     let none = none_over c.split_at.result.1.now c.if-not-is_empty.ensures in
     let whole : length c.split_at.result.0.now ≡ c.in-Ok.count = (let e = ap length none in omega (arith, e, p.lengths)) in

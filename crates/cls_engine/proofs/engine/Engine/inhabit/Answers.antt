@@ -1,5 +1,6 @@
 use Rattle.cls_base.specs.Ty.{type_of}
 use Rattle.cls_engine.specs.Closing.{IsKnownOf}
+use Rattle.cls_engine.proofs.Deciding.{verdict-on}
 use Rattle.cls_engine.proofs.Faulting.{known-silent, silent-of}
 use Rattle.cls_engine.proofs.Languages.{inhabited}
 use Rattle.cls_engine.proofs.engine.Engine.inhabit.Goals as goal
@@ -25,5 +26,11 @@ pub returns-in-Some-clause-silent : goal.returns-in-Some-clause-silent
 returns-in-Some-clause-silent g c =
     known-silent c.args.self.now.library c.args.self.now.options (type_of c.args.ty.now) c.in_ok-goal.goal c.in_ok-goal.ensures.goal c.in_ok-goal.ensures.narrow c.in-Some.ensures.rows c.in-Some.ensures.known
 
-pub keep_recent-requires-clause-known : goal.keep_recent-requires-clause-known
-keep_recent-requires-clause-known g c = rw c.closure.ensures.same (c.in_ok-grammar.ensures.known.goal, c.in_ok-grammar.ensures.known.known)
+pub keep_outcome-requires : goal.keep_outcome-requires
+keep_outcome-requires g c =
+    rw c.closure.ensures.same
+    (verdict-on c.args.self.now.library c.args.self.now.options (type_of c.args.ty.now) c.in_ok-goal.goal c.in_ok-goal.ensures.goal _ c.in_ok-grammar.ensures.known c.in_ok-inhabited.inhabited c.in_ok-inhabited.ensures)
+
+pub keep_recent-requires : goal.keep_recent-requires
+keep_recent-requires g c =
+    rw (c.keep_outcome.ensures.same, c.closure.ensures.same) (c.in_ok-grammar.ensures.known.goal, c.in_ok-grammar.ensures.known.known)

@@ -1,7 +1,0 @@
-use Rattle.std.proofs.Common.{ℕ, ◌<◌, ◌⊎◌, get_or, []}
-use Rattle.cls_check.specs.Layers.{AllMet}
-use Rattle.cls_check.specs.Tests.{IsStopped}
-use Rattle.cls_check.proofs.steps.all_step.Given as goal
-
-abbrev pub invariant-loop-i : goal.invariant-loop-i
-invariant-loop-i l = (k : ℕ) → k < l.i → IsStopped l.lib l.goals l.place (get_or l.sets k []) ⊎ AllMet l.leading l.layer (get_or l.sets k [])
