@@ -68,9 +68,9 @@ def long_replies() -> Iterator[Case]:
 
 def certificates() -> Iterator[Case]:
     """Equal sets and equal rows are to be tested once."""
-    yield Case("verify, 74,000 equal sets, 44,000 members", make.equal_sets(), "accepted", 0.15, 40, open_seconds=2)
-    yield Case("verify, 50,000 sets that hold one of 70,000", make.equal_layers(), "refused 1 unblocked", 0.3, 40, open_seconds=2)
-    yield Case("verify, equal rows behind 14,000 others", make.equal_rows(), "accepted", 0.15, 40, open_seconds=2)
+    yield Case("verify, 74,000 equal sets, 44,000 members", make.equal_sets(), "accepted", 0.15, 40)
+    yield Case("verify, 50,000 sets that hold one of 70,000", make.equal_layers(), "refused 1 unblocked", 0.3, 40)
+    yield Case("verify, equal rows behind 14,000 others", make.equal_rows(), "accepted", 0.15, 40)
     yield Case("verify, 500 members of the head of 65,536 paths", make.members_of_one_head(16, 500), "accepted", 0.9, 40, open_seconds=2)
 
 

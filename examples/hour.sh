@@ -14,7 +14,8 @@ export CLSYNTH=${CLSYNTH:-$top/crates/clsynth/out/clsynth}
 unset PYTHONPATH
 folder=$(mktemp -d)
 workers=()
-trap 'kill "${workers[@]}" 2>/dev/null || true; wait; rm -rf "$folder"' EXIT
+# Not asked to end first: a worker whose scheduler is gone may wait for it.
+trap 'kill -KILL "${workers[@]}" 2>/dev/null || true; wait 2>/dev/null; rm -rf "$folder"' EXIT
 cd "$folder"
 
 wants() { printf '\n%s\n' "$1"; }
