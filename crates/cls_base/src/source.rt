@@ -26,5 +26,6 @@ pub trait Source {
         ensures no_fault { OnOk result ((seen self.new).faults ≡ (seen self.old).faults) }
 
         ensures fault { OnErr result (HasRisen (seen self.old).faults (seen self.new).faults) }
-        ensures none_read { OnErr result (Keeps (seen self.old).left (seen self.new).left) };
+        ensures none_read { OnErr result (Keeps (seen self.old).left (seen self.new).left) }
+        ensures none_given { OnErr result ((seen self.new).last ≡ (seen self.old).last) };
 }

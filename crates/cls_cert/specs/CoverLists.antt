@@ -1,5 +1,5 @@
--- internal: the minimal covers of families are a list, since it is decided of each list of numbers whether it is one. Proofs, kept
--- here since contracts name the list.
+-- The minimal covers of families as a list: it is decided of each list of numbers whether it is one. Proofs, kept here since
+-- contracts name the list.
 use Rattle.std.proofs.Common.{ℕ, suc, ◌≡◌, ◌+◌, ◌<◌, refl, sym, subst, ap, ◌⊎◌, inl, inr, List, [], ◌∷◌, ◌++◌, length, arith, Contains}
 use Rattle.std.specs.Prelude.{map}
 use Rattle.cls_base.proofs.Lists.{Contains-nil, Contains-here, Contains-later, Contains-cases, Contains-head}

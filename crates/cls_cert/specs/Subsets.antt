@@ -1,5 +1,5 @@
--- internal: numbers, the lists of some of them, and those below a number. Proofs, kept here since a list that contracts name is
--- made by them.
+-- Numbers, the lists of some of them, and those below a number. Proofs, kept here since a list that contracts name is made by
+-- them.
 use Rattle.std.proofs.Common.{ℕ, zero, suc, ◌≡◌, ◌+◌, ◌≤◌, ◌<◌, Bool, true, false, refl, sym, subst, ◌⊎◌, inl, inr, List, [], ◌∷◌, ◌++◌, arith}
 use Rattle.std.specs.Prelude.{map, nat_lt}
 use Rattle.std.proofs.lemmas.Bool.Decides.{nat_tests}

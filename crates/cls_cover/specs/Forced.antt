@@ -1,4 +1,4 @@
--- internal: families of one position each
+-- families of one position each
 use Rattle.std.specs.Prelude.{ℕ, ◌≡◌, ◌↔◌, List}
 use Rattle.cls_cover.specs.Members.{Member, Ascending}
 use Rattle.cls_cover.specs.Growing.{single}

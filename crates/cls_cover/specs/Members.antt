@@ -1,5 +1,5 @@
--- internal: words on lists over membership as a data family, over which proofs go by cases. What is public is said with std's
--- `Contains`.
+-- Words on lists over membership as a data family, over which proofs go by cases. What is public is said with std's `Contains`
+-- wherever no list is made of it.
 use Rattle.std.specs.Prelude.{ℕ, ◌<◌, List, [], ◌∷◌}
 
 pub data Member {A : Type 0} : List A → A → Type 0 where

@@ -1,5 +1,5 @@
--- internal: what stands for the first time in a list of rules, and the way from a rule of the definition back to one of the
--- program. Proofs, on which Typings, Determined and Readiness stand.
+-- What stands for the first time in a list of rules, and the way from a rule of the definition back to one of the program. Proofs,
+-- on which Typings, Determined and Readiness stand.
 use Rattle.std.proofs.Common.{ℕ, ◌≡◌, refl, sym, ◌∙◌, subst, ap, ◌⊎◌, inl, inr, List, [], ◌∷◌, ◌++◌, Contains}
 use Rattle.std.specs.Prelude.{map}
 use Rattle.std.specs.List.{AllZip}

@@ -1,4 +1,4 @@
--- internal: the tests of paths and lists as the code computes them. That they decide the relations is proved.
+-- The tests of paths and lists as the code computes them. That they decide the relations is proved.
 use Rattle.std.specs.Prelude.{ℕ, Bool, true, false, ◌&&◌, ◌||◌}
 use Rattle.std.specs.Ordering.{is_eq}
 use Rattle.cls_base.specs.Taxonomies.{Variance, covariant, contravariant, invariant}
