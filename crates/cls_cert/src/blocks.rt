@@ -31,7 +31,7 @@ fn has_first(families: &[Numbers]) -> bool
 
 /// The families as a list.
 fn listed_families(alloc: Global, families: Families<'_>) -> Result<Vec<Numbers>, OutOfMemory>
-    ensures { IfOk result (λ all. all.items ≡ families_in families) }
+    ensures { IfOk result (λ all. all.items ≡ families_in families.entry) }
 {
     match families {
         Families::Single(positions) => lone_families(alloc, positions),
