@@ -1,4 +1,4 @@
-use Rattle.std.proofs.Common.{◌+◌, ◌<◌, ◌≤◌, ◌++◌, ◌∙◌, length, ap, refl, arith, rules, string_bytes}
+use Rattle.std.proofs.Common.{◌<◌, ◌≤◌, ◌++◌, ◌∙◌, length, ap, refl, arith, rules, string_bytes}
 use Rattle.cls_cert.specs.declared.layers.BlockLeft.{BlockLeft}
 use Rattle.cls_cert.proofs.LayerWriting.{layers_done, sets_written}
 use Rattle.cls_cert.proofs.layers.BlockLeft.write_layers.Goals as goal
