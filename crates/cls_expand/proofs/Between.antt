@@ -179,7 +179,9 @@ module _ (l : Library) (q : TypePath) (rest : Paths) where
     candidates = h.candidates;
     made = with_nothing l goal h.choices h.candidates h.made;
     first_ones = h.first_ones;
-    fit = (λ c m t. let u = (f c).0 ((h.chosen.exactly c).0 (is_there l goal h.choices c m)) in narrow c.component u.1 u.2 (by_size c refl t));
+    fit = (λ c m t.
+        let u = (f c).0 ((h.chosen.exactly c).0 (is_there l goal h.choices c m)) in
+        narrow c.component u.1 u.2 (by_size c refl t));
     narrow = (λ y n i j m. narrow y i (before_end e y n j) (by_covers n m));
   }
 
@@ -275,16 +277,27 @@ module _ (l : Library) (q : TypePath) (rest : List TypePath) where
   stretch_joined a (one ∷ lists) f =
       let here : Makes a one = subst (λ y. Makes y one) (let s : a + 0 ≡ a = omega arith in s) (f 0 (omega arith)) in
       let first = stretch_by l q (listed rest) a (map rule_of (rules_with a one)) here.0 here.1 in
-      let others = stretch_joined (a + 1) lists (λ i m. subst (λ y. Makes y (slice_index_or lists i [])) (let s : a + suc i ≡ a + 1 + i = omega arith in s) (f (suc i) (omega arith))) in
+      let later = λ (i : ℕ) (m : i < length lists). subst (λ y. Makes y (slice_index_or lists i [])) (next a i) (f (suc i) (omega arith)) in
+      let others = stretch_joined (a + 1) lists later in
       let end = a + 1 + length lists in
-      let both = stretch_append l path_goal a (a + 1) end (map rule_of (rules_with a one)) (map rule_of (rules_joined (a + 1) lists)) (omega arith) (omega arith) first others in
-      subst (λ e. Stretch l path_goal a e (map rule_of (rules_joined a (one ∷ lists)))) (let s : a + 1 + length lists ≡ a + suc (length lists) = omega arith in s)
-      (subst (λ (qs : List (Rule Paths)). Stretch l path_goal a end qs) (sym (map-append rule_of (rules_with a one) (rules_joined (a + 1) lists))) both)
+      let rs = map rule_of (rules_with a one) in
+      let qs = map rule_of (rules_joined (a + 1) lists) in
+      let both = stretch_append l path_goal a (a + 1) end rs qs (omega arith) (omega arith) first others in
+      let whole = map-append rule_of (rules_with a one) (rules_joined (a + 1) lists) in
+      subst (λ e. Stretch l path_goal a e (map rule_of (rules_joined a (one ∷ lists)))) (sym (next a (length lists)))
+      (subst (λ (ps : List (Rule Paths)). Stretch l path_goal a end ps) (sym whole) both)
+    where
+      next : (a i : ℕ) → a + suc i ≡ a + 1 + i
+      next a i = omega arith
 
 pub components_make_the_rules : ComponentsMakeTheRules
 components_make_the_rules l [] lists path same f = absurd (omega arith)
 components_make_the_rules l (q ∷ rest) lists path same f =
-    let all = stretch_joined l q rest 0 lists (λ i m. subst (λ y. Makes l q rest y (slice_index_or lists i [])) (let s : i ≡ 0 + i = omega arith in s) (f i (omega arith))) in
+    let each = λ (i : ℕ) (m : i < length lists).
+    subst (λ y. Makes l q rest y (slice_index_or lists i [])) (sym (from_none i)) (f i (omega arith)) in
+    let all = stretch_joined l q rest 0 lists each in
     let rules = map rule_of (rules_joined 0 lists) in
-    begun_rules l q (listed rest) rules
-    (subst (λ e. Stretch l (more q (listed rest)) 0 e rules) (let s : 0 + length lists ≡ length l.components = omega arith in s) all)
+    begun_rules l q (listed rest) rules (subst (λ e. Stretch l (more q (listed rest)) 0 e rules) (from_none (length lists) ∙ same) all)
+  where
+    from_none : (i : ℕ) → 0 + i ≡ i
+    from_none i = omega arith

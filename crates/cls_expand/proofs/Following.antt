@@ -33,15 +33,21 @@ renamed y (Any left right) = Any left right
 abbrev moved : ℕ → Choice → Choice
 moved y c = choice_at y c.places c.cover
 
-rules_renamed : (x y : ℕ) (lists : List (List (List TypePath))) → map (renamed y) (map rule_of (rules_with x lists)) ≡ map rule_of (rules_with y lists)
+rules_renamed :
+    (x y : ℕ) (lists : List (List (List TypePath)))
+    → map (renamed y) (map rule_of (rules_with x lists)) ≡ map rule_of (rules_with y lists)
 rules_renamed x y [] = refl
 rules_renamed x y (args ∷ lists) = ap (λ (rs : List (Rule Paths)). Head y (map listed args) ∷ rs) (rules_renamed x y lists)
 
 abbrev library_of : Declared → List Component → Library
 library_of d cs = record { taxonomy = d; components = cs }
 
--- one way
-module _ (d : Declared) (cs ds : List Component) (x y : ℕ) (there : y < length ds) (same : paths_at (library_of d cs) x ≡ paths_at (library_of d ds) y) where
+-- component x of the first components has the paths of component y of the second
+abbrev SamePaths : Declared → List Component → List Component → ℕ → ℕ → Type 0
+SamePaths d cs ds x y = paths_at (library_of d cs) x ≡ paths_at (library_of d ds) y
+
+-- what the one component makes, the other makes
+module _ (d : Declared) (cs ds : List Component) (x y : ℕ) (there : y < length ds) (same : SamePaths d cs ds x y) where
   abbrev k : Library
   k = library_of d cs
 
@@ -103,25 +109,41 @@ module _ (d : Declared) (cs ds : List Component) (x y : ℕ) (there : y < length
   order_moved c e f g (inl h) = let i : c.component < e.component = h in absurd (omega arith)
   order_moved c e f g (inr h) = inr (refl, h.1)
 
-  rises_moved : (choices : List Choice) → ((c : Choice) → Contains choices c → c.component ≡ x) → Rises ComesBefore choices → Rises ComesBefore (map (moved y) choices)
+  rises_moved :
+      (choices : List Choice) → ((c : Choice) → Contains choices c → c.component ≡ x) → Rises ComesBefore choices
+      → Rises ComesBefore (map (moved y) choices)
   rises_moved [] f r = tt
   rises_moved (c ∷ choices) f r = (
-    (λ e m. let u = in_mapped (moved y) choices e m in subst (λ (z : Choice). ComesBefore (moved y c) z) u.2 (order_moved c u.0 (f c (Contains-here c choices)) (f u.0 (Contains-later u.0 c choices u.1)) (r.0 u.0 u.1))),
+    (λ e m.
+        let u = in_mapped (moved y) choices e m in
+        let before = order_moved c u.0 (f c (Contains-here c choices)) (f u.0 (Contains-later u.0 c choices u.1)) (r.0 u.0 u.1) in
+        subst (λ (z : Choice). ComesBefore (moved y c) z) u.2 before),
     rises_moved choices (λ e m. f e (Contains-later e c choices m)) r.1,
   )
 
-  made_moved : (choices : List Choice) (rs : List (Rule Paths)) → ((c : Choice) → Contains choices c → c.component ≡ x) → AllZip (IsRuleFor k) choices rs → AllZip (IsRuleFor l) (map (moved y) choices) (map (renamed y) rs)
+  made_moved :
+      (choices : List Choice) (rs : List (Rule Paths)) → ((c : Choice) → Contains choices c → c.component ≡ x)
+      → AllZip (IsRuleFor k) choices rs → AllZip (IsRuleFor l) (map (moved y) choices) (map (renamed y) rs)
   made_moved [] [] f h = tt
   made_moved [] (r ∷ rs) f h = absurd h
   made_moved (c ∷ choices) [] f h = absurd h
-  made_moved (c ∷ choices) (r ∷ rs) f h = (rule_moved c r (f c (Contains-here c choices)) h.0, made_moved choices rs (λ e m. f e (Contains-later e c choices m)) h.1)
+  made_moved (c ∷ choices) (r ∷ rs) f h = (
+    rule_moved c r (f c (Contains-here c choices)) h.0,
+    made_moved choices rs (λ e m. f e (Contains-later e c choices m)) h.1,
+  )
 
-  choices_moved : (goal : Paths) (choices : List Choice) → ((c : Choice) → IsChoiceBy l y goal c → IsChoiceBy k x goal (moved x c)) → AreChoices k (IsChoiceBy k x goal) choices → AreChoices l (IsChoiceBy l y goal) (map (moved y) choices)
+  choices_moved :
+      (goal : Paths) (choices : List Choice) → ((c : Choice) → IsChoiceBy l y goal c → IsChoiceBy k x goal (moved x c))
+      → AreChoices k (IsChoiceBy k x goal) choices → AreChoices l (IsChoiceBy l y goal) (map (moved y) choices)
   choices_moved goal choices f h = record {
     in_order = rises_moved choices (λ c m. ((h.exactly c).0 m).1) h.in_order;
     exactly = (λ c. (
-      (λ m. let u = in_mapped (moved y) choices c m in subst (λ (z : Choice). IsChoiceBy l y goal z) u.2 (choice_moved goal u.0 ((h.exactly u.0).0 u.1))),
-      (λ i. subst (λ (z : Choice). Contains (map (moved y) choices) z) (back c i.1) (Contains-map (moved y) choices (moved x c) ((h.exactly (moved x c)).1 (f c i)))),
+      (λ m.
+          let u = in_mapped (moved y) choices c m in
+          subst (λ (z : Choice). IsChoiceBy l y goal z) u.2 (choice_moved goal u.0 ((h.exactly u.0).0 u.1))),
+      (λ i.
+          let m = Contains-map (moved y) choices (moved x c) ((h.exactly (moved x c)).1 (f c i)) in
+          subst (λ (z : Choice). Contains (map (moved y) choices) z) (back c i.1) m),
     ));
   }
     where
@@ -132,37 +154,49 @@ module _ (d : Declared) (cs ds : List Component) (x y : ℕ) (there : y < length
   named_back : (c : Choice) (r : Rule Paths) → c.component ≡ x → IsRuleFor k c r → renamed x (renamed y r) ≡ r
   named_back c r e h = ap (λ (z : Rule Paths). renamed x (renamed y z)) h.rule ∙ (ap (λ z. Head z h.arguments) (sym e) ∙ sym h.rule)
 
-  rules_moved : (goal : Paths) (rs : List (Rule Paths)) → ((c : Choice) → IsChoiceBy l y goal c → IsChoiceBy k x goal (moved x c)) → IsRulesBy k x goal rs → IsRulesBy l y goal (map (renamed y) rs)
+  rules_moved :
+      (goal : Paths) (rs : List (Rule Paths)) → ((c : Choice) → IsChoiceBy l y goal c → IsChoiceBy k x goal (moved x c))
+      → IsRulesBy k x goal rs → IsRulesBy l y goal (map (renamed y) rs)
   rules_moved none rs f h = ap (map (renamed y)) h
   rules_moved (more q n) rs f h = record {
     choices = map (moved y) h.choices;
     candidates = map (renamed y) h.candidates;
     chosen = choices_moved (more q n) h.choices f h.chosen;
     made = made_moved h.choices h.candidates by h.made;
-    first_ones = first_ones_map (renamed y) (renamed x) h.first_ones (λ r m. absurd (Contains-nil r m))
-        (λ r m. let u = zip_right r (all_zip h.choices h.candidates h.made) (contains_member h.candidates r m) in named_back u.0 r (by u.0 (member_contains u.1)) u.2);
+    first_ones = first_ones_map (renamed y) (renamed x) h.first_ones (λ r m. absurd (Contains-nil r m)) is_back;
   }
     where
       by : (c : Choice) → Contains h.choices c → c.component ≡ x
       by c m = ((h.chosen.exactly c).0 m).1
 
+      is_back : (r : Rule Paths) → Contains h.candidates r → renamed x (renamed y r) ≡ r
+      is_back r m =
+          let u = zip_right r (all_zip h.choices h.candidates h.made) (contains_member h.candidates r m) in
+          named_back u.0 r (by u.0 (member_contains u.1)) u.2
+
+-- component x makes the rules with these arguments for the goal
+abbrev Makes : Library → ℕ → List TypePath → List (List (List TypePath)) → Type 0
+Makes lib x goal lists = IsAnswerBy lib x goal (Rules (rules_with x lists))
+
 answer_moved :
-    (d : Declared) (cs ds : List Component) (x y : ℕ) → x < length cs → y < length ds → paths_at (library_of d cs) x ≡ paths_at (library_of d ds) y
-    → (goal : List TypePath) (lists : List (List (List TypePath))) → IsAnswerBy (library_of d cs) x goal (Rules (rules_with x lists)) → IsAnswerBy (library_of d ds) y goal (Rules (rules_with y lists))
+    (d : Declared) (cs ds : List Component) (x y : ℕ) → x < length cs → y < length ds → SamePaths d cs ds x y
+    → (goal : List TypePath) (lists : List (List (List TypePath)))
+    → Makes (library_of d cs) x goal lists → Makes (library_of d ds) y goal lists
 answer_moved d cs ds x y here there same goal lists h = (
   (λ w. h.0 (wide_moved d ds cs y x here (sym same) w)),
   subst (λ (rs : List (Rule Paths)). IsRulesBy (library_of d ds) y (listed goal) rs) (rules_renamed x y lists)
-      (rules_moved d cs ds x y there same (listed goal) (map rule_of (rules_with x lists)) (λ c i. choice_moved d ds cs y x here (sym same) (listed goal) c i) h.1),
+      (rules_moved d cs ds x y there same (listed goal) (map rule_of (rules_with x lists))
+      (λ c i. choice_moved d ds cs y x here (sym same) (listed goal) c i) h.1),
 )
 
 -- both ways
 abbrev Follow : Library → Library → ℕ → ℕ → List TypePath → Type 0
 Follow lib other x y goal =
-    ((lists : List (List (List TypePath))) → IsAnswerBy lib x goal (Rules (rules_with x lists)) ↔ IsAnswerBy other y goal (Rules (rules_with y lists)))
+    ((lists : List (List (List TypePath))) → Makes lib x goal lists ↔ Makes other y goal lists)
     × (IsAnswerBy lib x goal Wide ↔ IsAnswerBy other y goal Wide)
 
 following :
-    (d : Declared) (cs ds : List Component) (x y : ℕ) → x < length cs → y < length ds → paths_at (library_of d cs) x ≡ paths_at (library_of d ds) y
+    (d : Declared) (cs ds : List Component) (x y : ℕ) → x < length cs → y < length ds → SamePaths d cs ds x y
     → (goal : List TypePath) → Follow (library_of d cs) (library_of d ds) x y goal
 following d cs ds x y here there same goal = (
   (λ lists. (answer_moved d cs ds x y here there same goal lists, answer_moved d ds cs y x there here (sym same) goal lists)),
@@ -172,4 +206,5 @@ following d cs ds x y here there same goal = (
 pub answers_follow_paths : AnswersFollowPaths
 answers_follow_paths lib other x y goal names here there same =
     let first : library_of other.taxonomy lib.components ≡ lib = (λ i. library_of (sym names i) lib.components) in
-    subst (λ (m : Library). Follow m other x y goal) first (following other.taxonomy lib.components other.components x y here there same goal)
+    subst (λ (m : Library). Follow m other x y goal) first
+    (following other.taxonomy lib.components other.components x y here there same goal)

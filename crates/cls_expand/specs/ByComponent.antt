@@ -1,4 +1,5 @@
--- The rules of a goal, component by component: the arguments of the rules that one component makes, and the rules with them.
+-- The rules of a goal, component by component. A component's rules differ in their arguments alone, so lists of arguments stand
+-- for them.
 use Rattle.std.specs.Prelude.{ℕ, ◌+◌, ◌==◌, if◌then◌else◌, List, [], ◌∷◌, ◌++◌, map}
 use Rattle.cls_base.specs.declared.rule.Rule.{Rule}
 use Rattle.cls_base.specs.declared.rule.Rule.TheVariants.{Head, Any}

@@ -1,4 +1,4 @@
--- What the rules of a goal have to do with typing.
+-- What the rules of a goal have to do with typing, and how components make them.
 use Rattle.std.specs.Prelude.{ℕ, ◌≡◌, ◌<◌, ◌↔◌, List, [], Contains, length, slice_index_or}
 use Rattle.cls_base.specs.Terms.{Applicative}
 use Rattle.cls_base.specs.declared.rule.Rule.{Rule}

@@ -1,5 +1,6 @@
-//! What the rules of goals generate, and what each component has to do with them, as calls that do nothing and promise the law.
-ghost use Rattle.cls_expand.specs.Laws.{OmegaHasAllTerms, LanguagesAreTypes, RulesAreByComponents, ComponentsMakeTheRules, AnswersFollowPaths};
+//! What the rules of goals generate, and how components make them, as calls that do nothing and promise the law.
+ghost use Rattle.cls_expand.specs.Laws.{OmegaHasAllTerms, LanguagesAreTypes};
+ghost use Rattle.cls_expand.specs.Laws.{RulesAreByComponents, ComponentsMakeTheRules, AnswersFollowPaths};
 
 /// The rules of omega generate the terms that have omega, which are all terms, and no others.
 pub fn omega_has_all_terms()
@@ -21,8 +22,8 @@ pub fn components_make_the_rules()
     ensures { ComponentsMakeTheRules }
 {}
 
-/// Components with the same paths, in libraries with one order of names, make rules with the same arguments for a goal, and both or
-/// neither make it wide.
+/// Components with the same paths, in libraries with one order of names, make rules with the same arguments for a goal, and
+/// both or neither make it wide.
 pub fn answers_follow_paths()
     ensures { AnswersFollowPaths }
 {}
