@@ -1,5 +1,5 @@
--- The rules by the components from one to another: those of two stretches one after the other, those of one component out of a
--- stretch, and what the components make one by one, put together.
+-- The rules by the components from one on that come before another one: put behind each other, those of one component among them,
+-- and what the components make one by one, put together.
 use Rattle.std.proofs.Common.{ℕ, zero, suc, ◌≡◌, ◌+◌, ◌<◌, ◌≤◌, refl, sym, ◌∙◌, subst, ap, ◌⊎◌, inl, inr, List, [], ◌∷◌, ◌++◌, length, arith, Bool, true, false, Contains, cond}
 use Rattle.std.specs.Prelude.{◌↔◌, map, filter, slice_index_or, ◌==◌}
 use Rattle.std.specs.List.{AllZip}
@@ -8,7 +8,7 @@ use Rattle.std.proofs.lemmas.List.{map-append}
 use Rattle.std.proofs.lemmas.List.Elements.{Contains-append_left, Contains-append_right, Contains-append_cases}
 use Rattle.cls_base.specs.declared.rule.Rule.{Rule}
 use Rattle.cls_base.specs.declared.rule.Rule.TheVariants.{Head, Any}
-use Rattle.cls_base.proofs.Lists.{Contains-nil}
+use Rattle.cls_base.proofs.Lists.{Contains-nil, Contains-here, Contains-later, Contains-cases, Contains-map}
 use Rattle.cls_path.specs.Paths.{TypePath, Paths, none, more, listed}
 use Rattle.cls_cover.proofs.Lists.{contains_member, member_contains}
 use Rattle.cls_core.specs.declared.answer.Answer.TheVariants.{Rules}
@@ -16,9 +16,10 @@ use Rattle.cls_library.specs.Families.{IsEarlier}
 use Rattle.cls_library.specs.Libraries.{Library}
 use Rattle.cls_library.specs.Rules.{Choice, ComesBefore, AreMade, IsChoice, IsChoiceBy, IsRuleFor, IsTooLarge, HasManyCovers, IsWideBy, by_covers, by_size, IsWide, IsRules, IsRulesBy, numbers_from, heads}
 use Rattle.cls_library.proofs.ByCases.{all_zip, zip_all, zip_right}
+use Rattle.cls_library.proofs.FirstOnes.{first_ones_from}
 use Rattle.cls_expand.specs.Answers.{rule_of, IsAnswerBy}
 use Rattle.cls_expand.specs.ByComponent.{rules_with, arguments_by, rules_joined}
-use Rattle.cls_expand.specs.Laws.{RulesAreByComponents, ComponentsMakeTheRules}
+use Rattle.cls_expand.specs.Laws.{RulesHaveTheirComponent, RulesAreByComponents, ComponentsMakeTheRules}
 use Rattle.cls_expand.specs.Listing.{rule_component, append_nothing}
 use Rattle.cls_expand.specs.Making.{IsChosen, AreBegun}
 use Rattle.cls_expand.proofs.FirstOnes.{first_ones_append, first_ones_kept, kept, kept_in, rises_kept, zip_behind, zip_kept}
@@ -45,8 +46,8 @@ is_by x c = x == c.component
 
 module _ (l : Library) (goal : Paths) where
   -- the rules by the components from a on that come before e
-  abbrev pub Stretch : ℕ → ℕ → List (Rule Paths) → Type 0
-  Stretch a e rs = AreBegun l goal a e 0 [] rs
+  abbrev pub Between : ℕ → ℕ → List (Rule Paths) → Type 0
+  Between a e rs = AreBegun l goal a e 0 [] rs
 
   abbrev Made : List Choice → List (Rule Paths) → Type 0
   Made cs rs = AllZip (IsRuleFor l) cs rs
@@ -60,7 +61,7 @@ module _ (l : Library) (goal : Paths) where
   is_there : (cs : List Choice) (c : Choice) → Contains (cs ++ []) c → Contains cs c
   is_there cs c m = subst (λ (ds : List Choice). Contains ds c) (append_nothing cs) m
 
-  module _ (a e : ℕ) (rs : List (Rule Paths)) (h : Stretch a e rs) where
+  module _ (a e : ℕ) (rs : List (Rule Paths)) (h : Between a e rs) where
     made_plain : Made h.choices h.candidates
     made_plain = subst (λ (cs : List Choice). Made cs h.candidates) (append_nothing h.choices) h.made
 
@@ -70,15 +71,15 @@ module _ (l : Library) (goal : Paths) where
     chosen_within : (c : Choice) → Contains h.choices c → (a ≤ c.component) × (c.component < e)
     chosen_within c m = let u = (h.chosen.exactly c).0 m in (u.1, before_end e c.component c.places u.2)
 
-    -- each rule that was made has a component of the stretch
+    -- each rule that was made has one of these components
     made_within : (r : Rule Paths) → Contains h.candidates r → (a ≤ rule_component r) × (rule_component r < e)
     made_within r m =
         let u = zip_right r (all_zip h.choices h.candidates made_plain) (contains_member h.candidates r m) in
         subst (λ y. (a ≤ y) × (y < e)) (sym (ap rule_component u.2.rule)) (chosen_within u.0 (member_contains u.1))
 
-  -- the rules of two stretches, one after the other
-  pub stretch_append : (a m e : ℕ) (rs qs : List (Rule Paths)) → a ≤ m → m ≤ e → Stretch a m rs → Stretch m e qs → Stretch a e (rs ++ qs)
-  stretch_append a m e rs qs low high h k = record {
+  -- the rules up to a component and those from it on, one after the other
+  pub between_append : (a m e : ℕ) (rs qs : List (Rule Paths)) → a ≤ m → m ≤ e → Between a m rs → Between m e qs → Between a e (rs ++ qs)
+  between_append a m e rs qs low high h k = record {
     choices = h.choices ++ k.choices;
     chosen = record {
       in_order = rises_append ComesBefore h.choices k.choices h.chosen.in_order k.chosen.in_order (λ c d i j. inl (apart c d i j));
@@ -126,10 +127,10 @@ module _ (l : Library) (goal : Paths) where
       narrows y n i j (inl u) = h.narrow y n i (inl u)
       narrows y n i j (inr u) = k.narrow y n u j
 
-  -- the rules of one component out of a stretch
-  pub stretch_part :
-      (a e x : ℕ) (rs : List (Rule Paths)) → a ≤ x → x < e → Stretch a e rs → Stretch x (x + 1) (filter (has_component x) rs)
-  stretch_part a e x rs low high h = record {
+  -- the rules of one component among them
+  pub between_part :
+      (a e x : ℕ) (rs : List (Rule Paths)) → a ≤ x → x < e → Between a e rs → Between x (x + 1) (filter (has_component x) rs)
+  between_part a e x rs low high h = record {
     choices = filter (is_by x) h.choices;
     chosen = record {
       in_order = rises_kept (is_by x) ComesBefore h.choices h.chosen.in_order;
@@ -162,12 +163,12 @@ module _ (l : Library) (q : TypePath) (rest : Paths) where
   abbrev goal : Paths
   goal = more q rest
 
-  -- what is made by the choices of the components of a stretch, none of which makes the goal wide
-  pub stretch_made :
+  -- what the choices of these components make, if none of them makes the goal wide
+  pub between_made :
       (a e : ℕ) (Chosen : Choice → Type 0) (rs : List (Rule Paths))
       → ((c : Choice) → Chosen c ↔ (IsChoice l goal c × (a ≤ c.component) × (c.component < e)))
-      → ((x : ℕ) → a ≤ x → x < e → IsWideBy l x goal → ⊥) → AreMade l Chosen rs → Stretch l goal a e rs
-  stretch_made a e Chosen rs f narrow h = record {
+      → ((x : ℕ) → a ≤ x → x < e → IsWideBy l x goal → ⊥) → AreMade l Chosen rs → Between l goal a e rs
+  between_made a e Chosen rs f narrow h = record {
     choices = h.choices;
     chosen = record {
       in_order = h.chosen.in_order;
@@ -186,9 +187,9 @@ module _ (l : Library) (q : TypePath) (rest : Paths) where
   }
 
   -- what one component makes
-  pub stretch_by : (x : ℕ) (rs : List (Rule Paths)) → (IsWideBy l x goal → ⊥) → IsRulesBy l x goal rs → Stretch l goal x (x + 1) rs
-  stretch_by x rs narrow h =
-      stretch_made x (x + 1) (IsChoiceBy l x goal) rs one (λ y i j w. narrow (subst (λ z. IsWideBy l z goal) (only y i j) w)) h
+  pub between_by : (x : ℕ) (rs : List (Rule Paths)) → (IsWideBy l x goal → ⊥) → IsRulesBy l x goal rs → Between l goal x (x + 1) rs
+  between_by x rs narrow h =
+      between_made x (x + 1) (IsChoiceBy l x goal) rs one (λ y i j w. narrow (subst (λ z. IsWideBy l z goal) (only y i j) w)) h
     where
       only : (y : ℕ) → x ≤ y → y < x + 1 → y ≡ x
       only y i j = omega arith
@@ -200,9 +201,9 @@ module _ (l : Library) (q : TypePath) (rest : Paths) where
       )
 
   -- what all of them make
-  pub stretch_all : (rs : List (Rule Paths)) → (IsWide l goal → ⊥) → IsRules l goal rs → Stretch l goal 0 (length l.components) rs
-  stretch_all rs narrow h =
-      stretch_made 0 (length l.components) (IsChoice l goal) rs (λ c. ((λ u. (u, omega arith, u.declared)), (λ u. u.0)))
+  pub between_all : (rs : List (Rule Paths)) → (IsWide l goal → ⊥) → IsRules l goal rs → Between l goal 0 (length l.components) rs
+  between_all rs narrow h =
+      between_made 0 (length l.components) (IsChoice l goal) rs (λ c. ((λ u. (u, omega arith, u.declared)), (λ u. u.0)))
       (λ y i j w. narrow (record { component = y; declared = j; wide = w })) h
 
 -- the rules of the program that have the component are those of the definition
@@ -219,6 +220,40 @@ with_component x (Head y args ∷ rs) = by (with_component x rs) (x == y) refl
     by h true e = let same : x ≡ y = (Decides-eqb x y).0 e in (λ i. Head (same i) (map listed args) ∷ h i)
     by h false e = h
 with_component x (Any left right ∷ rs) = with_component x rs
+
+-- rules that all have the component
+all_with :
+    (x : ℕ) (rs : List (Rule (List TypePath))) → ((r : Rule (List TypePath)) → Contains rs r → has_component x r ≡ true)
+    → rs ≡ rules_with x (arguments_by x rs)
+all_with x [] f = refl
+all_with x (Head y args ∷ rs) f =
+    let rest = all_with x rs (λ r m. f r (Contains-later r (Head y args) rs m)) in
+    by rest (x == y) (f (Head y args) (Contains-here (Head y args) rs)) refl
+  where
+    by : rs ≡ rules_with x (arguments_by x rs) → (b : Bool) → b ≡ true → (x == y) ≡ b
+        → Head y args ∷ rs ≡ rules_with x (cond b (args ∷ arguments_by x rs) (arguments_by x rs))
+    by h true e s = let same : x ≡ y = (Decides-eqb x y).0 s in (λ i. Head (sym same i) args ∷ h i)
+    by h false e s = cc
+all_with x (Any left right ∷ rs) f =
+    absurd (let e : false ≡ true = f (Any left right) (Contains-here (Any left right) rs) in cc)
+
+same_component : (x : ℕ) (r : Rule (List TypePath)) → has_component x (rule_of r) ≡ has_component x r
+same_component x (Head y args) = refl
+same_component x (Any left right) = refl
+
+pub rules_have_their_component : RulesHaveTheirComponent
+rules_have_their_component l x goal rs h =
+    all_with x rs (λ r m. sym (same_component x r) ∙ has (listed goal) h.1 (rule_of r) (Contains-map rule_of rs r m))
+  where
+    has : (g : Paths) → IsRulesBy l x g (map rule_of rs) → (r : Rule Paths) → Contains (map rule_of rs) r → has_component x r ≡ true
+    has none e r m = elim (Contains-cases (Head x []) [] r (subst (λ (qs : List (Rule Paths)). Contains qs r) e m)) [
+      | inl s ↦ ap (has_component x) s ∙ (Decides-eqb x x).1 refl
+      | inr k ↦ absurd (Contains-nil r k)
+    ]
+    has (more q n) k r m =
+        let u = zip_right r (all_zip k.choices k.candidates k.made) (contains_member k.candidates r (first_ones_from r k.first_ones m)) in
+        let s = ((k.chosen.exactly u.0).0 (member_contains u.1)).1 in
+        ap (has_component x) u.2.rule ∙ (Decides-eqb x u.0.component).1 (sym s)
 
 -- the rules of omega from component y on that have component x
 abbrev of_omega : ℕ → ℕ → ℕ → List (Rule Paths)
@@ -256,8 +291,8 @@ rules_are_by_components l [] rs h x d = (
 rules_are_by_components l (q ∷ rest) rs h x d =
     let goal = more q (listed rest) in
     let part = filter (has_component x) (map rule_of rs) in
-    let all = stretch_all l q (listed rest) (map rule_of rs) h.0 h.1 in
-    let one = begun_by l q (listed rest) x part (stretch_part l goal 0 (length l.components) x (map rule_of rs) (omega arith) d all) in
+    let all = between_all l q (listed rest) (map rule_of rs) h.0 h.1 in
+    let one = begun_by l q (listed rest) x part (between_part l goal 0 (length l.components) x (map rule_of rs) (omega arith) d all) in
     (one.0, subst (λ (qs : List (Rule Paths)). IsRulesBy l x goal qs) (sym (with_component x rs)) one.1)
 
 module _ (l : Library) (q : TypePath) (rest : List TypePath) where
@@ -269,23 +304,23 @@ module _ (l : Library) (q : TypePath) (rest : List TypePath) where
   Makes x lists = IsAnswerBy l x (q ∷ rest) (Rules (rules_with x lists))
 
   -- what the components from one on make, put together
-  pub stretch_joined :
+  pub between_joined :
       (a : ℕ) (lists : List (List (List (List TypePath)))) → ((i : ℕ) → i < length lists → Makes (a + i) (slice_index_or lists i []))
-      → Stretch l path_goal a (a + length lists) (map rule_of (rules_joined a lists))
-  stretch_joined a [] f =
-      subst (λ e. Stretch l path_goal a e []) (let s : a ≡ a + 0 = omega arith in s) (begun_none l path_goal a)
-  stretch_joined a (one ∷ lists) f =
+      → Between l path_goal a (a + length lists) (map rule_of (rules_joined a lists))
+  between_joined a [] f =
+      subst (λ e. Between l path_goal a e []) (let s : a ≡ a + 0 = omega arith in s) (begun_none l path_goal a)
+  between_joined a (one ∷ lists) f =
       let here : Makes a one = subst (λ y. Makes y one) (let s : a + 0 ≡ a = omega arith in s) (f 0 (omega arith)) in
-      let first = stretch_by l q (listed rest) a (map rule_of (rules_with a one)) here.0 here.1 in
+      let first = between_by l q (listed rest) a (map rule_of (rules_with a one)) here.0 here.1 in
       let later = λ (i : ℕ) (m : i < length lists). subst (λ y. Makes y (slice_index_or lists i [])) (next a i) (f (suc i) (omega arith)) in
-      let others = stretch_joined (a + 1) lists later in
+      let others = between_joined (a + 1) lists later in
       let end = a + 1 + length lists in
       let rs = map rule_of (rules_with a one) in
       let qs = map rule_of (rules_joined (a + 1) lists) in
-      let both = stretch_append l path_goal a (a + 1) end rs qs (omega arith) (omega arith) first others in
+      let both = between_append l path_goal a (a + 1) end rs qs (omega arith) (omega arith) first others in
       let whole = map-append rule_of (rules_with a one) (rules_joined (a + 1) lists) in
-      subst (λ e. Stretch l path_goal a e (map rule_of (rules_joined a (one ∷ lists)))) (sym (next a (length lists)))
-      (subst (λ (ps : List (Rule Paths)). Stretch l path_goal a end ps) (sym whole) both)
+      subst (λ e. Between l path_goal a e (map rule_of (rules_joined a (one ∷ lists)))) (sym (next a (length lists)))
+      (subst (λ (ps : List (Rule Paths)). Between l path_goal a end ps) (sym whole) both)
     where
       next : (a i : ℕ) → a + suc i ≡ a + 1 + i
       next a i = omega arith
@@ -293,11 +328,12 @@ module _ (l : Library) (q : TypePath) (rest : List TypePath) where
 pub components_make_the_rules : ComponentsMakeTheRules
 components_make_the_rules l [] lists path same f = absurd (omega arith)
 components_make_the_rules l (q ∷ rest) lists path same f =
-    let each = λ (i : ℕ) (m : i < length lists).
-    subst (λ y. Makes l q rest y (slice_index_or lists i [])) (sym (from_none i)) (f i (omega arith)) in
-    let all = stretch_joined l q rest 0 lists each in
+    let all = between_joined l q rest 0 lists each in
     let rules = map rule_of (rules_joined 0 lists) in
-    begun_rules l q (listed rest) rules (subst (λ e. Stretch l (more q (listed rest)) 0 e rules) (from_none (length lists) ∙ same) all)
+    begun_rules l q (listed rest) rules (subst (λ e. Between l (more q (listed rest)) 0 e rules) (from_none (length lists) ∙ same) all)
   where
     from_none : (i : ℕ) → 0 + i ≡ i
     from_none i = omega arith
+
+    each : (i : ℕ) → i < length lists → Makes l q rest (0 + i) (slice_index_or lists i [])
+    each i m = subst (λ y. Makes l q rest y (slice_index_or lists i [])) (sym (from_none i)) (f i (omega arith))

@@ -1,4 +1,5 @@
--- What stands for the first time in lists that are put behind each other, of which a part is kept, or whose elements are renamed.
+-- What stands for the first time in lists that are put behind each other, of which a test keeps a part, or whose elements are
+-- renamed; and lists that are related place by place, put behind each other or kept in part.
 use Rattle.std.proofs.Common.{◌≡◌, refl, sym, ◌∙◌, subst, ap, ◌⊎◌, inl, inr, List, [], ◌∷◌, ◌++◌, Bool, true, false, Contains, cond}
 use Rattle.std.specs.Prelude.{◌↔◌, map, filter}
 use Rattle.cls_base.proofs.Lists.{Contains-nil, Contains-here, Contains-head, Contains-later, Contains-cases, Contains-map}
@@ -93,7 +94,7 @@ module _ {A : Type 0} where
         by rest true = again n rest
         by rest false = rest
 
-  -- f has an inverse on the elements
+  -- renamed by f, which g undoes on the elements
   pub first_ones_map :
       (f g : A → A) {seen xs ys : List A} → FirstOnes seen xs ys → ((r : A) → Contains seen r → g (f r) ≡ r)
       → ((r : A) → Contains xs r → g (f r) ≡ r) → FirstOnes (map f seen) (map f xs) (map f ys)

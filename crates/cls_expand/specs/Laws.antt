@@ -32,6 +32,12 @@ LanguagesAreTypes =
     → ((g : Paths) → Contains goals g → IsClosedGoal lib goals g) → (g : Paths) → Contains goals g → (e : Applicative)
     → Generates Paths (HasRule lib) g e ↔ HasTypeIn lib e (type_of_paths g)
 
+-- Each rule that a component makes for a goal has that component.
+abbrev pub RulesHaveTheirComponent : Type 0
+RulesHaveTheirComponent =
+    (lib : Library) (x : ℕ) (goal : List TypePath) (rs : List (Rule (List TypePath)))
+    → IsAnswerBy lib x goal (Rules rs) → rs ≡ rules_with x (arguments_by x rs)
+
 -- The rules of a goal that have a component are those that this component makes.
 abbrev pub RulesAreByComponents : Type 0
 RulesAreByComponents =

@@ -1,6 +1,6 @@
 //! What the rules of goals generate, and how components make them, as calls that do nothing and promise the law.
 ghost use Rattle.cls_expand.specs.Laws.{OmegaHasAllTerms, LanguagesAreTypes};
-ghost use Rattle.cls_expand.specs.Laws.{RulesAreByComponents, ComponentsMakeTheRules, AnswersFollowPaths};
+ghost use Rattle.cls_expand.specs.Laws.{RulesHaveTheirComponent, RulesAreByComponents, ComponentsMakeTheRules, AnswersFollowPaths};
 
 /// The rules of omega generate the terms that have omega, which are all terms, and no others.
 pub fn omega_has_all_terms()
@@ -10,6 +10,11 @@ pub fn omega_has_all_terms()
 /// Goals with rules, whose arguments are among them, generate the terms that have their types, and no others.
 pub fn languages_are_types()
     ensures { LanguagesAreTypes }
+{}
+
+/// Each rule that a component makes for a goal has that component.
+pub fn rules_have_their_component()
+    ensures { RulesHaveTheirComponent }
 {}
 
 /// The rules of a goal that have a component are those that this component makes.
