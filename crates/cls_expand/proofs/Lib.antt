@@ -1,4 +1,7 @@
 pub mod Adding
+pub mod Between
+pub mod FirstOnes
+pub mod Following
 pub mod FamilyCovers
 pub mod Fresh
 pub mod Keeping

@@ -21,7 +21,7 @@ pub in_mapped : {A B : Type 0} (f : A → B) (xs : List A) (y : B) → Contains 
 in_mapped f xs y m = let r = Contains-from_map f xs y m in (r.0, r.1, sym r.2)
 
 -- two lists that rise, the first below the second
-rises_append : {A : Type 0} (R : A → A → Type 0) (xs ys : List A) → Rises R xs → Rises R ys → ((x y : A) → Contains xs x → Contains ys y → R x y) → Rises R (xs ++ ys)
+pub rises_append : {A : Type 0} (R : A → A → Type 0) (xs ys : List A) → Rises R xs → Rises R ys → ((x y : A) → Contains xs x → Contains ys y → R x y) → Rises R (xs ++ ys)
 rises_append R [] ys a b f = b
 rises_append {A} R (x ∷ xs) ys a b f = ((λ z m. each z (Contains-append_cases xs ys z m)), rises_append R xs ys a.1 b (λ y z m k. f y z (Contains-later y x xs m) k))
   where

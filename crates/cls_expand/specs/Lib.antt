@@ -1,5 +1,6 @@
 -- Begin with Answers.
 pub mod Answers
+pub mod ByComponent
 pub mod Determined
 pub mod Laws
 pub mod Listing
