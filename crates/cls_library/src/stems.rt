@@ -54,10 +54,11 @@ impl StemTable {
     fn copy(&self, alloc: Global) -> Result<StemTable, OutOfMemory>
         ensures { IfOk result (λ copy. (ps : List TypePath) → IsStemTable ps self.now → IsStemTable ps copy) }
     {
+        let chains = self.chains.copy(alloc)?;
         Ok(StemTable {
             depth: self.depth,
             count: self.count,
-            chains: self.chains.copy(alloc)?,
+            chains,
         })
     }
 
@@ -82,40 +83,48 @@ impl Stems {
                 triples: None,
             });
         }
-        Ok(Stems {
-            pairs: table_if(alloc, paths, 2)?,
-            triples: table_if(alloc, paths, 3)?,
-        })
+        let pairs = table_if(alloc, paths, 2)?;
+        let triples = table_if(alloc, paths, 3)?;
+        Ok(Stems { pairs, triples })
     }
 
     /// Tables equal to these.
     pub fn copy(&self, alloc: Global) -> Result<Stems, OutOfMemory>
         ensures { IfOk result (λ copy. (ps : List TypePath) → AreStems ps self.now → AreStems ps copy) }
     {
-        Ok(Stems {
-            pairs: copy_if(alloc, &self.pairs)?,
-            triples: copy_if(alloc, &self.triples)?,
-        })
+        let pairs = copy_if(alloc, &self.pairs)?;
+        let triples = copy_if(alloc, &self.triples)?;
+        Ok(Stems { pairs, triples })
     }
 
     /// The table of the longest stems that tells which paths may be below this one, if there is one.
     pub fn find(&self, taxonomy: &Taxonomy, path: &Path) -> Option<&StemTable>
-        ensures tells { IfSome result (λ table.
-            IsTrue (tells (class_by taxonomy.now.pairs) table.now.depth path.now)) }
-        ensures table { IfSome result (λ table.
-            (ps : List TypePath) → AreStems ps self.now → IsStemTable ps table.now) }
+        ensures tells { IfSome result (λ found.
+            IsTrue (tells (class_by taxonomy.now.pairs) found.now.depth path.now)) }
+        ensures table { IfSome result (λ found.
+            (ps : List TypePath) → AreStems ps self.now → IsStemTable ps found.now) }
     {
-        if let Some(table) = &self.triples
-            && tells(taxonomy, path, table.depth)
-        {
-            return Some(table);
+        match told(&self.triples, taxonomy, path) {
+            Some(table) => Some(table),
+            None => told(&self.pairs, taxonomy, path),
         }
-        if let Some(table) = &self.pairs
-            && tells(taxonomy, path, table.depth)
-        {
-            return Some(table);
-        }
-        None
+    }
+}
+
+/// The table, if there is one and the path has a stem of its length that tells which paths may be below it.
+fn told<'a>(
+    table: &'a Option<StemTable>,
+    taxonomy: &Taxonomy,
+    path: &Path,
+) -> Option<&'a StemTable>
+    ensures tells { IfSome result (λ found.
+        IsTrue (tells (class_by taxonomy.now.pairs) found.now.depth path.now)) }
+    ensures table { IfSome result (λ found.
+        (ps : List TypePath) → IsTableIf ps table.entry.now → IsStemTable ps found.now) }
+{
+    match table {
+        Some(found) => if tells(taxonomy, path, found.depth) { Some(found) } else { None },
+        None => None,
     }
 }
 
