@@ -19,6 +19,7 @@ mod argument;
 mod asked;
 mod checking;
 mod fault;
+mod found;
 mod goals;
 mod kept;
 mod lack;

@@ -4,8 +4,8 @@ use Rattle.cls_check.specs.Asking.{goals_of}
 use Rattle.cls_check.specs.Deciding.{arrow_of, IsLeading}
 use Rattle.cls_check.proofs.DecidingSteps.{leading_yes, leading_no, both_ways}
 use Rattle.cls_check.proofs.Keeping.{arrow_got, below_each, kept_of_all}
-use Rattle.cls_check.proofs.reaching.leading.Goals as goal
-use Rattle.cls_check.proofs.reaching.leading.Goals.{then-leads_to_asked+in_ok-push, else-leads_to_asked}
+use Rattle.cls_check.proofs.reaching.tested.Goals as goal
+use Rattle.cls_check.proofs.reaching.tested.Goals.{then-leads_to_asked+in_ok-push, else-leads_to_asked}
 
 pub loop-i-preserved : goal.loop-i-preserved
 loop-i-preserved c =
