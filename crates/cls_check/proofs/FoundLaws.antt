@@ -3,13 +3,14 @@ use Rattle.std.proofs.Common.{ℕ, zero, suc, ◌≡◌, ◌+◌, ◌<◌, ◌�
 use Rattle.std.specs.Prelude.{IsSomeAnd, slice_get}
 use Rattle.std.proofs.lemmas.List.Elements.{Contains-append_left, Contains-append_right, Contains-append_cases}
 use Rattle.cls_base.proofs.Lists.{Contains-map, Contains-from_map, Contains-nil}
-use Rattle.cls_path.specs.Paths.{TypePath, Paths, InPaths, listed, unit}
+use Rattle.cls_path.specs.Paths.{TypePath, Paths, none, more, InPaths, first_in, listed, unit}
 use Rattle.cls_library.specs.Arrows.{MultiArrow}
 use Rattle.cls_library.specs.Families.{IsFamilyIn}
 use Rattle.cls_library.specs.Libraries.{Library}
 use Rattle.cls_library.specs.Reaching.{PathLeIn}
 use Rattle.cls_check.specs.Deciding.{IsLeading, SomeAbove, arrow_of, no_arrow, source_of, sources_of}
 use Rattle.cls_check.specs.Found.{Adds, HasOne}
+use Rattle.cls_check.proofs.Arguments.{sole}
 use Rattle.cls_check.proofs.Keeping.{has_position, position_has}
 use Rattle.cls_check.proofs.Lists.{in_position, position_in}
 
@@ -112,3 +113,10 @@ sources-lead l kept at n e p = (
 -- all positions are added to none
 pub adds-all : (arrows : List MultiArrow) (P : TypePath → Type 0) (new : List ℕ) → Adds arrows P [] new → (k : ℕ) → Contains new k ↔ ((k < length arrows) × P (arrow_of arrows k).target)
 adds-all arrows P new h k = ((λ m. elim ((h k).0 m) [ inl o ↦ absurd (Contains-nil k o) | inr r ↦ r ]), (λ r. (h k).1 (inr r)))
+
+-- a path of a list of one path, and of none
+pub above-one : (l : Library) (q p : TypePath) → PathLeIn l p q ↔ SomeAbove l (more q none) p
+above-one l q p = ((λ h. (q, first_in, h)), (λ s. subst (λ (r : TypePath). PathLeIn l p r) (sole q s.0 s.1) s.2))
+
+pub above-none : (l : Library) (p : TypePath) → SomeAbove l none p → ⊥
+above-none l p s = elim s.1 [ ]

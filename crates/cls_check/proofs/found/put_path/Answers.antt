@@ -10,7 +10,7 @@ pub returns : goal.returns
 returns c = λ _.
     let arrows = arrows_in c.args.lib.now c.args.place in
     let q = c.args.path.now in
-    let old = c.args.positions.items in
+    let old = c.args.positions.now.items in
     let leading = c.as_slice-leading.result.now in
     let family : IsFamilyIn c.args.lib.now.taxonomy arrows q leading =
     subst (λ (xs : List ℕ). IsFamilyIn c.args.lib.now.taxonomy arrows q xs) (sym c.as_slice-leading.ensures) c.in_ok-family.ensures in

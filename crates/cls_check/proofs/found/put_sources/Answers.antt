@@ -16,7 +16,7 @@ put_source-requires-clause-source c =
     (Contains-map (λ (b : MultiArrow). source_of b c.args.at) c.args.arrows.now a (Contains-at c.args.arrows.now c.loop-i.i a c.get.ensures))
 
 pub loop-i-init : goal.loop-i-init
-loop-i-init c = adds-begin (arrows_in c.args.lib.now c.args.place) (λ k p. SomeAbove c.args.lib.now (source_of (arrow_of c.args.arrows.now k) c.args.at) p) c.args.positions.items
+loop-i-init c = adds-begin (arrows_in c.args.lib.now c.args.place) (λ k p. SomeAbove c.args.lib.now (source_of (arrow_of c.args.arrows.now k) c.args.at) p) c.args.positions.now.items
 
 pub loop-i-preserved : goal.loop-i-preserved
 loop-i-preserved c =
@@ -25,7 +25,7 @@ loop-i-preserved c =
     let i = c.loop-i.i in
     let leads : ℕ → TypePath → Type 0 = λ k p. SomeAbove l (source_of (arrow_of c.args.arrows.now k) c.args.at) p in
     let here : arrow_of c.args.arrows.now i ≡ c.get.result = arrow_got c.args.arrows.now i c.get.result c.get.ensures in
-    adds-more arrows leads i c.args.positions.items c.loop-i.positions.items c.put_source.new.positions.items c.loop-i.invariant
+    adds-more arrows leads i c.args.positions.now.items c.loop-i.positions.items c.put_source.new.positions.items c.loop-i.invariant
     (subst (λ (a : MultiArrow). Adds arrows (λ p. SomeAbove l (source_of a c.args.at) p) c.loop-i.positions.items c.put_source.new.positions.items) (sym here) (c.in_ok-put_source.ensures c.if-not-put_source.false))
 
 pub returns : goal.returns
@@ -35,5 +35,5 @@ returns c = λ _.
     let u : c.loop-i.i ≤ c.len-i-end.result = c.loop-i.auto.i-end in
     let n : c.len-i-end.result ≡ length c.args.arrows.now = c.len-i-end.ensures in
     let e : c.loop-i.i ≡ length c.args.arrows.now = omega arith in
-    adds-alike (arrows_in l c.args.place) (HasOne (λ k p. SomeAbove l (source_of (arrow_of c.args.arrows.now k) c.args.at) p) c.loop-i.i) (IsLeading l (sources_of c.args.arrows.now c.args.at)) c.args.positions.items c.loop-i.positions.items
+    adds-alike (arrows_in l c.args.place) (HasOne (λ k p. SomeAbove l (source_of (arrow_of c.args.arrows.now k) c.args.at) p) c.loop-i.i) (IsLeading l (sources_of c.args.arrows.now c.args.at)) c.args.positions.now.items c.loop-i.positions.items
     (sources-lead l c.args.arrows.now c.args.at c.loop-i.i e) c.loop-i.invariant
