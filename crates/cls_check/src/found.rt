@@ -16,8 +16,11 @@ use cls_path::{ArrowSource, Nf, Path};
 use smallvec::SmallVec;
 use std::alloc::Global;
 
-/// The positions of the arrows of the place that lead to a path that is asked. None if some family isn't found at once, or if there
-/// are more than `room`: then each arrow is to be tested.
+/// With so little room each arrow is tested.
+const FEW: usize = 64;
+
+/// The positions of the arrows of the place that lead to a path that is asked. None if there is little room, if some family isn't
+/// found at once, or if they take more than `room`: then each arrow is to be tested.
 pub(crate) fn found(
     alloc: Global,
     lib: &Library,
@@ -31,6 +34,9 @@ pub(crate) fn found(
         ↔ ((k < length (arrows_in lib.now place))
         × IsLeading lib.now (goals_of asked.now) (arrow_of (arrows_in lib.now place) k).target))) }
 {
+    if room <= FEW {
+        return Ok(None);
+    }
     let mut positions = SmallVec::new(alloc);
     if put_asked(alloc, lib, place, asked, room, &mut positions)? {
         return Ok(Some(positions));
@@ -53,8 +59,10 @@ fn put_asked(
         (IsLeading lib.now (goals_of asked.now)) positions.old.items positions.new.items) }
 {
     match asked {
-        Asked::Goal(goal) => put_goal(alloc, lib, place, goal, room, positions),
-        Asked::Sources(arrows, at) => put_sources(alloc, lib, place, arrows, *at, room, positions),
+        Asked::Goal(goal) => Ok(put_goal(alloc, lib, place, goal, room, positions)?),
+        Asked::Sources(arrows, at) => {
+            Ok(put_sources(alloc, lib, place, arrows, *at, room, positions)?)
+        }
     }
 }
 
@@ -98,9 +106,11 @@ fn put_source(
 {
     match arrow.source(at) {
         Some(ArrowSource::Name(name)) => {
-            put_path(alloc, lib, place, &Path::atom(name), room, positions)
+            Ok(put_path(alloc, lib, place, &Path::atom(name), room, positions)?)
         }
-        Some(ArrowSource::Paths(source)) => put_goal(alloc, lib, place, source, room, positions),
+        Some(ArrowSource::Paths(source)) => {
+            Ok(put_goal(alloc, lib, place, source, room, positions)?)
+        }
         None => Ok(true),
     }
 }

@@ -17,9 +17,6 @@ use cls_path::{ArrowSource, Nf, Path};
 use smallvec::SmallVec;
 use std::alloc::Global;
 
-/// So many arrows are tested one by one.
-const FEW: usize = 64;
-
 /// The arrows of the place that lead to a path that is asked.
 pub(crate) fn leading<'l>(
     alloc: Global,
@@ -35,12 +32,10 @@ pub(crate) fn leading<'l>(
     ensures { IfOk result (λ kept. (a : definitions.MultiArrow) → Contains kept a
         ↔ (Contains arrows.entry a × IsLeading lib.now (goals_of asked.now) a.target)) }
 {
-    if arrows.len() > FEW {
-        if let Some(positions) = found(alloc, lib, place, asked, arrows.len())? {
-            return Ok(KeptArrows { arrows, positions });
-        }
+    match found(alloc, lib, place, asked, arrows.len())? {
+        Some(positions) => Ok(KeptArrows { arrows, positions }),
+        None => tested(alloc, lib, arrows, asked),
     }
-    tested(alloc, lib, arrows, asked)
 }
 
 /// The same, by a test of each arrow.

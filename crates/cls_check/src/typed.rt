@@ -57,11 +57,11 @@ fn arrows_had<'l, 'c>(
         let none = KeptArrows::none(alloc, lib.arrows(head, 0));
         return Ok((none, behind_terms(rest, count)));
     }
-    let place = Place {
+    let of_head = Place {
         component: head,
         n: count,
     };
-    let mut kept = leading(alloc, lib, place, lib.arrows(head, count), asked)?;
+    let mut kept = leading(alloc, lib, of_head, lib.arrows(head, count), asked)?;
     for place in 0..count {
         if kept.is_empty() {
             return Ok((kept, behind_terms(rest, count - place)));

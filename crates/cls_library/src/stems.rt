@@ -123,7 +123,7 @@ fn told<'a>(
         (ps : List TypePath) → IsTableIf ps table.entry.now → IsStemTable ps found.now) }
 {
     match table {
-        Some(found) => if tells(taxonomy, path, found.depth) { Some(found) } else { None },
+        Some(found) => { if tells(taxonomy, path, found.depth) { Some(found) } else { None } }
         None => None,
     }
 }

@@ -24,8 +24,8 @@ returns-in-Goal c = λ e.
     let old = c.args.positions.now.items in
     let new = c.put_goal.new.positions.items in
     subst (λ (a : Asked). Adds arrows (IsLeading l (goals_of a)) old new) (sym c.in-Goal.is)
-    (adds-alike arrows (SomeAbove l (listed c.in-Goal.goal.now)) (IsLeading l (listed c.in-Goal.goal.now ∷ [])) old new (goal_leads l (listed c.in-Goal.goal.now)) (c.put_goal.ensures e))
+    (adds-alike arrows (SomeAbove l (listed c.in-Goal.goal.now)) (IsLeading l (listed c.in-Goal.goal.now ∷ [])) old new (goal_leads l (listed c.in-Goal.goal.now)) (c.in_ok-put_goal.ensures e))
 
 pub returns-in-Sources : goal.returns-in-Sources
 returns-in-Sources c = λ e.
-    subst (λ (a : Asked). Adds (arrows_in c.args.lib.now c.args.place) (IsLeading c.args.lib.now (goals_of a)) c.args.positions.now.items c.put_sources.new.positions.items) (sym c.in-Sources.is) (c.put_sources.ensures e)
+    subst (λ (a : Asked). Adds (arrows_in c.args.lib.now c.args.place) (IsLeading c.args.lib.now (goals_of a)) c.args.positions.now.items c.put_sources.new.positions.items) (sym c.in-Sources.is) (c.in_ok-put_sources.ensures e)

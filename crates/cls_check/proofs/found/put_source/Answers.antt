@@ -1,8 +1,8 @@
 use Rattle.std.proofs.Common.{◌≡◌, Some, ap, sym, subst, ◌∙◌}
-use Rattle.cls_path.specs.Paths.{TypePath, Paths, none, more, listed, InPaths, first_in}
+use Rattle.cls_path.specs.Paths.{TypePath, Paths, none, more, listed}
 use Rattle.cls_path.specs.declared.source.ArrowSource.TheVariants as taken
 use Rattle.cls_library.specs.Reaching.{PathLeIn}
-use Rattle.cls_check.specs.Deciding.{AllSuitIn, SomeAbove, SuitIn, source_of}
+use Rattle.cls_check.specs.Deciding.{AllSuitIn, SomeAbove, source_of}
 use Rattle.cls_check.specs.Found.{Adds}
 use Rattle.cls_check.specs.Places.{arrows_in}
 use Rattle.cls_check.proofs.Arguments.{found_source}
@@ -33,14 +33,14 @@ returns-in-Some-Name c = λ e.
     let here : more q none ≡ source_of c.args.arrow.now c.args.at = (ap (λ (p : TypePath). more p none) c.atom.ensures)
     ∙ found_source c.args.arrow.now c.args.at c.source.result (taken.Name c.in-Some-Name.name) c.source.ensures (c.in-Some-Name.is ∙ ap Some c.in-Some-Name.field-0-is) in
     subst (λ (n : Paths). Adds arrows (SomeAbove l n) old new) here
-    (adds-alike arrows (λ p. PathLeIn l p q) (SomeAbove l (more q none)) old new (above-one l q) (c.put_path.ensures e))
+    (adds-alike arrows (λ p. PathLeIn l p q) (SomeAbove l (more q none)) old new (above-one l q) (c.in_ok-put_path.ensures e))
 
 pub returns-in-Some-Paths : goal.returns-in-Some-Paths
 returns-in-Some-Paths c = λ e.
     let l = c.args.lib.now in
     let here : listed c.in-Some-Paths.source.now ≡ source_of c.args.arrow.now c.args.at =
     found_source c.args.arrow.now c.args.at c.source.result (taken.Paths c.in-Some-Paths.source) c.source.ensures (c.in-Some-Paths.is ∙ ap Some c.in-Some-Paths.field-0-is) in
-    subst (λ (n : Paths). Adds (arrows_in l c.args.place) (SomeAbove l n) c.args.positions.now.items c.put_goal.new.positions.items) here (c.put_goal.ensures e)
+    subst (λ (n : Paths). Adds (arrows_in l c.args.place) (SomeAbove l n) c.args.positions.now.items c.put_goal.new.positions.items) here (c.in_ok-put_goal.ensures e)
 
 pub returns-in-None : goal.returns-in-None
 returns-in-None c = λ _.

@@ -3,8 +3,8 @@ use Rattle.cls_library.specs.Stems.{HoldsLeading}
 use Rattle.cls_library.proofs.Stemming.{by-stem}
 use Rattle.cls_library.proofs.family.family_by_stem.Goals as goal
 
-pub number-requires : goal.number-requires
-number-requires c = c.requires.table.some
+pub number-kind-requires : goal.number-kind-requires
+number-kind-requires c = c.requires.table.some
 
 pub family_in_chain-requires-clause-chain : goal.family_in_chain-requires-clause-chain
 family_in_chain-requires-clause-chain c =
