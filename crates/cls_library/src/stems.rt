@@ -1,5 +1,5 @@
 //! The paths of a component by their stems, so that those that may lead to a path are found without the others of its head.
-ghost use Rattle.std.specs.Prelude.{◌≡◌, ◌<◌, ℕ, List, IfOk, IfSome, IsTrue, length};
+ghost use Rattle.std.specs.Prelude.{◌≡◌, ◌<◌, List, IfOk, IfSome, IsTrue, length};
 ghost use Rattle.cls_path.specs.Paths.{TypePath};
 ghost use Rattle.cls_taxon.specs.Orders.{class_by};
 ghost use Rattle.cls_library.specs.Stems.{AreStems, IsStemTable, IsTableIf, numbers_of, stem_number, tells};
