@@ -1,4 +1,4 @@
-use Rattle.std.proofs.Common.{◌≡◌, List, ℕ, [], ◌∷◌, ◌++◌, sym, take, ap, ◌∙◌}
+use Rattle.std.proofs.Common.{List, ℕ, [], ◌∷◌, ◌++◌, sym, take, ap, ◌∙◌}
 use Rattle.std.proofs.lemmas.List.{append_assoc, take_all, take_more}
 use Rattle.cls_check.proofs.found.put_all.Goals as goal
 

@@ -1,9 +1,9 @@
 use Rattle.std.proofs.Common.{[], ◌∷◌, Contains, sym, subst}
 use Rattle.cls_base.proofs.Lists.{Contains-here}
-use Rattle.cls_path.specs.Paths.{Paths, listed}
+use Rattle.cls_path.specs.Paths.{listed}
 use Rattle.cls_check.specs.declared.asked.Asked.{Asked}
 use Rattle.cls_check.specs.Asking.{goals_of}
-use Rattle.cls_check.specs.Deciding.{AllSuitIn, IsLeading, SomeAbove}
+use Rattle.cls_check.specs.Deciding.{IsLeading, SomeAbove}
 use Rattle.cls_check.specs.Found.{Adds}
 use Rattle.cls_check.specs.Places.{arrows_in}
 use Rattle.cls_check.proofs.FoundLaws.{adds-alike}

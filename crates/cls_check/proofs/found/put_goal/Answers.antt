@@ -31,7 +31,7 @@ returns c = λ _.
     let l = c.args.lib.now in
     let size : length c.paths-path-items.result.now ≡ length c.args.goal.now = ap (λ (ps : List TypePath). length ps) c.paths-path-items.ensures in
     let t : length c.paths-path-items.result.now ≤ c.loop-path.path-index = c.loop-path-test.false in
-    let u : c.loop-path.path-index ≤ length c.paths-path-items.result.now = c.loop-path.auto.path-index in
+    let u : c.loop-path.path-index ≤ length c.paths-path-items.result.now = c.loop-path.auto.path-index-end in
     let e : c.loop-path.path-index ≡ length c.args.goal.now = omega arith in
     adds-alike (arrows_in l c.args.place) (HasOne (λ k p. PathLeIn l p (get_or c.args.goal.now k unit)) c.loop-path.path-index) (SomeAbove l (listed c.args.goal.now)) c.args.positions.now.items c.loop-path.positions.items
     (goal-above l c.args.goal.now c.loop-path.path-index e) c.loop-path.invariant

@@ -1,4 +1,4 @@
-use Rattle.std.proofs.Common.{◌≡◌, ◌++◌, List, ℕ, sym, subst, ap, ◌∙◌}
+use Rattle.std.proofs.Common.{List, ℕ, sym, subst}
 use Rattle.cls_library.specs.Families.{IsFamilyIn}
 use Rattle.cls_library.specs.Reaching.{PathLeIn}
 use Rattle.cls_check.specs.Found.{Adds}

@@ -1,7 +1,6 @@
-use Rattle.std.proofs.Common.{ℕ, ◌≡◌, ◌<◌, length, List, sym, subst, ◌∙◌, arith, rules}
+use Rattle.std.proofs.Common.{ℕ, ◌≡◌, ◌<◌, length, List, sym, subst, arith, rules}
 use Rattle.cls_base.specs.Lists.{AreBelow}
 use Rattle.cls_library.specs.Chains.{AreChained}
-use Rattle.cls_library.specs.Stems.{numbers_of}
 use Rattle.cls_library.proofs.Stemming.{numbers-below}
 use Rattle.cls_library.proofs.stems.StemTable.new.Goals as goal
 
