@@ -11,6 +11,7 @@ ghost use Rattle.cls_library.specs.Libraries.{variances_in};
 use crate::arrow::Arrows;
 use crate::column::Column;
 use crate::depths::Depths;
+use crate::ending::is_bare;
 use crate::endings::Endings;
 use crate::family::{family_along, family_of};
 use crate::marks::Marks;
@@ -40,6 +41,7 @@ impl Model for Component {
     ghost use Rattle.cls_library.specs.Chains.{AreChained};
     ghost use Rattle.cls_library.specs.Endings.{AreDeep, AreMarked, IsKept};
     ghost use Rattle.cls_library.specs.Libraries as libraries;
+    ghost use Rattle.cls_library.specs.Stems.{AreStems};
     ghost use Rattle.cls_library.specs.Stored.{coded_component};
 
     ghost Value = { libraries.Component };
@@ -52,7 +54,8 @@ impl Model for Component {
         × AreMarked c.marks.words c.paths
         × AreChained 0 (length c.endings.kinds.keys)
         c.endings.places.items c.endings.chains.firsts.items c.endings.chains.next.items
-        × AreDeep c.depths.word c.paths };
+        × AreDeep c.depths.word c.paths
+        × AreStems c.paths c.endings.stems };
 }
 
 impl Component {
@@ -151,6 +154,13 @@ impl Component {
             return true;
         }
         self.endings.may_lead(taxonomy, count, sought)
+    }
+
+    /// Whether the family of the path is found without a test of each arrow: by its stem, or since nearly all paths of its ending
+    /// are below it. Nothing rests on it.
+    pub fn is_quick(&self, taxonomy: &Taxonomy, path: &Path) -> bool {
+        let sought = Sought::of(taxonomy, path);
+        sought.alone && (is_bare(path) || self.endings.stems.find(taxonomy, path).is_some())
     }
 
     /// The strictly ascending positions of the arrows that take so many arguments and whose target is below the path. Only

@@ -218,6 +218,13 @@ impl Library {
         self.components[x as usize].family(alloc, &self.taxonomy, n as usize, path)
     }
 
+    /// Whether the family of the path is found without a test of each arrow of the component. Nothing rests on it.
+    pub fn is_quick(&self, x: u32, path: &Path) -> bool
+        requires { x < length self.now.components }
+    {
+        self.components[x as usize].is_quick(&self.taxonomy, path)
+    }
+
     /// The component of the schema, if it is accepted as the next one.
     fn component(
         &self,
