@@ -151,7 +151,7 @@ fn put_path(
     ensures { IfOk result (λ put. IsTrue put → Adds (arrows_in lib.now place)
         (λ p. PathLeIn lib.now p path.now) positions.old.items positions.new.items) }
 {
-    if !lib.is_quick(place.component, path) {
+    if !lib.is_quick(path) {
         return Ok(false);
     }
     let family = lib.family(alloc, place.component, place.n, path)?;

@@ -17,7 +17,8 @@ use Rattle.cls_library.specs.Chains.{AreChained}
 use Rattle.cls_library.specs.Endings.{AreEndings, IsFound, ending_behind, ending_of, head_of, is_alone}
 use Rattle.cls_library.specs.Libraries.{below_in, variances_in}
 use Rattle.cls_library.specs.Splits.{target_at}
-use Rattle.cls_library.specs.Stems.{stem_of, digest_of, stem_number, is_own, tells, numbers_of, AreStems, IsStemTable, IsTableIf, HoldsLeading}
+use Rattle.cls_library.specs.Quick.{is_own, tells}
+use Rattle.cls_library.specs.Stems.{stem_of, digest_of, stem_number, numbers_of, AreStems, IsStemTable, IsTableIf, HoldsLeading}
 use Rattle.cls_library.proofs.Along.{silent-other}
 use Rattle.cls_library.proofs.EndingLaws.{both, endings-length}
 use Rattle.cls_library.proofs.Lone.{alone, not-zero}

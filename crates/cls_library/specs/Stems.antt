@@ -1,9 +1,8 @@
 -- internal: stems of paths, and the chains of those whose stems have one number
 --
 -- The stem of a path is what it begins with behind its leading arrows: names, and sides of products, as far as the path
--- goes. Arrows on the way are left out. If all names in the stem of a path have classes of their own, each path below it
--- has the same stem.
-use Rattle.std.specs.Prelude.{ℕ, zero, suc, ◌≡◌, ◌+◌, ◌<◌, ◌≤◌, ◌%◌, ◌==◌, ◌&&◌, Bool, true, false, not, List, [], ◌∷◌, map, length, slice_index_or, Option, None, Some}
+-- goes. Arrows on the way are left out. A path that tells which paths may be below it has the same stem as each of these.
+use Rattle.std.specs.Prelude.{ℕ, zero, suc, ◌≡◌, ◌+◌, ◌<◌, ◌≤◌, ◌%◌, List, [], ◌∷◌, map, length, slice_index_or, Option, None, Some}
 use Rattle.cls_path.specs.Labels.{mixed}
 use Rattle.cls_path.specs.Paths.{TypePath, atom, inside, unit, left, right, function, sealed, PathLe}
 use Rattle.cls_taxon.specs.Orders.{Declared}
@@ -33,21 +32,6 @@ digest_of seed (x ∷ xs) = digest_of (mixed seed x) xs
 -- the number below count to which the stem of the path falls
 abbrev pub stem_number : ℕ → ℕ → TypePath → ℕ
 stem_number count depth p = digest_of 0 (stem_of depth p) % count
-
--- whether the name has a class of its own
-abbrev pub is_own : (ℕ → ℕ) → ℕ → Bool
-is_own class c = not (class c == 0)
-
--- whether the path has a stem of so many names and sides, and each of its names a class of its own
-abbrev pub tells : (ℕ → ℕ) → ℕ → TypePath → Bool
-tells class zero p = true
-tells class (suc k) (atom c) = is_own class c && (k == 0)
-tells class (suc k) (inside c p) = is_own class c && tells class k p
-tells class (suc k) unit = false
-tells class (suc k) (left p) = tells class k p
-tells class (suc k) (right p) = tells class k p
-tells class (suc k) (function n p) = tells class (suc k) p
-tells class (suc k) (sealed c n) = is_own class c && (k == 0)
 
 -- the number of each path
 abbrev pub numbers_of : ℕ → ℕ → List TypePath → List ℕ

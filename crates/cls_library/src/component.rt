@@ -11,7 +11,6 @@ ghost use Rattle.cls_library.specs.Libraries.{variances_in};
 use crate::arrow::Arrows;
 use crate::column::Column;
 use crate::depths::Depths;
-use crate::ending::is_bare;
 use crate::endings::Endings;
 use crate::family::{family_along, family_of};
 use crate::marks::Marks;
@@ -154,13 +153,6 @@ impl Component {
             return true;
         }
         self.endings.may_lead(taxonomy, count, sought)
-    }
-
-    /// Whether the family of the path is found without a test of each arrow: by its stem, or since nearly all paths of its ending
-    /// are below it. Nothing rests on it.
-    pub fn is_quick(&self, taxonomy: &Taxonomy, path: &Path) -> bool {
-        let sought = Sought::of(taxonomy, path);
-        sought.alone && (is_bare(path) || self.endings.stems.find(taxonomy, path).is_some())
     }
 
     /// The strictly ascending positions of the arrows that take so many arguments and whose target is below the path. Only

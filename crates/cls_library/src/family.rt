@@ -8,8 +8,9 @@ ghost use Rattle.cls_library.specs.Chains.{AreChained};
 ghost use Rattle.cls_library.specs.Endings.{AreEndings, IsFound, IsSought, ending_behind, ending_of, head_of, is_alone};
 ghost use Rattle.cls_library.specs.Families.{IsFamilyIn};
 ghost use Rattle.cls_library.specs.Libraries.{variances_in};
+ghost use Rattle.cls_library.specs.Quick.{tells};
 ghost use Rattle.cls_library.specs.Splits.{PutsPosition, arrows_at_places, places_from};
-ghost use Rattle.cls_library.specs.Stems.{AreStems, HoldsLeading, IsStemTable, tells};
+ghost use Rattle.cls_library.specs.Stems.{AreStems, HoldsLeading, IsStemTable};
 
 use crate::arrow::target_of;
 use crate::chains::Chains;

@@ -4,7 +4,8 @@ ghost use Rattle.std.specs.Prelude.{◌≡◌, ◌+◌, ◌<◌};
 ghost use Rattle.cls_path.specs.Labels.{mixed};
 ghost use Rattle.cls_path.specs.Paths.{atom};
 ghost use Rattle.cls_taxon.specs.Orders.{class_by};
-ghost use Rattle.cls_library.specs.Stems.{digest_of, is_own, stem_number, stem_of, tells};
+ghost use Rattle.cls_library.specs.Quick.{is_own, is_quick, tells};
+ghost use Rattle.cls_library.specs.Stems.{digest_of, stem_number, stem_of};
 
 use cls_base::{Name, Taxa};
 use cls_path::{Form, Path};
@@ -99,6 +100,17 @@ fn mixed(first: u64, second: u64) -> u64
     ensures { result ≡ mixed first second }
 {
     first.wrapping_mul(SPREAD).wrapping_add(second)
+}
+
+/// Whether each path with the head of this one is below it, or its stem of two tells which paths may be.
+pub(crate) fn is_quick(taxonomy: &Taxonomy, path: &Path) -> bool
+    ensures { result ≡ is_quick (class_by taxonomy.now.pairs) path.now }
+{
+    match path.form() {
+        Form::Atom(name) => is_own(taxonomy, *name),
+        Form::Unit => true,
+        _ => tells(taxonomy, path, 2),
+    }
 }
 
 /// Whether the path has a stem of this length. Nothing rests on it.

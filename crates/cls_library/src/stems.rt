@@ -2,7 +2,8 @@
 ghost use Rattle.std.specs.Prelude.{◌≡◌, ◌<◌, List, IfOk, IfSome, IsTrue, length};
 ghost use Rattle.cls_path.specs.Paths.{TypePath};
 ghost use Rattle.cls_taxon.specs.Orders.{class_by};
-ghost use Rattle.cls_library.specs.Stems.{AreStems, IsStemTable, IsTableIf, numbers_of, stem_number, tells};
+ghost use Rattle.cls_library.specs.Quick.{tells};
+ghost use Rattle.cls_library.specs.Stems.{AreStems, IsStemTable, IsTableIf, numbers_of, stem_number};
 
 use crate::chains::Chains;
 use crate::stem::{is_deep, stem_number, tells};
@@ -72,8 +73,8 @@ impl StemTable {
 }
 
 impl Stems {
-    /// The tables for these paths, which have so many endings. There is none for stems that no path has, or where few paths share
-    /// an ending.
+    /// The tables for these paths, which have so many endings. There is none where few paths share an ending, and none of three
+    /// where no path has such a stem.
     pub fn new(alloc: Global, paths: &[Path], endings: usize) -> Result<Stems, OutOfMemory>
         ensures { IfOk result (AreStems paths.now) }
     {
@@ -83,7 +84,7 @@ impl Stems {
                 triples: None,
             });
         }
-        let pairs = table_if(alloc, paths, 2)?;
+        let pairs = Some(StemTable::new(alloc, paths, 2)?);
         let triples = table_if(alloc, paths, 3)?;
         Ok(Stems { pairs, triples })
     }
