@@ -87,7 +87,16 @@ pub(crate) fn family_along(
 {
     match endings.stems.find(taxonomy, path) {
         Some(table) => family_by_stem(alloc, taxonomy, paths, column, count, table, path),
-        None => family_in_chain(alloc, taxonomy, paths, column, count, &endings.chains, kind, path),
+        None => family_in_chain(
+            alloc,
+            taxonomy,
+            paths,
+            column,
+            count,
+            &endings.chains,
+            kind,
+            path,
+        ),
     }
 }
 
@@ -110,7 +119,16 @@ fn family_by_stem(
         IsFamilyIn taxonomy.now (arrows_of count (listed paths.now)) path.now family.items) }
 {
     let kind = table.number(path);
-    family_in_chain(alloc, taxonomy, paths, column, count, &table.chains, kind, path)
+    family_in_chain(
+        alloc,
+        taxonomy,
+        paths,
+        column,
+        count,
+        &table.chains,
+        kind,
+        path,
+    )
 }
 
 /// The same where all paths that lead to the path are in one chain: only these are tested.

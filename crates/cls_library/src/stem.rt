@@ -85,7 +85,11 @@ fn digest(path: &Path, depth: usize, seed: u64) -> u64
 fn name_digest(name: Name, depth: usize, seed: u64) -> u64
     ensures { result ≡ digest_of seed (stem_of depth (atom name.0)) }
 {
-    if depth == 0 { seed } else { with_name(seed, name) }
+    if depth == 0 {
+        seed
+    } else {
+        with_name(seed, name)
+    }
 }
 
 /// The name mixed into the number.

@@ -27,10 +27,19 @@ pub(crate) struct StemTable {
 }
 
 /// The tables of the stems of two and of three names and sides, where they are of use. Each takes 8 bytes for a path.
-#[derive(Drop)]
 pub(crate) struct Stems {
     pub pairs: Option<StemTable>,
     pub triples: Option<StemTable>,
+}
+
+// Not derived, for the prover: so a caller's proof has one step where a value is dropped, and not one for each table.
+impl Drop for Stems {
+    fn drop(self) {
+        let Stems {
+            pairs: _,
+            triples: _,
+        } = self;
+    }
 }
 
 impl StemTable {
@@ -113,18 +122,20 @@ impl Stems {
 }
 
 /// The table, if there is one and the path has a stem of its length that tells which paths may be below it.
-fn told<'a>(
-    table: &'a Option<StemTable>,
-    taxonomy: &Taxonomy,
-    path: &Path,
-) -> Option<&'a StemTable>
+fn told<'a>(table: &'a Option<StemTable>, taxonomy: &Taxonomy, path: &Path) -> Option<&'a StemTable>
     ensures tells { IfSome result (λ found.
         IsTrue (tells (class_by taxonomy.now.pairs) found.now.depth path.now)) }
     ensures table { IfSome result (λ found.
         (ps : List TypePath) → IsTableIf ps table.entry.now → IsStemTable ps found.now) }
 {
     match table {
-        Some(found) => { if tells(taxonomy, path, found.depth) { Some(found) } else { None } }
+        Some(found) => {
+            if tells(taxonomy, path, found.depth) {
+                Some(found)
+            } else {
+                None
+            }
+        }
         None => None,
     }
 }

@@ -1,4 +1,4 @@
-use Rattle.std.proofs.Common.{ℕ, ◌≡◌, ◌<◌, length, List, sym, subst, arith, rules}
+use Rattle.std.proofs.Common.{ℕ, ◌≡◌, ◌<◌, length, List, sym, subst, ◌∙◌, arith, rules}
 use Rattle.cls_base.specs.Lists.{AreBelow}
 use Rattle.cls_library.specs.Chains.{AreChained}
 use Rattle.cls_library.proofs.Stemming.{numbers-below}
@@ -15,7 +15,7 @@ new-requires c =
     let some : 0 < length ps = c.requires in
     let e : c.in-Ok.count ≡ length ps = search rules in
     let n : 0 < c.in-Ok.count = omega arith in
-    subst (λ (numbers : List ℕ). AreBelow c.in-Ok.count numbers) (sym c.in_ok-numbers.ensures) (numbers-below c.in-Ok.count c.args.depth n ps)
+    subst (λ (numbers : List ℕ). AreBelow c.in-Ok.count numbers) (sym (c.deref.ensures.value ∙ c.in_ok-numbers.ensures)) (numbers-below c.in-Ok.count c.args.depth n ps)
 
 pub returns : goal.returns
 returns c =
@@ -25,5 +25,5 @@ returns c =
     let e : c.in-Ok.count ≡ length ps = search rules in
     record {
       some = omega (arith, some, e);
-      chained = subst (λ (numbers : List ℕ). AreChained 0 c.in-Ok.count numbers made.firsts.items made.next.items) c.in_ok-numbers.ensures c.in_ok-chains.ensures;
+      chained = subst (λ (numbers : List ℕ). AreChained 0 c.in-Ok.count numbers made.firsts.items made.next.items) (c.deref.ensures.value ∙ c.in_ok-numbers.ensures) c.in_ok-chains.ensures;
     }
