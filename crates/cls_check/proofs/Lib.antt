@@ -5,6 +5,7 @@ pub mod Codes
 pub mod Deciding
 pub mod DecidingSteps
 pub mod Finding
+pub mod FoundLaws
 pub mod GoalLaws
 pub mod Indexing
 pub mod Keeping

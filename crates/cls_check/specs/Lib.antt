@@ -3,6 +3,7 @@ pub mod Arguments
 pub mod Asking
 pub mod Checking
 pub mod Deciding
+pub mod Found
 pub mod Goals
 pub mod Known
 pub mod Laws

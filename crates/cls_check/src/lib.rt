@@ -23,6 +23,7 @@ mod asked;
 mod checking;
 mod fault;
 mod findings;
+mod found;
 mod goals;
 mod kept;
 mod known;

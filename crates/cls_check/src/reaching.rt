@@ -1,23 +1,47 @@
 //! Which arrows of a term's head are kept, and what their targets are above.
-ghost use Rattle.std.specs.Prelude.{ℕ, ◌↔◌, Contains, IfOk, IsTrue};
+ghost use Rattle.std.specs.Prelude.{ℕ, ◌≡◌, ◌↔◌, Contains, IfOk, IsTrue};
 ghost use Rattle.cls_path.specs.Paths.{Paths, listed};
 ghost use Rattle.cls_library.specs.Arrows as definitions;
 ghost use Rattle.cls_library.specs.Reaching.{PathsLeIn};
 ghost use Rattle.cls_check.specs.Asking.{goals_of};
 ghost use Rattle.cls_check.specs.Deciding.{AllSuitIn, AreSuited, IsLeading, SomeBelow, SuitIn, source_of, targets_of};
+ghost use Rattle.cls_check.specs.Places.{Stands, arrows_in};
 
 use crate::asked::{Asked, leads_to_asked};
+use crate::found::found;
 use crate::kept::KeptArrows;
+use crate::place::Place;
 use cls_base::OutOfMemory;
 use cls_library::{Arrows, Library, MultiArrow};
 use cls_path::{ArrowSource, Nf, Path};
 use smallvec::SmallVec;
 use std::alloc::Global;
 
-/// The arrows that lead to a path that is asked.
+/// The arrows of the place that lead to a path that is asked.
+pub(crate) fn leading<'l>(
+    alloc: Global,
+    lib: &Library,
+    place: Place,
+    arrows: Arrows<'l>,
+    asked: &Asked<'_>,
+) -> Result<KeptArrows<'l>, OutOfMemory>
+    requires place { Stands lib.now place }
+    requires same { arrows ≡ arrows_in lib.now place }
+    requires arrows { AreSuited lib.now arrows }
+    requires goals { (n : Paths) → Contains (goals_of asked.now) n → AllSuitIn lib.now n }
+    ensures { IfOk result (λ kept. (a : definitions.MultiArrow) → Contains kept a
+        ↔ (Contains arrows.entry a × IsLeading lib.now (goals_of asked.now) a.target)) }
+{
+    match found(alloc, lib, place, asked, arrows.len())? {
+        Some(positions) => Ok(KeptArrows { arrows, positions }),
+        None => tested(alloc, lib, arrows, asked),
+    }
+}
+
+/// The same, by a test of each arrow.
 // Not inlined: a frame is cleared whenever its function is called, and this one's is large.
 #[inline(never)]
-pub(crate) fn leading<'l>(
+fn tested<'l>(
     alloc: Global,
     lib: &Library,
     arrows: Arrows<'l>,

@@ -12,6 +12,7 @@ ghost use Rattle.cls_check.specs.Deciding.{AllSuitIn, BeginsWithTermIn, IsDecide
 
 use crate::asked::Asked;
 use crate::kept::KeptArrows;
+use crate::place::Place;
 use crate::reaching::{are_above, keep_with_source, leading};
 use cls_base::OutOfMemory;
 use cls_library::Library;
@@ -56,7 +57,11 @@ fn arrows_had<'l, 'c>(
         let none = KeptArrows::none(alloc, lib.arrows(head, 0));
         return Ok((none, behind_terms(rest, count)));
     }
-    let mut kept = leading(alloc, lib, lib.arrows(head, count), asked)?;
+    let of_head = Place {
+        component: head,
+        n: count,
+    };
+    let mut kept = leading(alloc, lib, of_head, lib.arrows(head, count), asked)?;
     for place in 0..count {
         if kept.is_empty() {
             return Ok((kept, behind_terms(rest, count - place)));

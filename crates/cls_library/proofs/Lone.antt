@@ -16,7 +16,7 @@ use Rattle.cls_library.proofs.EndingLaws.{equal, both, same-ending}
 differs : false ≡ true → ⊥
 differs e = cc
 
-not-zero : (k : ℕ) → not (k == 0) ≡ true → k ≡ 0 → ⊥
+pub not-zero : (k : ℕ) → not (k == 0) ≡ true → k ≡ 0 → ⊥
 not-zero k n e = differs (subst (λ b. not b ≡ true) (equal k 0 e) n)
 
 class-of : (d : Declared) (a : ℕ) → (class_by d.pairs a ≡ 0) ⊎ (class_by d.pairs a ≡ a + 1)
@@ -27,7 +27,7 @@ class-of d a = go (stands_in d.pairs a)
     go false = inr refl
 
 -- a name with a class of its own is above itself alone
-alone : (d : Declared) (a b : ℕ) → (class_by d.pairs b ≡ 0 → ⊥) → IsTrue (is_below d a b) → a ≡ b
+pub alone : (d : Declared) (a b : ℕ) → (class_by d.pairs b ≡ 0 → ⊥) → IsTrue (is_below d a b) → a ≡ b
 alone d a b n l = elim (class-of d b) [
   | inl e ↦ absurd (n e)
   | inr e ↦ elim (class-of d a) [

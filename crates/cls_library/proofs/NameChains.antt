@@ -1,5 +1,5 @@
 -- Subtyping and typing by one order of names are those by another one that says the same.
-use Rattle.std.proofs.Common.{ℕ, List}
+use Rattle.std.proofs.Common.{ℕ}
 use Rattle.cls_base.specs.Types.{ClosedType}
 use Rattle.cls_base.specs.Subtyping.{Subtype, reflexivity, transitivity, to_omega, omega_arrow, meet_left, meet_right, to_meet, arrow_meet, arrows, covariants, covariant_meet, contravariants, invariants, products, product_meet}
 use Rattle.cls_base.specs.Taxonomies.{Variance, Chain}

@@ -1,5 +1,5 @@
 -- A list of schemas without one of them has the library without that component.
-use Rattle.std.proofs.Common.{◌≡◌, ℕ, zero, suc, ◌+◌, ◌<◌, ◌≤◌, List, [], ◌∷◌, length, arith}
+use Rattle.std.proofs.Common.{ℕ, zero, suc, ◌+◌, ◌<◌, ◌≤◌, List, [], ◌∷◌, length, arith}
 use Rattle.std.specs.Prelude.{remove}
 use Rattle.cls_base.specs.Types.{ClosedType, spread}
 use Rattle.cls_base.specs.Schemas.{OpenType}
@@ -21,8 +21,7 @@ module _ (d : Declared) (kinds : List (ℕ × List ClosedType)) where
   accepted-less n m w v [] k l h = tt
   accepted-less n m w v (s ∷ ss) k l h =
       let room = h.0.room in
-      let weight = weight_of (instances_of kinds s) in
-      (
+      let weight = weight_of (instances_of kinds s) in (
         record {
           room = omega arith;
           has_instances = h.0.has_instances;

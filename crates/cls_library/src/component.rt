@@ -40,6 +40,7 @@ impl Model for Component {
     ghost use Rattle.cls_library.specs.Chains.{AreChained};
     ghost use Rattle.cls_library.specs.Endings.{AreDeep, AreMarked, IsKept};
     ghost use Rattle.cls_library.specs.Libraries as libraries;
+    ghost use Rattle.cls_library.specs.Stems.{AreStems};
     ghost use Rattle.cls_library.specs.Stored.{coded_component};
 
     ghost Value = { libraries.Component };
@@ -52,7 +53,8 @@ impl Model for Component {
         × AreMarked c.marks.words c.paths
         × AreChained 0 (length c.endings.kinds.keys)
         c.endings.places.items c.endings.chains.firsts.items c.endings.chains.next.items
-        × AreDeep c.depths.word c.paths };
+        × AreDeep c.depths.word c.paths
+        × AreStems c.paths c.endings.stems };
 }
 
 impl Component {

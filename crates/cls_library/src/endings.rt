@@ -1,14 +1,17 @@
 //! The endings of the paths of a component.
-ghost use Rattle.std.specs.Prelude.{◌≡◌, IfOk, length};
+ghost use Rattle.std.specs.Prelude.{◌≡◌, IfOk, List, length};
 ghost use Rattle.std.specs.List.{list_any};
+ghost use Rattle.cls_path.specs.Paths.{TypePath};
 ghost use Rattle.cls_taxon.specs.Decisions.{is_below};
 ghost use Rattle.cls_taxon.specs.Orders.{class_by};
 ghost use Rattle.cls_library.specs.Chains.{AreChained};
 ghost use Rattle.cls_library.specs.Endings.{AreEndings, IsFound, is_alone, may_end_below};
+ghost use Rattle.cls_library.specs.Stems.{AreStems};
 
 use crate::chains::Chains;
 use crate::ending::Ending;
 use crate::sought::Sought;
+use crate::stems::Stems;
 use cls_base::OutOfMemory;
 use cls_path::Path;
 use cls_taxon::Taxonomy;
@@ -18,12 +21,13 @@ use std::alloc::Global;
 /// So many endings are gone over one by one.
 const FEW: usize = 8;
 
-/// Different endings, for each path the place of its own among them, and the chains of the paths of one ending.
+/// Different endings, for each path the place of its own among them, the chains of the paths of one ending, and those of one stem.
 #[derive(Drop)]
 pub(crate) struct Endings {
     pub kinds: IndexSet<Ending>,
     pub places: Vec<u32>,
     pub chains: Chains,
+    pub stems: Stems,
 }
 
 impl Endings {
@@ -32,6 +36,7 @@ impl Endings {
         ensures endings { IfOk result (λ made. AreEndings made.kinds.keys made.places.items paths.now) }
         ensures chains { IfOk result (λ made. AreChained
             0 (length made.kinds.keys) made.places.items made.chains.firsts.items made.chains.next.items) }
+        ensures stems { IfOk result (λ made. AreStems paths.now made.stems) }
     {
         let mut kinds = IndexSet::new(alloc);
         let mut places = Vec::with_capacity(alloc, paths.len())?;
@@ -43,10 +48,12 @@ impl Endings {
             places.push(place)?;
         }
         let chains = Chains::new(alloc, &places, kinds.len())?;
+        let stems = Stems::new(alloc, paths, kinds.len())?;
         Ok(Endings {
             kinds,
             places,
             chains,
+            stems,
         })
     }
 
@@ -56,14 +63,18 @@ impl Endings {
         ensures places { IfOk result (λ copy. copy.places.items ≡ self.now.places.items) }
         ensures firsts { IfOk result (λ copy. copy.chains.firsts.items ≡ self.now.chains.firsts.items) }
         ensures next { IfOk result (λ copy. copy.chains.next.items ≡ self.now.chains.next.items) }
+        ensures stems { IfOk result (λ copy.
+            (ps : List TypePath) → AreStems ps self.now.stems → AreStems ps copy.stems) }
     {
         let kinds = self.kinds.clone()?;
         let places = Vec::from_slice(alloc, self.places.as_slice())?;
         let chains = self.chains.copy(alloc)?;
+        let stems = self.stems.copy(alloc)?;
         Ok(Endings {
             kinds,
             places,
             chains,
+            stems,
         })
     }
 

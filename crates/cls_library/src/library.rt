@@ -9,6 +9,7 @@ ghost use Rattle.cls_library.specs.Endings.{IsSought, is_alone};
 ghost use Rattle.cls_library.specs.Families.{IsFamilyIn};
 ghost use Rattle.cls_library.specs.Index.{IsIndex};
 ghost use Rattle.cls_library.specs.Libraries.{variances_in, paths_at, arrows_at, total_of, IsLibrary, IsComponentOf, IsWithinLimits};
+ghost use Rattle.cls_library.specs.Quick.{is_quick};
 ghost use Rattle.cls_library.specs.Refusals.{Adds, Accepts, Refuses, IsLibraryOf, RefusesAt};
 
 use crate::arrow::Arrows;
@@ -17,6 +18,7 @@ use crate::fault::{LibraryFault, LibraryKind};
 use crate::gather::gather;
 use crate::index::Index;
 use crate::sought::Sought;
+use crate::stem::is_quick;
 use cls_base::limits::MAX_COMPONENTS;
 use cls_base::{Numbers, OutOfMemory, Schema};
 use cls_kind::Kinds;
@@ -216,6 +218,14 @@ impl Library {
         ensures { IfOk result (IsFamilyIn self.now.taxonomy (arrows_at self.now x n) path.now) }
     {
         self.components[x as usize].family(alloc, &self.taxonomy, n as usize, path)
+    }
+
+    /// Whether the family of the path is found without a test of each arrow of a component: all arrows that end as the path does
+    /// lead to it, or the first two names and sides of products that it begins with tell which ones may.
+    pub fn is_quick(&self, path: &Path) -> bool
+        ensures { result ≡ is_quick (class_by self.now.taxonomy.pairs) path.now }
+    {
+        is_quick(&self.taxonomy, path)
     }
 
     /// The component of the schema, if it is accepted as the next one.

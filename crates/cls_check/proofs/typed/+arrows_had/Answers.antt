@@ -32,6 +32,15 @@ returns-then-count-arity t c =
 pub arrows-requires-2-clause-declared : goal.arrows-requires-2-clause-declared
 arrows-requires-2-clause-declared t c = (opened c.args.lib.now c.count-components.ensures.library c.args.code.now c.requires.declared).1
 
+pub leading-requires-clause-place : goal.leading-requires-clause-place
+leading-requires-clause-place t c =
+    let declared = (opened c.args.lib.now c.count-components.ensures.library c.args.code.now c.requires.declared).1 in
+    let few = c.if-count-arity.false in
+    record { declared = declared; within = omega (arith, few, c.arity.ensures) }
+
+pub leading-requires-clause-same : goal.leading-requires-clause-same
+leading-requires-clause-same t c = c.arrows-2.ensures.arrows
+
 pub leading-requires-clause-arrows : goal.leading-requires-clause-arrows
 leading-requires-clause-arrows t c =
     subst (λ (arrows : List MultiArrow). AreSuited c.args.lib.now arrows) (sym c.arrows-2.ensures.arrows)

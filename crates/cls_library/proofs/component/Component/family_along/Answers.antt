@@ -38,6 +38,9 @@ family_along-requires-clause-endings c = rw c.paths.ensures c.self.invariant.0.e
 pub family_along-requires-clause-chains : goal.family_along-requires-clause-chains
 family_along-requires-clause-chains c = c.self.invariant.2
 
+pub family_along-requires-clause-stems : goal.family_along-requires-clause-stems
+family_along-requires-clause-stems c = rw c.paths.ensures c.self.invariant.4
+
 pub family_along-requires-clause-kind : goal.family_along-requires-clause-kind
 family_along-requires-clause-kind c =
     let wanted : c.behind.result ≡ ending_behind c.args.count (ending_of c.args.path.now) = c.behind.ensures ∙ ap (ending_behind c.args.count) c.requires.sought.ending in
