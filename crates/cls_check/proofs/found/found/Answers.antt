@@ -6,9 +6,9 @@ use Rattle.cls_check.specs.Places.{arrows_in}
 use Rattle.cls_check.proofs.FoundLaws.{adds-all}
 use Rattle.cls_check.proofs.found.found.Goals as goal
 
-pub returns-then-put_asked : goal.returns-then-put_asked
-returns-then-put_asked c =
+pub returns-then-branch : goal.returns-then-branch
+returns-then-branch c =
     let arrows = arrows_in c.args.lib.now c.args.place in
     let leads = IsLeading c.args.lib.now (goals_of c.args.asked.now) in
     let new = c.put_asked.new.positions.items in
-    adds-all arrows leads new (subst (λ (old : List ℕ). Adds arrows leads old new) c.new-positions.ensures.items (c.in_ok-put_asked.ensures c.if-put_asked.true))
+    adds-all arrows leads new (subst (λ (old : List ℕ). Adds arrows leads old new) c.new-positions.ensures.items (c.in_ok-put_asked.ensures c.if-branch.true))

@@ -17,15 +17,15 @@ put_goal-requires-clause-goal c = c.requires.goals (listed c.in-Goal.goal.now)
 pub put_sources-requires-clause-sources : goal.put_sources-requires-clause-sources
 put_sources-requires-clause-sources c = λ n m. c.requires.goals n (subst (λ (a : Asked). Contains (goals_of a) n) (sym c.in-Sources.is) m)
 
-pub returns-in-Goal : goal.returns-in-Goal
-returns-in-Goal c = λ e.
+pub returns-in_ok-put_goal-in-Goal : goal.returns-in_ok-put_goal-in-Goal
+returns-in_ok-put_goal-in-Goal c = λ e.
     let l = c.args.lib.now in
     let arrows = arrows_in l c.args.place in
     let old = c.args.positions.now.items in
     let new = c.put_goal.new.positions.items in
     subst (λ (a : Asked). Adds arrows (IsLeading l (goals_of a)) old new) (sym c.in-Goal.is)
-    (adds-alike arrows (SomeAbove l (listed c.in-Goal.goal.now)) (IsLeading l (listed c.in-Goal.goal.now ∷ [])) old new (goal_leads l (listed c.in-Goal.goal.now)) (c.in_ok-put_goal.ensures e))
+    (adds-alike arrows (SomeAbove l (listed c.in-Goal.goal.now)) (IsLeading l (listed c.in-Goal.goal.now ∷ [])) old new (goal_leads l (listed c.in-Goal.goal.now)) (c.in_ok-put_goal-in-Goal.ensures e))
 
-pub returns-in-Sources : goal.returns-in-Sources
-returns-in-Sources c = λ e.
-    subst (λ (a : Asked). Adds (arrows_in c.args.lib.now c.args.place) (IsLeading c.args.lib.now (goals_of a)) c.args.positions.now.items c.put_sources.new.positions.items) (sym c.in-Sources.is) (c.in_ok-put_sources.ensures e)
+pub returns-in_ok-put_sources-in-Sources : goal.returns-in_ok-put_sources-in-Sources
+returns-in_ok-put_sources-in-Sources c = λ e.
+    subst (λ (a : Asked). Adds (arrows_in c.args.lib.now c.args.place) (IsLeading c.args.lib.now (goals_of a)) c.args.positions.now.items c.put_sources.new.positions.items) (sym c.in-Sources.is) (c.in_ok-put_sources-in-Sources.ensures e)

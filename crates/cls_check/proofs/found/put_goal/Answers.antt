@@ -24,7 +24,7 @@ loop-path-preserved c =
     let q = c.path-item.result in
     let at : get_or c.args.goal.now i unit ≡ q = item_is c.args.goal.now c.paths-path-items.result.now i q unit c.paths-path-items.ensures c.loop-path-test.true c.path-item.is in
     adds-more arrows leads i c.args.positions.now.items c.loop-path.positions.items c.put_path.new.positions.items c.loop-path.invariant
-    (subst (λ (r : TypePath). Adds arrows (λ p. PathLeIn l p r) c.loop-path.positions.items c.put_path.new.positions.items) (sym at) (c.in_ok-put_path.ensures c.if-not-put_path.false))
+    (subst (λ (r : TypePath). Adds arrows (λ p. PathLeIn l p r) c.loop-path.positions.items c.put_path.new.positions.items) (sym at) (c.in_ok-put_path.ensures c.if-not-branch.false))
 
 pub returns : goal.returns
 returns c = λ _.

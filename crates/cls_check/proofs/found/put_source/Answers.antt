@@ -23,24 +23,24 @@ put_goal-requires-clause-goal c =
     found_source c.args.arrow.now c.args.at c.source.result (taken.Paths c.in-Some-Paths.source) c.source.ensures (c.in-Some-Paths.is ∙ ap Some c.in-Some-Paths.field-0-is) in
     subst (λ (n : Paths). AllSuitIn c.args.lib.now n) (sym here) c.requires.source
 
-pub returns-in-Some-Name : goal.returns-in-Some-Name
-returns-in-Some-Name c = λ e.
+pub returns-in_ok-put_path-in-Some-Name : goal.returns-in_ok-put_path-in-Some-Name
+returns-in_ok-put_path-in-Some-Name c = λ e.
     let l = c.args.lib.now in
     let arrows = arrows_in l c.args.place in
     let old = c.args.positions.now.items in
-    let new = c.put_path.new.positions.items in
+    let new = c.put_path-in-Some-Name.new.positions.items in
     let q = c.atom.result in
     let here : more q none ≡ source_of c.args.arrow.now c.args.at = (ap (λ (p : TypePath). more p none) c.atom.ensures)
     ∙ found_source c.args.arrow.now c.args.at c.source.result (taken.Name c.in-Some-Name.name) c.source.ensures (c.in-Some-Name.is ∙ ap Some c.in-Some-Name.field-0-is) in
     subst (λ (n : Paths). Adds arrows (SomeAbove l n) old new) here
-    (adds-alike arrows (λ p. PathLeIn l p q) (SomeAbove l (more q none)) old new (above-one l q) (c.in_ok-put_path.ensures e))
+    (adds-alike arrows (λ p. PathLeIn l p q) (SomeAbove l (more q none)) old new (above-one l q) (c.in_ok-put_path-in-Some-Name.ensures e))
 
-pub returns-in-Some-Paths : goal.returns-in-Some-Paths
-returns-in-Some-Paths c = λ e.
+pub returns-in_ok-put_goal-in-Some-Paths : goal.returns-in_ok-put_goal-in-Some-Paths
+returns-in_ok-put_goal-in-Some-Paths c = λ e.
     let l = c.args.lib.now in
     let here : listed c.in-Some-Paths.source.now ≡ source_of c.args.arrow.now c.args.at =
     found_source c.args.arrow.now c.args.at c.source.result (taken.Paths c.in-Some-Paths.source) c.source.ensures (c.in-Some-Paths.is ∙ ap Some c.in-Some-Paths.field-0-is) in
-    subst (λ (n : Paths). Adds (arrows_in l c.args.place) (SomeAbove l n) c.args.positions.now.items c.put_goal.new.positions.items) here (c.in_ok-put_goal.ensures e)
+    subst (λ (n : Paths). Adds (arrows_in l c.args.place) (SomeAbove l n) c.args.positions.now.items c.put_goal.new.positions.items) here (c.in_ok-put_goal-in-Some-Paths.ensures e)
 
 pub returns-in-None : goal.returns-in-None
 returns-in-None c = λ _.

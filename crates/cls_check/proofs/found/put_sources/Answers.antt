@@ -26,7 +26,7 @@ loop-i-preserved c =
     let leads : ℕ → TypePath → Type 0 = λ k p. SomeAbove l (source_of (arrow_of c.args.arrows.now k) c.args.at) p in
     let here : arrow_of c.args.arrows.now i ≡ c.get.result = arrow_got c.args.arrows.now i c.get.result c.get.ensures in
     adds-more arrows leads i c.args.positions.now.items c.loop-i.positions.items c.put_source.new.positions.items c.loop-i.invariant
-    (subst (λ (a : MultiArrow). Adds arrows (λ p. SomeAbove l (source_of a c.args.at) p) c.loop-i.positions.items c.put_source.new.positions.items) (sym here) (c.in_ok-put_source.ensures c.if-not-put_source.false))
+    (subst (λ (a : MultiArrow). Adds arrows (λ p. SomeAbove l (source_of a c.args.at) p) c.loop-i.positions.items c.put_source.new.positions.items) (sym here) (c.in_ok-put_source.ensures c.if-not-branch.false))
 
 pub returns : goal.returns
 returns c = λ _.
