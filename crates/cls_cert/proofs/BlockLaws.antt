@@ -10,7 +10,7 @@ use Rattle.cls_path.specs.Paths.{TypePath, Paths, none, more, listed, type_of_pa
 use Rattle.cls_cover.specs.Lists.{IsAscending, Sublist, ends, drops}
 use Rattle.cls_cover.specs.Covers.{IsMinimal, AreMinimal, MeetsEach, AreCovers, HaveMore, AreWithinLimit}
 use Rattle.cls_library.specs.Arrows.{MultiArrow, arity_of}
-use Rattle.cls_library.specs.Families.{AreFamilies, alone}
+use Rattle.cls_library.specs.Families.{AreFamilies}
 use Rattle.cls_library.specs.Libraries.{Library, paths_at, arrows_at}
 use Rattle.cls_library.specs.Reaching.{CoversGoal}
 use Rattle.cls_library.specs.Rules.{IsWide, by_covers}

@@ -65,17 +65,17 @@ module _ (l : Library) where
   module _ (q : TypePath) (suits : Suits (variances_in l.taxonomy) q) where
     positions_at : (s : ℕ) (arrows : List MultiArrow) → ((i : ℕ) (a : MultiArrow) → At arrows i a → Suits (variances_in l.taxonomy) a.target) → (n : ℕ) → Contains (positions_from l q s arrows) n → IsAt q s arrows n
     positions_at s [] f n m = absurd (Contains-nil n m)
-    positions_at s (a ∷ arrows) f n m = by (leads l a q) refl m
+    positions_at s (a ∷ arrows) f n m = by (λ k. positions_at (suc s) arrows (λ i b u. f (suc i) b (at_later u)) n k) (leads l a q) refl m
       where
         next : IsAt q (suc s) arrows n → IsAt q s (a ∷ arrows) n
         next r = (suc r.0, (let e : n ≡ suc s + r.0 = r.1 in omega arith), r.2)
 
-        by : (b : Bool) → leads l a q ≡ b → Contains (put_if b s (positions_from l q (suc s) arrows)) n → IsAt q s (a ∷ arrows) n
-        by true e k = elim (Contains-cases s (positions_from l q (suc s) arrows) n k) [
+        by : (Contains (positions_from l q (suc s) arrows) n → IsAt q (suc s) arrows n) → (b : Bool) → leads l a q ≡ b → Contains (put_if b s (positions_from l q (suc s) arrows)) n → IsAt q s (a ∷ arrows) n
+        by others true e k = elim (Contains-cases s (positions_from l q (suc s) arrows) n k) [
           | inl g ↦ (0, (let h : n ≡ s = g in omega arith), tested_le (is_below l.taxonomy) (variances_in l.taxonomy) (is_below-reflexive l.taxonomy) (is_below-transitive l.taxonomy) (is_below-one_variance l.taxonomy) a.target q (f 0 a at_first) suits e)
-          | inr j ↦ next (positions_at (suc s) arrows (λ i b u. f (suc i) b (at_later u)) n j)
+          | inr j ↦ next (others j)
         ]
-        by false e k = next (positions_at (suc s) arrows (λ i b u. f (suc i) b (at_later u)) n k)
+        by others false e k = next (others k)
 
   module _ (is : IsLibrary l) (x n : ℕ) where
     -- the arrow at a position leads to the path, by the test

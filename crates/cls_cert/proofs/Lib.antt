@@ -7,7 +7,7 @@ pub mod Empty
 pub mod FamilyLists
 pub mod Forcing
 pub mod Inhabited
-pub mod Layers
+pub mod LayerWriting
 pub mod Lists
 pub mod MadeMembers
 pub mod MemberLaws

@@ -5,7 +5,7 @@ use Rattle.std.proofs.lemmas.List.{drop_more, drop_all, length-map}
 use Rattle.cls_base.proofs.Lists.{Contains-nil, Contains-here}
 use Rattle.cls_core.specs.Arguments.{rules_of}
 use Rattle.cls_core.specs.Rows.{Row}
-use Rattle.cls_path.specs.Paths.{TypePath, Paths, none, more, listed, SuitsAll}
+use Rattle.cls_path.specs.Paths.{TypePath, Paths, none, listed, SuitsAll}
 use Rattle.cls_cover.specs.Covers.{AreCovers}
 use Rattle.cls_grammar.specs.Grammars.{book_of}
 use Rattle.cls_grammar.specs.Ranks.{AreRanks}

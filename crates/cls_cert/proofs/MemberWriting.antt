@@ -1,12 +1,12 @@
 -- How members are written, goal after goal.
-use Rattle.std.proofs.Common.{◌≡◌, ◌∙◌, ℕ, ◌+◌, List, [], ◌∷◌, ◌++◌, ap, refl, sym, append_assoc, append-nil}
+use Rattle.std.proofs.Common.{◌≡◌, ◌∙◌, ℕ, List, [], ◌∷◌, ◌++◌, ap, refl, sym, append_assoc, append-nil}
 use Rattle.std.specs.Prelude.{Option, None, Some, true, false, is_some}
 use Rattle.std.specs.List.{flat_map}
 use Rattle.std.proofs.lemmas.List.Concat.{flat_map-append}
 use Rattle.cls_library.specs.Libraries.{Library}
 use Rattle.cls_path.specs.Paths.{Paths, type_of_paths}
 use Rattle.cls_proof.specs.Certificates as proof
-use Rattle.cls_proof.specs.Texts.{line, member_line, member_text}
+use Rattle.cls_proof.specs.Texts.{member_line, member_text}
 use Rattle.cls_cert.specs.Computed.{members_from, member_of, start_place}
 use Rattle.cls_cert.specs.Left.{blocks_text}
 

@@ -2,7 +2,7 @@
 use Rattle.std.proofs.Common.{◌≡◌, ◌∙◌, ℕ, ◌+◌, ◌<◌, ◌≤◌, List, ◌++◌, length, drop, get_or, ap, sym, append_assoc, append-nil}
 use Rattle.std.proofs.lemmas.List.{drop_more, drop_all}
 use Rattle.cls_path.specs.Paths.{Paths}
-use Rattle.cls_proof.specs.Texts.{line, row_text}
+use Rattle.cls_proof.specs.Texts.{row_text}
 use Rattle.cls_cert.specs.declared.rows.MadeRow.{MadeRow}
 use Rattle.cls_cert.specs.Left.{row_for, rows_text}
 

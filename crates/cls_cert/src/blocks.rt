@@ -31,7 +31,7 @@ fn has_first(families: &[Numbers]) -> bool
 
 /// The families as a list.
 fn listed_families(alloc: Global, families: Families<'_>) -> Result<Vec<Numbers>, OutOfMemory>
-    ensures { IfOk result (λ all. all.items ≡ families_in families) }
+    ensures { IfOk result (λ all. all.items ≡ families_in families.entry) }
 {
     match families {
         Families::Single(positions) => lone_families(alloc, positions),
@@ -70,7 +70,7 @@ fn begin_block(
     ensures left { OnOk result (IsBlockLeft block.new) }
     ensures lines { OnOk result (string_bytes text.new ++ block_left block.new
         ≡ string_bytes text.old ++ flat_map (block_text components.now)
-            (block_at finder.old.library (listed finder.old.goal) place.component place.count)) }
+        (block_at finder.old.library (listed finder.old.goal) place.component place.count)) }
 {
     let found = finder.families(alloc, place, room)?;
     let families = listed_families(alloc, found)?;
@@ -120,7 +120,15 @@ pub(crate) fn write_blocks(
         if written >= enough {
             return Ok(Some(from));
         }
-        begin_block(alloc, &mut finder, place, &mut room, components, block, text)?;
+        begin_block(
+            alloc,
+            &mut finder,
+            place,
+            &mut room,
+            components,
+            block,
+            text,
+        )?;
         block.write_lines(alloc, enough, text)?;
         from = Place {
             component: place.component,

@@ -44,7 +44,9 @@ impl RowsLeft {
     {
         let rows = self.rows.as_slice();
         let count = rows.len();
-        let next = write_rows(alloc, grammar, names, components, rows, self.next, enough, text)?;
+        let next = write_rows(
+            alloc, grammar, names, components, rows, self.next, enough, text,
+        )?;
         self.next = next;
         if next < count {
             return Ok(true);

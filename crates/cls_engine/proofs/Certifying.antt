@@ -12,8 +12,7 @@ use Rattle.cls_cert.specs.Making.{goal_in, IsMadeFor}
 use Rattle.cls_check.specs.Checking.{Accepts}
 use Rattle.cls_expand.specs.Answers.{IsAnswer, IsReady}
 use Rattle.cls_expand.specs.Determined.{one_answer}
-use Rattle.cls_grammar.specs.Grammars.{book_of, first_wide}
-use Rattle.cls_grammar.specs.Ranks.{IsProductiveIn}
+use Rattle.cls_grammar.specs.Grammars.{first_wide}
 use Rattle.cls_library.specs.Libraries.{Library, IsLibrary}
 use Rattle.cls_library.specs.Typing.{HasTypeIn}
 use Rattle.cls_proof.specs.Certificates.{Certificate}

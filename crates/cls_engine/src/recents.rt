@@ -3,10 +3,10 @@ ghost use Rattle.std.specs.Prelude.{◌≡◌, ◌⊎◌, [], Contains, IfSome, 
 ghost use Rattle.cls_engine.specs.Recents.{HasFirstGoal, IsOneOf};
 ghost use Rattle.cls_engine.specs.declared.recents.Kept.{Kept as KeptSeen};
 
+use cls_base::NodeRules;
+use cls_base::limits::{MAX_KEPT_BYTES, MAX_KEPT_GRAMMARS};
 use cls_grammar::Grammar;
 use cls_path::Nf;
-use cls_base::limits::{MAX_KEPT_BYTES, MAX_KEPT_GRAMMARS};
-use cls_base::NodeRules;
 use std::alloc::Global;
 
 /// About how many bytes a goal takes, beside its paths and its rules.

@@ -7,7 +7,7 @@ abbrev pub invariant-loop-place : goal.invariant-loop-place
 invariant-loop-place l = record {
   finder : l.finder ≡ record { library = l.lib; goal = l.goal };
   left : IsBlockLeft l.block;
-  lines : string_bytes l.text ++ (block_left l.block ++ blocks_text l.components l.lib (listed l.goal) l.from) ≡ string_bytes l.fn.text ++ blocks_text l.components l.lib (listed l.goal) l.start;
+  lines : string_bytes l.text ++ (block_left l.block ++ blocks_text l.components l.lib (listed l.goal) l.from) ≡ string_bytes l.fn.text ++ blocks_text l.components l.lib (listed l.goal) l.fn.start;
   full : length (string_bytes l.text) < l.enough → block_left l.block ≡ [];
   start : IsStart l.lib l.from;
 }

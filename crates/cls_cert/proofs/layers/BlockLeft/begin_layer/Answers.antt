@@ -5,7 +5,7 @@ use Rattle.cls_cover.specs.Covers.{AreCovers, AreWithinLimit}
 use Rattle.cls_cover.specs.Forced.{IsForced}
 use Rattle.cls_cover.specs.Lists.{IsAscending}
 use Rattle.cls_cert.specs.Left.{layers_left, sets_left}
-use Rattle.cls_cert.proofs.Layers.{layer_begun, lines_left}
+use Rattle.cls_cert.proofs.LayerWriting.{layer_begun, lines_left}
 use Rattle.cls_cert.proofs.layers.BlockLeft.begin_layer.Goals as goal
 
 pub next_layer-requires-clause-ascending : goal.next_layer-requires-clause-ascending

@@ -5,7 +5,7 @@ use Rattle.cls_cover.specs.Covers.{AreWithinLimit}
 use Rattle.cls_cover.specs.Lists.{IsAscending}
 use Rattle.cls_proof.specs.Texts.{layer_text}
 use Rattle.cls_cert.specs.Computed.{layers_from}
-use Rattle.cls_cert.proofs.Layers.{none_few}
+use Rattle.cls_cert.proofs.LayerWriting.{none_few}
 use Rattle.cls_cert.proofs.layers.BlockLeft.none.Goals as goal
 
 pub new-requires-clause-ascending : goal.new-requires-clause-ascending

@@ -1,6 +1,6 @@
-use Rattle.std.proofs.Common.{◌+◌, ◌<◌, ◌≤◌, ◌++◌, ◌∙◌, length, ap, refl, arith, string_bytes}
+use Rattle.std.proofs.Common.{◌<◌, ◌≤◌, ◌++◌, ◌∙◌, length, ap, refl, arith, rules, string_bytes}
 use Rattle.cls_cert.specs.declared.layers.BlockLeft.{BlockLeft}
-use Rattle.cls_cert.proofs.Layers.{layers_done, sets_written}
+use Rattle.cls_cert.proofs.LayerWriting.{layers_done, sets_written}
 use Rattle.cls_cert.proofs.layers.BlockLeft.write_layers.Goals as goal
 
 pub loop-front-init : goal.loop-front-init

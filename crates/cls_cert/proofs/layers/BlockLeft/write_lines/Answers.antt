@@ -1,6 +1,6 @@
 use Rattle.std.proofs.Common.{◌∙◌, string_bytes}
 use Rattle.std.proofs.lemmas.Result.{on_ok_weaker}
-use Rattle.cls_cert.proofs.Layers.{sets_written}
+use Rattle.cls_cert.proofs.LayerWriting.{sets_written}
 use Rattle.cls_cert.proofs.layers.BlockLeft.write_lines.Goals as goal
 
 pub returns-clause-lines : goal.returns-clause-lines

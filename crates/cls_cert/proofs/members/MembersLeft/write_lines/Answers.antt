@@ -56,6 +56,6 @@ returns-clause-lines c =
     let so_far = c.in_ok-write_members.ensures.lines ∙ (c.in_ok-write_goal.ensures.lines ∙ block) in
     let ranked = c.in_ok-write_members.ensures.left.ranks.count ∙ length-map rows (λ (r : Row (List TypePath)). rules_of r.answer) in
     let none : members_text names components l goals done.ranks done.next ≡ [] =
-    ap (λ (ms : List Member). flat_map (member_text names components) ms) (members_left_none l rows done.ranks ranked done.next full.1.1) in
+    ap (λ (ms : List Member). flat_map (member_text names components) ms) (members_left_none l rows done.ranks ranked done.next full.2) in
     last_line t (string_bytes c.push_str.new.self) _ (block_left done.block) (members_text names components l goals done.ranks done.next) (line (codes "qed")) full.0 none c.in_ok-push_str.ensures.bytes
-    (ap (λ (o : Option Place). t ++ (block_left done.block ++ (blocks_left components l (goal_in goals done.goal) o ++ (members_text names components l goals done.ranks done.next ++ line (codes "qed"))))) (sym full.1.0) ∙ so_far)
+    (ap (λ (o : Option Place). t ++ (block_left done.block ++ (blocks_left components l (goal_in goals done.goal) o ++ (members_text names components l goals done.ranks done.next ++ line (codes "qed"))))) (sym full.1) ∙ so_far)

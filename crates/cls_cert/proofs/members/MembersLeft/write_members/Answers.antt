@@ -66,4 +66,4 @@ returns-clause-full c = λ few.
     let full = c.loop-number.invariant.full few in
     let next = c.loop-number.invariant.next in
     let past = c.loop-number-test.false in
-    (full.0, (full.1, omega (arith, c.count-number-end.ensures.count)))
+    (full.0, full.1, omega (arith, c.count-number-end.ensures.count))

@@ -28,7 +28,7 @@ returns-then-next-count-clause-lines c =
     let next = c.in_ok-next.next in
     let lines : u ++ rows_text names components goals (drop next r.rows.items) ≡ t ++ rows_text names components goals (drop r.next r.rows.items) =
     subst (λ (rs : List MadeRow). u ++ rows_text names components goals (drop next rs) ≡ t ++ rows_text names components goals (drop r.next rs)) c.as_slice-rows.ensures.value c.in_ok-next.ensures.lines in
-    (with_end u t (rows_text names components goals (drop next r.rows.items)) (rows_text names components goals (drop r.next r.rows.items)) (line (codes "qed")) lines, c.in_ok-next.ensures.full (omega (arith, c.if-next-count.true, c.len-count.ensures)))
+    (with_end u t (rows_text names components goals (drop next r.rows.items)) (rows_text names components goals (drop r.next r.rows.items)) (line (codes "qed")) lines, c.in_ok-next.ensures.full (omega (arith, c.if-next-count.true)))
 
 pub returns-clause-left : goal.returns-clause-left
 returns-clause-left c = record { each = c.requires.each; next = subst (λ (rs : List MadeRow). c.in_ok-next.next ≤ length rs) c.as_slice-rows.ensures.value c.in_ok-next.ensures.within }
@@ -40,6 +40,6 @@ returns-clause-lines c =
     let goals = forms_of c.args.grammar.now in
     let r = c.args.self.now in
     let rows = c.as_slice-rows.result.now in
-    let over : length rows ≤ c.in_ok-next.next = omega (arith, c.if-next-count.false, c.len-count.ensures) in
+    let over : length rows ≤ c.in_ok-next.next = omega (arith, c.if-next-count.false) in
     let done = rows_done names components goals rows c.in_ok-next.next (string_bytes c.args.text.now) (string_bytes c.write_rows.new.text) (string_bytes c.push_str.new.self) (line (codes "qed")) _ over c.in_ok-push_str.ensures.bytes c.in_ok-next.ensures.lines in
     done ∙ ap (λ (rs : List MadeRow). string_bytes c.args.text.now ++ (rows_text names components goals (drop r.next rs) ++ line (codes "qed"))) c.as_slice-rows.ensures.value
