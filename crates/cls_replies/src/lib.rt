@@ -8,10 +8,10 @@
 //! what the reply to a query says, and `specs/Errors` which errors it can have.
 //!
 //! Inside, `serving` takes the lines and holds those of a certificate until `qed`; `queries` has one function for each
-//! query, which calls the engine and prints what it answers; `verifying` reads a certificate and has it judged.
-//! `certificates` tells which lines open and end a certificate, `faults` and `words` write lines of errors and of one
-//! word, `paths`, `events`, `sizes` and `pages` the longer replies. In `specs/`, `LineKinds` says which lines stand
-//! round a certificate.
+//! query, which calls the engine; `printing` keeps what is left of a reply and prints it in portions; `verifying` reads
+//! a certificate and has it judged. `certificates` tells which lines open and end a certificate, `faults` and `words`
+//! write lines of errors and of one word, `paths`, `events`, `sizes` and `pages` the longer replies. In `specs/`,
+//! `LineKinds` says which lines stand round a certificate.
 #![tactic(auto)]
 
 mod certificates;

@@ -1,5 +1,5 @@
 //! The paths of a component.
-ghost use Rattle.std.specs.Prelude.{◌≡◌, ◌≤◌, ◌++◌, codes, drop, length, IfOk, IfSome, OnOk, string_bytes};
+ghost use Rattle.std.specs.Prelude.{ℕ, ◌≡◌, ◌≤◌, ◌++◌, codes, drop, length, IfOk, IfSome, OnOk, string_bytes};
 ghost use Rattle.cls_path.specs.Paths.{listed};
 ghost use Rattle.cls_replies.specs.Rests.{left_at};
 ghost use Rattle.cls_replies.specs.Texts.{paths_text, reply_line};
@@ -22,7 +22,7 @@ pub(crate) fn print_paths(
     enough: usize,
     text: &mut String,
 ) -> Result<Option<usize>, OutOfMemory>
-    ensures lines { let left = λ place. paths_text names.now (listed (drop place paths.now)) in
+    ensures lines { let left = λ (place : ℕ). paths_text names.now (listed (drop place paths.now)) in
         IfOk result (λ next. string_bytes text.new ++ left_at left next ≡ string_bytes text.old ++ left from) }
     ensures full { IfOk result (λ next. IfSome next (λ _. enough ≤ length (string_bytes text.new))) }
 {

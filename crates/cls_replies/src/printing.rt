@@ -40,9 +40,15 @@ const PORTION_BYTES: usize = 32_768;
 #[derive(Drop)]
 pub(crate) enum Lines {
     /// The terms of a page from a place on, and the last line.
-    Terms { page: Page, place: usize },
+    Terms {
+        page: Page,
+        place: usize,
+    },
     /// The same with the text of each term.
-    Texts { page: Page, place: usize },
+    Texts {
+        page: Page,
+        place: usize,
+    },
     /// The lines of a grammar.
     Grammar {
         grammar: Grammar,
@@ -50,13 +56,25 @@ pub(crate) enum Lines {
         place: GrammarPlace,
     },
     /// The paths of a component from a place on, and the last line.
-    Paths { component: u32, place: usize },
+    Paths {
+        component: u32,
+        place: usize,
+    },
     /// The events of a history from a place on, and the last line.
-    Events { history: History, place: usize },
+    Events {
+        history: History,
+        place: usize,
+    },
     /// The steps of a walk from a place on, and the last line.
-    Steps { walk: Walk, place: usize },
+    Steps {
+        walk: Walk,
+        place: usize,
+    },
     /// What is left of a certificate with rows, of a grammar.
-    Rows { grammar: Grammar, rows: RowsLeft },
+    Rows {
+        grammar: Grammar,
+        rows: RowsLeft,
+    },
     /// What is left of a certificate without rows, of a grammar.
     Members {
         grammar: Grammar,

@@ -99,8 +99,9 @@ impl Serving {
         }
     }
 
-    /// Takes the next line, and gives what is written for it, which is to be printed before the next line is fed. After an error,
-    /// which is out of memory, no further line is to be fed. The buffer `room` may be reused for the tokens of the line; its content is ignored.
+    /// Takes the next line, and gives what is written for it, which is to be printed before the next line is fed. After
+    /// an error, which is out of memory, no further line is to be fed. The buffer `room` may be reused for the tokens of
+    /// the line; its content is ignored.
     // Not inlined: a frame is cleared whenever its function is called, and this one's is large.
     #[inline(never)]
     pub fn feed<'p, R: Threads + Wait + Sync, G: Gate + Sync>(

@@ -8,5 +8,5 @@ returns-then-written-enough-clause-lines c =
 
 pub returns-clause-lines : goal.returns-clause-lines
 returns-clause-lines c =
-    let over : length c.paths-items.result.now ≤ c.loop-place.place = omega (arith, c.loop-place-test.false, c.len-place-end.ensures) in
+    let over : length c.paths-items.result.now ≤ c.loop-place.place = omega (arith, c.loop-place-test.false) in
     paths_done c.args.names.now c.paths-items.result.now c.args.paths.now c.paths-items.ensures c.args.from c.loop-place.place (string_bytes c.args.text.now) (string_bytes c.loop-place.text) c.loop-place.invariant (string_bytes c.write_done.new.text) over c.in_ok-write_done.ensures

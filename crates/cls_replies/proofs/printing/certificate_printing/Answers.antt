@@ -22,7 +22,7 @@ returns-in-Rows-clause-text c = λ s same.
     let grammar = c.args.grammar in
     let made = subst (λ (v : CertificateLeft). (x : Certificate) × IsMadeFor lib grammar x × (certificate_text s.names s.components x ≡ first_line v ++ certificate_left s.names s.components lib (forms_of grammar) v)) c.in-Rows.is (c.in_ok-left.ensures.made s.names s.components) in
     IfOk-weaker c.begun_printing.result (λ p. left_of s p ≡ line (codes "inhabited") ++ left_lines s (lines.Rows grammar c.in-Rows.rows)) (λ p. IsCertificateText lib grammar s.names s.components (left_of s p))
-    (λ p e. (made.0, (made.1.0, e ∙ sym made.1.1))) (c.begun_printing.ensures.text s)
+    (λ p e. (made.0, made.1, e ∙ sym made.2)) (c.begun_printing.ensures.text s)
 
 pub returns-in-Rows-clause-printable : goal.returns-in-Rows-clause-printable
 returns-in-Rows-clause-printable c = λ s same of_goal.
@@ -38,9 +38,9 @@ returns-in-Members-clause-text c = λ s same.
     let grammar = c.args.grammar in
     let members = c.in-Members.members in
     let made = subst (λ (v : CertificateLeft). (x : Certificate) × IsMadeFor lib grammar x × (certificate_text s.names s.components x ≡ first_line v ++ certificate_left s.names s.components lib (forms_of grammar) v)) c.in-Members.is (c.in_ok-left.ensures.made s.names s.components) in
-    let text = subst (λ (l : Library). certificate_text s.names s.components made.0 ≡ line (codes "empty") ++ members_left s.names s.components l (forms_of grammar) members) (sym same) made.1.1 in
+    let text = subst (λ (l : Library). certificate_text s.names s.components made.0 ≡ line (codes "empty") ++ members_left s.names s.components l (forms_of grammar) members) (sym same) made.2 in
     IfOk-weaker c.begun_printing-in-Members.result (λ p. left_of s p ≡ line (codes "empty") ++ left_lines s (lines.Members grammar members)) (λ p. IsCertificateText lib grammar s.names s.components (left_of s p))
-    (λ p e. (made.0, (made.1.0, e ∙ sym text))) (c.begun_printing-in-Members.ensures.text s)
+    (λ p e. (made.0, made.1, e ∙ sym text)) (c.begun_printing-in-Members.ensures.text s)
 
 pub returns-in-Members-clause-printable : goal.returns-in-Members-clause-printable
 returns-in-Members-clause-printable c = λ s same of_goal.

@@ -9,14 +9,14 @@ use Rattle.cls_replies.proofs.sizes.print_steps.Goals as goal
 
 pub loop-place-preserved : goal.loop-place-preserved
 loop-place-preserved c =
-    let less : c.loop-place.place < length c.as_slice-steps.result.now = omega (arith, c.loop-place-test.true, c.len-count.ensures) in
+    let less : c.loop-place.place < length c.as_slice-steps.result.now = omega (arith, c.loop-place-test.true) in
     line_next step_line c.as_slice-steps.result.now c.loop-place.place _ (string_bytes c.loop-place.text) (string_bytes c.write_step.new.text) _ less c.in_ok-write_step.ensures c.loop-place.invariant
 
 pub returns-then-written-enough-clause-within : goal.returns-then-written-enough-clause-within
 returns-then-written-enough-clause-within c =
     let same = ap (λ (xs : List Step). length xs) c.as_slice-steps.ensures in
     let less = c.loop-place-test.true in
-    omega (arith, c.len-count.ensures)
+    omega (arith)
 
 pub returns-then-written-enough-clause-lines : goal.returns-then-written-enough-clause-lines
 returns-then-written-enough-clause-lines c =
@@ -33,6 +33,6 @@ returns-clause-lines c =
     let items = c.as_slice-steps.result.now in
     let last = reply_line (codes "done") in
     let from = c.args.from in
-    let over : length items ≤ c.loop-place.place = omega (arith, c.loop-place-test.false, c.len-count.ensures) in
+    let over : length items ≤ c.loop-place.place = omega (arith, c.loop-place-test.false) in
     let done = at_end step_line items c.loop-place.place (string_bytes c.loop-place.text) (string_bytes c.args.text.now) (string_bytes c.push_str.new.self) (flat_map step_line (drop from items)) last over c.in_ok-push_str.ensures.bytes c.loop-place.invariant in
     done ∙ ap (λ (xs : List Step). string_bytes c.args.text.now ++ (flat_map step_line (drop from xs) ++ last)) c.as_slice-steps.ensures

@@ -22,5 +22,5 @@ one_word word t h = absurd h
 goal_of : (q : BuiltQuery) (word : GoalWord) (t : Ty) → q ≡ About word t → IsVerify (asked_of q) → asked_of q ≡ verify (type_of t)
 goal_of q word t e h = ap asked_of e ∙ one_word word (type_of t) (subst (λ (p : BuiltQuery). IsVerify (asked_of p)) e h)
 
-pub returns-in-About : goal.returns-in-About
-returns-in-About c = goal_of c.args.query _ c.in-About.goal c.in-About.is c.requires
+pub returns : goal.returns
+returns c = goal_of c.args.query _ c.in-About.goal c.in-About.is c.requires

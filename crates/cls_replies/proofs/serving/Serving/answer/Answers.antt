@@ -1,4 +1,4 @@
-use Rattle.std.proofs.Common.{List, ℕ}
+use Rattle.std.proofs.Common.{List, ℕ, rules}
 use Rattle.cls_query.specs.ReadQueries.{asked_of}
 use Rattle.cls_replies.specs.Answering.{Answers}
 use Rattle.cls_replies.specs.Answering as answering
@@ -26,4 +26,4 @@ returns-in-Typed-clause-answers g c =
     printing_as c.typed.result c.text_printing-in-Typed.result s (λ (t : List ℕ). Answers s (asked_of c.args.query.now) t) c.text_printing-in-Typed.ensures.text (rw c.in-Typed.is c.typed.ensures.answers)
 
 pub about-requires : goal.about-requires
-about-requires g c = rw c.in-About.is at c.requires.not_verify
+about-requires g c = (search rules, (search rules, rw c.in-About.is at c.requires.not_verify))

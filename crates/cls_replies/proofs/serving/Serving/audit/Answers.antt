@@ -9,25 +9,27 @@ use Rattle.cls_replies.specs.Serving.{Serving, serving_of}
 use Rattle.cls_replies.specs.Steps.{held_lines}
 use Rattle.cls_replies.proofs.Faulting.{fault_answers}
 use Rattle.cls_replies.proofs.serving.Serving.audit.Goals as goal
+use Rattle.cls_replies.proofs.serving.Serving.audit.Goals.{in-Ok, in-Err}
 
-pub returns-in-Ok-clause-answers : goal.returns-in-Ok-clause-answers
-returns-in-Ok-clause-answers g c =
+pub returns-clause-answers : goal.returns-clause-answers
+returns-clause-answers g c =
     let i = c.self.inside in
     let s = serving_of i.names i.components i.templates i.engine (held_lines i.held) in
     let q = audit (type_of c.args.ty.now) in
-    let told : Answers s q (left_of s c.history_printing.result) = answering.Answers.replied c.in-Ok.ensures.silent (c.in-Ok.history, (c.in-Ok.ensures.history, c.history_printing.ensures.text s)) in
-    subst (λ (z : Serving). Answers z q (left_of z c.history_printing.result)) c.self.view_is told
+    elim c.match-audit.branch [
+      | in-Ok w ↦
+          let told : Answers s q (left_of s w.history_printing.result) = answering.Answers.replied w.in-Ok.ensures.silent (w.in-Ok.history, w.in-Ok.ensures.history, w.history_printing.ensures.text s) in
+          rw w.result-is (subst (λ (z : Serving). Answers z q (left_of z w.history_printing.result)) c.self.view_is told)
+      | in-Err w ↦
+          rw w.result-is (subst (λ (z : Serving). IfOk w.fault_printing.result (λ p. Answers z q (left_of z p))) c.self.view_is
+          (fault_answers (left_of s) w.fault_printing.result s q w.in-Err.fault w.in-Err.ensures.fault (w.fault_printing.ensures.text s)))
+    ]
 
-pub returns-in-Ok-clause-printable : goal.returns-in-Ok-clause-printable
-returns-in-Ok-clause-printable g c = c.history_printing.ensures.printable c.args.self.now
-
-pub returns-in-Err-clause-answers : goal.returns-in-Err-clause-answers
-returns-in-Err-clause-answers g c =
-    let i = c.self.inside in
-    let s = serving_of i.names i.components i.templates i.engine (held_lines i.held) in
-    let q = audit (type_of c.args.ty.now) in
-    subst (λ (z : Serving). IfOk c.fault_printing.result (λ p. Answers z q (left_of z p))) c.self.view_is
-    (fault_answers (left_of s) c.fault_printing.result s q c.in-Err.fault c.in-Err.ensures.fault (c.fault_printing.ensures.text s))
-
-pub returns-in-Err-clause-printable : goal.returns-in-Err-clause-printable
-returns-in-Err-clause-printable g c = c.fault_printing.ensures.printable c.args.self.now
+pub returns-clause-printable : goal.returns-clause-printable
+returns-clause-printable g c =
+    elim c.match-audit.branch [
+      | in-Ok w ↦
+          rw w.result-is (w.history_printing.ensures.printable c.args.self.now)
+      | in-Err w ↦
+          rw w.result-is (w.fault_printing.ensures.printable c.args.self.now)
+    ]

@@ -15,6 +15,7 @@ use Rattle.cls_replies.specs.Serving.{Serving, serving_of}
 use Rattle.cls_replies.specs.Steps.{held_lines}
 use Rattle.cls_replies.proofs.Faulting.{fault_answers, reply_answers}
 use Rattle.cls_replies.proofs.serving.Serving.certify.Goals as goal
+use Rattle.cls_replies.proofs.serving.Serving.certify.Goals.{in-Ok, in-Err}
 
 pub certificate_printing-requires : goal.certificate_printing-requires
 certificate_printing-requires g c =
@@ -23,33 +24,33 @@ certificate_printing-requires g c =
     subst (λ (l : Library). IsGrammarOf l c.in-Ok.grammar) (sym lib)
     (grammar e.library (subst IsLibrary lib c.count-count.ensures.library) e.options (type_of c.args.ty.now) c.in-Ok.ensures.silent c.in-Ok.grammar c.in-Ok.ensures.closed)
 
-pub returns-in-Ok-clause-answers : goal.returns-in-Ok-clause-answers
-returns-in-Ok-clause-answers g c =
+pub returns-clause-answers : goal.returns-clause-answers
+returns-clause-answers g c =
     let i = c.self.inside in
     let s = serving_of i.names i.components i.templates i.engine (held_lines i.held) in
     let q = certify (type_of c.args.ty.now) in
-    let lib : c.library-lib.result.now ≡ i.engine.library = c.library-lib.ensures ∙ ap (λ (e : EngineSeen). e.library) c.grammar.ensures.same in
-    let text = subst (λ (l : Library). IfOk c.certificate_printing.result (λ p. IsCertificateText l c.in-Ok.grammar i.names i.components (left_of s p))) lib (c.certificate_printing.ensures.text s (sym lib)) in
-    subst (λ (z : Serving). IfOk c.certificate_printing.result (λ p. Answers z q (left_of z p))) c.self.view_is
-    (reply_answers (left_of s) c.certificate_printing.result s q c.in-Ok.ensures.silent
-    (IfOk-weaker c.certificate_printing.result (λ p. IsCertificateText i.engine.library c.in-Ok.grammar i.names i.components (left_of s p)) (λ p. Reply s q (left_of s p))
-    (λ p r. let t : Reply s q (left_of s p) = (r.0, ((c.in-Ok.grammar, (c.in-Ok.ensures.closed, r.1.0)), r.1.1)) in t) text))
+    elim c.match-grammar.branch [
+      | in-Ok w ↦
+          let lib : w.library-lib.result.now ≡ i.engine.library = w.library-lib.ensures ∙ ap (λ (e : EngineSeen). e.library) c.grammar.ensures.same in
+          let text = subst (λ (l : Library). IfOk w.certificate_printing.result (λ p. IsCertificateText l w.in-Ok.grammar i.names i.components (left_of s p))) lib (w.certificate_printing.ensures.text s (sym lib)) in
+          rw w.result-is (subst (λ (z : Serving). IfOk w.certificate_printing.result (λ p. Answers z q (left_of z p))) c.self.view_is
+          (reply_answers (left_of s) w.certificate_printing.result s q w.in-Ok.ensures.silent
+          (IfOk-weaker w.certificate_printing.result (λ p. IsCertificateText i.engine.library w.in-Ok.grammar i.names i.components (left_of s p)) (λ p. Reply s q (left_of s p))
+          (λ p r. let t : Reply s q (left_of s p) = (r.0, (w.in-Ok.grammar, w.in-Ok.ensures.closed, r.1), r.2) in t) text)))
+      | in-Err w ↦
+          rw w.result-is (subst (λ (z : Serving). IfOk w.fault_printing.result (λ p. Answers z q (left_of z p))) c.self.view_is
+          (fault_answers (left_of s) w.fault_printing.result s q w.in-Err.fault w.in-Err.ensures.fault (w.fault_printing.ensures.text s)))
+    ]
 
-pub returns-in-Ok-clause-printable : goal.returns-in-Ok-clause-printable
-returns-in-Ok-clause-printable g c =
-    let i = c.self.inside in
-    let s = serving_of i.names i.components i.templates i.engine (held_lines i.held) in
-    let lib : c.library-lib.result.now ≡ i.engine.library = c.library-lib.ensures ∙ ap (λ (e : EngineSeen). e.library) c.grammar.ensures.same in
-    subst (λ (z : Serving). IfOk c.certificate_printing.result (IsPrintable z)) c.self.view_is
-    (c.certificate_printing.ensures.printable s (sym lib) (type_of c.args.ty.now, (c.in-Ok.ensures.closed, c.in-Ok.ensures.silent)))
-
-pub returns-in-Err-clause-answers : goal.returns-in-Err-clause-answers
-returns-in-Err-clause-answers g c =
-    let i = c.self.inside in
-    let s = serving_of i.names i.components i.templates i.engine (held_lines i.held) in
-    let q = certify (type_of c.args.ty.now) in
-    subst (λ (z : Serving). IfOk c.fault_printing.result (λ p. Answers z q (left_of z p))) c.self.view_is
-    (fault_answers (left_of s) c.fault_printing.result s q c.in-Err.fault c.in-Err.ensures.fault (c.fault_printing.ensures.text s))
-
-pub returns-in-Err-clause-printable : goal.returns-in-Err-clause-printable
-returns-in-Err-clause-printable g c = c.fault_printing.ensures.printable c.args.self.now
+pub returns-clause-printable : goal.returns-clause-printable
+returns-clause-printable g c =
+    elim c.match-grammar.branch [
+      | in-Ok w ↦
+          let i = c.self.inside in
+          let s = serving_of i.names i.components i.templates i.engine (held_lines i.held) in
+          let lib : w.library-lib.result.now ≡ i.engine.library = w.library-lib.ensures ∙ ap (λ (e : EngineSeen). e.library) c.grammar.ensures.same in
+          rw w.result-is (subst (λ (z : Serving). IfOk w.certificate_printing.result (IsPrintable z)) c.self.view_is
+          (w.certificate_printing.ensures.printable s (sym lib) (type_of c.args.ty.now, w.in-Ok.ensures.closed, w.in-Ok.ensures.silent)))
+      | in-Err w ↦
+          rw w.result-is (w.fault_printing.ensures.printable c.args.self.now)
+    ]

@@ -13,26 +13,28 @@ use Rattle.cls_replies.proofs.Telling.{tells_sizes}
 use Rattle.cls_term.specs.Costs.{cost_of}
 use Rattle.cls_replies.proofs.Faulting.{fault_answers, reply_answers}
 use Rattle.cls_replies.proofs.serving.Serving.finite.Goals as goal
+use Rattle.cls_replies.proofs.serving.Serving.finite.Goals.{in-Ok, in-Err}
 
-pub returns-in-Ok-clause-answers : goal.returns-in-Ok-clause-answers
-returns-in-Ok-clause-answers g c =
+pub returns-clause-answers : goal.returns-clause-answers
+returns-clause-answers g c =
     let i = c.self.inside in
     let s = serving_of i.names i.components i.templates i.engine (held_lines i.held) in
     let q = finite (type_of c.args.ty.now) in
-    subst (λ (z : Serving). IfOk c.sizes_printing.result (λ p. Answers z q (left_of z p))) c.self.view_is
-    (reply_answers (left_of s) c.sizes_printing.result s q c.in-Ok.ensures.silent
-    (IfOk-weaker c.sizes_printing.result (λ p. left_of s p ≡ sizes_text c.in-Ok.sizes) (λ p. Reply s q (left_of s p)) (λ p e. let t : Reply s q (left_of s p) = (c.in-Ok.sizes, tells_sizes i.engine.library (cost_of i.engine.costs) (type_of c.args.ty.now) c.in-Ok.sizes c.in-Ok.ensures.greatest c.in-Ok.ensures.over c.in-Ok.ensures.infinite c.in-Ok.ensures.walk, e) in t) (c.sizes_printing.ensures.text s)))
+    elim c.match-finite.branch [
+      | in-Ok w ↦
+          rw w.result-is (subst (λ (z : Serving). IfOk w.sizes_printing.result (λ p. Answers z q (left_of z p))) c.self.view_is
+          (reply_answers (left_of s) w.sizes_printing.result s q w.in-Ok.ensures.silent
+          (IfOk-weaker w.sizes_printing.result (λ p. left_of s p ≡ sizes_text w.in-Ok.sizes) (λ p. Reply s q (left_of s p)) (λ p e. let t : Reply s q (left_of s p) = (w.in-Ok.sizes, tells_sizes i.engine.library (cost_of i.engine.costs) (type_of c.args.ty.now) w.in-Ok.sizes w.in-Ok.ensures.greatest w.in-Ok.ensures.over w.in-Ok.ensures.infinite w.in-Ok.ensures.walk, e) in t) (w.sizes_printing.ensures.text s))))
+      | in-Err w ↦
+          rw w.result-is (subst (λ (z : Serving). IfOk w.fault_printing.result (λ p. Answers z q (left_of z p))) c.self.view_is
+          (fault_answers (left_of s) w.fault_printing.result s q w.in-Err.fault w.in-Err.ensures.fault (w.fault_printing.ensures.text s)))
+    ]
 
-pub returns-in-Ok-clause-printable : goal.returns-in-Ok-clause-printable
-returns-in-Ok-clause-printable g c = c.sizes_printing.ensures.printable c.args.self.now
-
-pub returns-in-Err-clause-answers : goal.returns-in-Err-clause-answers
-returns-in-Err-clause-answers g c =
-    let i = c.self.inside in
-    let s = serving_of i.names i.components i.templates i.engine (held_lines i.held) in
-    let q = finite (type_of c.args.ty.now) in
-    subst (λ (z : Serving). IfOk c.fault_printing.result (λ p. Answers z q (left_of z p))) c.self.view_is
-    (fault_answers (left_of s) c.fault_printing.result s q c.in-Err.fault c.in-Err.ensures.fault (c.fault_printing.ensures.text s))
-
-pub returns-in-Err-clause-printable : goal.returns-in-Err-clause-printable
-returns-in-Err-clause-printable g c = c.fault_printing.ensures.printable c.args.self.now
+pub returns-clause-printable : goal.returns-clause-printable
+returns-clause-printable g c =
+    elim c.match-finite.branch [
+      | in-Ok w ↦
+          rw w.result-is (w.sizes_printing.ensures.printable c.args.self.now)
+      | in-Err w ↦
+          rw w.result-is (w.fault_printing.ensures.printable c.args.self.now)
+    ]

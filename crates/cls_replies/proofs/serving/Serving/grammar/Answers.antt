@@ -12,28 +12,29 @@ use Rattle.cls_syntax.specs.TypePrinting.{name_in}
 use Rattle.cls_grammar.specs.GrammarTexts.{IsGrammarText}
 use Rattle.cls_replies.proofs.Faulting.{fault_answers, reply_answers}
 use Rattle.cls_replies.proofs.serving.Serving.grammar.Goals as goal
+use Rattle.cls_replies.proofs.serving.Serving.grammar.Goals.{in-Ok, in-Err}
 
-pub returns-in-Ok-clause-answers : goal.returns-in-Ok-clause-answers
-returns-in-Ok-clause-answers g c =
+pub returns-clause-answers : goal.returns-clause-answers
+returns-clause-answers g c =
     let i = c.self.inside in
     let s = serving_of i.names i.components i.templates i.engine (held_lines i.held) in
     let q = grammar (type_of c.args.ty.now) in
-    subst (λ (z : Serving). IfOk c.grammar_printing.result (λ p. Answers z q (left_of z p))) c.self.view_is
-    (reply_answers (left_of s) c.grammar_printing.result s q c.in-Ok.ensures.silent
-    (IfOk-weaker c.grammar_printing.result (λ p. IsGrammarText (name_in i.names) (name_in i.components) c.in-Ok.grammar (left_of s p)) (λ p. Reply s q (left_of s p)) (λ p e. let t : Reply s q (left_of s p) = (c.in-Ok.grammar, c.in-Ok.ensures.closed, e) in t) (c.grammar_printing.ensures.text s)))
+    elim c.match-grammar.branch [
+      | in-Ok w ↦
+          rw w.result-is (subst (λ (z : Serving). IfOk w.grammar_printing.result (λ p. Answers z q (left_of z p))) c.self.view_is
+          (reply_answers (left_of s) w.grammar_printing.result s q w.in-Ok.ensures.silent
+          (IfOk-weaker w.grammar_printing.result (λ p. IsGrammarText (name_in i.names) (name_in i.components) w.in-Ok.grammar (left_of s p)) (λ p. Reply s q (left_of s p)) (λ p e. let t : Reply s q (left_of s p) = (w.in-Ok.grammar, w.in-Ok.ensures.closed, e) in t) (w.grammar_printing.ensures.text s))))
+      | in-Err w ↦
+          rw w.result-is (subst (λ (z : Serving). IfOk w.fault_printing.result (λ p. Answers z q (left_of z p))) c.self.view_is
+          (fault_answers (left_of s) w.fault_printing.result s q w.in-Err.fault w.in-Err.ensures.fault (w.fault_printing.ensures.text s)))
+    ]
 
-pub returns-in-Ok-clause-printable : goal.returns-in-Ok-clause-printable
-returns-in-Ok-clause-printable g c =
-    c.grammar_printing.ensures.printable c.args.self.now
-    (subst (λ (z : Serving). IsOfGoal z c.in-Ok.grammar) c.self.view_is (type_of c.args.ty.now, c.in-Ok.ensures.closed, c.in-Ok.ensures.silent))
-
-pub returns-in-Err-clause-answers : goal.returns-in-Err-clause-answers
-returns-in-Err-clause-answers g c =
-    let i = c.self.inside in
-    let s = serving_of i.names i.components i.templates i.engine (held_lines i.held) in
-    let q = grammar (type_of c.args.ty.now) in
-    subst (λ (z : Serving). IfOk c.fault_printing.result (λ p. Answers z q (left_of z p))) c.self.view_is
-    (fault_answers (left_of s) c.fault_printing.result s q c.in-Err.fault c.in-Err.ensures.fault (c.fault_printing.ensures.text s))
-
-pub returns-in-Err-clause-printable : goal.returns-in-Err-clause-printable
-returns-in-Err-clause-printable g c = c.fault_printing.ensures.printable c.args.self.now
+pub returns-clause-printable : goal.returns-clause-printable
+returns-clause-printable g c =
+    elim c.match-grammar.branch [
+      | in-Ok w ↦
+          rw w.result-is (w.grammar_printing.ensures.printable c.args.self.now
+          (subst (λ (z : Serving). IsOfGoal z w.in-Ok.grammar) c.self.view_is (type_of c.args.ty.now, w.in-Ok.ensures.closed, w.in-Ok.ensures.silent)))
+      | in-Err w ↦
+          rw w.result-is (w.fault_printing.ensures.printable c.args.self.now)
+    ]

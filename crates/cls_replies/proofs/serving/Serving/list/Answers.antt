@@ -8,23 +8,27 @@ use Rattle.cls_replies.specs.Serving.{Serving, serving_of}
 use Rattle.cls_replies.specs.Steps.{held_lines, IsFaultLine}
 use Rattle.cls_replies.proofs.Faulting.{fault_answers}
 use Rattle.cls_replies.proofs.serving.Serving.list.Goals as goal
+use Rattle.cls_replies.proofs.serving.Serving.list.Goals.{in-Ok, in-Err}
 
-pub returns-in-Ok-clause-answers : goal.returns-in-Ok-clause-answers
-returns-in-Ok-clause-answers g c =
+pub returns-clause-answers : goal.returns-clause-answers
+returns-clause-answers g c =
     let s = c.args.self.now in
-    answering.Answers.replied c.in-Ok.ensures.silent (record { terms = c.in-Ok.page.terms; more = c.in-Ok.page.more; page = c.in-Ok.ensures.page; written = c.terms_printing.ensures.text s })
+    elim c.match-page.branch [
+      | in-Ok w ↦
+          rw w.result-is (answering.Answers.replied w.in-Ok.ensures.silent (record { terms = w.in-Ok.page.terms; more = w.in-Ok.page.more; page = w.in-Ok.ensures.page; written = w.terms_printing.ensures.text s }))
+      | in-Err w ↦
+          let i = c.self.inside in
+          let q = list (listing_of c.args.listing.now) in
+          let same : serving_of i.names i.components i.templates i.engine (held_lines i.held) ≡ s = c.self.view_is ∙ c.page.ensures.same in
+          rw w.result-is (fault_answers (left_of s) w.fault_printing.result s q w.in-Err.fault w.in-Err.ensures.fault
+          (subst (λ (z : Serving). IfOk w.fault_printing.result (λ p. IsFaultLine z.names w.in-Err.fault (left_of s p))) same (w.fault_printing.ensures.text s)))
+    ]
 
-pub returns-in-Ok-clause-printable : goal.returns-in-Ok-clause-printable
-returns-in-Ok-clause-printable g c = c.terms_printing.ensures.printable c.args.self.now
-
-pub returns-in-Err-clause-answers : goal.returns-in-Err-clause-answers
-returns-in-Err-clause-answers g c =
-    let i = c.self-in-Err.inside in
-    let s = c.args.self.now in
-    let q = list (listing_of c.args.listing.now) in
-    let same : serving_of i.names i.components i.templates i.engine (held_lines i.held) ≡ s = c.self-in-Err.view_is ∙ c.page.ensures.same in
-    fault_answers (left_of s) c.fault_printing.result s q c.in-Err.fault c.in-Err.ensures.fault
-    (subst (λ (z : Serving). IfOk c.fault_printing.result (λ p. IsFaultLine z.names c.in-Err.fault (left_of s p))) same (c.fault_printing.ensures.text s))
-
-pub returns-in-Err-clause-printable : goal.returns-in-Err-clause-printable
-returns-in-Err-clause-printable g c = c.fault_printing.ensures.printable c.args.self.now
+pub returns-clause-printable : goal.returns-clause-printable
+returns-clause-printable g c =
+    elim c.match-page.branch [
+      | in-Ok w ↦
+          rw w.result-is (w.terms_printing.ensures.printable c.args.self.now)
+      | in-Err w ↦
+          rw w.result-is (w.fault_printing.ensures.printable c.args.self.now)
+    ]

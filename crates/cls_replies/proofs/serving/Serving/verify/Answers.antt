@@ -28,8 +28,8 @@ returns-in-Err-clause-verified c =
     (λ text e. answering.Verified.misread (misreads s m c.args.line.now (string_bytes text) (queries.fault_words c.in-Err.fault) c.in-Err.ensures.fault e
     (λ k. serving_of (c.in-Err.ensures.stay k) i.components i.templates i.engine (held_lines i.held)))) c.line_fault.ensures)
 
-pub verified-requires : goal.verified-requires
-verified-requires c = c.in-Ok.ensures.verify.1 c.requires.opens.begins
+pub verified-goal-requires : goal.verified-goal-requires
+verified-goal-requires c = c.in-Ok.ensures.verify.1 c.requires.opens.begins
 
 pub judge-requires : goal.judge-requires
 judge-requires c =
@@ -42,9 +42,9 @@ returns-in-Ok-read_certificate-clause-verified c =
     let s = serving_of i.names i.components i.templates i.engine (held_lines i.held) in
     let m = serving_of c.read_query.new.constructors i.components i.templates i.engine (held_lines i.held) in
     let n = serving_of c.read_certificate.new.names i.components i.templates i.engine (held_lines i.held) in
-    let t = type_of c.verified.result in
+    let t = type_of c.verified-goal.result in
     let p = certificate_of c.in-Ok-read_certificate.read in
-    let reads : ReadsQuery (tables_in s) c.args.line.now (verify t) m.names = subst (λ (q : Query). ReadsQuery (tables_in s) c.args.line.now q m.names) c.verified.ensures c.in-Ok.ensures.query in
+    let reads : ReadsQuery (tables_in s) c.args.line.now (verify t) m.names = subst (λ (q : Query). ReadsQuery (tables_in s) c.args.line.now q m.names) c.verified-goal.ensures c.in-Ok.ensures.query in
     subst (λ (z : Serving). IfOk c.judge.result (λ text. Verified z c.args.line.now c.args.certificate (string_bytes text) n)) c.self.view_is
     (IfOk-weaker c.judge.result (λ text. Judges n t p (string_bytes text)) (λ text. Verified s c.args.line.now c.args.certificate (string_bytes text) n)
     (λ text j. answering.Verified.asked t m (reads, refl) (answering.Verifies.read p c.in-Ok-read_certificate.ensures.exact refl j)) c.judge.ensures)
@@ -55,8 +55,8 @@ returns-clause-verified c =
     let s = serving_of i.names i.components i.templates i.engine (held_lines i.held) in
     let m = serving_of c.read_query.new.constructors i.components i.templates i.engine (held_lines i.held) in
     let n = serving_of c.read_certificate.new.names i.components i.templates i.engine (held_lines i.held) in
-    let t = type_of c.verified.result in
-    let reads : ReadsQuery (tables_in s) c.args.line.now (verify t) m.names = subst (λ (q : Query). ReadsQuery (tables_in s) c.args.line.now q m.names) c.verified.ensures c.in-Ok.ensures.query in
+    let t = type_of c.verified-goal.result in
+    let reads : ReadsQuery (tables_in s) c.args.line.now (verify t) m.names = subst (λ (q : Query). ReadsQuery (tables_in s) c.args.line.now q m.names) c.verified-goal.ensures c.in-Ok.ensures.query in
     subst (λ (z : Serving). IfOk c.proof_fault.result (λ text. Verified z c.args.line.now c.args.certificate (string_bytes text) n)) c.self.view_is
     (IfOk-weaker c.proof_fault.result (λ text. option_map error_line (proof_words c.in-Err-read_certificate.fault) ≡ Some (string_bytes text)) (λ text. Verified s c.args.line.now c.args.certificate (string_bytes text) n)
     (λ text e. answering.Verified.asked t m (reads, refl) (bads m n t c.args.certificate (string_bytes text) c.in-Err-read_certificate.fault (proof_words c.in-Err-read_certificate.fault) refl c.in-Err-read_certificate.ensures.exact e

@@ -20,7 +20,7 @@ returns-in-Some-clause-rest c =
     let full = rw c.in-Some.is at c.in_ok-next.ensures.full in
     let of_goal : IsOfGoal s c.args.grammar = subst (λ (z : Serving). IsOfGoal z c.args.grammar) (sym c.self.view_is) c.requires.of_goal in
     subst (λ (z : Serving). IsRest z (lines_from (name_in z.names) (name_in z.components) c.args.grammar c.args.ranks c.args.place) (string_bytes c.args.text.now) new (left.Lines (lines.Grammar c.args.grammar c.args.ranks c.in-Some.place))) c.self.view_is
-    (record { lines = on; full = some_text new _ full; printable = (c.requires.ranked, (within, of_goal)) })
+    (record { lines = on; full = some_text new _ full; printable = (c.requires.ranked, within, of_goal) })
 
 pub take_back-requires : goal.take_back-requires
 take_back-requires c = subst (λ (z : Serving). IsOfGoal z c.args.grammar) (sym c.self.view_is) c.requires.of_goal

@@ -19,10 +19,10 @@ pub write_grammar-requires-clause-ranked : goal.write_grammar-requires-clause-ra
 write_grammar-requires-clause-ranked c = let printable = rw c.in-Grammar.is at c.requires in printable.0
 
 pub write_grammar-requires-clause-place : goal.write_grammar-requires-clause-place
-write_grammar-requires-clause-place c = let printable = rw c.in-Grammar.is at c.requires in printable.1.0
+write_grammar-requires-clause-place c = let printable = rw c.in-Grammar.is at c.requires in printable.1
 
 pub write_grammar-requires-clause-of_goal : goal.write_grammar-requires-clause-of_goal
-write_grammar-requires-clause-of_goal c = let printable = rw c.in-Grammar.is at c.requires in printable.1.1
+write_grammar-requires-clause-of_goal c = let printable = rw c.in-Grammar.is at c.requires in printable.2
 
 pub returns-in-Grammar-clause-rest : goal.returns-in-Grammar-clause-rest
 returns-in-Grammar-clause-rest c = rw c.in-Grammar.is c.write_grammar.ensures.rest
