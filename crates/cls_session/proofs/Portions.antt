@@ -1,5 +1,5 @@
 -- How a reply is written while it is printed, one portion after another.
-use Rattle.std.proofs.Common.{◌≡◌, ◌∙◌, ℕ, ◌+◌, ◌<◌, ◌==◌, true, false, List, [], ◌∷◌, ◌++◌, length, refl, sym, ap, subst, arith, append_assoc, append-nil, length-append}
+use Rattle.std.proofs.Common.{◌≡◌, ◌∙◌, ℕ, suc, ◌<◌, ◌==◌, true, false, List, [], ◌∷◌, ◌++◌, length, refl, sym, ap, subst, arith, append_assoc, append-nil, length-append}
 use Rattle.std.specs.Prelude.{Option, None, Some, Result, Ok, Err, OnOk}
 use Rattle.cls_base.specs.Outside.{SinkSeen, Holds}
 use Rattle.cls_lexer.specs.Lines.{CutsLine}
@@ -18,10 +18,13 @@ use Rattle.cls_session.proofs.Writing.{Holds-rest, Writes-none, Writes-trans, ro
 -- a text without bytes
 pub no_bytes : (xs : List ℕ) → (length xs == 0) ≡ true → xs ≡ []
 no_bytes [] e = refl
-no_bytes (x ∷ xs) e = absurd cc
+no_bytes (x ∷ xs) e = absurd (no_zero (length xs) e)
+  where
+    no_zero : (n : ℕ) → (suc n == 0) ≡ true → ⊥
+    no_zero n h = grind arith
 
 pub some_bytes : (xs : List ℕ) → (length xs == 0) ≡ false → 0 < length xs
-some_bytes [] e = absurd cc
+some_bytes [] e = absurd (let h : true ≡ false = e in absurd cc)
 some_bytes (x ∷ xs) e = omega arith
 
 -- the room for a text is enough for its front
@@ -30,7 +33,7 @@ Holds-front None xs ys h = tt
 Holds-front (Some n) xs ys h = omega (arith, h, length-append xs ys)
 
 -- A portion is what was left, but for the rest.
-module _ {left portion rest : List ℕ} (e : left ≡ portion ++ rest) where
+module _ {left : List ℕ} (portion rest : List ℕ) (e : left ≡ portion ++ rest) where
   pub portion_shorter : 0 < length portion → length rest < length left
   portion_shorter some = omega (arith, ap length e, length-append portion rest, some)
 
@@ -52,7 +55,7 @@ module _ {left portion rest : List ℕ} (e : left ≡ portion ++ rest) where
 
     -- a write fails
     pub puts_front : {c : SinkSeen} → WritesFront b c (pending ++ portion) → WritesFront a c text
-    puts_front w = front_wider (part_more p.part p.split) (front_more p.writes portion w)
+    puts_front w = front_wider rest (part_more p.part p.split) (front_more p.writes portion w)
 
   -- THE REPLY IS WRITTEN
   module _ {a b : SinkSeen} {text : List ℕ} (p : WritesPart a b text left) where
@@ -63,7 +66,7 @@ module _ {left portion rest : List ℕ} (e : left ≡ portion ++ rest) where
     writes_next w = record { part = p.part ++ portion; split = part_more p.part p.split; writes = Writes-trans p.writes w }
 
     pub writes_front : {c : SinkSeen} → WritesFront b c portion → WritesFront a c text
-    writes_front w = front_wider (part_more p.part p.split) (front_after p.writes w)
+    writes_front w = front_wider rest (part_more p.part p.split) (front_after p.writes w)
 
 -- nothing of it is printed yet
 pub puts_none : (sink : SinkSeen) (pending reply : List ℕ) → Holds sink.room (length (pending ++ reply)) → PutsPart sink sink (pending ++ reply) pending reply
@@ -94,21 +97,21 @@ pub writes_some : {a b : SinkSeen} {text left : List ℕ} → WritesPart a b tex
 writes_some {left = left} p = record { front = p.part; rest = left; split = p.split; held = p.writes.held }
 
 -- ONE LINE IS ANSWERED BY IT
-pub line_replied : {A : Type 0} (r : Result A Stop) {a b : SinkSeen} {old new : Standing} {line reply : List ℕ} → IsReply old line reply new
+pub line_replied : {A : Type 0} (r : Result A Stop) (a b : SinkSeen) {old new : Standing} {line reply : List ℕ} → IsReply old line reply new
     → MatchStop r (λ _. Writes a b reply) ⊥ (WritesFront a b reply) → MatchStop r (λ _. AnswersLine a b old new line) (RefusesLine a b old line) (BreaksLine a b old line)
-line_replied (Ok x) {reply = reply} replied w = record { reply = λ o lines written stands. (reply, replied o lines written stands, w) }
-line_replied (Err stops.Refused) replied w = absurd w
-line_replied (Err stops.WriteFault) replied w = breaks_reply replied w
-line_replied (Err stops.NoMemory) replied w = breaks_reply replied w
+line_replied (Ok x) a b {reply = reply} replied w = record { reply = λ o lines written stands. (reply, replied o lines written stands, w) }
+line_replied (Err stops.Refused) a b replied w = absurd w
+line_replied (Err stops.WriteFault) a b replied w = breaks_reply replied w
+line_replied (Err stops.NoMemory) a b replied w = breaks_reply replied w
 
 -- the run stops within it, while replies are pending
-pub reply_stops : (A B : Type 0) (stop : Stop) {a b c : SinkSeen} {first mid last : Standing} {text between line after pending further left : List ℕ} {Well : B → Type 0} {Refuses : Type 0}
+pub reply_stops : (A B : Type 0) (stop : Stop) (Well : B → Type 0) (Refuses : Type 0) (c : SinkSeen) (left : List ℕ) {a b : SinkSeen} {first mid last : Standing} {text between line after pending further : List ℕ}
     → AnswersPending a b first mid text between pending → CutsLine between line after → IsReply mid line further last
     → MatchEachStop {A = A} (Err stop) (λ _. WritesAllBut b c (pending ++ further) left) ⊥ (WritesFront b c (pending ++ further)) (WritesFrontBut b c (pending ++ further) left)
     → MatchEachStop {A = B} (Err stop) Well Refuses (BreaksLines a c first text) (LeavesPending a c first text left)
-reply_stops A B stops.Refused so_far cut replied h = absurd h
-reply_stops A B stops.WriteFault so_far cut replied h = fails_pending so_far cut (reply_stands replied) h
-reply_stops A B stops.NoMemory so_far cut replied h = leaves_within so_far cut (reply_stands replied) h
+reply_stops A B stops.Refused Well Refuses c left so_far cut replied h = absurd h
+reply_stops A B stops.WriteFault Well Refuses c left so_far cut replied h = fails_pending so_far cut (reply_stands replied) h
+reply_stops A B stops.NoMemory Well Refuses c left so_far cut replied h = leaves_within so_far cut (reply_stands replied) h
 
 -- what holds in any case holds at Ok
 pub in_any_case : {A E : Type 0} (r : Result A E) {P : Type 0} → P → OnOk r P

@@ -111,8 +111,8 @@ module _ {a b c : SinkSeen} {text rest : List ℕ} (p : WritesAllBut a b text re
   but_front f = subst (λ (x : List ℕ). WritesFront a c x) (sym p.split) (front_after p.writes f)
 
 -- a longer text is begun as well
-pub front_wider : {a c : SinkSeen} {text part rest : List ℕ} → text ≡ part ++ rest → WritesFront a c part → WritesFront a c text
-front_wider {rest = rest} e f = record {
+pub front_wider : {a c : SinkSeen} {text part : List ℕ} (rest : List ℕ) → text ≡ part ++ rest → WritesFront a c part → WritesFront a c text
+front_wider rest e f = record {
   front = f.front;
   rest = f.rest ++ rest;
   split = e ∙ (ap (λ (x : List ℕ). x ++ rest) f.split ∙ append_assoc f.front f.rest rest);
@@ -125,7 +125,7 @@ whole_but {text = text} w = record { front = text; rest = []; split = sym (appen
 
 -- a front was written but for what is pending, and then a front of that
 pub front_some : {a b c : SinkSeen} {text pending : List ℕ} → WritesFrontBut a b text pending → WritesFront b c pending → WritesFront a c text
-front_some p f = front_wider p.split (but_front p.writes f)
+front_some p f = front_wider p.rest p.split (but_front p.writes f)
 
 -- a text was written but for its rest, and a front of the rest and a further text but for what is pending
 pub front_but_more : {a b c : SinkSeen} {text rest left : List ℕ} → WritesAllBut a b text rest → (more : List ℕ) → WritesFrontBut b c (rest ++ more) left → WritesFrontBut a c (text ++ more) left

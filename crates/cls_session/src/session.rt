@@ -126,10 +126,10 @@ impl Session {
         ensures printable { IfOk result (λ r. IsPrintableIn self.old r.1) }
         ensures same { self.new ≡ self.old }
     {
-        match &mut self.serving {
-            Some(serving) => serving.print(alloc, printing),
-            None => Ok((String::new(alloc), printing)),
+        if let Some(serving) = &mut self.serving {
+            return serving.print(alloc, printing);
         }
+        Ok((String::new(alloc), printing))
     }
 
     /// Takes back a text that was written, so that its room serves again. It takes no memory.

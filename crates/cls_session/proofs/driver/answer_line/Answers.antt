@@ -20,7 +20,7 @@ write_all-requires g c =
 pub returns-in-Reply-clause-answers : goal.returns-in-Reply-clause-answers
 returns-in-Reply-clause-answers g c =
     let replied = rw c.in-Reply.is at c.in_ok-answer.ensures.answered in
-    rw c.write_reply.ensures.same (line_replied c.write_reply.result replied c.write_reply.ensures.written)
+    rw c.write_reply.ensures.same (line_replied c.write_reply.result (g.K.Sink.seen c.args.sink.now) (g.K.Sink.seen c.write_reply.new.sink) replied c.write_reply.ensures.written)
 
 pub returns-in-Reply-clause-counted : goal.returns-in-Reply-clause-counted
 returns-in-Reply-clause-counted g c = rw c.write_reply.ensures.same (in_any_case c.write_reply.result c.in_ok-answer.ensures.counted)

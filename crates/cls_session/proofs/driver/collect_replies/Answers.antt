@@ -47,7 +47,7 @@ returns-in_err-put_reply-in-Reply-clause-answers g c =
     let cut = rw c.in-Some.is at c.in_ok-line.ensures.line in
     let replied = rw c.in-Reply.is at c.in_ok-answer.ensures.answered in
     let p = err_from_is_err_and c.from_residual-in_err-put_reply-in-Reply.result c.from_residual-in_err-put_reply-in-Reply.ensures.1 in
-    rw (p.1, p.2) (reply_stops _ _ _ c.lines.invariant.answered cut replied c.in_err-put_reply-in-Reply.ensures.put)
+    rw (p.1, p.2) (reply_stops _ _ _ _ _ (g.K.Sink.seen c.put_reply.new.sink) c.put_reply.new.pending c.lines.invariant.answered cut replied c.in_err-put_reply-in-Reply.ensures.put)
 
 pub returns-in_err-put-in-Refusal-clause-answers : goal.returns-in_err-put-in-Refusal-clause-answers
 returns-in_err-put-in-Refusal-clause-answers g c =

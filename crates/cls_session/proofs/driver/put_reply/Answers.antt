@@ -13,27 +13,35 @@ portions-init g c = record {
 }
 
 pub put-requires : goal.put-requires
-put-requires g c = rw c.as_str-text.ensures.value (puts_fits c.in_ok-portion.ensures.portion c.portions.invariant.puts c.requires.room)
+put-requires g c =
+    let bytes = string_bytes c.in_ok-portion.portion in
+    let rest = reply_in c.portions.session c.in_ok-portion.rest in
+    rw c.as_str-text.ensures.value (puts_fits bytes rest c.in_ok-portion.ensures.portion c.portions.invariant.puts c.requires.room)
 
 pub portions-preserved : goal.portions-preserved
-portions-preserved g c = record {
-  puts = rw (c.reuse.ensures, c.print.ensures.same) (puts_next c.in_ok-portion.ensures.portion c.portions.invariant.puts (rw c.as_str-text.ensures.value at c.in_ok-put.ensures.written));
-  same = c.reuse.ensures ∙ (c.print.ensures.same ∙ c.portions.invariant.same);
-  printable = rw (c.reuse.ensures, c.print.ensures.same) c.in_ok-portion.ensures.printable;
-  faults = c.in_ok-put.ensures.no_fault ∙ c.portions.invariant.faults;
-}
+portions-preserved g c =
+    let bytes = string_bytes c.in_ok-portion.portion in
+    let rest = reply_in c.portions.session c.in_ok-portion.rest in
+    record {
+      puts = rw (c.reuse.ensures, c.print.ensures.same) (puts_next bytes rest c.in_ok-portion.ensures.portion c.portions.invariant.puts (rw c.as_str-text.ensures.value at c.in_ok-put.ensures.written));
+      same = c.reuse.ensures ∙ (c.print.ensures.same ∙ c.portions.invariant.same);
+      printable = rw (c.reuse.ensures, c.print.ensures.same) c.in_ok-portion.ensures.printable;
+      faults = c.in_ok-put.ensures.no_fault ∙ c.portions.invariant.faults;
+    }
 
 pub portions-smaller : goal.portions-smaller
 portions-smaller g c =
     let bytes = string_bytes c.in_ok-portion.portion in
+    let rest = reply_in c.portions.session c.in_ok-portion.rest in
     let some = some_bytes bytes (ap (λ (xs : List ℕ). length xs == 0) (sym c.as_str-text.ensures.value) ∙ (sym c.is_empty.ensures ∙ c.if-is_empty.false)) in
-    rw (c.reuse.ensures, c.print.ensures.same) (portion_shorter c.in_ok-portion.ensures.portion some)
+    rw (c.reuse.ensures, c.print.ensures.same) (portion_shorter bytes rest c.in_ok-portion.ensures.portion some)
 
 pub returns-then-is_empty-clause-put : goal.returns-then-is_empty-clause-put
 returns-then-is_empty-clause-put g c =
     let bytes = string_bytes c.in_ok-portion.portion in
+    let rest = reply_in c.portions.session c.in_ok-portion.rest in
     let none = no_bytes bytes (ap (λ (xs : List ℕ). length xs == 0) (sym c.as_str-text.ensures.value) ∙ (sym c.is_empty.ensures ∙ c.if-is_empty.true)) in
-    puts_all c.portions.invariant.puts (none_left c.in_ok-portion.ensures.portion none (c.in_ok-portion.ensures.ended none))
+    puts_all c.portions.invariant.puts (none_left bytes rest c.in_ok-portion.ensures.portion none (c.in_ok-portion.ensures.ended none))
 
 pub returns-in_err-portion-clause-put : goal.returns-in_err-portion-clause-put
 returns-in_err-portion-clause-put g c =
@@ -42,5 +50,7 @@ returns-in_err-portion-clause-put g c =
 
 pub returns-in_err-put-clause-put : goal.returns-in_err-put-clause-put
 returns-in_err-put-clause-put g c =
+    let bytes = string_bytes c.in_ok-portion.portion in
+    let rest = reply_in c.portions.session c.in_ok-portion.rest in
     let p = err_from_is_err_and c.from_residual-in_err-put.result c.from_residual-in_err-put.ensures.1 in
-    rw (p.1, p.2) (puts_front c.in_ok-portion.ensures.portion c.portions.invariant.puts (rw c.as_str-text.ensures.value at c.in_err-put.ensures.front))
+    rw (p.1, p.2) (puts_front bytes rest c.in_ok-portion.ensures.portion c.portions.invariant.puts (rw c.as_str-text.ensures.value at c.in_err-put.ensures.front))

@@ -13,27 +13,35 @@ portions-init g c = record {
 }
 
 pub write_all-requires : goal.write_all-requires
-write_all-requires g c = rw c.as_bytes-bytes.ensures.value (writes_fits c.in_ok-portion.ensures.portion c.portions.invariant.writes c.requires.room)
+write_all-requires g c =
+    let bytes = string_bytes c.in_ok-portion.portion in
+    let rest = reply_in c.portions.session c.in_ok-portion.rest in
+    rw c.as_bytes-bytes.ensures.value (writes_fits bytes rest c.in_ok-portion.ensures.portion c.portions.invariant.writes c.requires.room)
 
 pub portions-preserved : goal.portions-preserved
-portions-preserved g c = record {
-  writes = rw (c.reuse.ensures, c.print.ensures.same) (writes_next c.in_ok-portion.ensures.portion c.portions.invariant.writes (rw c.as_bytes-bytes.ensures.value at c.in_ok-write_all.ensures.written));
-  same = c.reuse.ensures ∙ (c.print.ensures.same ∙ c.portions.invariant.same);
-  printable = rw (c.reuse.ensures, c.print.ensures.same) c.in_ok-portion.ensures.printable;
-  faults = c.in_ok-write_all.ensures.no_fault ∙ c.portions.invariant.faults;
-}
+portions-preserved g c =
+    let bytes = string_bytes c.in_ok-portion.portion in
+    let rest = reply_in c.portions.session c.in_ok-portion.rest in
+    record {
+      writes = rw (c.reuse.ensures, c.print.ensures.same) (writes_next bytes rest c.in_ok-portion.ensures.portion c.portions.invariant.writes (rw c.as_bytes-bytes.ensures.value at c.in_ok-write_all.ensures.written));
+      same = c.reuse.ensures ∙ (c.print.ensures.same ∙ c.portions.invariant.same);
+      printable = rw (c.reuse.ensures, c.print.ensures.same) c.in_ok-portion.ensures.printable;
+      faults = c.in_ok-write_all.ensures.no_fault ∙ c.portions.invariant.faults;
+    }
 
 pub portions-smaller : goal.portions-smaller
 portions-smaller g c =
     let bytes = string_bytes c.in_ok-portion.portion in
+    let rest = reply_in c.portions.session c.in_ok-portion.rest in
     let some = some_bytes bytes (ap (λ (xs : List ℕ). length xs == 0) (sym c.as_bytes-bytes.ensures.value) ∙ (sym c.is_empty.ensures ∙ c.if-is_empty.false)) in
-    rw (c.reuse.ensures, c.print.ensures.same) (portion_shorter c.in_ok-portion.ensures.portion some)
+    rw (c.reuse.ensures, c.print.ensures.same) (portion_shorter bytes rest c.in_ok-portion.ensures.portion some)
 
 pub returns-then-is_empty-clause-written : goal.returns-then-is_empty-clause-written
 returns-then-is_empty-clause-written g c =
     let bytes = string_bytes c.in_ok-portion.portion in
+    let rest = reply_in c.portions.session c.in_ok-portion.rest in
     let none = no_bytes bytes (ap (λ (xs : List ℕ). length xs == 0) (sym c.as_bytes-bytes.ensures.value) ∙ (sym c.is_empty.ensures ∙ c.if-is_empty.true)) in
-    writes_all c.portions.invariant.writes (none_left c.in_ok-portion.ensures.portion none (c.in_ok-portion.ensures.ended none))
+    writes_all c.portions.invariant.writes (none_left bytes rest c.in_ok-portion.ensures.portion none (c.in_ok-portion.ensures.ended none))
 
 pub returns-in_err-portion-clause-written : goal.returns-in_err-portion-clause-written
 returns-in_err-portion-clause-written g c =
@@ -42,5 +50,7 @@ returns-in_err-portion-clause-written g c =
 
 pub returns-in_err-write_all-clause-written : goal.returns-in_err-write_all-clause-written
 returns-in_err-write_all-clause-written g c =
+    let bytes = string_bytes c.in_ok-portion.portion in
+    let rest = reply_in c.portions.session c.in_ok-portion.rest in
     let p = err_from_is_err_and c.from_residual-in_err-write_all.result c.from_residual-in_err-write_all.ensures.1 in
-    rw (p.1, p.2) (writes_front c.in_ok-portion.ensures.portion c.portions.invariant.writes (rw c.as_bytes-bytes.ensures.value at c.in_err-write_all.ensures.front))
+    rw (p.1, p.2) (writes_front bytes rest c.in_ok-portion.ensures.portion c.portions.invariant.writes (rw c.as_bytes-bytes.ensures.value at c.in_err-write_all.ensures.front))

@@ -3,6 +3,7 @@ use Rattle.std.specs.Prelude.{Option, None, Some, IfOk}
 use Rattle.cls_replies.specs.Serving.{Serving}
 use Rattle.cls_session.specs.Sessions.{left_by, IsPrintableBy}
 use Rattle.cls_session.specs.Standings.{Standing}
+use Rattle.cls_session.proofs.Opening.{none_of}
 use Rattle.cls_session.proofs.session.Session.print.Goals as goal
 
 pub print-requires : goal.print-requires
@@ -25,15 +26,15 @@ returns-in-Some-clause-printable c =
     let e : c.args.self.now.serving ≡ Some c.in-Some.serving = sym (ap (λ (s : Standing). s.serving) c.self.view_is) ∙ c.in-Some.is in
     subst (λ (o : Option Serving). IfOk c.print.result (λ r. IsPrintableBy o r.1)) (sym e) c.print.ensures.printable
 
-pub returns-in-None-clause-portion : goal.returns-in-None-clause-portion
-returns-in-None-clause-portion c =
-    let e : c.args.self.now.serving ≡ None = sym (ap (λ (s : Standing). s.serving) c.self.view_is) ∙ c.in-None.is in
+pub returns-clause-portion : goal.returns-clause-portion
+returns-clause-portion c =
+    let e : c.args.self.now.serving ≡ None = sym (ap (λ (s : Standing). s.serving) c.self.view_is) ∙ none_of c.self.inside.serving c.in_default.not-Some in
     subst (λ (o : Option Serving). left_by o c.args.printing ≡ string_bytes c.new.result ++ left_by o c.args.printing) (sym e) (ap (λ (v : _). v ++ []) (sym c.new.ensures.bytes))
 
-pub returns-in-None-clause-ended : goal.returns-in-None-clause-ended
-returns-in-None-clause-ended c =
-    let e : c.args.self.now.serving ≡ None = sym (ap (λ (s : Standing). s.serving) c.self.view_is) ∙ c.in-None.is in
+pub returns-clause-ended : goal.returns-clause-ended
+returns-clause-ended c =
+    let e : c.args.self.now.serving ≡ None = sym (ap (λ (s : Standing). s.serving) c.self.view_is) ∙ none_of c.self.inside.serving c.in_default.not-Some in
     subst (λ (o : Option Serving). string_bytes c.new.result ≡ [] → left_by o c.args.printing ≡ []) (sym e) (λ none. refl)
 
-pub returns-in-None-clause-printable : goal.returns-in-None-clause-printable
-returns-in-None-clause-printable c = c.requires
+pub returns-clause-printable : goal.returns-clause-printable
+returns-clause-printable c = c.requires
