@@ -11,7 +11,7 @@ use Rattle.cls_syntax.proofs.ReadTypes.{Below, AllHeld, held_by}
 use Rattle.cls_syntax.specs.ClosedTypes.{closed}
 use Rattle.cls_query.specs.Queries.{QueryText, verify, query_parts, with_query, query_of, type_in}
 use Rattle.cls_replies.specs.Answering.{Asks}
-use Rattle.cls_replies.specs.Serving.{Serving, tables_in}
+use Rattle.cls_replies.specs.Responder.{Responder, tables_in}
 use Rattle.cls_laws.proofs.DraftNames.{type_spelled, parts_known}
 use Rattle.cls_laws.proofs.LibraryNames.{SchemaHas}
 use Rattle.cls_laws.proofs.PathNames.{TypeHas}
@@ -28,7 +28,7 @@ closed_type K (schemas.variable v) h = tt
 verify_goal : (a b : ClosedType) → verify a ≡ verify b → a ≡ b
 verify_goal a b e = cc
 
-module _ (s m : Serving) (line : List ℕ) (goal : ClosedType) (asks : Asks s line (verify goal) m) where
+module _ (s m : Responder) (line : List ℕ) (goal : ClosedType) (asks : Asks s line (verify goal) m) where
   said : (v : TypeText) × (asks.0.said ≡ as_verify v)
   said = verify_said (with_query (tables_in s) asks.0.said) goal asks.0.said asks.0.asked (one_of_two (with_query (tables_in s) asks.0.said) asks.0.said)
 

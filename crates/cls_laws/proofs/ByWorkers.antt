@@ -8,7 +8,7 @@ use Rattle.cls_query.specs.declared.word.GoalWord.TheVariants.{Audit, Verify}
 use Rattle.cls_query.specs.declared.word.ListingWord.TheVariants as listing
 use Rattle.cls_query.specs.Queries.{Query, audit, verify}
 use Rattle.cls_engine.specs.declared.fault.EngineFault.{EngineFault}
-use Rattle.cls_replies.specs.Serving.{Serving}
+use Rattle.cls_replies.specs.Responder.{Responder}
 use Rattle.cls_replies.specs.Errors.{faults_of}
 use Rattle.cls_replies.specs.Replies.{Reply}
 use Rattle.cls_replies.specs.Answering.{Asks, IsMisread, Answers, Judges, Verifies, Verified}
@@ -26,7 +26,7 @@ audit_or_not (Page word q) = inr (λ t e. cc)
 
 module _ (n : ℕ) where
   -- nothing that the engine can't do hangs on the number of workers
-  faults_by : (s : Serving) (q : Query) → faults_of (served_by n s).engine q ≡ faults_of s.engine q
+  faults_by : (s : Responder) (q : Query) → faults_of (served_by n s).engine q ≡ faults_of s.engine q
   faults_by s (Sub a b) = refl
   faults_by s (Paths x) = refl
   faults_by s (Typed u t) = refl
@@ -34,13 +34,13 @@ module _ (n : ℕ) where
   faults_by s (About word t) = refl
   faults_by s (Page word q) = refl
 
-  pub fault_by : (s : Serving) (q : Query) (f : EngineFault) → First (faults_of s.engine q) f → First (faults_of (served_by n s).engine q) f
+  pub fault_by : (s : Responder) (q : Query) (f : EngineFault) → First (faults_of s.engine q) f → First (faults_of (served_by n s).engine q) f
   fault_by s q f h = subst (λ (causes : List (Cause EngineFault)). First causes f) (sym (faults_by s q)) h
 
-  silent_by : (s : Serving) (q : Query) → IsSilent (First (faults_of s.engine q)) → IsSilent (First (faults_of (served_by n s).engine q))
+  silent_by : (s : Responder) (q : Query) → IsSilent (First (faults_of s.engine q)) → IsSilent (First (faults_of (served_by n s).engine q))
   silent_by s q h = subst (λ (causes : List (Cause EngineFault)). IsSilent (First causes)) (sym (faults_by s q)) h
 
-  reply_by : (s : Serving) (q : Query) (text : List ℕ) → ((t : ClosedType) → q ≡ audit t → ⊥) → Reply s q text → Reply (served_by n s) q text
+  reply_by : (s : Responder) (q : Query) (text : List ℕ) → ((t : ClosedType) → q ≡ audit t → ⊥) → Reply s q text → Reply (served_by n s) q text
   reply_by s (Sub a b) text free h = h
   reply_by s (Paths x) text free h = h
   reply_by s (Typed u t) text free h = h
@@ -49,24 +49,24 @@ module _ (n : ℕ) where
   reply_by s (Page listing.List q) text free h = h
   reply_by s (Page word q) text free h = h
 
-  pub answers_by : (s : Serving) (q : Query) (text : List ℕ) → ((t : ClosedType) → q ≡ audit t → ⊥) → Answers s q text → Answers (served_by n s) q text
+  pub answers_by : (s : Responder) (q : Query) (text : List ℕ) → ((t : ClosedType) → q ≡ audit t → ⊥) → Answers s q text → Answers (served_by n s) q text
   answers_by s q text free (answering.Answers.failed f h e) = answering.Answers.failed f (fault_by s q f h) e
   answers_by s q text free (answering.Answers.replied silent r) = answering.Answers.replied (silent_by s q silent) (reply_by s q text free r)
 
-  pub misread_by : (s : Serving) (line text : List ℕ) (m : Serving) → IsMisread s line text m → IsMisread (served_by n s) line text (served_by n m)
+  pub misread_by : (s : Responder) (line text : List ℕ) (m : Responder) → IsMisread s line text m → IsMisread (served_by n s) line text (served_by n m)
   misread_by s line text m h = record { words = h.words; first = h.first; written = h.written; same = ap (served_by n) h.same }
 
-  pub asks_by : (s : Serving) (line : List ℕ) (q : Query) (m : Serving) → Asks s line q m → Asks (served_by n s) line q (served_by n m)
+  pub asks_by : (s : Responder) (line : List ℕ) (q : Query) (m : Responder) → Asks s line q m → Asks (served_by n s) line q (served_by n m)
   asks_by s line q m h = (h.0, ap (served_by n) h.1)
 
-  judges_by : (s : Serving) (goal : ClosedType) (c : Certificate) (text : List ℕ) → Judges s goal c text → Judges (served_by n s) goal c text
+  judges_by : (s : Responder) (goal : ClosedType) (c : Certificate) (text : List ℕ) → Judges s goal c text → Judges (served_by n s) goal c text
   judges_by s goal c text (answering.Judges.failed f h e) = answering.Judges.failed f h e
   judges_by s goal c text (answering.Judges.judged silent v h e) = answering.Judges.judged silent v h e
 
-  verifies_by : (s : Serving) (goal : ClosedType) (certificate : List (List ℕ)) (text : List ℕ) (m : Serving) → Verifies s goal certificate text m → Verifies (served_by n s) goal certificate text (served_by n m)
+  verifies_by : (s : Responder) (goal : ClosedType) (certificate : List (List ℕ)) (text : List ℕ) (m : Responder) → Verifies s goal certificate text m → Verifies (served_by n s) goal certificate text (served_by n m)
   verifies_by s goal certificate text m (answering.Verifies.bad f w h e d same) = answering.Verifies.bad f w h e d (ap (served_by n) same)
   verifies_by s goal certificate text m (answering.Verifies.read c says same j) = answering.Verifies.read c says (ap (served_by n) same) (judges_by m goal c text j)
 
-  pub verified_by : (s : Serving) (line : List ℕ) (certificate : List (List ℕ)) (text : List ℕ) (m : Serving) → Verified s line certificate text m → Verified (served_by n s) line certificate text (served_by n m)
+  pub verified_by : (s : Responder) (line : List ℕ) (certificate : List (List ℕ)) (text : List ℕ) (m : Responder) → Verified s line certificate text m → Verified (served_by n s) line certificate text (served_by n m)
   verified_by s line certificate text m (answering.Verified.misread h) = answering.Verified.misread (misread_by s line text m h)
   verified_by s line certificate text m (answering.Verified.asked goal x h v) = answering.Verified.asked goal (served_by n x) (asks_by s line (verify goal) x h) (verifies_by x goal certificate text m v)

@@ -24,12 +24,12 @@ use Rattle.cls_grammar.specs.Grammars.{book_of}
 use Rattle.cls_query.proofs.Searches.{all_both}
 use Rattle.cls_engine.specs.Certified.{IsCertified}
 use Rattle.cls_engine.specs.Goals.{Goal, IsClosed}
-use Rattle.cls_replies.specs.Serving.{Serving}
+use Rattle.cls_replies.specs.Responder.{Responder}
 use Rattle.cls_laws.specs.FedBack.{IsTypeWithin, IsWithin, IsCertificateWithin}
 use Rattle.cls_laws.proofs.DraftNames.{AreProper}
 use Rattle.cls_laws.proofs.GoalNames.{closure_has}
 use Rattle.cls_laws.proofs.PathNames.{TypeHas, PathsHave, paths_have, paths_type, canonical_has}
-use Rattle.cls_laws.proofs.ServingNames.{IsCalled}
+use Rattle.cls_laws.proofs.ResponderNames.{IsCalled}
 
 -- a name of the table
 proper_at : (names : List (List ℕ)) → AreProper names → (c : ℕ) → c < length names → IsProperName (name_in names c)
@@ -133,7 +133,7 @@ module _ (names components : List (List ℕ)) (proper : AreProper names) (called
     members_named (i ∷ is) (m ∷ ms) z = all_both Named (member_statements m) (flat_map member_statements ms) (member_named i m z.0) (members_named is ms z.1)
 
 -- A SESSION
-module _ (s : Serving) (called : IsCalled s) (t : ClosedType) (known : TypeHas (Below s.names) t) where
+module _ (s : Responder) (called : IsCalled s) (t : ClosedType) (known : TypeHas (Below s.names) t) where
   abbrev lib : Library
   lib = s.engine.library
 

@@ -23,7 +23,7 @@ use Rattle.cls_engine.specs.Laws.{CertificatesDecide}
 use Rattle.cls_replies.specs.Answering.{Asks, Verified}
 use Rattle.cls_replies.specs.Answering as answering
 use Rattle.cls_replies.specs.Errors.{faults_of}
-use Rattle.cls_replies.specs.Serving.{Serving}
+use Rattle.cls_replies.specs.Responder.{Responder}
 use Rattle.cls_replies.specs.Texts.{verdict_text}
 use Rattle.cls_session.specs.Transcripts.{IsAnswered}
 use Rattle.cls_laws.proofs.OneTranscript.{answered_apart}
@@ -34,7 +34,7 @@ use Rattle.cls_laws.proofs.HeldLines.{replied, alone}
 use Rattle.cls_laws.proofs.Openings.{answered_can}
 use Rattle.cls_laws.proofs.QedLines.{EndWithQed, printed_end}
 use Rattle.cls_laws.proofs.SameType.{asks_opens, same_type}
-use Rattle.cls_laws.proofs.ServingNames.{IsCalled, session_called}
+use Rattle.cls_laws.proofs.ResponderNames.{IsCalled, session_called}
 
 -- a type that the engine can work on can be compared
 one_spread : (t goal : ClosedType) → t ≡ goal → IsSpread t → IsSpread goal
@@ -47,7 +47,7 @@ can_compare lib o goal silent f (inl ((t, stands, spread), e)) = elim (Contains-
 ]
 can_compare lib o goal silent f (inr (none, h)) = h
 
-module _ (decide : CertificatesDecide) (o : Options) (lines : List (List ℕ)) (before : List ℕ) (s : Serving) (answered : IsAnswered o lines before s) (free : s.held ≡ []) (goal : ClosedType) (c : Certificate) (silent : AreSilent (faults_of s.engine (certify goal))) (certified : IsCertified s.engine.library goal c) (within : IsCertificateWithin s.names s.components c) (line : List ℕ) (asks : Asks s line (verify goal) s) where
+module _ (decide : CertificatesDecide) (o : Options) (lines : List (List ℕ)) (before : List ℕ) (s : Responder) (answered : IsAnswered o lines before s) (free : s.held ≡ []) (goal : ClosedType) (c : Certificate) (silent : AreSilent (faults_of s.engine (certify goal))) (certified : IsCertified s.engine.library goal c) (within : IsCertificateWithin s.names s.components c) (line : List ℕ) (asks : Asks s line (verify goal) s) where
   abbrev printed : List (List ℕ)
   printed = lines_of (certificate_text s.names s.components c)
 

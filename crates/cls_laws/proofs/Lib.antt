@@ -34,7 +34,7 @@ pub mod Readings
 pub mod Replies
 pub mod SameLine
 pub mod SameType
-pub mod ServingNames
+pub mod ResponderNames
 pub mod SkippedLines
 pub mod Sorting
 pub mod Spelling

@@ -19,7 +19,7 @@ use Rattle.cls_engine.specs.declared.fault.EngineFault.{EngineFault}
 use Rattle.cls_engine.specs.declared.verdict.Verdict.{Verdict}
 use Rattle.cls_engine.specs.declared.verdict.Verdict.TheVariants.{Accepted, Refused}
 use Rattle.cls_engine.specs.Verdicts.{IsVerdict}
-use Rattle.cls_replies.specs.Serving.{Serving, tables_in, with_names, holding}
+use Rattle.cls_replies.specs.Responder.{Responder, tables_in, with_names, holding}
 use Rattle.cls_replies.specs.Texts.{error_line, fault_words, verdict_text}
 use Rattle.cls_replies.specs.Errors.{proof_words}
 use Rattle.cls_replies.specs.Answering.{Asks, IsMisread, Judges, Verifies, Verified}
@@ -27,12 +27,12 @@ use Rattle.cls_replies.specs.Answering as answering
 use Rattle.cls_laws.proofs.OneReply.{fault_one}
 
 -- WHAT A LINE ASKS
-module _ (s : Serving) (line : List ℕ) where
-  pub misread_one : (t u : List ℕ) (m n : Serving) → IsMisread s line t m → IsMisread s line u n → (t ≡ u) × (m ≡ n)
+module _ (s : Responder) (line : List ℕ) where
+  pub misread_one : (t u : List ℕ) (m n : Responder) → IsMisread s line t m → IsMisread s line u n → (t ≡ u) × (m ≡ n)
   misread_one t u m n h k =
       (h.written ∙ (ap error_line (errors_determined (tables_in s) line h.words k.words h.first k.first) ∙ sym k.written), h.same ∙ sym k.same)
 
-  pub asks_one : (q r : Query) (m n : Serving) → Asks s line q m → Asks s line r n → (q ≡ r) × (m ≡ n)
+  pub asks_one : (q r : Query) (m n : Responder) → Asks s line q m → Asks s line r n → (q ≡ r) × (m ≡ n)
   asks_one q r m n h k =
       let said : h.0.said ≡ k.0.said = lines_read_once (words_of line) h.0.said k.0.said h.0.spelled k.0.spelled in
       let names : m.names ≡ n.names = h.0.numbered ∙ (ap (λ (v : QueryText). (with_query (tables_in s) v).constructors) said ∙ sym k.0.numbered) in (
@@ -40,7 +40,7 @@ module _ (s : Serving) (line : List ℕ) where
         h.1 ∙ (ap (λ (x : List (List ℕ)). with_names s x) names ∙ sym k.1),
       )
 
-  pub read_or_not : (q : Query) (t : List ℕ) (m n : Serving) → Asks s line q m → IsMisread s line t n → ⊥
+  pub read_or_not : (q : Query) (t : List ℕ) (m n : Responder) → Asks s line q m → IsMisread s line t n → ⊥
   read_or_not q t m n h k = h.0.faultless k.words k.first
 
 -- CERTIFICATES
@@ -51,7 +51,7 @@ verdict_one lib goal c (Refused row reason) Accepted h k = absurd (accepted_sile
 verdict_one lib goal c (Refused row reason) (Refused row' reason') h k =
     ap (λ (p : ℕ × Reason). Refused p.0 p.1) (refusal_determined lib goal c (row, reason) (row', reason') h k)
 
-judged_one : (s : Serving) (goal : ClosedType) (c : Certificate) → IsDetermined (Judges s goal c)
+judged_one : (s : Responder) (goal : ClosedType) (c : Certificate) → IsDetermined (Judges s goal c)
 judged_one s goal c t u (answering.Judges.failed f h e) (answering.Judges.failed g k d) =
     e ∙ (ap (λ (x : EngineFault). error_line (fault_words s.names x)) (fault_one s.engine (verify goal) f g h k) ∙ sym d)
 judged_one s goal c t u (answering.Judges.failed f h e) (answering.Judges.judged silent v k d) = absurd (silent f h)
@@ -79,31 +79,31 @@ module _ (components certificate : List (List ℕ)) where
   said_or_not old new c (BadLine n) v h k e = exclusive.said_or_bad old new components certificate c n h k
   said_or_not old new c NoQed v h k e = exclusive.said_or_lacking old new components certificate c h k
 
-module _ (s : Serving) (distinct : IsDistinct bytes_eq s.components) where
-  verifies_one : (goal : ClosedType) (certificate : List (List ℕ)) (t u : List ℕ) (m n : Serving) → Verifies s goal certificate t m → Verifies s goal certificate u n → (t ≡ u) × (m ≡ n)
+module _ (s : Responder) (distinct : IsDistinct bytes_eq s.components) where
+  verifies_one : (goal : ClosedType) (certificate : List (List ℕ)) (t u : List ℕ) (m n : Responder) → Verifies s goal certificate t m → Verifies s goal certificate u n → (t ≡ u) × (m ≡ n)
   verifies_one goal certificate t u m n (answering.Verifies.bad f v h e d same) (answering.Verifies.bad g w k i j same') =
       (d ∙ (ap error_line (proof_fault_one s.components certificate f g v w h e k i) ∙ sym j), same ∙ sym same')
   verifies_one goal certificate t u m n (answering.Verifies.bad f v h e d same) (answering.Verifies.read c k same' j) = absurd (said_or_not s.components certificate s.names n.names c f v k h e)
   verifies_one goal certificate t u m n (answering.Verifies.read c h same j) (answering.Verifies.bad g w k i d same') = absurd (said_or_not s.components certificate s.names m.names c g w h k i)
   verifies_one goal certificate t u m n (answering.Verifies.read c h same a) (answering.Verifies.read d k same' b) =
       let one = one_certificate s.names m.names n.names s.components certificate c d distinct h k in
-      let servings : m ≡ n = same ∙ (ap (λ (x : List (List ℕ)). with_names s x) one.1 ∙ sym same') in
-      (judged_one m goal c t u a (subst (λ (x : Serving). Judges x goal c u) (sym servings) (subst (λ (x : Certificate). Judges n goal x u) (sym one.0) b)), servings)
+      let responders : m ≡ n = same ∙ (ap (λ (x : List (List ℕ)). with_names s x) one.1 ∙ sym same') in
+      (judged_one m goal c t u a (subst (λ (x : Responder). Judges x goal c u) (sym responders) (subst (λ (x : Certificate). Judges n goal x u) (sym one.0) b)), responders)
 
 verify_goal : (a b : ClosedType) → verify a ≡ verify b → a ≡ b
 verify_goal a b e = cc
 
-asked_components : (s : Serving) (line : List ℕ) (q : Query) (m : Serving) → Asks s line q m → IsDistinct bytes_eq s.components → IsDistinct bytes_eq m.components
-asked_components s line q m h d = subst (λ (x : Serving). IsDistinct bytes_eq x.components) (sym h.1) d
+asked_components : (s : Responder) (line : List ℕ) (q : Query) (m : Responder) → Asks s line q m → IsDistinct bytes_eq s.components → IsDistinct bytes_eq m.components
+asked_components s line q m h d = subst (λ (x : Responder). IsDistinct bytes_eq x.components) (sym h.1) d
 
-module _ (s : Serving) (distinct : IsDistinct bytes_eq s.components) (line : List ℕ) (certificate : List (List ℕ)) where
-  verified_one : (t u : List ℕ) (m n : Serving) → Verified s line certificate t m → Verified s line certificate u n → (t ≡ u) × (m ≡ n)
+module _ (s : Responder) (distinct : IsDistinct bytes_eq s.components) (line : List ℕ) (certificate : List (List ℕ)) where
+  verified_one : (t u : List ℕ) (m n : Responder) → Verified s line certificate t m → Verified s line certificate u n → (t ≡ u) × (m ≡ n)
   verified_one t u m n (answering.Verified.misread h) (answering.Verified.misread k) = misread_one s line t u m n h k
   verified_one t u m n (answering.Verified.misread h) (answering.Verified.asked goal x k b) = absurd (read_or_not s line (verify goal) t x m k h)
   verified_one t u m n (answering.Verified.asked goal x h a) (answering.Verified.misread k) = absurd (read_or_not s line (verify goal) u x n h k)
   verified_one t u m n (answering.Verified.asked goal x h a) (answering.Verified.asked goal' y k b) =
       let one = asks_one s line (verify goal) (verify goal') x y h k in
-      let b' : Verifies x goal certificate u n = subst (λ (z : Serving). Verifies z goal certificate u n) (sym one.1) (subst (λ (g : ClosedType). Verifies y g certificate u n) (sym (verify_goal goal goal' one.0)) b) in
+      let b' : Verifies x goal certificate u n = subst (λ (z : Responder). Verifies z goal certificate u n) (sym one.1) (subst (λ (g : ClosedType). Verifies y g certificate u n) (sym (verify_goal goal goal' one.0)) b) in
       verifies_one x (asked_components s line (verify goal) x h distinct) goal certificate t u m n a b'
 
 -- ONE LINE
@@ -113,9 +113,9 @@ nil_cons l x xs e f = cc
 same_front : {A : Type 0} (l : List A) (x y : A) (xs ys : List A) → l ≡ x ∷ xs → l ≡ y ∷ ys → (x ≡ y) × (xs ≡ ys)
 same_front l x y xs ys e f = (cc, cc)
 
-module _ (s : Serving) (distinct : IsDistinct bytes_eq s.components) where
+module _ (s : Responder) (distinct : IsDistinct bytes_eq s.components) where
   -- the certificates that two lists of held lines begin
-  pub held_one : (first first' : List ℕ) (inside inside' more : List (List ℕ)) (t u : List ℕ) (m n : Serving) → s.held ≡ first ∷ inside → s.held ≡ first' ∷ inside'
+  pub held_one : (first first' : List ℕ) (inside inside' more : List (List ℕ)) (t u : List ℕ) (m n : Responder) → s.held ≡ first ∷ inside → s.held ≡ first' ∷ inside'
       → Verified (holding s []) first (inside ++ more) t m → Verified (holding s []) first' (inside' ++ more) u n → (t ≡ u) × (m ≡ n)
   held_one first first' inside inside' more t u m n e f h k =
       let same = same_front s.held first first' inside inside' e f in

@@ -33,7 +33,7 @@ use Rattle.cls_engine.specs.Engines.{EngineSeen}
 use Rattle.cls_engine.specs.Faults.{compare_faults, closure_faults, list_faults}
 use Rattle.cls_engine.specs.Goals.{Goal, IsFirstWide}
 use Rattle.cls_engine.proofs.Goals.{closed_unique}
-use Rattle.cls_replies.specs.Serving.{Serving}
+use Rattle.cls_replies.specs.Responder.{Responder}
 use Rattle.cls_replies.specs.Texts.{page_text, sizes_text, term_line, term_lines, error_line, fault_words}
 use Rattle.cls_replies.specs.Errors.{faults_of}
 use Rattle.cls_replies.specs.Replies.{Says, Lists, Reply}
@@ -96,7 +96,7 @@ module _ (book : List (List (Rule ℕ))) where
   ranks_one : (xs ys : List (Option ℕ)) → AreRanks book xs → AreRanks book ys → xs ≡ ys
   ranks_one xs ys h k = same_at_each xs ys (h.count ∙ sym k.count) (λ i x y e f. rank_one i x y (h.each i x e) (k.each i y f))
 
-module _ (s : Serving) where
+module _ (s : Responder) where
   lists_one : (q : Listing) (shown : Applicative → List ℕ) → IsDetermined (Lists s q shown)
   lists_one q shown t u h k =
       let r = request s.engine.costs q.after q.max q.take in

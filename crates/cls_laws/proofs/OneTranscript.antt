@@ -13,7 +13,7 @@ use Rattle.cls_replies.specs.Answering.{Answered, Verifies, Verified}
 use Rattle.cls_replies.specs.Answering as answering
 use Rattle.cls_replies.specs.Lines.{Goes, Replies, Ends}
 use Rattle.cls_replies.specs.Lines as lines
-use Rattle.cls_replies.specs.Serving.{Serving, Serves, tables_in, holding}
+use Rattle.cls_replies.specs.Responder.{Responder, Serves, tables_in, holding}
 use Rattle.cls_session.specs.declared.status.Status.{Status}
 use Rattle.cls_laws.specs.Alike.{with_workers, served_by, AreSameReplies, AreSameTexts}
 use Rattle.cls_laws.specs.Alike as alike
@@ -25,54 +25,54 @@ use Rattle.cls_laws.proofs.SameLine.{one_unless_audit, goes_same, ends_same}
 use Rattle.cls_session.proofs.OneRepository.{IsReadUp, read_up, one_read, read_apart, one_taking, taken_or_read, one_fault, fault_or_read, fault_or_taken}
 
 -- COMPONENTS KEEP THEIR NAMES
-abbrev Keeps : Serving → Serving → Type 0
+abbrev Keeps : Responder → Responder → Type 0
 Keeps s m = m.components ≡ s.components
 
-same_keeps : (s m : Serving) → m ≡ s → Keeps s m
-same_keeps s m e = ap (λ (x : Serving). x.components) e
+same_keeps : (s m : Responder) → m ≡ s → Keeps s m
+same_keeps s m e = ap (λ (x : Responder). x.components) e
 
-answered_keeps : (s : Serving) (line text : List ℕ) (m : Serving) → Answered s line text m → Keeps s m
+answered_keeps : (s : Responder) (line text : List ℕ) (m : Responder) → Answered s line text m → Keeps s m
 answered_keeps s line text m (answering.Answered.misread h) = same_keeps s m h.same
-answered_keeps s line text m (answering.Answered.asked q h a) = ap (λ (x : Serving). x.components) h.1
+answered_keeps s line text m (answering.Answered.asked q h a) = ap (λ (x : Responder). x.components) h.1
 
-verifies_keeps : (s : Serving) (line text : List ℕ) (certificate : List (List ℕ)) (m : Serving) → Verified s line certificate text m → Keeps s m
+verifies_keeps : (s : Responder) (line text : List ℕ) (certificate : List (List ℕ)) (m : Responder) → Verified s line certificate text m → Keeps s m
 verifies_keeps s line text certificate m (answering.Verified.misread h) = same_keeps s m h.same
-verifies_keeps s line text certificate m (answering.Verified.asked goal x h v) = by v ∙ ap (λ (y : Serving). y.components) h.1
+verifies_keeps s line text certificate m (answering.Verified.asked goal x h v) = by v ∙ ap (λ (y : Responder). y.components) h.1
   where
     by : Verifies x goal certificate text m → Keeps x m
     by (answering.Verifies.bad f w k e d same) = same_keeps x m same
-    by (answering.Verifies.read c k same j) = ap (λ (y : Serving). y.components) same
+    by (answering.Verifies.read c k same j) = ap (λ (y : Responder). y.components) same
 
-goes_keeps : (s : Serving) (line text : List ℕ) (m : Serving) → Goes s line text m → Keeps s m
+goes_keeps : (s : Responder) (line text : List ℕ) (m : Responder) → Goes s line text m → Keeps s m
 goes_keeps s line text m (lines.Goes.skips e a p same) = same_keeps s m same
 goes_keeps s line text m (lines.Goes.asks e a v) = answered_keeps s line text m v
-goes_keeps s line text m (lines.Goes.opens e a p same) = ap (λ (x : Serving). x.components) same
-goes_keeps s line text m (lines.Goes.holds x xs e a p same) = ap (λ (y : Serving). y.components) same
+goes_keeps s line text m (lines.Goes.opens e a p same) = ap (λ (x : Responder). x.components) same
+goes_keeps s line text m (lines.Goes.holds x xs e a p same) = ap (λ (y : Responder). y.components) same
 goes_keeps s line text m (lines.Goes.ends x xs e a v) = verifies_keeps (holding s []) x text (xs ++ line ∷ []) m v
 
-abbrev Apart : Serving → Type 0
+abbrev Apart : Responder → Type 0
 Apart s = IsDistinct bytes_eq s.components
 
-stays_apart : (s m : Serving) → Keeps s m → Apart s → Apart m
+stays_apart : (s m : Responder) → Keeps s m → Apart s → Apart m
 stays_apart s m e h = subst (λ (x : List (List ℕ)). IsDistinct bytes_eq x) (sym e) h
 
-replies_apart : (s : Serving) (queries : List (List ℕ)) (text : List ℕ) (m : Serving) → Replies s queries text m → Apart s → Apart m
+replies_apart : (s : Responder) (queries : List (List ℕ)) (text : List ℕ) (m : Responder) → Replies s queries text m → Apart s → Apart m
 replies_apart s [] text m (p, e) h = stays_apart s m (same_keeps s m e) h
 replies_apart s (line ∷ queries) text m (x, first, rest, g, gs, e) h = replies_apart x queries rest m gs (stays_apart s x (goes_keeps s line first x g) h)
 
 -- LINES AFTER A REPOSITORY
-asks_none : (s : Serving) (line : List ℕ) → AsksNoAudit line → AsksAudit s line → ⊥
+asks_none : (s : Responder) (line : List ℕ) → AsksNoAudit line → AsksAudit s line → ⊥
 asks_none s line free (goal, m, h) = free (tables_in s) goal m.names h.0
 
 module _ (n : ℕ) where
-  replies_same : (s : Serving) → Apart s → (queries : List (List ℕ)) (t u : List ℕ) (m k : Serving) → Replies s queries t m → Replies (served_by n s) queries u k → AreSameReplies s n queries t u × (k ≡ served_by n m)
+  replies_same : (s : Responder) → Apart s → (queries : List (List ℕ)) (t u : List ℕ) (m k : Responder) → Replies s queries t m → Replies (served_by n s) queries u k → AreSameReplies s n queries t u × (k ≡ served_by n m)
   replies_same s apart [] t u m k (p, e) (q, f) = ((p, q), f ∙ sym (ap (served_by n) e))
   replies_same s apart (line ∷ queries) t u m k (x, first, rest, g, gs, e) (y, first', rest', h, hs, f) =
       let one = goes_same n s apart line first first' x y g h in
-      let on = replies_same x (stays_apart s x (goes_keeps s line first x g) apart) queries rest rest' m k gs (subst (λ (z : Serving). Replies z queries rest' k) one.1 hs) in
+      let on = replies_same x (stays_apart s x (goes_keeps s line first x g) apart) queries rest rest' m k gs (subst (λ (z : Responder). Replies z queries rest' k) one.1 hs) in
       ((first, first', rest, rest', x, g, one.0, on.0, e, f), on.1)
 
-  replies_free : (s : Serving) (queries : List (List ℕ)) → ((line : List ℕ) → Contains queries line → AsksNoAudit line) → (t u : List ℕ) → AreSameReplies s n queries t u → t ≡ u
+  replies_free : (s : Responder) (queries : List (List ℕ)) → ((line : List ℕ) → Contains queries line → AsksNoAudit line) → (t u : List ℕ) → AreSameReplies s n queries t u → t ≡ u
   replies_free s [] free t u (p, q) = p ∙ sym q
   replies_free s (line ∷ queries) free t u (first, first', rest, rest', x, g, one, on, e, f) =
       let here = one_unless_audit s n line first first' (asks_none s line (free line (Contains-here line queries))) one in
@@ -81,7 +81,7 @@ module _ (n : ℕ) where
 
 -- HOW A REPOSITORY IS OPENED
 module _ (o : Options) (d : Draft) where
-  serves_one : (s m : Serving) → Serves o d s → Serves o d m → s ≡ m
+  serves_one : (s m : Responder) → Serves o d s → Serves o d m → s ≡ m
   serves_one s m h k =
       let names = h.same_names ∙ sym k.same_names in
       let components = h.same_components ∙ sym k.same_components in
@@ -99,17 +99,17 @@ same_split (z ∷ xs) [] x y us vs l e = absurd (omega arith)
 same_split (z ∷ xs) (w ∷ ys) x y us vs l e = same_split xs ys x y us vs (omega arith) (let f : xs ++ x ∷ us ≡ ys ++ y ∷ vs = cc in f)
 
 module _ (o : Options) (input : List (List ℕ)) where
-  read_of : (text : List ℕ) (s : Serving) (a : IsAnswered o input text s) → IsReadUp input (length a.repository + 1) a.declared
+  read_of : (text : List ℕ) (s : Responder) (a : IsAnswered o input text s) → IsReadUp input (length a.repository + 1) a.declared
   read_of text s a = read_up input a.repository a.queries a.end a.declared a.split a.reads
 
-  opened_apart : (text : List ℕ) (s : Serving) (a : IsAnswered o input text s) → Apart a.opened
+  opened_apart : (text : List ℕ) (s : Responder) (a : IsAnswered o input text s) → Apart a.opened
   opened_apart text s a = subst (λ (x : List (List ℕ)). IsDistinct bytes_eq x) (sym a.serves.same_components) (read_apart input (length a.repository + 1) a.declared (read_of text s a))
 
-  pub answered_apart : (text : List ℕ) (s : Serving) → IsAnswered o input text s → Apart s
+  pub answered_apart : (text : List ℕ) (s : Responder) → IsAnswered o input text s → Apart s
   answered_apart text s a = replies_apart a.opened a.queries text s a.replies (opened_apart text s a)
 
   -- a repository with lines after it is taken whole, and no line of it is at fault
-  pub answered_or_taken : (text : List ℕ) (s : Serving) (r : Reading) → IsAnswered o input text s → AreTaken input r → ⊥
+  pub answered_or_taken : (text : List ℕ) (s : Responder) (r : Reading) → IsAnswered o input text s → AreTaken input r → ⊥
   answered_or_taken text s r a h = taken_or_read input r (length a.repository + 1) a.declared h (read_of text s a)
 
   pub refused_or_going : (t u : List ℕ) → IsRefused input t → Transcript o input u → ⊥
@@ -125,7 +125,7 @@ refusal_one input t u h k = h.written ∙ (ap refusal (one_fault input h.said k.
 
 -- ANOTHER NUMBER OF WORKERS
 module _ (o : Options) (n : ℕ) (input : List (List ℕ)) where
-  serves_by : (d : Draft) (s : Serving) → Serves o d s → Serves (with_workers n o) d (served_by n s)
+  serves_by : (d : Draft) (s : Responder) → Serves o d s → Serves (with_workers n o) d (served_by n s)
   serves_by d s h = record {
     same_names = h.same_names;
     same_components = h.same_components;
@@ -136,7 +136,7 @@ module _ (o : Options) (n : ℕ) (input : List (List ℕ)) where
     none_held = h.none_held;
   }
 
-  module _ (t u : List ℕ) (m k : Serving) (a : IsAnswered o input t m) (b : IsAnswered (with_workers n o) input u k) where
+  module _ (t u : List ℕ) (m k : Responder) (a : IsAnswered o input t m) (b : IsAnswered (with_workers n o) input u k) where
     same_end : a.queries ≡ b.queries
     same_end =
         let one = one_read input (length a.repository + 1) (length b.repository + 1) a.declared b.declared (read_of o input t m a) (read_of (with_workers n o) input u k b) in
@@ -150,7 +150,7 @@ module _ (o : Options) (n : ℕ) (input : List (List ℕ)) where
     pub answers_same : AreSameReplies a.opened n a.queries t u × (k ≡ served_by n m)
     answers_same =
         replies_same n a.opened (opened_apart o input t m a) a.queries t u m k a.replies
-        (subst (λ (x : Serving). Replies x a.queries u k) (sym same_opening) (subst (λ (ls : List (List ℕ)). Replies b.opened ls u k) (sym same_end) b.replies))
+        (subst (λ (x : Responder). Replies x a.queries u k) (sym same_opening) (subst (λ (ls : List (List ℕ)). Replies b.opened ls u k) (sym same_end) b.replies))
 
     -- with the same text behind the replies
     same_texts : (last : List ℕ) (text other : List ℕ) → text ≡ t ++ last → other ≡ u ++ last → AreSameTexts o n input text other
@@ -170,7 +170,7 @@ module _ (o : Options) (n : ℕ) (input : List (List ℕ)) where
   ending_same t u status status' (transcripts.Ending.without_end r h p e) (transcripts.Ending.complete k y last b w q f) = absurd (answered_or_taken (with_workers n o) input y k r b h)
   ending_same t u status status' (transcripts.Ending.complete m x last a v p e) (transcripts.Ending.without_end r g q f) = absurd (answered_or_taken o input x m r a g)
   ending_same t u status status' (transcripts.Ending.complete m x last a v p e) (transcripts.Ending.complete k y last' b w q f) =
-      let end : last ≡ last' = ends_same n m (answered_apart o input x m a) last last' v (subst (λ (z : Serving). Ends z last') (answers_same x y m k a b).1 w) in
+      let end : last ≡ last' = ends_same n m (answered_apart o input x m a) last last' v (subst (λ (z : Responder). Ends z last') (answers_same x y m k a b).1 w) in
       (same_texts x y m k a b last t u p (q ∙ ap (λ (l : List ℕ). y ++ l) (sym end)), e ∙ sym f)
 
 texts_free : (o : Options) (n : ℕ) (input : List (List ℕ)) (t u : List ℕ) → HaveNoAudit input → AreSameTexts o n input t u → t ≡ u

@@ -19,7 +19,7 @@ use Rattle.cls_repo.specs.Readings.{Reading, no_reading, TakesAll}
 use Rattle.cls_repo.specs.Sound.{IsCost, IsSound}
 use Rattle.cls_repo.proofs.Soundness.{no_draft_sound, taken_sound}
 use Rattle.cls_term.specs.Costs.{cost_of}
-use Rattle.cls_replies.specs.Serving.{Serving, Serves, AreHeld}
+use Rattle.cls_replies.specs.Responder.{Responder, Serves, AreHeld}
 use Rattle.cls_session.specs.Repositories.{IsRepository}
 use Rattle.cls_session.specs.Transcripts.{IsAnswered}
 use Rattle.cls_laws.proofs.Replies.{CanAnswer, replies_can}
@@ -72,7 +72,7 @@ each_costly [] h (suc x) = omega arith
 each_costly (c ∷ cs) h zero = omega (arith, h.0)
 each_costly (c ∷ cs) h (suc x) = each_costly cs h.1 x
 
-pub opened_can : (o : Options) (d : Draft) (s : Serving) → IsSound d → Serves o d s → CanAnswer s
+pub opened_can : (o : Options) (d : Draft) (s : Responder) → IsSound d → Serves o d s → CanAnswer s
 opened_can o d s sound h = record {
   library = library_law _ _ _ s.engine.library h.library_is;
   costly = λ x. subst (λ (costs : List ℕ). 0 < cost_of costs x) (sym h.costs_are) (each_costly (map (λ c. c.cost) d.components) (costs_costly d.components sound.costly) x);
@@ -88,6 +88,6 @@ all_sound old (line ∷ lines) new (next, t, inr (going, rest)) h = all_sound ne
 pub repository_sound : (repository : List (List ℕ)) (end : List ℕ) (d : Draft) → IsRepository repository end d → IsSound d
 repository_sound repository end d h = subst IsSound (sym h.declares) (taken_sound h.before end h.reading h.ends (all_sound no_reading repository h.before h.taken.taken no_draft_sound))
 
-pub answered_can : (o : Options) (lines : List (List ℕ)) (text : List ℕ) (s : Serving) → IsAnswered o lines text s → CanAnswer s
+pub answered_can : (o : Options) (lines : List (List ℕ)) (text : List ℕ) (s : Responder) → IsAnswered o lines text s → CanAnswer s
 answered_can o lines text s h =
     replies_can h.opened h.queries text s h.replies (opened_can o h.declared h.opened (repository_sound h.repository h.end h.declared h.reads) h.serves)

@@ -45,7 +45,7 @@ use Rattle.cls_replies.specs.LineKinds.{Opens, IsQed}
 use Rattle.cls_replies.specs.Lines.{Goes, Ends, Replies}
 use Rattle.cls_replies.specs.Lines as lines
 use Rattle.cls_replies.specs.Replies.{Says, Lists, Reply, TellsSizes}
-use Rattle.cls_replies.specs.Serving.{Serving, tables_in, with_names, holding, AreHeld}
+use Rattle.cls_replies.specs.Responder.{Responder, tables_in, with_names, holding, AreHeld}
 use Rattle.cls_replies.specs.Texts.{reply_line, error_line, fault_words, verdict_text, paths_text, history_text, sizes_text, term_line, term_lines, page_text}
 use Rattle.cls_laws.specs.Existence.{HasReading, HasVerdict}
 use Rattle.cls_laws.specs.Possible.{IsPossible}
@@ -56,7 +56,7 @@ use Rattle.cls_laws.proofs.Readings.{readings_exist}
 use Rattle.cls_laws.proofs.Verdicts.{verdicts_exist}
 
 -- What answers lines by a library, whose components cost at least 1. The lines that are held were opened.
-pub record CanAnswer (s : Serving) : Type 0 where
+pub record CanAnswer (s : Responder) : Type 0 where
   pub library : IsLibrary s.engine.library
   pub costly : (x : ℕ) → 0 < cost_of s.engine.costs x
   pub opened : AreHeld s.held
@@ -68,7 +68,7 @@ front_silent (x ∷ xs) ys h f (inl k) = h f (inl k)
 front_silent (x ∷ xs) ys h f (inr (none, k)) = front_silent xs ys (λ g m. h g (inr (none, m))) f k
 
 -- THE REPLY TO A QUERY
-module _ (s : Serving) (can : CanAnswer s) where
+module _ (s : Responder) (can : CanAnswer s) where
   says_by : (Fact : Type 0) (so not_so : List ℕ) → Fact ⊎ (Fact → ⊥) → (text : List ℕ) × Says Fact so not_so text
   says_by Fact so not_so (inl f) = (reply_line so, inl (f, refl))
   says_by Fact so not_so (inr n) = (reply_line not_so, inr (n, refl))
@@ -145,15 +145,15 @@ module _ (s : Serving) (can : CanAnswer s) where
   judgement_exists goal c = then (first_decided (faults_of s.engine (verify goal))) (judgement_by goal c)
 
 -- with other names, or with other lines held, lines are answered as well
-named_can : (s : Serving) (names : List (List ℕ)) → CanAnswer s → CanAnswer (with_names s names)
+named_can : (s : Responder) (names : List (List ℕ)) → CanAnswer s → CanAnswer (with_names s names)
 named_can s names can = record { library = can.library; costly = can.costly; opened = can.opened }
 
-holding_can : (s : Serving) (held : List (List ℕ)) → AreHeld held → CanAnswer s → CanAnswer (holding s held)
+holding_can : (s : Responder) (held : List (List ℕ)) → AreHeld held → CanAnswer s → CanAnswer (holding s held)
 holding_can s held opened can = record { library = can.library; costly = can.costly; opened = opened }
 
-module _ (m : Serving) (can : CanAnswer m) (goal : ClosedType) (certificate : List (List ℕ)) where
+module _ (m : Responder) (can : CanAnswer m) (goal : ClosedType) (certificate : List (List ℕ)) where
   abbrev HasVerification : Type 0
-  HasVerification = (text : List ℕ) × (s' : Serving) × Verifies m goal certificate text s'
+  HasVerification = (text : List ℕ) × (s' : Responder) × Verifies m goal certificate text s'
 
   verified_as : (new : List (List ℕ)) (c : Certificate) → SaysCertificate m.names new m.components certificate c → HasJudgement (with_names m new) (named_can m new can) goal c → HasVerification
   verified_as new c says (text, j) = (text, with_names m new, answering.Verifies.read c says refl j)
@@ -177,7 +177,7 @@ goal_of (About word.Verify t) h = (t, refl)
 goal_of (About asks t) h = absurd h
 goal_of (Page asks q) h = absurd h
 
-module _ (s : Serving) (can : CanAnswer s) where
+module _ (s : Responder) (can : CanAnswer s) where
   abbrev IsDecided : List ℕ → Type 0
   IsDecided line = ((words : List ℕ) × First (line_errors (tables_in s) line) words)
       ⊎ ((query : Query) × (constructors : List (List ℕ)) × ReadsQuery (tables_in s) line query constructors)
@@ -187,7 +187,7 @@ module _ (s : Serving) (can : CanAnswer s) where
 
   -- a certificate that has ended
   abbrev HasEnd : List ℕ → List (List ℕ) → Type 0
-  HasEnd line certificate = (text : List ℕ) × (s' : Serving) × Verified s line certificate text s'
+  HasEnd line certificate = (text : List ℕ) × (s' : Responder) × Verified s line certificate text s'
 
   verified_by : (line : List ℕ) (certificate names : List (List ℕ)) (goal : ClosedType) → ReadsQuery (tables_in s) line (verify goal) names
       → HasVerification (with_names s names) (named_can s names can) goal certificate → HasEnd line certificate
@@ -205,7 +205,7 @@ module _ (s : Serving) (can : CanAnswer s) where
 
   -- a line by itself
   abbrev IsAnsweredLine : List ℕ → Type 0
-  IsAnsweredLine line = (text : List ℕ) × (s' : Serving) × Answered s line text s'
+  IsAnsweredLine line = (text : List ℕ) × (s' : Responder) × Answered s line text s'
 
   asks_none : (line : List ℕ) (q : Query) (names : List (List ℕ)) → (Opens line → ⊥) → ReadsQuery (tables_in s) line q names → IsVerify q → ⊥
   asks_none line q names closed reads v =
@@ -225,7 +225,7 @@ module _ (s : Serving) (can : CanAnswer s) where
       after (answer_exists (with_names s names) (named_can s names can) q (query_readable reads) (asks_none line q names closed reads)) (answered line q names reads)
 
   abbrev HasNext : List ℕ → Type 0
-  HasNext line = (text : List ℕ) × (s' : Serving) × Goes s line text s'
+  HasNext line = (text : List ℕ) × (s' : Responder) × Goes s line text s'
 
   asked : (line : List ℕ) → s.held ≡ [] → (IsSkipped line → ⊥) → (Opens line → ⊥) → IsAnsweredLine line → HasNext line
   asked line e unskipped closed (text, s', a) = (text, s', lines.Goes.asks e (record { unskipped = unskipped; closed = closed }) a)
@@ -239,7 +239,7 @@ module _ (s : Serving) (can : CanAnswer s) where
   free_next line e (inr unskipped) = then (either_way (Opens line)) (closed_next line e unskipped)
 
 -- the lines that are held end, or one more is held
-module _ (s : Serving) (can : CanAnswer s) where
+module _ (s : Responder) (can : CanAnswer s) where
   free_can : CanAnswer (holding s [])
   free_can = holding_can s [] tt can
 
@@ -254,7 +254,7 @@ module _ (s : Serving) (can : CanAnswer s) where
   next_by line [] e = then (either_way (IsSkipped line)) (free_next s can line e)
   next_by line (first ∷ inside) e = then (either_way (IsQed line)) (held_next line first inside e)
 
-  pub next_exists : (line : List ℕ) → IsPossible ((text : List ℕ) × (s' : Serving) × Goes s line text s')
+  pub next_exists : (line : List ℕ) → IsPossible ((text : List ℕ) × (s' : Responder) × Goes s line text s')
   next_exists line = next_by line s.held refl
 
   -- THE END OF THE LINES
@@ -272,22 +272,22 @@ module _ (s : Serving) (can : CanAnswer s) where
   last_exists = last_by s.held refl
 
 -- WHAT ANSWERS AFTER A LINE
-same_can : (s s' : Serving) → s' ≡ s → CanAnswer s → CanAnswer s'
+same_can : (s s' : Responder) → s' ≡ s → CanAnswer s → CanAnswer s'
 same_can s s' e can = subst CanAnswer (sym e) can
 
-verifies_can : (m : Serving) (goal : ClosedType) (certificate : List (List ℕ)) (text : List ℕ) (s' : Serving) → Verifies m goal certificate text s' → CanAnswer m → CanAnswer s'
+verifies_can : (m : Responder) (goal : ClosedType) (certificate : List (List ℕ)) (text : List ℕ) (s' : Responder) → Verifies m goal certificate text s' → CanAnswer m → CanAnswer s'
 verifies_can m goal certificate text s' (answering.Verifies.bad fault words is w t e) can = same_can m s' e can
 verifies_can m goal certificate text s' (answering.Verifies.read c says e j) can = same_can (with_names m s'.names) s' e (named_can m s'.names can)
 
-verified_can : (s : Serving) (line : List ℕ) (certificate : List (List ℕ)) (text : List ℕ) (s' : Serving) → Verified s line certificate text s' → CanAnswer s → CanAnswer s'
+verified_can : (s : Responder) (line : List ℕ) (certificate : List (List ℕ)) (text : List ℕ) (s' : Responder) → Verified s line certificate text s' → CanAnswer s → CanAnswer s'
 verified_can s line certificate text s' (answering.Verified.misread m) can = same_can s s' m.same can
 verified_can s line certificate text s' (answering.Verified.asked goal m asks v) can = verifies_can m goal certificate text s' v (same_can (with_names s m.names) m asks.1 (named_can s m.names can))
 
-answered_can : (s : Serving) (line text : List ℕ) (s' : Serving) → Answered s line text s' → CanAnswer s → CanAnswer s'
+answered_can : (s : Responder) (line text : List ℕ) (s' : Responder) → Answered s line text s' → CanAnswer s → CanAnswer s'
 answered_can s line text s' (answering.Answered.misread m) can = same_can s s' m.same can
 answered_can s line text s' (answering.Answered.asked q asks a) can = same_can (with_names s s'.names) s' asks.1 (named_can s s'.names can)
 
-goes_can : (s : Serving) (line text : List ℕ) (s' : Serving) → Goes s line text s' → CanAnswer s → CanAnswer s'
+goes_can : (s : Responder) (line text : List ℕ) (s' : Responder) → Goes s line text s' → CanAnswer s → CanAnswer s'
 goes_can s line text s' (lines.Goes.skips e skipped t same) can = same_can s s' same can
 goes_can s line text s' (lines.Goes.asks e single a) can = answered_can s line text s' a can
 goes_can s line text s' (lines.Goes.opens e opens t same) can = same_can (holding s (line ∷ [])) s' same (holding_can s (line ∷ []) opens can)
@@ -295,6 +295,6 @@ goes_can s line text s' (lines.Goes.holds first inside e n t same) can =
     same_can (holding s (first ∷ (inside ++ line ∷ []))) s' same (holding_can s (first ∷ (inside ++ line ∷ [])) (subst AreHeld e can.opened) can)
 goes_can s line text s' (lines.Goes.ends first inside e q v) can = verified_can (holding s []) first (inside ++ line ∷ []) text s' v (holding_can s [] tt can)
 
-pub replies_can : (s : Serving) (rest : List (List ℕ)) (text : List ℕ) (s' : Serving) → Replies s rest text s' → CanAnswer s → CanAnswer s'
+pub replies_can : (s : Responder) (rest : List (List ℕ)) (text : List ℕ) (s' : Responder) → Replies s rest text s' → CanAnswer s → CanAnswer s'
 replies_can s [] text s' h can = same_can s s' h.1 can
 replies_can s (line ∷ rest) text s' (m, first, others, goes, hs, e) can = replies_can m rest others s' hs (goes_can s line first m goes can)

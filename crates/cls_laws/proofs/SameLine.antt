@@ -6,7 +6,7 @@ use Rattle.std.specs.Str.{bytes_eq}
 use Rattle.cls_base.specs.Types.{ClosedType}
 use Rattle.cls_query.specs.Queries.{Query, audit}
 use Rattle.cls_engine.specs.declared.fault.EngineFault.{EngineFault}
-use Rattle.cls_replies.specs.Serving.{Serving, holding}
+use Rattle.cls_replies.specs.Responder.{Responder, holding}
 use Rattle.cls_replies.specs.Texts.{error_line, fault_words}
 use Rattle.cls_replies.specs.Answering.{Asks, Answers, Answered, Verified}
 use Rattle.cls_replies.specs.Answering as answering
@@ -21,27 +21,27 @@ use Rattle.cls_laws.proofs.OneLine.{misread_one, asks_one, read_or_not, nil_cons
 use Rattle.cls_laws.proofs.SkippedLines.{skipped_opens}
 
 -- where no audit is asked for, replies that are the same are one text
-pub one_unless_audit : (s : Serving) (n : ℕ) (line text other : List ℕ) → (AsksAudit s line → ⊥) → AreSame s n line text other → text ≡ other
+pub one_unless_audit : (s : Responder) (n : ℕ) (line text other : List ℕ) → (AsksAudit s line → ⊥) → AreSame s n line text other → text ≡ other
 one_unless_audit s n line text other free (alike.AreSame.one_text e) = e
 one_unless_audit s n line text other free (alike.AreSame.histories goal m none h a b) = absurd (free (goal, m, h))
 
 module _ (n : ℕ) where
   -- A QUERY
   -- what is written for an audit
-  audits_same : (s : Serving) (line : List ℕ) (m : Serving) (goal : ClosedType) (t u : List ℕ) → s.held ≡ [] → Asks s line (audit goal) m → Answers m (audit goal) t → Answers (served_by n m) (audit goal) u → AreSame s n line t u
+  audits_same : (s : Responder) (line : List ℕ) (m : Responder) (goal : ClosedType) (t u : List ℕ) → s.held ≡ [] → Asks s line (audit goal) m → Answers m (audit goal) t → Answers (served_by n m) (audit goal) u → AreSame s n line t u
   audits_same s line m goal t u none h (answering.Answers.failed f p e) (answering.Answers.failed g q d) =
       alike.AreSame.one_text (e ∙ (ap (λ (x : EngineFault). error_line (fault_words m.names x)) (fault_one (served_by n m).engine (audit goal) f g (fault_by n m (audit goal) f p) q) ∙ sym d))
   audits_same s line m goal t u none h (answering.Answers.failed f p e) (answering.Answers.replied silent r) = absurd (silent f (fault_by n m (audit goal) f p))
   audits_same s line m goal t u none h (answering.Answers.replied silent r) (answering.Answers.failed g q d) = absurd (silent g q)
   audits_same s line m goal t u none h (answering.Answers.replied silent r) (answering.Answers.replied silent' r') = alike.AreSame.histories goal m none h r r'
 
-  answers_same : (s : Serving) (line : List ℕ) (q : Query) (m : Serving) (t u : List ℕ) → s.held ≡ [] → Asks s line q m → ((goal : ClosedType) × (q ≡ audit goal)) ⊎ ((goal : ClosedType) → q ≡ audit goal → ⊥)
+  answers_same : (s : Responder) (line : List ℕ) (q : Query) (m : Responder) (t u : List ℕ) → s.held ≡ [] → Asks s line q m → ((goal : ClosedType) × (q ≡ audit goal)) ⊎ ((goal : ClosedType) → q ≡ audit goal → ⊥)
       → Answers m q t → Answers (served_by n m) q u → AreSame s n line t u
   answers_same s line q m t u none h (inl (goal, e)) a b =
       audits_same s line m goal t u none (subst (λ (x : Query). Asks s line x m) e h) (subst (λ (x : Query). Answers m x t) e a) (subst (λ (x : Query). Answers (served_by n m) x u) e b)
   answers_same s line q m t u none h (inr free) a b = alike.AreSame.one_text (answer_one (served_by n m) q free t u (answers_by n m q t free a) b)
 
-  answered_same : (s : Serving) (line : List ℕ) → s.held ≡ [] → (t u : List ℕ) (m k : Serving) → Answered s line t m → Answered (served_by n s) line u k → AreSame s n line t u × (k ≡ served_by n m)
+  answered_same : (s : Responder) (line : List ℕ) → s.held ≡ [] → (t u : List ℕ) (m k : Responder) → Answered s line t m → Answered (served_by n s) line u k → AreSame s n line t u × (k ≡ served_by n m)
   answered_same s line none t u m k (answering.Answered.misread h) (answering.Answered.misread g) =
       let one = misread_one (served_by n s) line t u (served_by n m) k (misread_by n s line t m h) g in
       (alike.AreSame.one_text one.0, sym one.1)
@@ -49,25 +49,25 @@ module _ (n : ℕ) where
   answered_same s line none t u m k (answering.Answered.asked q h a) (answering.Answered.misread g) = absurd (read_or_not (served_by n s) line q u (served_by n m) k (asks_by n s line q m h) g)
   answered_same s line none t u m k (answering.Answered.asked q h a) (answering.Answered.asked r g b) =
       let one = asks_one (served_by n s) line q r (served_by n m) k (asks_by n s line q m h) g in
-      let b' : Answers (served_by n m) q u = subst (λ (x : Serving). Answers x q u) (sym one.1) (subst (λ (x : Query). Answers k x u) (sym one.0) b) in
+      let b' : Answers (served_by n m) q u = subst (λ (x : Responder). Answers x q u) (sym one.1) (subst (λ (x : Query). Answers k x u) (sym one.0) b) in
       (answers_same s line q m t u none h (audit_or_not q) a b', sym one.1)
 
   -- A LINE
-  module _ (s : Serving) (distinct : IsDistinct bytes_eq s.components) where
-    held_same : (first first' : List ℕ) (inside inside' more : List (List ℕ)) (t u : List ℕ) (m k : Serving) → s.held ≡ first ∷ inside → s.held ≡ first' ∷ inside'
+  module _ (s : Responder) (distinct : IsDistinct bytes_eq s.components) where
+    held_same : (first first' : List ℕ) (inside inside' more : List (List ℕ)) (t u : List ℕ) (m k : Responder) → s.held ≡ first ∷ inside → s.held ≡ first' ∷ inside'
         → Verified (holding s []) first (inside ++ more) t m → Verified (holding (served_by n s) []) first' (inside' ++ more) u k → (t ≡ u) × (k ≡ served_by n m)
     held_same first first' inside inside' more t u m k e f h g =
         let one = held_one (served_by n s) distinct first first' inside inside' more t u (served_by n m) k e f (verified_by n (holding s []) first (inside ++ more) t m h) g in
         (one.0, sym one.1)
 
-    -- the same text, and the same serving but for the number of workers
-    abbrev Same : List ℕ → List ℕ → List ℕ → Serving → Serving → Type 0
+    -- the same text, and the same responder but for the number of workers
+    abbrev Same : List ℕ → List ℕ → List ℕ → Responder → Responder → Type 0
     Same line t u m k = AreSame s n line t u × (k ≡ served_by n m)
 
-    plain : (line t u : List ℕ) (m k : Serving) → (t ≡ u) × (k ≡ served_by n m) → Same line t u m k
+    plain : (line t u : List ℕ) (m k : Responder) → (t ≡ u) × (k ≡ served_by n m) → Same line t u m k
     plain line t u m k e = (alike.AreSame.one_text e.0, e.1)
 
-    pub goes_same : (line t u : List ℕ) (m k : Serving) → Goes s line t m → Goes (served_by n s) line u k → Same line t u m k
+    pub goes_same : (line t u : List ℕ) (m k : Responder) → Goes s line t m → Goes (served_by n s) line u k → Same line t u m k
     goes_same line t u m k (lines.Goes.skips e a p c) (lines.Goes.skips f b q d) = plain line t u m k (p ∙ sym q, d ∙ sym (ap (served_by n) c))
     goes_same line t u m k (lines.Goes.skips e a p c) (lines.Goes.asks f b w) = absurd (b.unskipped a)
     goes_same line t u m k (lines.Goes.skips e a p c) (lines.Goes.opens f b q d) = absurd (skipped_opens line a b)
@@ -96,7 +96,7 @@ module _ (n : ℕ) where
     goes_same line t u m k (lines.Goes.ends x xs e a v) (lines.Goes.ends y ys f b w) = plain line t u m k (held_same x y xs ys (line ∷ []) t u m k e f v w)
 
     -- THE END
-    whole : (x : Serving) (first : List ℕ) (inside : List (List ℕ)) (text : List ℕ) (m : Serving) → Verified (holding x []) first inside text m → Verified (holding x []) first (inside ++ []) text m
+    whole : (x : Responder) (first : List ℕ) (inside : List (List ℕ)) (text : List ℕ) (m : Responder) → Verified (holding x []) first inside text m → Verified (holding x []) first (inside ++ []) text m
     whole x first inside text m h = subst (λ (ls : List (List ℕ)). Verified (holding x []) first ls text m) (sym (append-nil inside)) h
 
     pub ends_same : (t u : List ℕ) → Ends s t → Ends (served_by n s) u → t ≡ u

@@ -34,7 +34,7 @@ use Rattle.cls_query.proofs.QueryLines.{holds_of, stays_silent}
 use Rattle.cls_query.proofs.Readable.{query_verify}
 use Rattle.cls_replies.specs.Answering.{Asks}
 use Rattle.cls_replies.specs.LineKinds.{Opens}
-use Rattle.cls_replies.specs.Serving.{Serving, tables_in}
+use Rattle.cls_replies.specs.Responder.{Responder, tables_in}
 
 -- CAUSES
 -- where each is silent, none applies
@@ -58,7 +58,7 @@ read_text tables line silent =
       utf8_or_not line (is_utf8 line) refl (λ n. each.1.0 (codes "utf8") (n, refl)),
     )
 
-pub asks_opens : (s : Serving) (line : List ℕ) (goal : ClosedType) (m : Serving) → Asks s line (verify goal) m → Opens line
+pub asks_opens : (s : Responder) (line : List ℕ) (goal : ClosedType) (m : Responder) → Asks s line (verify goal) m → Opens line
 asks_opens s line goal m h = record { text = read_text (tables_in s) line h.0.faultless; begins = (query_verify h.0).0 tt }
 
 -- NAMES THAT ARE KNOWN
@@ -220,7 +220,7 @@ module _ (type : List ℕ) (v : TypeText) where
         (long, ((λ t h. h.0 (verify_utf8 type text.1)), (deep, (stays_silent (verifying type) (as_verify v) (second_says says), (large, (dollar, (outside, (unknown, (stray, tt)))))))))
 
 -- THE TWO LINES, one after the other
-module _ (s m : Serving) (type : List ℕ) (goal : ClosedType) (asks : Asks s (certifying type) (certify goal) m) where
+module _ (s m : Responder) (type : List ℕ) (goal : ClosedType) (asks : Asks s (certifying type) (certify goal) m) where
   said : (v : TypeText) × (asks.0.said ≡ as_certify v)
   said = certify_said (with_query (tables_in s) asks.0.said) goal asks.0.said asks.0.asked (one_of_two (with_query (tables_in s) asks.0.said) asks.0.said)
 
@@ -246,7 +246,7 @@ module _ (s m : Serving) (type : List ℕ) (goal : ClosedType) (asks : Asks s (c
   stay = known_stay m.names named (held_by s.names named m.names numbered)
 
   components_stay : m.components ≡ s.components
-  components_stay = ap (λ (x : Serving). x.components) asks.1
+  components_stay = ap (λ (x : Responder). x.components) asks.1
 
   silent_then : IsSilent (First (line_errors (tables_in m) (verifying type)))
   silent_then =

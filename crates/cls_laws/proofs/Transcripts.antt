@@ -14,7 +14,7 @@ use Rattle.cls_repo.specs.EndFaults.{declared_in, schemas_in}
 use Rattle.cls_repo.specs.Readings.{Reading, no_reading, Takes, TakesAll, closing_faults}
 use Rattle.cls_query.proofs.FirstErrors.{each_silent}
 use Rattle.cls_replies.specs.Lines.{Goes, Ends, Replies}
-use Rattle.cls_replies.specs.Serving.{Serving, Serves, serving_of}
+use Rattle.cls_replies.specs.Responder.{Responder, Serves, responder_of}
 use Rattle.cls_session.specs.declared.status.Status.{Status}
 use Rattle.cls_session.specs.declared.status.Status.TheVariants.{Done, Refused, TooLong, Usage}
 use Rattle.cls_session.specs.declared.words.Command.{Command}
@@ -42,9 +42,9 @@ one_more old (first ∷ lines) reading line new (next, t, inl (over, e)) going u
 one_more old (first ∷ lines) reading line new (next, t, inr (still, hs)) going u on = (next, t, inr (still, one_more next lines reading line new hs going u on))
 
 -- one reply more
-one_reply : (s : Serving) (rest : List (List ℕ)) (text : List ℕ) (s' : Serving) (line reply : List ℕ) (s'' : Serving) → Replies s rest text s' → Goes s' line reply s'' → Replies s (rest ++ line ∷ []) (text ++ reply) s''
+one_reply : (s : Responder) (rest : List (List ℕ)) (text : List ℕ) (s' : Responder) (line reply : List ℕ) (s'' : Responder) → Replies s rest text s' → Goes s' line reply s'' → Replies s (rest ++ line ∷ []) (text ++ reply) s''
 one_reply s [] text s' line reply s'' h g =
-    (s'', reply, [], subst (λ (m : Serving). Goes m line reply s'') h.1 g, (refl, refl), ap (λ (t : List ℕ). t ++ reply) h.0 ∙ sym (append-nil reply))
+    (s'', reply, [], subst (λ (m : Responder). Goes m line reply s'') h.1 g, (refl, refl), ap (λ (t : List ℕ). t ++ reply) h.0 ∙ sym (append-nil reply))
 one_reply s (l ∷ rest) text s' line reply s'' (m, first, others, h, hs, e) g =
     (m, first, others ++ reply, h, one_reply m rest others s' line reply s'' hs g, ap (λ (t : List ℕ). t ++ reply) e ∙ append_assoc first others reply)
 
@@ -63,9 +63,9 @@ module _ (o : Options) where
   abbrev pub Next : List (List ℕ) → List ℕ → Type 0
   Next lines text = (rest : List ℕ) × (Transcript o lines (text ++ rest) ⊎ IsRefused lines (text ++ rest))
 
-  served : (d : Draft) (l : Library) → IsLibraryOf (declared_in d) d.kinds (schemas_in d) l → (s : Serving) × Serves o d s
+  served : (d : Draft) (l : Library) → IsLibraryOf (declared_in d) d.kinds (schemas_in d) l → (s : Responder) × Serves o d s
   served d l is = (
-    serving_of d.names d.component_names (map (λ c. c.template) d.components) (seen_as l (map (λ c. c.cost) d.components) o) [],
+    responder_of d.names d.component_names (map (λ c. c.template) d.components) (seen_as l (map (λ c. c.cost) d.components) o) [],
     record {
       same_names = refl;
       same_components = refl;
@@ -89,7 +89,7 @@ module _ (o : Options) where
       reads_on : new.ended ≡ false → Next (lines ++ line ∷ []) text
       reads_on on = ([], inl (transcripts.Transcript.opening new (record { taken = one_more no_reading lines reading line new taken.taken taken.unended t on; unended = on }) still_empty))
 
-      opens : new.ended ≡ true → IsSilent (First (closing_faults new)) → (s : (s : Serving) × Serves o new.draft s) → Next (lines ++ line ∷ []) text
+      opens : new.ended ≡ true → IsSilent (First (closing_faults new)) → (s : (s : Responder) × Serves o new.draft s) → Next (lines ++ line ∷ []) text
       opens ended silent (s, serves) = (
         [],
         inl (transcripts.Transcript.answering s (record {
@@ -119,7 +119,7 @@ module _ (o : Options) where
     next_declared (inr (said, r)) = surely (refuses said (repositories.IsFirstFault.of_line lines [] line reading refl taken r))
 
   -- ONE LINE AFTER IT
-  next_answered : (lines : List (List ℕ)) (text : List ℕ) (s : Serving) → IsAnswered o lines text s → (line : List ℕ) → (g : (reply : List ℕ) × (s' : Serving) × Goes s line reply s') → Next (lines ++ line ∷ []) text
+  next_answered : (lines : List (List ℕ)) (text : List ℕ) (s : Responder) → IsAnswered o lines text s → (line : List ℕ) → (g : (reply : List ℕ) × (s' : Responder) × Goes s line reply s') → Next (lines ++ line ∷ []) text
   next_answered lines text s h line (reply, s', goes) = (
     reply,
     inl (transcripts.Transcript.answering s' (record {
@@ -167,7 +167,7 @@ module _ (o : Options) where
   abbrev pub HasEnd : List (List ℕ) → List ℕ → Type 0
   HasEnd lines text = (last : List ℕ) × (status : Status) × Ending o lines (text ++ last) status
 
-  completed : (lines : List (List ℕ)) (text : List ℕ) (s : Serving) → IsAnswered o lines text s → (e : (last : List ℕ) × Ends s last) → HasEnd lines text
+  completed : (lines : List (List ℕ)) (text : List ℕ) (s : Responder) → IsAnswered o lines text s → (e : (last : List ℕ) × Ends s last) → HasEnd lines text
   completed lines text s h (last, e) = (last, Done, transcripts.Ending.complete s text last h e refl refl)
 
   pub ends : (lines : List (List ℕ)) (text : List ℕ) → Transcript o lines text → IsPossible (HasEnd lines text)

@@ -7,7 +7,7 @@ use Rattle.cls_repo.specs.Drafts.{Draft}
 use Rattle.cls_replies.specs.Answering as answering
 use Rattle.cls_replies.specs.Lines.{Goes}
 use Rattle.cls_replies.specs.Replies.{Reply}
-use Rattle.cls_replies.specs.Serving.{Serving, Serves}
+use Rattle.cls_replies.specs.Responder.{Responder, Serves}
 use Rattle.cls_session.specs.declared.words.Command.TheVariants.{Session, Generate}
 use Rattle.cls_session.specs.Commands.{Asks, AsksNothing}
 use Rattle.cls_session.specs.Generators.{generated_text}
@@ -19,21 +19,21 @@ abbrev pub with_workers : ℕ → Options → Options
 with_workers n o = record o { workers = n }
 
 -- what answers queries, by n workers
-abbrev pub served_by : ℕ → Serving → Serving
+abbrev pub served_by : ℕ → Responder → Responder
 served_by n s = record s { engine = record s.engine { options = with_workers n s.engine.options } }
 
 -- Two replies to a line, one where queries are answered by s and one where they are answered by n workers: they are one
 -- text, or the line asks for an audit, and each of them tells a legal complete history.
-pub data AreSame (s : Serving) (n : ℕ) (line text other : List ℕ) : Type 0 where
+pub data AreSame (s : Responder) (n : ℕ) (line text other : List ℕ) : Type 0 where
   one_text : text ≡ other → AreSame s n line text other
-  histories : (goal : ClosedType) (m : Serving) → s.held ≡ [] → answering.Asks s line (audit goal) m
+  histories : (goal : ClosedType) (m : Responder) → s.held ≡ [] → answering.Asks s line (audit goal) m
       → Reply m (audit goal) text → Reply (served_by n m) (audit goal) other → AreSame s n line text other
 
 -- The replies to lines in turn: those to each line are the same in this sense.
-abbrev pub AreSameReplies : Serving → ℕ → (lines : List (List ℕ)) → (text other : List ℕ) → Type 0
+abbrev pub AreSameReplies : Responder → ℕ → (lines : List (List ℕ)) → (text other : List ℕ) → Type 0
 AreSameReplies s n [] text other = (text ≡ []) × (other ≡ [])
 AreSameReplies s n (line ∷ lines) text other =
-    (first second rest rest' : List ℕ) × (s' : Serving) × Goes s line first s' × AreSame s n line first second
+    (first second rest rest' : List ℕ) × (s' : Responder) × Goes s line first s' × AreSame s n line first second
     × AreSameReplies s' n lines rest rest' × (text ≡ first ++ rest) × (other ≡ second ++ rest')
 
 -- Two texts for the same lines, with these options and with n workers: they are one text, or both have the replies to the
@@ -41,7 +41,7 @@ AreSameReplies s n (line ∷ lines) text other =
 pub data AreSameTexts (o : Options) (n : ℕ) (lines : List (List ℕ)) (text other : List ℕ) : Type 0 where
   one_text : text ≡ other → AreSameTexts o n lines text other
   replies :
-      (repository queries : List (List ℕ)) (end : List ℕ) (d : Draft) (s : Serving) → lines ≡ repository ++ end ∷ queries
+      (repository queries : List (List ℕ)) (end : List ℕ) (d : Draft) (s : Responder) → lines ≡ repository ++ end ∷ queries
       → IsRepository repository end d → Serves o d s → (first second last : List ℕ) → AreSameReplies s n queries first second
       → text ≡ first ++ last → other ≡ second ++ last → AreSameTexts o n lines text other
 

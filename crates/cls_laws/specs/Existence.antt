@@ -29,7 +29,7 @@ use Rattle.cls_engine.specs.Goals.{Goal, IsClosed}
 use Rattle.cls_engine.specs.Histories.{IsHistoryOf}
 use Rattle.cls_replies.specs.Replies.{TellsSizes}
 use Rattle.cls_replies.specs.Lines.{Goes, Ends}
-use Rattle.cls_replies.specs.Serving.{Serving}
+use Rattle.cls_replies.specs.Responder.{Responder}
 use Rattle.cls_session.specs.declared.status.Status.{Status}
 use Rattle.cls_session.specs.Outputs.{Output, MayStand, IsEnoughRoom, HasRoom}
 use Rattle.cls_session.specs.Transcripts.{IsAnswered, Transcript, IsRefused, Ending}
@@ -116,10 +116,10 @@ PagesExist =
 -- Each line more has a reply, and lines that end there are ended by a text.
 pub record LinesHaveReplies : Type 0 where
   pub goes :
-      (o : Options) (lines : List (List ℕ)) (text : List ℕ) (s : Serving) → IsAnswered o lines text s → (line : List ℕ)
-      → IsPossible ((reply : List ℕ) × (s' : Serving) × Goes s line reply s')
+      (o : Options) (lines : List (List ℕ)) (text : List ℕ) (s : Responder) → IsAnswered o lines text s → (line : List ℕ)
+      → IsPossible ((reply : List ℕ) × (s' : Responder) × Goes s line reply s')
   pub ends :
-      (o : Options) (lines : List (List ℕ)) (text : List ℕ) (s : Serving) → IsAnswered o lines text s
+      (o : Options) (lines : List (List ℕ)) (text : List ℕ) (s : Responder) → IsAnswered o lines text s
       → IsPossible ((last : List ℕ) × Ends s last)
 
 -- What stands written for lines goes on with each line more, or these are refused; and it ends if no line follows.

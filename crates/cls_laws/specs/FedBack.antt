@@ -17,7 +17,7 @@ use Rattle.cls_engine.specs.Faults.{AreSilent}
 use Rattle.cls_replies.specs.Answering.{Asks}
 use Rattle.cls_replies.specs.Errors.{faults_of}
 use Rattle.cls_replies.specs.Lines.{Replies}
-use Rattle.cls_replies.specs.Serving.{Serving}
+use Rattle.cls_replies.specs.Responder.{Responder}
 use Rattle.cls_replies.specs.Texts.{verdict_text}
 use Rattle.cls_session.specs.Transcripts.{IsAnswered}
 
@@ -41,24 +41,24 @@ pub record IsCertificateWithin (names components : List (List ℕ)) (c : Certifi
   pub short : AllByRecursion (λ line. length line ≤ max_line_bytes) (lines_of (certificate_text names components c))
 
 -- The line, and then the lines of the certificate as it is printed.
-abbrev pub fed_back : Serving → (line : List ℕ) → Certificate → List (List ℕ)
+abbrev pub fed_back : Responder → (line : List ℕ) → Certificate → List (List ℕ)
 fed_back s line c = line ∷ lines_of (certificate_text s.names s.components c)
 
 -- `accepted` is written for these lines, and nothing else may be. Queries are answered by the same after them: no name is new.
-pub record AreAccepted (s : Serving) (lines : List (List ℕ)) : Type 0 where
+pub record AreAccepted (s : Responder) (lines : List (List ℕ)) : Type 0 where
   pub replied : Replies s lines (verdict_text Accepted) s
   pub alone :
-      (text : List ℕ) (s' : Serving) → Replies s lines text s' → (text ≡ verdict_text Accepted) × (s' ≡ s)
+      (text : List ℕ) (s' : Responder) → Replies s lines text s' → (text ≡ verdict_text Accepted) × (s' ≡ s)
 
 -- Behind `certify` and behind `verify` the same text is read as the same type. So the second line names nothing new.
 pub record CertificatesAreAccepted : Type 0 where
   -- The certificate is the one that `certify` prints of the type where the session stands, and no fault applies to the type.
   -- It is within the limits of lines.
   pub accepted :
-      (o : Options) (lines : List (List ℕ)) (text : List ℕ) (s : Serving) → IsAnswered o lines text s → s.held ≡ []
+      (o : Options) (lines : List (List ℕ)) (text : List ℕ) (s : Responder) → IsAnswered o lines text s → s.held ≡ []
       → (goal : ClosedType) (c : Certificate) → AreSilent (faults_of s.engine (certify goal))
       → IsCertified s.engine.library goal c → IsCertificateWithin s.names s.components c
       → (line : List ℕ) → Asks s line (verify goal) s → AreAccepted s (fed_back s line c)
   pub alike :
-      (s m : Serving) (type : List ℕ) (goal : ClosedType) → Asks s (codes "certify " ++ type) (certify goal) m
+      (s m : Responder) (type : List ℕ) (goal : ClosedType) → Asks s (codes "certify " ++ type) (certify goal) m
       → Asks m (codes "verify " ++ type) (verify goal) m

@@ -13,7 +13,7 @@ use Rattle.cls_query.specs.Readable.{begins_with}
 use Rattle.cls_repo.specs.Drafts.{Draft}
 use Rattle.cls_replies.specs.Answering as answering
 use Rattle.cls_replies.specs.Lines.{Goes, Ends}
-use Rattle.cls_replies.specs.Serving.{Serving}
+use Rattle.cls_replies.specs.Responder.{Responder}
 use Rattle.cls_session.specs.declared.status.Status.{Status}
 use Rattle.cls_session.specs.Outputs.{lines_read, SessionOutput, Output}
 use Rattle.cls_session.specs.Repositories.{IsRepository}
@@ -21,8 +21,8 @@ use Rattle.cls_session.specs.Transcripts.{IsAnswered, Transcript, IsRefused, End
 use Rattle.cls_laws.specs.Alike.{with_workers, served_by, AreSame, AreSameTexts, AskAlike, IsRead, AreSameOutputs}
 
 -- The line asks for an audit, where queries are answered by this.
-abbrev pub AsksAudit : Serving → List ℕ → Type 0
-AsksAudit s line = (goal : ClosedType) × (s' : Serving) × answering.Asks s line (audit goal) s'
+abbrev pub AsksAudit : Responder → List ℕ → Type 0
+AsksAudit s line = (goal : ClosedType) × (s' : Responder) × answering.Asks s line (audit goal) s'
 
 -- Whatever names have numbers, the line asks for no audit.
 abbrev pub AsksNoAudit : List ℕ → Type 0
@@ -44,17 +44,17 @@ HaveNoAudit lines =
 -- that a repository declares, by the last of these facts.
 pub record RepliesAreDetermined : Type 0 where
   pub goes :
-      (s : Serving) → IsDistinct bytes_eq s.components → (n : ℕ) (line text other : List ℕ) (next next' : Serving)
+      (s : Responder) → IsDistinct bytes_eq s.components → (n : ℕ) (line text other : List ℕ) (next next' : Responder)
       → Goes s line text next → Goes (served_by n s) line other next'
       → AreSame s n line text other × (next' ≡ served_by n next)
   pub ends :
-      (s : Serving) → IsDistinct bytes_eq s.components → (n : ℕ) (text other : List ℕ)
+      (s : Responder) → IsDistinct bytes_eq s.components → (n : ℕ) (text other : List ℕ)
       → Ends s text → Ends (served_by n s) other → text ≡ other
   pub free :
-      (s : Serving) (n : ℕ) (line text other : List ℕ) → (AsksAudit s line → ⊥) → AreSame s n line text other
+      (s : Responder) (n : ℕ) (line text other : List ℕ) → (AsksAudit s line → ⊥) → AreSame s n line text other
       → text ≡ other
   pub distinct :
-      (o : Options) (lines : List (List ℕ)) (text : List ℕ) (s : Serving) → IsAnswered o lines text s
+      (o : Options) (lines : List (List ℕ)) (text : List ℕ) (s : Responder) → IsAnswered o lines text s
       → IsDistinct bytes_eq s.components
 
 -- The texts that are written for lines with each number of workers are the same, reply by reply, with one status if no line
@@ -62,7 +62,7 @@ pub record RepliesAreDetermined : Type 0 where
 -- if it is refused nothing else is written.
 pub record TranscriptsAreDetermined : Type 0 where
   pub answers :
-      (o : Options) (n : ℕ) (lines : List (List ℕ)) (text other : List ℕ) (s s' : Serving)
+      (o : Options) (n : ℕ) (lines : List (List ℕ)) (text other : List ℕ) (s s' : Responder)
       → IsAnswered o lines text s → IsAnswered (with_workers n o) lines other s' → s' ≡ served_by n s
   pub transcripts :
       (o : Options) (n : ℕ) (lines : List (List ℕ)) (text other : List ℕ)

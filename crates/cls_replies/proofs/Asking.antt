@@ -9,25 +9,25 @@ use Rattle.cls_proof.specs.Reading.{IsProofFault}
 use Rattle.cls_query.specs.Queries.{Query}
 use Rattle.cls_query.specs.QueryErrors.{line_errors}
 use Rattle.cls_query.specs.ReadQueries.{ReadsQuery}
-use Rattle.cls_replies.specs.Serving.{Serving, tables_in, with_names}
+use Rattle.cls_replies.specs.Responder.{Responder, tables_in, with_names}
 use Rattle.cls_replies.specs.Errors.{proof_words}
 use Rattle.cls_replies.specs.Texts.{error_line}
 use Rattle.cls_replies.specs.Answering.{Answers, IsMisread, Answered, Verifies}
 use Rattle.cls_replies.specs.Answering as answering
 
 -- The query was read, and answered.
-pub asks : (s m s' : Serving) (line text : List ℕ) (q : Query) → m ≡ with_names s m.names → s' ≡ m → ReadsQuery (tables_in s) line q m.names → Answers m q text → Answered s line text s'
-asks s m s' line text q w e r a = subst (λ (x : Serving). Answered s line text x) (sym e) (answering.Answered.asked q (r, w) a)
+pub asks : (s m s' : Responder) (line text : List ℕ) (q : Query) → m ≡ with_names s m.names → s' ≡ m → ReadsQuery (tables_in s) line q m.names → Answers m q text → Answered s line text s'
+asks s m s' line text q w e r a = subst (λ (x : Responder). Answered s line text x) (sym e) (answering.Answered.asked q (r, w) a)
 
 -- The line has an error.
-pub misreads : (s m : Serving) (line text : List ℕ) (o : Option (List ℕ)) → IfSome o (λ words. First (line_errors (tables_in s) line) words) → option_map error_line o ≡ Some text → m ≡ s → IsMisread s line text m
+pub misreads : (s m : Responder) (line text : List ℕ) (o : Option (List ℕ)) → IfSome o (λ words. First (line_errors (tables_in s) line) words) → option_map error_line o ≡ Some text → m ≡ s → IsMisread s line text m
 misreads s m line text None h e same = let k : None ≡ Some text = e in absurd (cc)
 misreads s m line text (Some words) h e same =
     let k : Some (error_line words) ≡ Some text = e in
     record { words = words; first = h; written = (let t : text ≡ error_line words = cc in t); same = same }
 
 -- The lines of a certificate are bad.
-pub bads : (m s' : Serving) (goal : ClosedType) (certificate : List (List ℕ)) (text : List ℕ) (fault : ProofFault) (o : Option (List ℕ)) → proof_words fault ≡ o → IsProofFault m.components certificate fault → option_map error_line o ≡ Some text → s' ≡ m → Verifies m goal certificate text s'
+pub bads : (m s' : Responder) (goal : ClosedType) (certificate : List (List ℕ)) (text : List ℕ) (fault : ProofFault) (o : Option (List ℕ)) → proof_words fault ≡ o → IsProofFault m.components certificate fault → option_map error_line o ≡ Some text → s' ≡ m → Verifies m goal certificate text s'
 bads m s' goal certificate text fault None w h e same = let k : None ≡ Some text = e in absurd (cc)
 bads m s' goal certificate text fault (Some words) w h e same =
     let k : Some (error_line words) ≡ Some text = e in

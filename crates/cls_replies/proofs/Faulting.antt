@@ -9,7 +9,7 @@ use Rattle.cls_query.specs.Queries.{Query, verify}
 use Rattle.cls_engine.specs.declared.fault.EngineFault.{EngineFault}
 use Rattle.cls_engine.specs.declared.fault.EngineFault.TheVariants.{Size, TooLarge, Wide, TooManyTerms, OutOfMemory}
 use Rattle.cls_engine.specs.Faults.{IsFaultOf}
-use Rattle.cls_replies.specs.Serving.{Serving}
+use Rattle.cls_replies.specs.Responder.{Responder}
 use Rattle.cls_replies.specs.Texts.{reply_line}
 use Rattle.cls_replies.specs.Errors.{faults_of}
 use Rattle.cls_replies.specs.Replies.{Says, Reply}
@@ -18,14 +18,14 @@ use Rattle.cls_replies.specs.Answering as answering
 use Rattle.cls_replies.specs.Steps.{IsFaultLine}
 
 -- the first thing that the engine can't do is what is written
-pub fails : (s : Serving) (q : Query) (f : EngineFault) (text : List ℕ) → IsFaultOf (faults_of s.engine q) f → IsFaultLine s.names f text → Answers s q text
+pub fails : (s : Responder) (q : Query) (f : EngineFault) (text : List ℕ) → IsFaultOf (faults_of s.engine q) f → IsFaultLine s.names f text → Answers s q text
 fails s q Size text h l = answering.Answers.failed Size h l
 fails s q TooLarge text h l = answering.Answers.failed TooLarge h l
 fails s q (Wide g) text h l = answering.Answers.failed (Wide g) h l
 fails s q TooManyTerms text h l = answering.Answers.failed TooManyTerms h l
 fails s q OutOfMemory text h l = absurd l
 
-pub judge_fails : (s : Serving) (t : ClosedType) (c : Certificate) (f : EngineFault) (text : List ℕ) → IsFaultOf (faults_of s.engine (verify t)) f → IsFaultLine s.names f text → Judges s t c text
+pub judge_fails : (s : Responder) (t : ClosedType) (c : Certificate) (f : EngineFault) (text : List ℕ) → IsFaultOf (faults_of s.engine (verify t)) f → IsFaultLine s.names f text → Judges s t c text
 judge_fails s t c Size text h l = answering.Judges.failed Size h l
 judge_fails s t c TooLarge text h l = answering.Judges.failed TooLarge h l
 judge_fails s t c (Wide g) text h l = answering.Judges.failed (Wide g) h l
@@ -38,7 +38,7 @@ says_which Fact true so not_so text h e = inl (h.0 refl, e)
 says_which Fact false so not_so text h e = inr ((λ f. let t = h.1 f in cc), e)
 
 -- what is written for a result of the engine, in a text that may be missing
-module _ {X E : Type 0} (bytes : X → List ℕ) (r : Result X E) (s : Serving) (q : Query) where
+module _ {X E : Type 0} (bytes : X → List ℕ) (r : Result X E) (s : Responder) (q : Query) where
   pub fault_answers : (f : EngineFault) → IsFaultOf (faults_of s.engine q) f → IfOk r (λ text. IsFaultLine s.names f (bytes text)) → IfOk r (λ text. Answers s q (bytes text))
   fault_answers f h l = IfOk-weaker r (λ text. IsFaultLine s.names f (bytes text)) (λ text. Answers s q (bytes text)) (λ text m. fails s q f (bytes text) h m) l
 

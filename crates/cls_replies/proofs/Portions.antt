@@ -8,7 +8,7 @@ use Rattle.cls_path.specs.Paths.{TypePath, listed}
 use Rattle.cls_replies.specs.declared.printing.Printing.{Printing}
 use Rattle.cls_replies.specs.Printing.{behind, left_of}
 use Rattle.cls_replies.specs.Rests.{IsPrintingOf}
-use Rattle.cls_replies.specs.Serving.{Serving}
+use Rattle.cls_replies.specs.Responder.{Responder}
 use Rattle.cls_replies.specs.Texts.{reply_line, path_lines, paths_text}
 
 -- no line is left, and what follows them was written
@@ -48,7 +48,7 @@ pub some_text : (text rest : List ℕ) → 32768 ≤ length text → text ≡ []
 some_text text rest many none = absurd (let n = ap length none in omega (arith, n, many))
 
 -- A text that is printed already: what holds of it holds of the reply.
-pub printing_as : {A E F : Type 0} (r : Result (String A) E) (o : Result Printing F) (s : Serving) (P : List ℕ → Type 0) → IsPrintingOf r o
+pub printing_as : {A E F : Type 0} (r : Result (String A) E) (o : Result Printing F) (s : Responder) (P : List ℕ → Type 0) → IsPrintingOf r o
     → IfOk r (λ text. P (string_bytes text)) → IfOk o (λ p. P (left_of s p))
 printing_as (Ok text) (Ok p) s P h k = subst P (sym (h s)) k
 printing_as (Ok text) (Err f) s P h k = absurd h

@@ -5,6 +5,6 @@ pub mod Lines
 pub mod Printing
 pub mod Replies
 pub mod Rests
-pub mod Serving
+pub mod Responder
 pub mod Steps
 pub mod Texts

@@ -23,7 +23,7 @@ use Rattle.cls_replies.specs.declared.printing.Left.TheVariants as left
 use Rattle.cls_replies.specs.declared.printing.Lines.{Lines}
 use Rattle.cls_replies.specs.declared.printing.Lines.TheVariants as lines
 use Rattle.cls_replies.specs.declared.printing.Printing.{Printing}
-use Rattle.cls_replies.specs.Serving.{Serving}
+use Rattle.cls_replies.specs.Responder.{Responder}
 use Rattle.cls_replies.specs.Texts.{history_text, page_text, paths_text, reply_line, step_line, term_line, term_lines}
 
 -- the lines of a page from the term at a place on, each term shown in this way
@@ -43,7 +43,7 @@ behind zero n = n
 behind (suc i) none = none
 behind (suc i) (more p n) = behind i n
 
-module _ (s : Serving) where
+module _ (s : Responder) where
   abbrev pub left_lines : Lines → List ℕ
   left_lines (lines.Terms page place) = page_left (term_line (name_at s.components)) page place
   left_lines (lines.Texts page place) = page_left (term_lines (name_at s.components) s.templates) page place

@@ -26,7 +26,7 @@ use Rattle.cls_engine.specs.Certified.{IsCertified}
 use Rattle.cls_engine.specs.Goals.{Goal, IsClosed}
 use Rattle.cls_engine.specs.Histories.{IsHistoryOf}
 use Rattle.cls_engine.specs.Sizes.{IsGreatest, IsGreatestOver, IsUnbounded, IsWalk}
-use Rattle.cls_replies.specs.Serving.{Serving}
+use Rattle.cls_replies.specs.Responder.{Responder}
 use Rattle.cls_replies.specs.Texts.{reply_line, paths_text, history_text, sizes_text, term_line, term_lines, page_text}
 
 -- One of two lines, by whether the fact holds.
@@ -49,7 +49,7 @@ TellsSizes lib cost t Over = IsGreatestOver lib cost t max_finite_size
 TellsSizes lib cost t (Infinite walk) = IsUnbounded lib cost t × IsWalk lib cost t walk
 
 -- the names have numbers
-module _ (s : Serving) where
+module _ (s : Responder) where
   -- the page that is asked for, with each term shown in this way
   abbrev pub Lists : Listing → (Applicative → List ℕ) → List ℕ → Type 0
   Lists q shown text =

@@ -6,14 +6,14 @@ use Rattle.cls_engine.specs.declared.fault.EngineFault.{EngineFault}
 use Rattle.cls_engine.specs.declared.fault.EngineFault.TheVariants.{OutOfMemory}
 use Rattle.cls_replies.specs.declared.certificates.LineKind.{LineKind}
 use Rattle.cls_replies.specs.declared.certificates.LineKind.TheVariants.{Skipped, Opening, Single}
-use Rattle.cls_replies.specs.declared.serving.Held.{Held}
+use Rattle.cls_replies.specs.declared.responder.Held.{Held}
 use Rattle.cls_base.specs.Pages.{IsPage}
 use Rattle.cls_enum.specs.Requests.{request}
 use Rattle.cls_enum.specs.declared.listed.Page.{Page}
 use Rattle.cls_library.specs.Typing.{HasTypeIn}
 use Rattle.cls_replies.specs.LineKinds.{Opens, IsSingle}
 use Rattle.cls_replies.specs.Answering.{Verified}
-use Rattle.cls_replies.specs.Serving.{Serving, holding}
+use Rattle.cls_replies.specs.Responder.{Responder, holding}
 use Rattle.cls_replies.specs.Texts.{error_line, fault_words}
 
 -- the lines that are held
@@ -23,7 +23,7 @@ held_lines (Some h) = h.line ∷ h.inside
 
 -- What is written for these lines, of which the first opened a certificate, and what queries are answered by after it. For
 -- none nothing is written.
-abbrev pub Concludes : Serving → List (List ℕ) → List ℕ → Serving → Type 0
+abbrev pub Concludes : Responder → List (List ℕ) → List ℕ → Responder → Type 0
 Concludes s [] text s' = text ≡ []
 Concludes s (first ∷ inside) text s' = Verified (holding s []) first inside text s'
 
@@ -34,7 +34,7 @@ IsOfKind line Opening = Opens line
 IsOfKind line Single = IsSingle line
 
 -- the page that is asked for
-abbrev pub IsPageOf : Serving → Listing → Page → Type 0
+abbrev pub IsPageOf : Responder → Listing → Page → Type 0
 IsPageOf s q p =
     IsPage (λ e. HasTypeIn s.engine.library e q.goal) (request s.engine.costs q.after q.max q.take) p.terms p.more
 

@@ -1,13 +1,13 @@
 //! What is written for the lines after a repository.
 //!
-//! - [`Serving`] takes one line after another and gives what is written for it. It keeps the names that queries have
+//! - [`Responder`] takes one line after another and gives what is written for it. It keeps the names that queries have
 //!   numbered, the engine that answers them, and the lines of a certificate that hasn't ended.
-//! - [`Printing`] is a reply while it is printed. [`Serving::print`] gives one portion of its lines after another.
+//! - [`Printing`] is a reply while it is printed. [`Responder::print`] gives one portion of its lines after another.
 //!
 //! `specs/Lines` defines how lines are answered one after another, `specs/Answering` how a query is, `specs/Replies`
 //! what the reply to a query says, and `specs/Errors` which errors it can have.
 //!
-//! Inside, `serving` takes the lines and holds those of a certificate until `qed`; `queries` has one function for each
+//! Inside, `responder` takes the lines and holds those of a certificate until `qed`; `queries` has one function for each
 //! query, which calls the engine; `printing` keeps what is left of a reply and prints it in portions; `verifying` reads
 //! a certificate and has it judged. `certificates` tells which lines open and end a certificate, `faults` and `words`
 //! write lines of errors and of one word, `paths`, `events`, `sizes` and `pages` the longer replies. In `specs/`,
@@ -21,10 +21,10 @@ mod pages;
 mod paths;
 mod printing;
 mod queries;
-mod serving;
+mod responder;
 mod sizes;
 mod verifying;
 mod words;
 
 pub use printing::Printing;
-pub use serving::Serving;
+pub use responder::Responder;

@@ -9,7 +9,7 @@ ghost use Rattle.cls_grammar.specs.Ranks.{AreRanks};
 ghost use Rattle.cls_library.specs.Libraries.{paths_at};
 ghost use Rattle.cls_replies.specs.Printing.{ArePrintable, IsOfGoal, IsPrintable, behind};
 ghost use Rattle.cls_replies.specs.Printing.{events_left, left_lines, left_of, page_left, steps_left};
-ghost use Rattle.cls_replies.specs.Serving as serving;
+ghost use Rattle.cls_replies.specs.Responder as responder;
 ghost use Rattle.cls_replies.specs.Steps.{IsFaultLine};
 ghost use Rattle.cls_replies.specs.Rests.{IsCertificateText, IsPrintingOf, IsRest};
 ghost use Rattle.cls_replies.specs.Texts.{history_text, page_text, paths_text, sizes_text, term_line, term_lines};
@@ -20,7 +20,7 @@ use crate::events::print_events;
 use crate::faults::engine_fault;
 use crate::pages::{print_terms, print_texts};
 use crate::paths::print_paths;
-use crate::serving::Serving;
+use crate::responder::Responder;
 use crate::sizes::{print_over, print_size, print_steps};
 use cls_base::OutOfMemory;
 use cls_cert::{CertificateLeft, MembersLeft, RowsLeft, certify};
@@ -95,7 +95,7 @@ pub(crate) enum Left {
     Lines(Lines),
 }
 
-/// A reply, as far as it wasn't taken yet. Its text is taken in portions by [`Serving::print`], which prints them.
+/// A reply, as far as it wasn't taken yet. Its text is taken in portions by [`Responder::print`], which prints them.
 pub struct Printing {
     pub(crate) left: Left,
 }
@@ -110,8 +110,8 @@ impl Drop for Printing {
 impl Printing {
     /// The empty reply.
     pub fn nothing() -> Printing
-        ensures text { (s : serving.Serving) → left_of s result ≡ [] }
-        ensures printable { (s : serving.Serving) → IsPrintable s result }
+        ensures text { (s : responder.Responder) → left_of s result ≡ [] }
+        ensures printable { (s : responder.Responder) → IsPrintable s result }
     {
         Printing {
             left: Left::Nothing,
@@ -120,8 +120,8 @@ impl Printing {
 
     /// A reply that is printed already.
     pub(crate) fn of_text(text: String) -> Printing
-        ensures text { (s : serving.Serving) → left_of s result ≡ string_bytes text }
-        ensures printable { (s : serving.Serving) → IsPrintable s result }
+        ensures text { (s : responder.Responder) → left_of s result ≡ string_bytes text }
+        ensures printable { (s : responder.Responder) → IsPrintable s result }
     {
         Printing {
             left: Left::Text(text),
@@ -136,8 +136,8 @@ impl Printing {
     }
 
     fn of_lines(lines: Lines) -> Printing
-        ensures text { (s : serving.Serving) → left_of s result ≡ left_lines s lines }
-        ensures printable { (s : serving.Serving) → ArePrintable s lines → IsPrintable s result }
+        ensures text { (s : responder.Responder) → left_of s result ≡ left_lines s lines }
+        ensures printable { (s : responder.Responder) → ArePrintable s lines → IsPrintable s result }
     {
         Printing {
             left: Left::Lines(lines),
@@ -148,7 +148,7 @@ impl Printing {
 /// The reply that is printed already, if it was.
 pub(crate) fn text_printing(text: Result<String, OutOfMemory>) -> Result<Printing, OutOfMemory>
     ensures text { IsPrintingOf text result }
-    ensures printable { (s : serving.Serving) → IfOk result (IsPrintable s) }
+    ensures printable { (s : responder.Responder) → IfOk result (IsPrintable s) }
 {
     match text {
         Ok(text) => Ok(Printing::of_text(text)),
@@ -163,17 +163,17 @@ pub(crate) fn fault_printing(
     names: &Names,
     fault: EngineFault,
 ) -> Result<Printing, OutOfMemory>
-    ensures text { (s : serving.Serving) → IfOk result (λ p. IsFaultLine names.now fault (left_of s p)) }
-    ensures printable { (s : serving.Serving) → IfOk result (IsPrintable s) }
+    ensures text { (s : responder.Responder) → IfOk result (λ p. IsFaultLine names.now fault (left_of s p)) }
+    ensures printable { (s : responder.Responder) → IfOk result (IsPrintable s) }
 {
     text_printing(engine_fault(alloc, names, fault))
 }
 
 /// The grammar with the ranks of its goals. The only error is out of memory.
 pub(crate) fn grammar_printing(alloc: Global, grammar: Grammar) -> Result<Printing, OutOfMemory>
-    ensures text { (s : serving.Serving)
+    ensures text { (s : responder.Responder)
         → IfOk result (λ p. IsGrammarText (name_in s.names) (name_in s.components) grammar (left_of s p)) }
-    ensures printable { (s : serving.Serving) → IsOfGoal s grammar → IfOk result (IsPrintable s) }
+    ensures printable { (s : responder.Responder) → IsOfGoal s grammar → IfOk result (IsPrintable s) }
 {
     let ranks = grammar.ranks(alloc)?;
     Ok(Printing::of_lines(Lines::Grammar {
@@ -186,8 +186,8 @@ pub(crate) fn grammar_printing(alloc: Global, grammar: Grammar) -> Result<Printi
 /// A first line and lines behind it. The only error is out of memory.
 fn begun_printing(alloc: Global, first: &str, lines: Lines) -> Result<Printing, OutOfMemory>
     requires { first.now ≡ [] → ⊥ }
-    ensures text { (s : serving.Serving) → IfOk result (λ p. left_of s p ≡ first.now ++ left_lines s lines) }
-    ensures printable { (s : serving.Serving) → ArePrintable s lines → IfOk result (IsPrintable s) }
+    ensures text { (s : responder.Responder) → IfOk result (λ p. left_of s p ≡ first.now ++ left_lines s lines) }
+    ensures printable { (s : responder.Responder) → ArePrintable s lines → IfOk result (IsPrintable s) }
 {
     let mut text = String::new(alloc);
     text.push_str(first)?;
@@ -203,9 +203,9 @@ pub(crate) fn certificate_printing(
     grammar: Grammar,
 ) -> Result<Printing, OutOfMemory>
     requires { IsGrammarOf lib.now grammar }
-    ensures text { (s : serving.Serving) → s.engine.library ≡ lib.now
+    ensures text { (s : responder.Responder) → s.engine.library ≡ lib.now
         → IfOk result (λ p. IsCertificateText lib.now grammar s.names s.components (left_of s p)) }
-    ensures printable { (s : serving.Serving) → s.engine.library ≡ lib.now → IsOfGoal s grammar
+    ensures printable { (s : responder.Responder) → s.engine.library ≡ lib.now → IsOfGoal s grammar
         → IfOk result (IsPrintable s) }
 {
     let left = certify(alloc, lib, &grammar)?;
@@ -221,16 +221,16 @@ pub(crate) fn certificate_printing(
 
 /// The lines of a history.
 pub(crate) fn history_printing(history: History) -> Printing
-    ensures text { (s : serving.Serving) → left_of s result ≡ history_text history }
-    ensures printable { (s : serving.Serving) → IsPrintable s result }
+    ensures text { (s : responder.Responder) → left_of s result ≡ history_text history }
+    ensures printable { (s : responder.Responder) → IsPrintable s result }
 {
     Printing::of_lines(Lines::Events { history, place: 0 })
 }
 
 /// The lines of sizes. The only error is out of memory.
 pub(crate) fn sizes_printing(alloc: Global, sizes: FiniteAnswer) -> Result<Printing, OutOfMemory>
-    ensures text { (s : serving.Serving) → IfOk result (λ p. left_of s p ≡ sizes_text sizes) }
-    ensures printable { (s : serving.Serving) → IfOk result (IsPrintable s) }
+    ensures text { (s : responder.Responder) → IfOk result (λ p. left_of s p ≡ sizes_text sizes) }
+    ensures printable { (s : responder.Responder) → IfOk result (IsPrintable s) }
 {
     match sizes {
         FiniteAnswer::Finite(size) => text_printing(print_size(alloc, size)),
@@ -243,18 +243,18 @@ pub(crate) fn sizes_printing(alloc: Global, sizes: FiniteAnswer) -> Result<Print
 
 /// The terms of the page.
 pub(crate) fn terms_printing(page: Page) -> Printing
-    ensures text { (s : serving.Serving)
+    ensures text { (s : responder.Responder)
         → left_of s result ≡ page_text (term_line (name_at s.components)) page.terms page.more }
-    ensures printable { (s : serving.Serving) → IsPrintable s result }
+    ensures printable { (s : responder.Responder) → IsPrintable s result }
 {
     Printing::of_lines(Lines::Terms { page, place: 0 })
 }
 
 /// The terms of the page, each with its text.
 pub(crate) fn texts_printing(page: Page) -> Printing
-    ensures text { (s : serving.Serving)
+    ensures text { (s : responder.Responder)
         → left_of s result ≡ page_text (term_lines (name_at s.components) s.templates) page.terms page.more }
-    ensures printable { (s : serving.Serving)
+    ensures printable { (s : responder.Responder)
         → All (IsTermOver (length s.components)) page.terms → IsPrintable s result }
 {
     Printing::of_lines(Lines::Texts { page, place: 0 })
@@ -262,9 +262,9 @@ pub(crate) fn texts_printing(page: Page) -> Printing
 
 /// The paths of the component.
 pub(crate) fn paths_printing(component: u32) -> Printing
-    ensures text { (s : serving.Serving)
+    ensures text { (s : responder.Responder)
         → left_of s result ≡ paths_text s.names (paths_at s.engine.library component) }
-    ensures printable { (s : serving.Serving) → component < length s.components → IsPrintable s result }
+    ensures printable { (s : responder.Responder) → component < length s.components → IsPrintable s result }
 {
     Printing::of_lines(Lines::Paths {
         component,
@@ -274,7 +274,7 @@ pub(crate) fn paths_printing(component: u32) -> Printing
 
 fn write_events(history: History, place: usize, text: &mut String) -> Result<Left, OutOfMemory>
     requires { place ≤ length history }
-    ensures { (s : serving.Serving) → IfOk result (IsRest s (events_left history place)
+    ensures { (s : responder.Responder) → IfOk result (IsRest s (events_left history place)
         (string_bytes text.old) (string_bytes text.new)) }
 {
     let next = print_events(&history, place, PORTION_BYTES, text)?;
@@ -286,7 +286,7 @@ fn write_events(history: History, place: usize, text: &mut String) -> Result<Lef
 
 fn write_steps(walk: Walk, place: usize, text: &mut String) -> Result<Left, OutOfMemory>
     requires { place ≤ length walk }
-    ensures { (s : serving.Serving) → IfOk result (IsRest s (steps_left walk place)
+    ensures { (s : responder.Responder) → IfOk result (IsRest s (steps_left walk place)
         (string_bytes text.old) (string_bytes text.new)) }
 {
     let next = print_steps(&walk, place, PORTION_BYTES, text)?;
@@ -296,7 +296,7 @@ fn write_steps(walk: Walk, place: usize, text: &mut String) -> Result<Left, OutO
     }
 }
 
-impl Serving {
+impl Responder {
     /// The next portion of the reply, and what is left behind it. A portion is lines up to the first end of a line behind
     /// 32 KiB, or a text that was printed already. It is empty if and only if nothing is left. The only error is out of memory.
     pub fn print(

@@ -21,7 +21,7 @@ use crate::printing::{
     Printing, certificate_printing, fault_printing, grammar_printing, history_printing,
     paths_printing, sizes_printing, terms_printing, text_printing, texts_printing,
 };
-use crate::serving::Serving;
+use crate::responder::Responder;
 use crate::words::{says, verdict_line};
 use cls_base::{Gate, OutOfMemory, Ty};
 use cls_engine::EngineFault;
@@ -34,7 +34,7 @@ use std::alloc::Global;
 use std::sync::Wait;
 use std::thread::Threads;
 
-impl Serving {
+impl Responder {
     /// What is written for a query that is one by itself.
     pub(crate) fn answer<R: Threads + Wait + Sync, G: Gate + Sync>(
         &mut self,

@@ -8,14 +8,14 @@ ghost use Rattle.cls_replies.specs.Answering.{Verified};
 ghost use Rattle.cls_replies.specs.LineKinds.{Opens};
 
 use crate::faults::{line_fault, proof_fault};
-use crate::serving::Serving;
+use crate::responder::Responder;
 use cls_base::{OutOfMemory, Ty};
 use cls_lexer::Line;
 use cls_proof::{HeldLines, read_certificate};
 use cls_query::{BuiltQuery, Query, read_query};
 use std::alloc::Global;
 
-impl Serving {
+impl Responder {
     /// What is written for a line that opens a certificate, and the lines of the certificate.
     pub(crate) fn verify(
         &mut self,

@@ -7,17 +7,17 @@ use Rattle.cls_session.specs.declared.driver.Stop.TheVariants as stops
 use Rattle.cls_base.specs.Outside.{SinkSeen, Holds}
 use Rattle.cls_lexer.specs.Lines.{CutsLine}
 use Rattle.cls_session.specs.Driving.{CutsLines, FitsLine, MatchStop}
-use Rattle.cls_session.specs.Standings.{Standing, Stands}
+use Rattle.cls_session.specs.SessionStates.{SessionState, Stands}
 use Rattle.cls_session.specs.Transcripts.{IsRefused}
-use Rattle.cls_session.proofs.Standings.{Stands-transcript}
+use Rattle.cls_session.proofs.SessionStates.{Stands-transcript}
 
 -- a reply that is answered fits the room
-pub text_fits : {sink : SinkSeen} {old new : Standing} {line reply : List ℕ} → FitsLine sink old line
+pub text_fits : {sink : SinkSeen} {old new : SessionState} {line reply : List ℕ} → FitsLine sink old line
     → ((o : Options) (lines : List (List ℕ)) (written : List ℕ) → Stands o lines written old → Stands o (lines ++ line ∷ []) (written ++ reply) new) → Holds sink.room (length reply)
 text_fits {new = new} {line = line} {reply = reply} f h = f.fits reply (inl (Stands-transcript f.options (f.lines ++ line ∷ []) (f.written ++ reply) new (h f.options f.lines f.written f.stands)))
 
 -- a refusal fits it too
-pub refusal_fits : {sink : SinkSeen} {old : Standing} {line reply : List ℕ} → FitsLine sink old line
+pub refusal_fits : {sink : SinkSeen} {old : SessionState} {line reply : List ℕ} → FitsLine sink old line
     → ((o : Options) (lines : List (List ℕ)) (written : List ℕ) → Stands o lines written old → IsRefused (lines ++ line ∷ []) (written ++ reply)) → Holds sink.room (length reply)
 refusal_fits {reply = reply} f h = f.fits reply (inr (h f.options f.lines f.written f.stands))
 

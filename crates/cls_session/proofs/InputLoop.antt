@@ -15,16 +15,16 @@ use Rattle.cls_session.specs.declared.status.Status.{Status}
 use Rattle.cls_session.specs.declared.status.Status.TheVariants as status
 use Rattle.cls_session.specs.Driving.{CutsLines, Writes, FitsLines, FitsLast, AnswersLines, RefusesLines, BreaksLines, RefusesLast, BreaksLast, before_last, within_last, IsWritten, IsEnded, EndsOutput, MatchStop}
 use Rattle.cls_session.specs.Outputs.{SessionOutput, SessionText, IsWhole, IsCutOff, IsBrokenOff, SessionAnswers, SessionBegins, SessionTaken, SessionPace, SessionRoom}
-use Rattle.cls_session.specs.Standings.{Standing, Stands}
+use Rattle.cls_session.specs.SessionStates.{SessionState, Stands}
 use Rattle.cls_session.specs.Stops.{status_of}
 use Rattle.cls_session.specs.Transcripts.{Transcript, IsRefused, Ending, without_end, complete}
 use Rattle.cls_session.proofs.Driving.{CutsLines-trans}
 use Rattle.cls_session.proofs.Outputs.{Begins, IsWholly, CutsLines-append, ended_lines-CutsLines, told, told_front, answers_ended, keeps_pace, wholly_told, begun_told, room_left, text_stands, last_stands, output_refused, output_refused_last, output_ended, output_too_long}
-use Rattle.cls_session.proofs.Standings.{Stands-transcript}
+use Rattle.cls_session.proofs.SessionStates.{Stands-transcript}
 use Rattle.cls_session.proofs.Writing.{Writes-none, Writes-trans}
 
 -- So many bytes were read: the lines that end in them were answered, and the reader holds the rest.
-pub record IsUnderWay (o : Options) (source source' : SourceSeen) (sink sink' : SinkSeen) (session : Standing) (reader : List ℕ) (taken : ℕ) : Type 0 where
+pub record IsUnderWay (o : Options) (source source' : SourceSeen) (sink sink' : SinkSeen) (session : SessionState) (reader : List ℕ) (taken : ℕ) : Type 0 where
   pub bytes : List ℕ
   pub lines : List (List ℕ)
   pub written : List ℕ
@@ -50,7 +50,7 @@ Begins-front None front more b = tt
 Begins-front (Some x) front more (tail, e) = (more ++ tail, e ∙ append_assoc front more tail)
 
 -- nothing was read
-pub none_read : (o : Options) (source : SourceSeen) (sink : SinkSeen) (session : Standing) (reader : List ℕ) → Stands o [] [] session → reader ≡ [] → IsUnderWay o source source sink sink session reader 0
+pub none_read : (o : Options) (source : SourceSeen) (sink : SinkSeen) (session : SessionState) (reader : List ℕ) → Stands o [] [] session → reader ≡ [] → IsUnderWay o source source sink sink session reader 0
 none_read o source sink session reader s e = record {
   bytes = [];
   lines = [];
@@ -64,7 +64,7 @@ none_read o source sink session reader s e = record {
 }
 
 -- the end of the input was read
-pub none_more : {o : Options} {source source' : SourceSeen} {sink sink' : SinkSeen} {session : Standing} {reader : List ℕ} {taken : ℕ} (source'' : SourceSeen) (count : ℕ) (buffer : List ℕ)
+pub none_more : {o : Options} {source source' : SourceSeen} {sink sink' : SinkSeen} {session : SessionState} {reader : List ℕ} {taken : ℕ} (source'' : SourceSeen) (count : ℕ) (buffer : List ℕ)
     → IsUnderWay o source source' sink sink' session reader taken → count ≡ 0 → Consumes source'.left source''.left (take count buffer) → IsUnderWay o source source'' sink sink' session reader taken
 none_more {source = source} {source' = source'} source'' count buffer u none consumes = record {
   bytes = u.bytes;
@@ -152,7 +152,7 @@ begins_wholly : (front bytes : List ℕ) → IsWholly (Some bytes) front → Beg
 begins_wholly front bytes e = ([], e ∙ sym (append-nil front))
 
 -- The input is read, and so many bytes of it were taken.
-module _ {o : Options} {source source' : SourceSeen} {sink sink' : SinkSeen} {session : Standing} {reader : List ℕ} {taken : ℕ}
+module _ {o : Options} {source source' : SourceSeen} {sink sink' : SinkSeen} {session : SessionState} {reader : List ℕ} {taken : ℕ}
     (u : IsUnderWay o source source' sink sink' session reader taken) where
   -- the lines that end in the bytes are those that were answered
   all_ended : ended_lines u.bytes ≡ u.lines
@@ -308,7 +308,7 @@ module _ {o : Options} {source source' : SourceSeen} {sink sink' : SinkSeen} {se
         (let a = length-append piece over in let b = p.lengths in omega arith) transcript (Appends-trans sink.held sink'.held sink''.held u.written f.front u.writes.held f.held)
 
     -- A line of the piece stopped the run.
-    module _ (A : Type 0) (sink'' : SinkSeen) (session' : Standing) (reader' : List ℕ) (stop : Stop) (end : Status)
+    module _ (A : Type 0) (sink'' : SinkSeen) (session' : SessionState) (reader' : List ℕ) (stop : Stop) (end : Status)
         (h : MatchStop {A = A} (Err stop) (λ _. AnswersLines sink' sink'' session session' (reader ++ piece) reader') (RefusesLines sink' sink'' session (reader ++ piece)) (BreaksLines sink' sink'' session (reader ++ piece)))
         (is : end ≡ status_of stop) where
       -- what was written is an output if anything was refused
@@ -327,7 +327,7 @@ module _ {o : Options} {source source' : SourceSeen} {sink sink' : SinkSeen} {se
           (SessionPace o source source'' sink sink'') h is (lines_keep_pace most)
 
     -- The lines of the piece were answered.
-    module _ {sink'' : SinkSeen} {session' : Standing} {reader' : List ℕ} (answers : AnswersLines sink' sink'' session session' (reader ++ piece) reader') (free : HasNoFeed reader') where
+    module _ {sink'' : SinkSeen} {session' : SessionState} {reader' : List ℕ} (answers : AnswersLines sink' sink'' session session' (reader ++ piece) reader') (free : HasNoFeed reader') where
       -- if bytes are too many, the replies to the lines that count are an output
       pub answers_too_long : taken + length piece ≡ max_input_bytes → 0 < length over → SessionAnswers o source sink sink'' status.TooLong
       answers_too_long full some =

@@ -5,14 +5,14 @@ use Rattle.cls_lexer.specs.Lines.{lines_of}
 use Rattle.cls_engine.specs.declared.options.Options.{Options}
 use Rattle.cls_session.specs.declared.status.Status.{Status}
 use Rattle.cls_session.specs.Driving.{Writes, FitsLine, FitsLast, IsEnded, AnswersLine, RefusesLine, AnswersLast, RefusesLast, EndsOutput}
-use Rattle.cls_session.specs.Standings.{Standing, Stands}
+use Rattle.cls_session.specs.SessionStates.{SessionState, Stands}
 use Rattle.cls_session.specs.Transcripts.{IsRefused, Ending}
 use Rattle.cls_session.proofs.Writing.{Holds-rest, Writes-none, Writes-trans}
 
 -- The line is what is left.
 module _ {line text : List ℕ} (left : line ∷ [] ≡ lines_of text) where
   -- the reply to the line fits the room
-  pub last_fits : {sink : SinkSeen} {s : Standing} → FitsLast sink s text → FitsLine sink s line
+  pub last_fits : {sink : SinkSeen} {s : SessionState} → FitsLast sink s text → FitsLine sink s line
   last_fits f = record {
     options = f.options;
     lines = f.lines;
@@ -22,21 +22,21 @@ module _ {line text : List ℕ} (left : line ∷ [] ≡ lines_of text) where
   }
 
   -- what is left was answered with the line
-  pub answers_last : {sink sink' : SinkSeen} {old new : Standing} → AnswersLine sink sink' old new line → AnswersLast sink sink' old new text
+  pub answers_last : {sink sink' : SinkSeen} {old new : SessionState} → AnswersLine sink sink' old new line → AnswersLast sink sink' old new text
   answers_last {new = new} h = record {
     reply = λ o lines written stands. let (reply, next, writes) = h.reply o lines written stands in
         (reply, subst (λ (xs : List (List ℕ)). Stands o (lines ++ xs) (written ++ reply) new) left next, writes);
   }
 
   -- and refused with it
-  pub refuses_last : {sink sink' : SinkSeen} {old : Standing} → RefusesLine sink sink' old line → RefusesLast sink sink' old text
+  pub refuses_last : {sink sink' : SinkSeen} {old : SessionState} → RefusesLine sink sink' old line → RefusesLast sink sink' old text
   refuses_last h = record {
     reply = λ o lines written stands. let (reply, next, writes) = h.reply o lines written stands in
         (reply, subst (λ (xs : List (List ℕ)). IsRefused (lines ++ xs) (written ++ reply)) left next, writes);
   }
 
 -- no line is left
-pub none_last : (sink : SinkSeen) (s : Standing) (text : List ℕ) → [] ≡ lines_of text → AnswersLast sink sink s s text
+pub none_last : (sink : SinkSeen) (s : SessionState) (text : List ℕ) → [] ≡ lines_of text → AnswersLast sink sink s s text
 none_last sink s text left = record {
   reply = λ o lines written stands. (
     [],
@@ -47,10 +47,10 @@ none_last sink s text left = record {
 }
 
 -- what the session says at the end
-abbrev pub SaysLast : Standing → List ℕ → Status → Type 0
+abbrev pub SaysLast : SessionState → List ℕ → Status → Type 0
 SaysLast s last status = (o : Options) (lines : List (List ℕ)) (written : List ℕ) → Stands o lines written s → Ending o lines (written ++ last) status
 
-module _ {a b : SinkSeen} {old new : Standing} {text : List ℕ} (answers : AnswersLast a b old new text) (last : List ℕ) (status : Status) (says : SaysLast new last status) where
+module _ {a b : SinkSeen} {old new : SessionState} {text : List ℕ} (answers : AnswersLast a b old new text) (last : List ℕ) (status : Status) (says : SaysLast new last status) where
   ending : (o : Options) (lines : List (List ℕ)) (written reply : List ℕ) → Stands o (lines ++ lines_of text) (written ++ reply) new → Ending o (lines ++ lines_of text) (written ++ (reply ++ last)) status
   ending o lines written reply next = subst (λ (x : List ℕ). Ending o (lines ++ lines_of text) x status) (append_assoc written reply last) (says o (lines ++ lines_of text) (written ++ reply) next)
 

@@ -3,7 +3,7 @@ pub mod CommandWords
 pub mod LastLines
 pub mod Readings
 pub mod RepositoryFaults
-pub mod Standings
+pub mod SessionStates
 pub mod Opening
 pub mod Breaks
 pub mod Writing

@@ -13,13 +13,13 @@ use Rattle.cls_repo.specs.Readings.{Reading, Takes, Refuses, closing_faults}
 use Rattle.cls_repo.specs.Readings as readings
 use Rattle.cls_repo.specs.Repositories.{IsRepositoryOf}
 use Rattle.cls_repo.specs.Sound.{IsCost}
-use Rattle.cls_replies.specs.Serving.{Serving, Serves, serving_of}
+use Rattle.cls_replies.specs.Responder.{Responder, Serves, responder_of}
 use Rattle.cls_session.specs.Sessions.{Declares, IsFaultAt, SaysFault}
 use Rattle.cls_session.specs.Sessions as sessions
-use Rattle.cls_session.specs.Standings.{Standing, Stands, held_by, lines_of_session}
+use Rattle.cls_session.specs.SessionStates.{SessionState, Stands, held_by, lines_of_session}
 use Rattle.cls_session.specs.Transcripts.{IsRefused}
 use Rattle.cls_session.proofs.Readings.{on_words, said_weaker}
-use Rattle.cls_session.proofs.Standings.{Stands-opens, Stands-closes, Stands-takes, Stands-refuses, says_fault}
+use Rattle.cls_session.proofs.SessionStates.{Stands-opens, Stands-closes, Stands-takes, Stands-refuses, says_fault}
 
 -- each component costs at least 1
 pub costly : (costs : List ℕ) → AllByRecursion IsCost costs → (x : ℕ) → 0 < slice_index_or costs x 1
@@ -29,7 +29,7 @@ costly (c ∷ cs) h zero = omega (arith, h.0)
 costly (c ∷ cs) h (suc x) = costly cs h.1 x
 
 -- what lines are answered by at first
-pub serves : (o : Options) (d : Draft) (r : Repository) → IsRepositoryOf d r → Serves o d (serving_of r.names r.components r.templates (seen_as r.library r.costs o) [])
+pub serves : (o : Options) (d : Draft) (r : Repository) → IsRepositoryOf d r → Serves o d (responder_of r.names r.components r.templates (seen_as r.library r.costs o) [])
 serves o d r is = record {
   same_names = is.same_names;
   same_components = is.same_components;
@@ -45,15 +45,15 @@ none_of None h = refl
 none_of (Some x) h = absurd (h x refl)
 
 -- the answer to a line that is taken
-pub answers_declared : (old new : Standing) (line : List ℕ) (reply : List ℕ) → old.serving ≡ None → Declares old line new → reply ≡ []
+pub answers_declared : (old new : SessionState) (line : List ℕ) (reply : List ℕ) → old.responder ≡ None → Declares old line new → reply ≡ []
     → (o : Options) (lines : List (List ℕ)) (written : List ℕ) → Stands o lines written old → Stands o (lines ++ line ∷ []) (written ++ reply) new
 answers_declared old new line reply none (sessions.Declares.goes_on t going same still) empty o lines written stands =
     Stands-takes o lines written old none line reply new empty t going same still stands
-answers_declared old new line reply none (sessions.Declares.opens ended t is silent serving serves same at) empty o lines written stands =
-    Stands-opens o lines written old none line reply ended serving new t is silent serves empty same at stands
+answers_declared old new line reply none (sessions.Declares.opens ended t is silent responder serves same at) empty o lines written stands =
+    Stands-opens o lines written old none line reply ended responder new t is silent serves empty same at stands
 
 -- the answer to a line that isn't
-pub answers_fault : (old : Standing) (line : List ℕ) (reply : List ℕ) (fault : RepoFault) → old.serving ≡ None → IsSaid (IsFaultAt old line) fault → SaysFault fault reply
+pub answers_fault : (old : SessionState) (line : List ℕ) (reply : List ℕ) (fault : RepoFault) → old.responder ≡ None → IsSaid (IsFaultAt old line) fault → SaysFault fault reply
     → (o : Options) (lines : List (List ℕ)) (written : List ℕ) → Stands o lines written old → IsRefused (lines ++ line ∷ []) (written ++ reply)
 answers_fault old line reply fault none said says o lines written stands =
     let at : IsFaultAt old line (fault.line, fault_words fault.kind) = on_words (λ words. IsFaultAt old line (fault.line, words)) fault.kind says.1 said in
@@ -67,42 +67,42 @@ answers_fault old line reply fault none said says o lines written stands =
 -- ONE LINE OF THE REPOSITORY
 
 -- a line that isn't `end`
-pub goes_by : (old new : Standing) (line : List ℕ) (next : Reading) → Takes old.reader line next → next.ended ≡ false → old.serving ≡ None
-    → record { options = old.options; reader = next; serving = old.serving } ≡ new → Declares old line new
+pub goes_by : (old new : SessionState) (line : List ℕ) (next : Reading) → Takes old.reader line next → next.ended ≡ false → old.responder ≡ None
+    → record { options = old.options; reader = next; responder = old.responder } ≡ new → Declares old line new
 goes_by old new line next t going none is =
-    subst (λ (s : Standing). Declares old line s) is (sessions.Declares.goes_on t going refl none)
+    subst (λ (s : SessionState). Declares old line s) is (sessions.Declares.goes_on t going refl none)
 
 -- the line `end`
-pub opens_by : (old new : Standing) (line : List ℕ) (ended after : Reading) (serving : Option Serving) → Takes old.reader line ended → ended.ended ≡ true
-    → IsSilent (First (closing_faults ended)) → MatchOption serving ⊥ (Serves old.options ended.draft)
-    → record { options = old.options; reader = after; serving = serving } ≡ new → Declares old line new
+pub opens_by : (old new : SessionState) (line : List ℕ) (ended after : Reading) (responder : Option Responder) → Takes old.reader line ended → ended.ended ≡ true
+    → IsSilent (First (closing_faults ended)) → MatchOption responder ⊥ (Serves old.options ended.draft)
+    → record { options = old.options; reader = after; responder = responder } ≡ new → Declares old line new
 opens_by old new line ended after None t is silent serves at = absurd serves
 opens_by old new line ended after (Some v) t is silent serves at =
-    subst (λ (x : Standing). Declares old line x) at (sessions.Declares.opens ended t is silent v serves refl refl)
+    subst (λ (x : SessionState). Declares old line x) at (sessions.Declares.opens ended t is silent v serves refl refl)
 
 -- the same, if the repository is opened
-pub opens_on : {A : Type 0} (r : Result A RepoFault) (old new : Standing) (line : List ℕ) (ended after : Reading) (serving : Option Serving)
-    → OnOk r (IsSilent (First (closing_faults ended))) → OnOk r (MatchOption serving ⊥ (Serves old.options ended.draft))
-    → Takes old.reader line ended → ended.ended ≡ true → record { options = old.options; reader = after; serving = serving } ≡ new
+pub opens_on : {A : Type 0} (r : Result A RepoFault) (old new : SessionState) (line : List ℕ) (ended after : Reading) (responder : Option Responder)
+    → OnOk r (IsSilent (First (closing_faults ended))) → OnOk r (MatchOption responder ⊥ (Serves old.options ended.draft))
+    → Takes old.reader line ended → ended.ended ≡ true → record { options = old.options; reader = after; responder = responder } ≡ new
     → OnOk r (Declares old line new)
-opens_on (Ok x) old new line ended after serving silent serves t is at = opens_by old new line ended after serving t is silent serves at
-opens_on (Err f) old new line ended after serving silent serves t is at = record {}
+opens_on (Ok x) old new line ended after responder silent serves t is at = opens_by old new line ended after responder t is silent serves at
+opens_on (Err f) old new line ended after responder silent serves t is at = record {}
 
 -- what is wrong with a repository at its line `end`
-pub closing_said : (old : Standing) (line : List ℕ) (ended : Reading) (fault : RepoFault) → Takes old.reader line ended → ended.ended ≡ true
+pub closing_said : (old : SessionState) (line : List ℕ) (ended : Reading) (fault : RepoFault) → Takes old.reader line ended → ended.ended ≡ true
     → IsSaid (First (closing_faults ended)) fault → IsSaid (IsFaultAt old line) fault
 closing_said old line ended fault t is said =
     said_weaker (λ words. First (closing_faults ended) (fault.line, words)) (λ words. IsFaultAt old line (fault.line, words))
     (λ words first. sessions.IsFaultAt.of_repository ended t is first) fault.kind said
 
 -- the same, if it isn't opened
-pub closing_on : {A : Type 0} (r : Result A RepoFault) (old : Standing) (line : List ℕ) (ended : Reading) → Takes old.reader line ended → ended.ended ≡ true
+pub closing_on : {A : Type 0} (r : Result A RepoFault) (old : SessionState) (line : List ℕ) (ended : Reading) → Takes old.reader line ended → ended.ended ≡ true
     → IfErr r (IsSaid (First (closing_faults ended))) → IfErr r (IsSaid (IsFaultAt old line))
 closing_on (Ok x) old line ended t is said = record {}
 closing_on (Err f) old line ended t is said = closing_said old line ended f t is said
 
 -- a line that is at fault
-pub line_said : (old : Standing) (line : List ℕ) (fault : RepoFault) → IsSaid (Refuses old.reader line) fault → IsSaid (IsFaultAt old line) fault
+pub line_said : (old : SessionState) (line : List ℕ) (fault : RepoFault) → IsSaid (Refuses old.reader line) fault → IsSaid (IsFaultAt old line) fault
 line_said old line fault said =
     said_weaker (λ words. Refuses old.reader line (fault.line, words)) (λ words. IsFaultAt old line (fault.line, words))
     (λ words refuses. sessions.IsFaultAt.of_line refuses) fault.kind said
@@ -112,13 +112,13 @@ takes_lines : (old new : Reading) (line : List ℕ) → Takes old line new → n
 takes_lines old new line (readings.Takes.skipped s e) = ap (λ (r : Reading). r.lines) e
 takes_lines old new line (readings.Takes.declares said l s d v e) = ap (λ (r : Reading). r.lines) e
 
-pub counted_by : (old new : Standing) (line : List ℕ) → old.serving ≡ None → Declares old line new → lines_of_session new ≤ lines_of_session old + 1
+pub counted_by : (old new : SessionState) (line : List ℕ) → old.responder ≡ None → Declares old line new → lines_of_session new ≤ lines_of_session old + 1
 counted_by old new line none (sessions.Declares.goes_on t going same still) =
-    let a : held_by new.reader new.serving ≡ new.reader.lines = ap (held_by new.reader) still in
-    let b : held_by old.reader old.serving ≡ old.reader.lines = ap (held_by old.reader) none in
+    let a : held_by new.reader new.responder ≡ new.reader.lines = ap (held_by new.reader) still in
+    let b : held_by old.reader old.responder ≡ old.reader.lines = ap (held_by old.reader) none in
     let l = takes_lines old.reader new.reader line t in
     omega (arith, a, b, l)
-counted_by old new line none (sessions.Declares.opens ended t is silent serving serves same at) =
-    let a : held_by new.reader new.serving ≡ length serving.held = ap (held_by new.reader) at in
-    let b : length serving.held ≡ 0 = ap length serves.none_held in
+counted_by old new line none (sessions.Declares.opens ended t is silent responder serves same at) =
+    let a : held_by new.reader new.responder ≡ length responder.held = ap (held_by new.reader) at in
+    let b : length responder.held ≡ 0 = ap length serves.none_held in
     omega (arith, a, b)

@@ -17,7 +17,7 @@ use Rattle.cls_session.specs.Driving.{CutsLines, Writes, WritesFront, IsWritten,
 use Rattle.cls_session.specs.Outputs.{lines_read, SessionOutput, SessionText, after_lines, after_refusal, after_end, MayStand, of_usage, of_text, Gives, GivesFront, BeginsAnswers, IsEnoughRoom, HasRoom, IfTold, AnswersEnded, SessionTaken, AnswersTaken, BeginsForTaken, BeginsTaken, AnswersBeforeLast, SessionPace, KeepsPace}
 use Rattle.cls_session.specs.Outputs as outputs
 use Rattle.cls_session.specs.Transcripts.{Transcript, IsRefused, Ending}
-use Rattle.cls_session.proofs.Standings.{IsRefused-append}
+use Rattle.cls_session.proofs.SessionStates.{IsRefused-append}
 use Rattle.cls_session.proofs.Writing.{Holds-rest}
 
 pub CutsLines-append : (text rest more : List ℕ) (lines : List (List ℕ)) → CutsLines text lines rest → CutsLines (text ++ more) lines (rest ++ more)

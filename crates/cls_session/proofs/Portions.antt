@@ -5,12 +5,12 @@ use Rattle.cls_base.specs.Outside.{SinkSeen, Holds}
 use Rattle.cls_lexer.specs.Lines.{CutsLine}
 use Rattle.cls_replies.specs.declared.printing.Printing.{Printing}
 use Rattle.cls_replies.specs.Printing.{IsPrintable, left_of}
-use Rattle.cls_replies.specs.Serving.{Serving}
+use Rattle.cls_replies.specs.Responder.{Responder}
 use Rattle.cls_session.specs.declared.driver.Stop.{Stop}
 use Rattle.cls_session.specs.declared.driver.Stop.TheVariants as stops
 use Rattle.cls_session.specs.Driving.{Writes, WritesFront, WritesAllBut, WritesFrontBut, PutsPart, WritesPart, AnswersLine, RefusesLine, BreaksLine, BreaksLines, AnswersPending, LeavesPending, MatchStop, MatchEachStop}
 use Rattle.cls_session.specs.Sessions.{left_by, IsPrintableBy}
-use Rattle.cls_session.specs.Standings.{Standing}
+use Rattle.cls_session.specs.SessionStates.{SessionState}
 use Rattle.cls_session.proofs.Breaks.{breaks_reply}
 use Rattle.cls_session.proofs.Pending.{IsReply, fails_pending, leaves_within, reply_stands}
 use Rattle.cls_session.proofs.Writing.{Holds-rest, Writes-none, Writes-trans, room_more, but_more, front_after, front_more, front_wider}
@@ -97,7 +97,7 @@ pub writes_some : {a b : SinkSeen} {text left : List ℕ} → WritesPart a b tex
 writes_some {left = left} p = record { front = p.part; rest = left; split = p.split; held = p.writes.held }
 
 -- ONE LINE IS ANSWERED BY IT
-pub line_replied : {A : Type 0} (r : Result A Stop) (a b : SinkSeen) {old new : Standing} {line reply : List ℕ} → IsReply old line reply new
+pub line_replied : {A : Type 0} (r : Result A Stop) (a b : SinkSeen) {old new : SessionState} {line reply : List ℕ} → IsReply old line reply new
     → MatchStop r (λ _. Writes a b reply) ⊥ (WritesFront a b reply) → MatchStop r (λ _. AnswersLine a b old new line) (RefusesLine a b old line) (BreaksLine a b old line)
 line_replied (Ok x) a b {reply = reply} replied w = record { reply = λ o lines written stands. (reply, replied o lines written stands, w) }
 line_replied (Err stops.Refused) a b replied w = absurd w
@@ -105,7 +105,7 @@ line_replied (Err stops.WriteFault) a b replied w = breaks_reply replied w
 line_replied (Err stops.NoMemory) a b replied w = breaks_reply replied w
 
 -- the run stops within it, while replies are pending
-pub reply_stops : (A B : Type 0) (stop : Stop) (Well : B → Type 0) (Refuses : Type 0) (c : SinkSeen) (left : List ℕ) {a b : SinkSeen} {first mid last : Standing} {text between line after pending further : List ℕ}
+pub reply_stops : (A B : Type 0) (stop : Stop) (Well : B → Type 0) (Refuses : Type 0) (c : SinkSeen) (left : List ℕ) {a b : SinkSeen} {first mid last : SessionState} {text between line after pending further : List ℕ}
     → AnswersPending a b first mid text between pending → CutsLine between line after → IsReply mid line further last
     → MatchEachStop {A = A} (Err stop) (λ _. WritesAllBut b c (pending ++ further) left) ⊥ (WritesFront b c (pending ++ further)) (WritesFrontBut b c (pending ++ further) left)
     → MatchEachStop {A = B} (Err stop) Well Refuses (BreaksLines a c first text) (LeavesPending a c first text left)
@@ -119,11 +119,11 @@ in_any_case (Ok x) p = p
 in_any_case (Err e) p = record {}
 
 -- before the repository is opened, and of the empty reply after it, nothing is left
-pub nothing_left_by : (o : Option Serving) (p : Printing) → ((s : Serving) → left_of s p ≡ []) → left_by o p ≡ []
+pub nothing_left_by : (o : Option Responder) (p : Printing) → ((s : Responder) → left_of s p ≡ []) → left_by o p ≡ []
 nothing_left_by None p h = refl
 nothing_left_by (Some s) p h = h s
 
 -- and it can be printed
-pub nothing_printable : (o : Option Serving) (p : Printing) → ((s : Serving) → IsPrintable s p) → IsPrintableBy o p
+pub nothing_printable : (o : Option Responder) (p : Printing) → ((s : Responder) → IsPrintable s p) → IsPrintableBy o p
 nothing_printable None p h = tt
 nothing_printable (Some s) p h = h s

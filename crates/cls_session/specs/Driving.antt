@@ -7,7 +7,7 @@ use Rattle.cls_engine.specs.declared.options.Options.{Options}
 use Rattle.cls_session.specs.declared.status.Status.{Status}
 use Rattle.cls_session.specs.declared.driver.Stop.{Stop}
 use Rattle.cls_session.specs.declared.driver.Stop.TheVariants as stops
-use Rattle.cls_session.specs.Standings.{Standing, Stands}
+use Rattle.cls_session.specs.SessionStates.{SessionState, Stands}
 use Rattle.cls_session.specs.Transcripts.{Transcript, IsRefused, Ending}
 
 -- The text begins with these lines, each with its line feed, and the rest follows.
@@ -53,25 +53,25 @@ IsEnded o lines text = IsWritten o lines text ⊎ ((status : Status) × Ending o
 -- written for them. The reply goes on with it.
 
 -- The line was answered.
-pub record AnswersLine (sink sink' : SinkSeen) (session session' : Standing) (line : List ℕ) : Type 0 where
+pub record AnswersLine (sink sink' : SinkSeen) (session session' : SessionState) (line : List ℕ) : Type 0 where
   pub reply : (o : Options) (lines : List (List ℕ)) (written : List ℕ) → Stands o lines written session
       → (reply : List ℕ) × Stands o (lines ++ line ∷ []) (written ++ reply) session' × Writes sink sink' reply
 
 -- The line was refused, and the refusal was written.
-pub record RefusesLine (sink sink' : SinkSeen) (session : Standing) (line : List ℕ) : Type 0 where
+pub record RefusesLine (sink sink' : SinkSeen) (session : SessionState) (line : List ℕ) : Type 0 where
   pub reply : (o : Options) (lines : List (List ℕ)) (written : List ℕ) → Stands o lines written session
       → (reply : List ℕ) × IsRefused (lines ++ line ∷ []) (written ++ reply) × Writes sink sink' reply
 
 -- The run stopped before the line was answered or refused: nothing was written for it, or what was written begins what
 -- may stand written for it.
-pub data BreaksLine (sink sink' : SinkSeen) (session : Standing) (line : List ℕ) : Type 0 where
+pub data BreaksLine (sink sink' : SinkSeen) (session : SessionState) (line : List ℕ) : Type 0 where
   before_line : Writes sink sink' [] → BreaksLine sink sink' session line
   within_line : ((o : Options) (lines : List (List ℕ)) (written : List ℕ) → Stands o lines written session
       → (reply : List ℕ) × IsWritten o (lines ++ line ∷ []) (written ++ reply) × WritesFront sink sink' reply)
       → BreaksLine sink sink' session line
 
 -- The room, if it is told, is enough for whatever is to be written for the line.
-pub record FitsLine (sink : SinkSeen) (session : Standing) (line : List ℕ) : Type 0 where
+pub record FitsLine (sink : SinkSeen) (session : SessionState) (line : List ℕ) : Type 0 where
   pub options : Options
   pub lines : List (List ℕ)
   pub written : List ℕ
@@ -82,25 +82,25 @@ pub record FitsLine (sink : SinkSeen) (session : Standing) (line : List ℕ) : T
 -- THE LINES THAT END IN A TEXT, of which the rest is without a line feed.
 
 -- They were answered.
-pub record AnswersLines (sink sink' : SinkSeen) (session session' : Standing) (text rest : List ℕ) : Type 0 where
+pub record AnswersLines (sink sink' : SinkSeen) (session session' : SessionState) (text rest : List ℕ) : Type 0 where
   pub reply : (o : Options) (lines : List (List ℕ)) (written : List ℕ) → Stands o lines written session
       → (more : List (List ℕ)) × (reply : List ℕ) × CutsLines text more rest
       × Stands o (lines ++ more) (written ++ reply) session' × Writes sink sink' reply
 
 -- One of them was refused, and all replies up to the refusal were written.
-pub record RefusesLines (sink sink' : SinkSeen) (session : Standing) (text : List ℕ) : Type 0 where
+pub record RefusesLines (sink sink' : SinkSeen) (session : SessionState) (text : List ℕ) : Type 0 where
   pub reply : (o : Options) (lines : List (List ℕ)) (written : List ℕ) → Stands o lines written session
       → (more : List (List ℕ)) × (rest reply : List ℕ) × CutsLines text more rest
       × IsRefused (lines ++ more) (written ++ reply) × Writes sink sink' reply
 
 -- The run stopped at one of them, or between two: what was written begins what may stand written for some first ones.
-pub record BreaksLines (sink sink' : SinkSeen) (session : Standing) (text : List ℕ) : Type 0 where
+pub record BreaksLines (sink sink' : SinkSeen) (session : SessionState) (text : List ℕ) : Type 0 where
   pub reply : (o : Options) (lines : List (List ℕ)) (written : List ℕ) → Stands o lines written session
       → (more : List (List ℕ)) × (rest reply : List ℕ) × CutsLines text more rest
       × IsWritten o (lines ++ more) (written ++ reply) × WritesFront sink sink' reply
 
 -- The room, if it is told, is enough for whatever is to be written for some first ones.
-pub record FitsLines (sink : SinkSeen) (session : Standing) (text : List ℕ) : Type 0 where
+pub record FitsLines (sink : SinkSeen) (session : SessionState) (text : List ℕ) : Type 0 where
   pub options : Options
   pub lines : List (List ℕ)
   pub written : List ℕ
@@ -111,21 +111,21 @@ pub record FitsLines (sink : SinkSeen) (session : Standing) (text : List ℕ) : 
 -- THE SAME LINES WHILE REPLIES ARE PENDING. All that is to be written for them was written, but for what is pending.
 
 -- They were answered.
-pub record AnswersPending (sink sink' : SinkSeen) (session session' : Standing) (text rest pending : List ℕ)
+pub record AnswersPending (sink sink' : SinkSeen) (session session' : SessionState) (text rest pending : List ℕ)
     : Type 0 where
   pub reply : (o : Options) (lines : List (List ℕ)) (written : List ℕ) → Stands o lines written session
       → (more : List (List ℕ)) × (reply : List ℕ) × CutsLines text more rest
       × Stands o (lines ++ more) (written ++ reply) session' × WritesAllBut sink sink' reply pending
 
 -- One of them was refused.
-pub record RefusesPending (sink sink' : SinkSeen) (session : Standing) (text pending : List ℕ) : Type 0 where
+pub record RefusesPending (sink sink' : SinkSeen) (session : SessionState) (text pending : List ℕ) : Type 0 where
   pub reply : (o : Options) (lines : List (List ℕ)) (written : List ℕ) → Stands o lines written session
       → (more : List (List ℕ)) × (rest reply : List ℕ) × CutsLines text more rest
       × IsRefused (lines ++ more) (written ++ reply) × WritesAllBut sink sink' reply pending
 
 -- The run stopped at one of them, or between two: what begins what may stand written for some first ones was written, but
 -- for what is pending.
-pub record LeavesPending (sink sink' : SinkSeen) (session : Standing) (text pending : List ℕ) : Type 0 where
+pub record LeavesPending (sink sink' : SinkSeen) (session : SessionState) (text pending : List ℕ) : Type 0 where
   pub reply : (o : Options) (lines : List (List ℕ)) (written : List ℕ) → Stands o lines written session
       → (more : List (List ℕ)) × (rest reply : List ℕ) × CutsLines text more rest
       × IsWritten o (lines ++ more) (written ++ reply) × WritesFrontBut sink sink' reply pending
@@ -133,30 +133,30 @@ pub record LeavesPending (sink sink' : SinkSeen) (session : Standing) (text pend
 -- THE LINES OF A TEXT THAT ENDS THE INPUT.
 
 -- They were answered.
-pub record AnswersLast (sink sink' : SinkSeen) (session session' : Standing) (text : List ℕ) : Type 0 where
+pub record AnswersLast (sink sink' : SinkSeen) (session session' : SessionState) (text : List ℕ) : Type 0 where
   pub reply : (o : Options) (lines : List (List ℕ)) (written : List ℕ) → Stands o lines written session
       → (reply : List ℕ) × Stands o (lines ++ lines_of text) (written ++ reply) session' × Writes sink sink' reply
 
 -- One of them was refused.
-pub record RefusesLast (sink sink' : SinkSeen) (session : Standing) (text : List ℕ) : Type 0 where
+pub record RefusesLast (sink sink' : SinkSeen) (session : SessionState) (text : List ℕ) : Type 0 where
   pub reply : (o : Options) (lines : List (List ℕ)) (written : List ℕ) → Stands o lines written session
       → (reply : List ℕ) × IsRefused (lines ++ lines_of text) (written ++ reply) × Writes sink sink' reply
 
 -- They were answered, and the output was ended with this status.
-pub record EndsOutput (sink sink' : SinkSeen) (session : Standing) (text : List ℕ) (status : Status) : Type 0 where
+pub record EndsOutput (sink sink' : SinkSeen) (session : SessionState) (text : List ℕ) (status : Status) : Type 0 where
   pub reply : (o : Options) (lines : List (List ℕ)) (written : List ℕ) → Stands o lines written session
       → (reply : List ℕ) × Ending o (lines ++ lines_of text) (written ++ reply) status × Writes sink sink' reply
 
 -- The run stopped at one of them, or at the end: nothing was written for them, or what was written begins what may
 -- stand written for all of them.
-pub data BreaksLast (sink sink' : SinkSeen) (session : Standing) (text : List ℕ) : Type 0 where
+pub data BreaksLast (sink sink' : SinkSeen) (session : SessionState) (text : List ℕ) : Type 0 where
   before_last : Writes sink sink' [] → BreaksLast sink sink' session text
   within_last : ((o : Options) (lines : List (List ℕ)) (written : List ℕ) → Stands o lines written session
       → (reply : List ℕ) × IsEnded o (lines ++ lines_of text) (written ++ reply) × WritesFront sink sink' reply)
       → BreaksLast sink sink' session text
 
 -- The room, if it is told, is enough for whatever is to be written for them, the end of the output too.
-pub record FitsLast (sink : SinkSeen) (session : Standing) (text : List ℕ) : Type 0 where
+pub record FitsLast (sink : SinkSeen) (session : SessionState) (text : List ℕ) : Type 0 where
   pub options : Options
   pub lines : List (List ℕ)
   pub written : List ℕ

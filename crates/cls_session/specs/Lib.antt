@@ -6,6 +6,6 @@ pub mod Outputs
 pub mod Repositories
 pub mod Sessions
 pub mod Settings
-pub mod Standings
+pub mod SessionStates
 pub mod Stops
 pub mod Transcripts

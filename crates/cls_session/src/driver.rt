@@ -2,7 +2,7 @@ ghost use Rattle.std.specs.Prelude.{◌≡◌, ℕ, ◌+◌, ◌^◌, ◌<◌, �
 ghost use Rattle.cls_lexer.specs.Lines.{HasNoFeed};
 ghost use Rattle.cls_base.specs.Outside.{Holds};
 ghost use Rattle.cls_session.specs.Sessions.{IsPrintableIn, reply_in};
-ghost use Rattle.cls_session.specs.Standings.{lines_of_session};
+ghost use Rattle.cls_session.specs.SessionStates.{lines_of_session};
 ghost use Rattle.cls_session.specs.declared.driver.Stop.TheVariants.{WriteFault, NoMemory};
 ghost use Rattle.cls_session.specs.Driving.{MatchStop, MatchEachStop, CountsFaults};
 ghost use Rattle.cls_session.specs.Driving.{Writes, WritesAllBut, WritesFront, WritesFrontBut};

@@ -4,16 +4,16 @@ ghost use Rattle.cls_base.specs.Firsts.{First, IsSilent};
 ghost use Rattle.cls_engine.specs.Options.{AreInRange};
 ghost use Rattle.cls_repo.specs.FaultWords.{IsSaid};
 ghost use Rattle.cls_repo.specs.Readings.{closing_faults, no_reading};
-ghost use Rattle.cls_replies.specs.Serving.{Serves};
+ghost use Rattle.cls_replies.specs.Responder.{Serves};
 ghost use Rattle.cls_session.specs.Sessions.{CanPrint, IsAnswerTo, IsPrintableIn, Declares, IsFaultAt, SaysFault, reply_in};
-ghost use Rattle.cls_session.specs.Standings.{Stands, lines_of_session};
+ghost use Rattle.cls_session.specs.SessionStates.{Stands, lines_of_session};
 ghost use Rattle.cls_session.specs.Transcripts.{Ending, refusal};
 
 use crate::status::Status;
 use cls_base::{Gate, OutOfMemory};
 use cls_engine::Options;
 use cls_lexer::{Line, Token};
-use cls_replies::{Printing, Serving};
+use cls_replies::{Printing, Responder};
 use cls_repo::{FaultKind, RepoFault, RepoReader};
 use itoa::Buffer;
 use std::alloc::Global;
@@ -45,7 +45,7 @@ pub struct Session {
     options: Options,
     reader: RepoReader,
     // What answers the lines after the repository, once it is read.
-    serving: Option<Serving>,
+    responder: Option<Responder>,
 }
 
 // Not derived, for the prover: so a caller's proof has one step where a session is dropped, and not one for each of its parts.
@@ -54,7 +54,7 @@ impl Drop for Session {
         let Session {
             options: _,
             reader: _,
-            serving: _,
+            responder: _,
         } = self;
     }
 }
@@ -64,15 +64,15 @@ impl Model for Session {
     ghost use Rattle.cls_kind.specs.Stored.{coded_type};
     ghost use Rattle.cls_library.specs.Stored.{coded_library};
     ghost use Rattle.cls_repo.specs.Stored.{coded_schema};
-    ghost use Rattle.cls_session.specs.Standings.{Standing, IsSession};
+    ghost use Rattle.cls_session.specs.SessionStates.{SessionState, IsSession};
 
-    ghost Value = { Standing };
+    ghost Value = { SessionState };
 
     ghost coded = { Prim.hlevel (codes, coded_schema, coded_type, coded_library) };
 
-    ghost view = { λ s. record { options = s.options; reader = s.reader; serving = s.serving } };
+    ghost view = { λ s. record { options = s.options; reader = s.reader; responder = s.responder } };
 
-    ghost invariant = { λ s. IsSession record { options = s.options; reader = s.reader; serving = s.serving } };
+    ghost invariant = { λ s. IsSession record { options = s.options; reader = s.reader; responder = s.responder } };
 }
 
 impl Session {
@@ -85,7 +85,7 @@ impl Session {
         Session {
             options,
             reader: RepoReader::new(alloc),
-            serving: None,
+            responder: None,
         }
     }
 
@@ -104,8 +104,8 @@ impl Session {
         ensures printable { IfOk result (CanPrint self.new) }
         ensures counted { OnOk result (lines_of_session self.new ≤ lines_of_session self.old + 1) }
     {
-        if let Some(serving) = &mut self.serving {
-            return Ok(Answer::Reply(serving.feed(rt, alloc, line, gate, room)?));
+        if let Some(responder) = &mut self.responder {
+            return Ok(Answer::Reply(responder.feed(rt, alloc, line, gate, room)?));
         }
         match self.declare(alloc, &line, room) {
             Ok(()) => Ok(Answer::Reply(Printing::nothing())),
@@ -126,8 +126,8 @@ impl Session {
         ensures printable { IfOk result (λ r. IsPrintableIn self.old r.1) }
         ensures same { self.new ≡ self.old }
     {
-        if let Some(serving) = &mut self.serving {
-            return serving.print(alloc, printing);
+        if let Some(responder) = &mut self.responder {
+            return responder.print(alloc, printing);
         }
         Ok((String::new(alloc), printing))
     }
@@ -136,8 +136,8 @@ impl Session {
     pub fn reuse(&mut self, text: String)
         ensures { self.new ≡ self.old }
     {
-        if let Some(serving) = &mut self.serving {
-            serving.reuse(text);
+        if let Some(responder) = &mut self.responder {
+            responder.reuse(text);
         }
     }
 
@@ -148,9 +148,9 @@ impl Session {
         ensures { IfOk result (λ outcome. (o : Options) (lines : List (List ℕ)) (written : List ℕ)
             → Stands o lines written self.old → Ending o lines (written ++ string_bytes outcome.text) outcome.status) }
     {
-        if let Some(serving) = &mut self.serving {
+        if let Some(responder) = &mut self.responder {
             return Ok(Outcome {
-                text: serving.finish(alloc)?,
+                text: responder.finish(alloc)?,
                 status: Status::Done,
             });
         }
@@ -167,7 +167,7 @@ impl Session {
         line: &Line<'p>,
         room: &mut Vec<Token<'p>>,
     ) -> Result<(), RepoFault>
-        requires reading { self.old.serving ≡ None }
+        requires reading { self.old.responder ≡ None }
         requires few_lines { lines_of_session self.old + 1 < 2 ^ 32 }
         ensures declared { OnOk result (Declares self.old line.now self.new) }
         ensures fault { IfErr result (IsSaid (IsFaultAt self.old line.now)) }
@@ -176,7 +176,7 @@ impl Session {
         if !self.reader.feed(alloc, line, room)? {
             return Ok(());
         }
-        open(alloc, self.options, &mut self.reader, &mut self.serving)
+        open(alloc, self.options, &mut self.reader, &mut self.responder)
     }
 }
 
@@ -187,18 +187,18 @@ fn open(
     alloc: Global,
     options: Options,
     reader: &mut RepoReader,
-    serving: &mut Option<Serving>,
+    responder: &mut Option<Responder>,
 ) -> Result<(), RepoFault>
     requires { AreInRange options }
-    ensures serves { OnOk result (MatchOption serving.new ⊥ (Serves options reader.old.draft)) }
+    ensures serves { OnOk result (MatchOption responder.new ⊥ (Serves options reader.old.draft)) }
     ensures silent { OnOk result (IsSilent (First (closing_faults reader.old))) }
     ensures fault { IfErr result (IsSaid (First (closing_faults reader.old))) }
     ensures emptied { reader.new ≡ no_reading }
-    ensures same { OnErr result (serving.new ≡ serving.old) }
+    ensures same { OnErr result (responder.new ≡ responder.old) }
 {
     let read = mem::replace(reader, RepoReader::new(alloc));
     let repository = read.finish(alloc)?;
-    serving.insert(Serving::new(alloc, repository, options));
+    responder.insert(Responder::new(alloc, repository, options));
     Ok(())
 }
 

@@ -5,7 +5,7 @@ use Rattle.std.specs.Fmt.{decimal}
 use Rattle.std.proofs.lemmas.Fmt.{length-decimal-le_wide}
 use Rattle.cls_lexer.specs.Lines.{lines_of}
 use Rattle.cls_engine.specs.declared.options.Options.{Options}
-use Rattle.cls_replies.specs.Serving.{Serving}
+use Rattle.cls_replies.specs.Responder.{Responder}
 use Rattle.cls_repo.specs.Readings.{Reading}
 use Rattle.cls_session.specs.declared.status.Status.{Status}
 use Rattle.cls_session.specs.Outputs.{lines_read, SessionText, after_lines, after_refusal, after_end, MayStand, of_usage, of_text, of_generated_text}
@@ -14,7 +14,7 @@ use Rattle.cls_session.specs.Transcripts.{IsAnswered, Transcript, opening, answe
 use Rattle.cls_session.proofs.Outputs.{lines_read-short}
 
 -- no line is a repository
-none_answered : (o : Options) (lines : List (List ℕ)) (text : List ℕ) (s : Serving) → length lines ≡ 0 → IsAnswered o lines text s → 1 ≤ 0
+none_answered : (o : Options) (lines : List (List ℕ)) (text : List ℕ) (s : Responder) → length lines ≡ 0 → IsAnswered o lines text s → 1 ≤ 0
 none_answered o lines text s none a =
     let c = ap length a.split in
     let d = length-append a.repository (a.end ∷ a.queries) in

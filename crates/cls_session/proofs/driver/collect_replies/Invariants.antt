@@ -1,6 +1,6 @@
 use Rattle.std.proofs.Common.{◌≡◌, ◌+◌, ◌≤◌, ◌++◌, length}
 use Rattle.cls_session.specs.Driving.{AnswersPending}
-use Rattle.cls_session.specs.Standings.{lines_of_session}
+use Rattle.cls_session.specs.SessionStates.{lines_of_session}
 use Rattle.cls_session.proofs.driver.collect_replies.Given as goal
 
 abbrev pub invariant-lines : goal.invariant-lines

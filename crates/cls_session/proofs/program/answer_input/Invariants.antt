@@ -1,7 +1,7 @@
 use Rattle.std.proofs.Common.{◌≡◌, ◌+◌, ◌-◌, ◌≤◌, length}
 use Rattle.cls_base.specs.Limits.{max_input_bytes}
 use Rattle.cls_session.proofs.InputLoop.{IsUnderWay}
-use Rattle.cls_session.specs.Standings.{lines_of_session}
+use Rattle.cls_session.specs.SessionStates.{lines_of_session}
 use Rattle.cls_session.proofs.program.answer_input.Given as goal
 
 abbrev pub invariant-pieces : goal.invariant-pieces

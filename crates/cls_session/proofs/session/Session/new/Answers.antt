@@ -1,5 +1,5 @@
 use Rattle.std.proofs.Common.{refl}
-use Rattle.cls_session.proofs.Standings.{Stands-none}
+use Rattle.cls_session.proofs.SessionStates.{Stands-none}
 use Rattle.cls_session.proofs.session.Session.new.Goals as goal
 
 pub returns-clause-stands : goal.returns-clause-stands

@@ -1,0 +1,171 @@
+-- Each number of a constructor in the library of a session is the number of a name in its table. Each name there is one of
+-- the language, and no two constructors have one name.
+use Rattle.std.proofs.Common.{ℕ, suc, ◌≡◌, Bool, true, false, List, [], ◌∷◌, ◌++◌, length, map, refl, sym, ◌∙◌, ap, subst, codes}
+use Rattle.std.specs.Prelude.{if◌then◌else◌}
+use Rattle.std.specs.List.{AllByRecursion, IsDistinct}
+use Rattle.std.specs.Str.{bytes_eq}
+use Rattle.std.proofs.lemmas.List.{length-map, map-append}
+use Rattle.cls_base.specs.Types.{ClosedType}
+use Rattle.cls_base.specs.Schemas.{OpenType}
+use Rattle.cls_lexer.specs.declared.token.TokenKind.TheVariants.{Colon}
+use Rattle.cls_lexer.specs.Names.{number_of, with_texts}
+use Rattle.cls_lexer.specs.Words as word
+use Rattle.cls_lexer.specs.Words.{Word, name, number, sign}
+use Rattle.cls_syntax.specs.declared.role.Role.TheVariants.{Component}
+use Rattle.cls_syntax.specs.Forms.{Part, fixed, naming, numeral, part_word, type_parts, constructors_named}
+use Rattle.cls_syntax.specs.LineGrammars.{row_words}
+use Rattle.cls_syntax.specs.RoundTrips.{IsProperName}
+use Rattle.cls_syntax.specs.TypeSchemas.{is_dollar, constructors_in}
+use Rattle.cls_syntax.specs.TypeTexts.{TypeText, type_words}
+use Rattle.cls_syntax.proofs.LineParts.{type_same}
+use Rattle.cls_syntax.proofs.ReadTypes.{AllGood, Below, line_proper}
+use Rattle.cls_syntax.proofs.ReadTypes as words
+use Rattle.cls_library.specs.Libraries.{AreComponentsOf, no_components, one_component, paths_at}
+use Rattle.cls_library.specs.Libraries as libraries
+use Rattle.cls_taxon.specs.Orders.{Declared}
+use Rattle.cls_proof.specs.Forms.{certificate_rows, greatest_number, Written, line_of, goal_words}
+use Rattle.cls_proof.specs.Forms as written
+use Rattle.cls_proof.specs.Reading.{Says, no_statement, one_statement, LinesSay}
+use Rattle.cls_proof.specs.Statements.{Statement, statements_of}
+use Rattle.cls_proof.proofs.ReadCertificates.{distinct_all}
+use Rattle.cls_query.specs.Queries.{Query, verify, query_parts}
+use Rattle.cls_query.proofs.RowParts.{words_of_parts}
+use Rattle.cls_query.proofs.Searches.{all_both}
+use Rattle.cls_repo.specs.Drafts as drafts
+use Rattle.cls_repo.specs.Drafts.{Draft}
+use Rattle.cls_repo.specs.EndFaults.{declared_in, schemas_in}
+use Rattle.cls_repo.specs.Sound.{IsSound}
+use Rattle.cls_engine.specs.declared.options.Options.{Options}
+use Rattle.cls_replies.specs.Answering.{Asks, Answered, Verifies, Verified}
+use Rattle.cls_replies.specs.Answering as answering
+use Rattle.cls_replies.specs.Lines.{Goes, Replies}
+use Rattle.cls_replies.specs.Lines as lines
+use Rattle.cls_replies.specs.Responder.{Responder, Serves, with_names, holding}
+use Rattle.cls_session.specs.Transcripts.{IsAnswered}
+use Rattle.cls_laws.proofs.DraftNames.{AreProper, IsNamed, grown_proper, parts_proper, below_more, repository_named}
+use Rattle.cls_laws.proofs.LibraryNames.{SchemaHas, library_has}
+use Rattle.cls_laws.proofs.Openings.{repository_sound}
+use Rattle.cls_laws.proofs.PathNames.{PathsHave, paths_to}
+
+pub record IsCalled (s : Responder) : Type 0 where
+  pub apart : IsDistinct bytes_eq s.names
+  pub proper : AreProper s.names
+  pub called : AreProper s.components
+  pub counted : length s.components ≡ length s.engine.library.components
+  pub known : (x : ℕ) → PathsHave (Below s.names) (paths_at s.engine.library x)
+
+-- A REPOSITORY THAT IS OPENED
+schemas_named : (K : ℕ → Type 0) (cs : List drafts.Component) → AllByRecursion (λ (c : drafts.Component). SchemaHas K c.schema) cs → AllByRecursion (λ (s : OpenType). SchemaHas K s) (map (λ c. c.schema) cs)
+schemas_named K [] h = tt
+schemas_named K (c ∷ cs) h = (h.0, schemas_named K cs h.1)
+
+as_many : (d : Declared) (kinds : List (ℕ × List ClosedType)) {ss : List OpenType} {cs : List libraries.Component} → AreComponentsOf d kinds ss cs → length ss ≡ length cs
+as_many d kinds no_components = refl
+as_many d kinds (one_component is more) = ap (λ (n : ℕ). suc n) (as_many d kinds more)
+
+opened_called : (o : Options) (d : Draft) (s : Responder) → IsNamed d → IsSound d → Serves o d s → IsCalled s
+opened_called o d s h sound is = record {
+  apart = subst (λ (ts : List (List ℕ)). IsDistinct bytes_eq ts) (sym is.same_names) h.apart;
+  proper = subst (λ (ts : List (List ℕ)). AreProper ts) (sym is.same_names) h.proper;
+  called = subst (λ (ts : List (List ℕ)). AreProper ts) (sym is.same_components) h.called;
+  counted =
+      ap (λ (ts : List (List ℕ)). length ts) is.same_components
+      ∙ (sound.named ∙ (sym (length-map d.components (λ (c : drafts.Component). c.schema)) ∙ as_many (declared_in d) d.kinds is.library_is.components));
+  known = subst (λ (ts : List (List ℕ)). (x : ℕ) → PathsHave (Below ts) (paths_at s.engine.library x)) (sym is.same_names)
+      (library_has (Below d.names) (declared_in d) d.kinds h.ranged (schemas_in d) s.engine.library is.library_is (schemas_named (Below d.names) d.components h.typed));
+}
+
+-- NAMES THAT COME
+with_called : (s : Responder) (xs : List (List ℕ)) (m : Responder) → m ≡ with_names s m.names → m.names ≡ with_texts s.names xs → AreProper xs → IsCalled s → IsCalled m
+with_called s xs m e numbered proper h =
+    let grown : IsCalled (with_names s (with_texts s.names xs)) = record {
+      apart = distinct_all s.names xs h.apart;
+      proper = grown_proper s.names xs h.proper proper;
+      called = h.called;
+      counted = h.counted;
+      known = λ x. paths_to (Below s.names) (Below (with_texts s.names xs)) (below_more s.names xs) (paths_at s.engine.library x) (h.known x);
+    } in
+    subst IsCalled (sym (e ∙ ap (λ (ts : List (List ℕ)). with_names s ts) numbered)) grown
+
+query_proper : (s : Responder) (line : List ℕ) (q : Query) (m : Responder) (h : Asks s line q m) → AreProper (constructors_named (query_parts h.0.said))
+query_proper s line q m h =
+    parts_proper (query_parts h.0.said)
+    (subst (λ (ws : List Word). AllGood IsProperName ws) (sym h.0.spelled.spelled ∙ words_of_parts h.0.said) (line_proper line))
+
+asks_called : (s : Responder) (line : List ℕ) (q : Query) (m : Responder) → Asks s line q m → IsCalled s → IsCalled m
+asks_called s line q m h c = with_called s (constructors_named (query_parts h.0.said)) m h.1 h.0.numbered (query_proper s line q m h) c
+
+-- the constructors among words
+if_proper : (b : Bool) (x : List ℕ) → IsProperName x → AreProper (if b then x ∷ [] else [])
+if_proper true x h = (h, tt)
+if_proper false x h = tt
+
+words_proper : (b : Bool) (ws : List Word) → AllGood IsProperName ws → AreProper (constructors_in b ws)
+words_proper b [] h = tt
+words_proper b (word.omega ∷ ws) h = words_proper false ws h.1
+words_proper b (name x ∷ ws) h = all_both IsProperName (if (if b then false else true) then x ∷ [] else []) (constructors_in false ws) (if_proper (if b then false else true) x h.0) (words_proper false ws h.1)
+words_proper b (number n ∷ ws) h = words_proper false ws h.1
+words_proper b (sign k ∷ ws) h = words_proper (is_dollar (sign k)) ws h.1
+
+type_front : (t : TypeText) (ps : List Part) → AllGood IsProperName (map part_word (type_parts t ++ ps)) → AllGood IsProperName (type_words t)
+type_front t ps h =
+    (words.parts IsProperName (type_words t) (map part_word ps)
+    (subst (λ (ws : List Word). AllGood IsProperName ws) (map-append part_word (type_parts t) ps ∙ ap (λ (ws : List Word). ws ++ map part_word ps) (type_same t)) h)).0
+
+goal_proper : (w : Written) → AllGood IsProperName (row_words certificate_rows (line_of w)) → AllGood IsProperName (goal_words w)
+goal_proper written.inhabited h = tt
+goal_proper (written.row t x d ds) h = type_front t (fixed (name (codes "by")) ∷ naming Component x ∷ numeral 0 greatest_number d ∷ fixed (sign Colon) ∷ map (numeral 0 greatest_number) ds) h.1
+goal_proper written.empty h = tt
+goal_proper (written.member t) h = type_front t [] h.1
+goal_proper (written.block x d) h = tt
+goal_proper written.layer h = tt
+goal_proper (written.set ds) h = tt
+goal_proper written.qed h = tt
+
+line_names : (f : List ℕ → ℕ) (components : List (List ℕ)) (line : List ℕ) (names : List (List ℕ)) (ss : List Statement) → Says f components line names ss → AreProper names
+line_names f components line names ss (no_statement k a e) = subst (λ (ts : List (List ℕ)). AreProper ts) (sym a) tt
+line_names f components line names ss (one_statement s h e) =
+    let good = subst (λ (ws : List Word). AllGood IsProperName ws) (sym h.says.spelled) (line_proper line) in
+    subst (λ (ts : List (List ℕ)). AreProper ts) (sym h.named) (words_proper false (goal_words h.written) (goal_proper h.written good))
+
+lines_names : (f : List ℕ → ℕ) (components ls names : List (List ℕ)) (ss : List Statement) → LinesSay f components ls names ss → AreProper names
+lines_names f components [] names ss h = subst (λ (ts : List (List ℕ)). AreProper ts) (sym h.0) tt
+lines_names f components (l ∷ ls) names ss (n1, n2, s1, s2, first, rest, en, es) =
+    subst (λ (ts : List (List ℕ)). AreProper ts) (sym en)
+    (all_both IsProperName n1 n2 (line_names f components l n1 s1 first) (lines_names f components ls n2 s2 rest))
+
+-- THE LINES AFTER A REPOSITORY
+same_called : (s m : Responder) → m ≡ s → IsCalled s → IsCalled m
+same_called s m e h = subst IsCalled (sym e) h
+
+held_called : (s : Responder) (held : List (List ℕ)) → IsCalled s → IsCalled (holding s held)
+held_called s held h = record { apart = h.apart; proper = h.proper; called = h.called; counted = h.counted; known = h.known }
+
+verifies_called : (s : Responder) (goal : ClosedType) (certificate : List (List ℕ)) (text : List ℕ) (m : Responder) → Verifies s goal certificate text m → IsCalled s → IsCalled m
+verifies_called s goal certificate text m (answering.Verifies.bad fault ws is w t e) h = same_called s m e h
+verifies_called s goal certificate text m (answering.Verifies.read c says e j) h =
+    with_called s says.names m e says.numbered (lines_names (number_of m.names) s.components certificate says.names (statements_of c) says.says) h
+
+verified_called : (s : Responder) (line : List ℕ) (certificate : List (List ℕ)) (text : List ℕ) (m : Responder) → Verified s line certificate text m → IsCalled s → IsCalled m
+verified_called s line certificate text m (answering.Verified.misread k) h = same_called s m k.same h
+verified_called s line certificate text m (answering.Verified.asked goal x asks v) h = verifies_called x goal certificate text m v (asks_called s line (verify goal) x asks h)
+
+answered_called : (s : Responder) (line text : List ℕ) (m : Responder) → Answered s line text m → IsCalled s → IsCalled m
+answered_called s line text m (answering.Answered.misread k) h = same_called s m k.same h
+answered_called s line text m (answering.Answered.asked q asks a) h = asks_called s line q m asks h
+
+goes_called : (s : Responder) (line text : List ℕ) (m : Responder) → Goes s line text m → IsCalled s → IsCalled m
+goes_called s line text m (lines.Goes.skips e k t same) h = same_called s m same h
+goes_called s line text m (lines.Goes.asks e single a) h = answered_called s line text m a h
+goes_called s line text m (lines.Goes.opens e opens t same) h = same_called (holding s (line ∷ [])) m same (held_called s (line ∷ []) h)
+goes_called s line text m (lines.Goes.holds first inside e n t same) h = same_called (holding s (first ∷ (inside ++ line ∷ []))) m same (held_called s (first ∷ (inside ++ line ∷ [])) h)
+goes_called s line text m (lines.Goes.ends first inside e q v) h = verified_called (holding s []) first (inside ++ line ∷ []) text m v (held_called s [] h)
+
+replies_called : (s : Responder) (rest : List (List ℕ)) (text : List ℕ) (m : Responder) → Replies s rest text m → IsCalled s → IsCalled m
+replies_called s [] text m h c = same_called s m h.1 c
+replies_called s (line ∷ rest) text m (x, first, others, goes, hs, e) c = replies_called x rest others m hs (goes_called s line first x goes c)
+
+pub session_called : (o : Options) (ls : List (List ℕ)) (text : List ℕ) (s : Responder) → IsAnswered o ls text s → IsCalled s
+session_called o ls text s h =
+    replies_called h.opened h.queries text s h.replies
+    (opened_called o h.declared h.opened (repository_named h.repository h.end h.declared h.reads) (repository_sound h.repository h.end h.declared h.reads) h.serves)

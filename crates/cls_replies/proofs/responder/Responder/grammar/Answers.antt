@@ -1,0 +1,40 @@
+use Rattle.std.proofs.Common.{subst}
+use Rattle.std.specs.Prelude.{IfOk}
+use Rattle.std.proofs.lemmas.Result.{IfOk-weaker}
+use Rattle.cls_base.specs.Ty.{type_of}
+use Rattle.cls_query.specs.Queries.{grammar}
+use Rattle.cls_replies.specs.Answering.{Answers}
+use Rattle.cls_replies.specs.Printing.{IsOfGoal, left_of}
+use Rattle.cls_replies.specs.Replies.{Reply}
+use Rattle.cls_replies.specs.Responder.{Responder, responder_of}
+use Rattle.cls_replies.specs.Steps.{held_lines}
+use Rattle.cls_syntax.specs.TypePrinting.{name_in}
+use Rattle.cls_grammar.specs.GrammarTexts.{IsGrammarText}
+use Rattle.cls_replies.proofs.Faulting.{fault_answers, reply_answers}
+use Rattle.cls_replies.proofs.responder.Responder.grammar.Goals as goal
+use Rattle.cls_replies.proofs.responder.Responder.grammar.Goals.{in-Ok, in-Err}
+
+pub returns-clause-answers : goal.returns-clause-answers
+returns-clause-answers g c =
+    let i = c.self.inside in
+    let s = responder_of i.names i.components i.templates i.engine (held_lines i.held) in
+    let q = grammar (type_of c.args.ty.now) in
+    elim c.match-grammar.branch [
+      | in-Ok w ↦
+          rw w.result-is (subst (λ (z : Responder). IfOk w.grammar_printing.result (λ p. Answers z q (left_of z p))) c.self.view_is
+          (reply_answers (left_of s) w.grammar_printing.result s q w.in-Ok.ensures.silent
+          (IfOk-weaker w.grammar_printing.result (λ p. IsGrammarText (name_in i.names) (name_in i.components) w.in-Ok.grammar (left_of s p)) (λ p. Reply s q (left_of s p)) (λ p e. let t : Reply s q (left_of s p) = (w.in-Ok.grammar, w.in-Ok.ensures.closed, e) in t) (w.grammar_printing.ensures.text s))))
+      | in-Err w ↦
+          rw w.result-is (subst (λ (z : Responder). IfOk w.fault_printing.result (λ p. Answers z q (left_of z p))) c.self.view_is
+          (fault_answers (left_of s) w.fault_printing.result s q w.in-Err.fault w.in-Err.ensures.fault (w.fault_printing.ensures.text s)))
+    ]
+
+pub returns-clause-printable : goal.returns-clause-printable
+returns-clause-printable g c =
+    elim c.match-grammar.branch [
+      | in-Ok w ↦
+          rw w.result-is (w.grammar_printing.ensures.printable c.args.self.now
+          (subst (λ (z : Responder). IsOfGoal z w.in-Ok.grammar) c.self.view_is (type_of c.args.ty.now, w.in-Ok.ensures.closed, w.in-Ok.ensures.silent)))
+      | in-Err w ↦
+          rw w.result-is (w.fault_printing.ensures.printable c.args.self.now)
+    ]

@@ -1,0 +1,55 @@
+-- What the lines after a repository are answered by.
+use Rattle.std.specs.Prelude.{ℕ, ◌≡◌, List, [], ◌∷◌, length, map}
+use Rattle.cls_assemble.specs.declared.piece.Piece.{Piece}
+use Rattle.cls_library.specs.Refusals.{IsLibraryOf}
+use Rattle.cls_query.specs.Queries.{Tables, tables_of}
+use Rattle.cls_repo.specs.Drafts.{Draft}
+use Rattle.cls_repo.specs.EndFaults.{declared_in, schemas_in}
+use Rattle.cls_engine.specs.declared.options.Options.{Options}
+use Rattle.cls_engine.specs.Engines.{EngineSeen}
+use Rattle.cls_replies.specs.LineKinds.{Opens}
+
+-- The names of constructors so far, the names and the templates of components, the engine, and the lines of a query
+-- whose certificate hasn't ended, none if there is no such query.
+pub record Responder : Type 0 where
+  pub names : List (List ℕ)
+  pub components : List (List ℕ)
+  pub templates : List (List Piece)
+  pub engine : EngineSeen
+  pub held : List (List ℕ)
+
+-- the numbers of names, as a query finds them
+abbrev pub tables_in : Responder → Tables
+tables_in s = tables_of s.names s.components
+
+abbrev pub with_names : Responder → List (List ℕ) → Responder
+with_names s names = record s { names = names }
+
+abbrev pub holding : Responder → List (List ℕ) → Responder
+holding s lines = record s { held = lines }
+
+abbrev pub responder_of :
+    (names components : List (List ℕ)) → (templates : List (List Piece)) → EngineSeen → (held : List (List ℕ)) → Responder
+responder_of names components templates engine held =
+    record { names = names; components = components; templates = templates; engine = engine; held = held }
+
+-- The lines are none, or the first of them opens a certificate.
+abbrev pub AreHeld : List (List ℕ) → Type 0
+AreHeld [] = Unit {0}
+AreHeld (first ∷ inside) = Opens first
+
+-- Each component has a name, a template and a type.
+pub record IsResponder (s : Responder) : Type 0 where
+  pub named : length s.components ≡ length s.engine.library.components
+  pub written : length s.templates ≡ length s.engine.library.components
+  pub opened : AreHeld s.held
+
+-- The repository was read, and no line after it.
+pub record Serves (o : Options) (d : Draft) (s : Responder) : Type 0 where
+  pub same_names : s.names ≡ d.names
+  pub same_components : s.components ≡ d.component_names
+  pub templates_are : s.templates ≡ map (λ c. c.template) d.components
+  pub library_is : IsLibraryOf (declared_in d) d.kinds (schemas_in d) s.engine.library
+  pub costs_are : s.engine.costs ≡ map (λ c. c.cost) d.components
+  pub options_are : s.engine.options ≡ o
+  pub none_held : s.held ≡ []
