@@ -4,7 +4,7 @@ ghost use Rattle.cls_base.specs.Cuts.{AreEnds, cut};
 ghost use Rattle.cls_base.specs.declared.rule.Rule.TheVariants.{Any, Head};
 ghost use Rattle.cls_base.specs.Arguments.{arguments_in, map_rule};
 
-use cls_base::{start_of, Goals, Key, NodeRules, OutOfMemory};
+use cls_base::{Goals, Key, NodeRules, OutOfMemory, start_of};
 use std::alloc::Global;
 use std::marker::Model;
 

@@ -6,9 +6,9 @@ ghost use Rattle.cls_term.specs.Costs.{cost_of};
 ghost use Rattle.cls_finite.specs.Descents.{size_at, size_by, greatest_by};
 
 use crate::descent::Mark;
-use cls_grammar::Flags;
 use cls_base::limits::MAX_FINITE_SIZE;
 use cls_base::{NodeRules, RuleRef};
+use cls_grammar::Flags;
 
 /// The first size that isn't told. Sizes are counted up to it.
 pub(crate) const SIZE_CAP: u64 = MAX_FINITE_SIZE + 1;

@@ -7,8 +7,8 @@ ghost use Rattle.cls_finite.specs.Descents.{IsDone, AreDone, AllAreDone, IsPasse
 
 use crate::descent::Mark;
 use crate::walk::Step;
-use cls_grammar::Flags;
 use cls_base::{NodeRules, RuleRef};
+use cls_grammar::Flags;
 
 /// The argument of the rule at the place.
 pub(crate) fn argument(rule: RuleRef<'_>, place: usize) -> Option<u32>

@@ -16,8 +16,8 @@ ghost use Rattle.cls_repo.specs.Written.{directive_of, draft_of, TakesDirective}
 use crate::directive::Directive;
 use crate::draft::Draft;
 use crate::fault::FaultKind;
-use cls_base::limits::MAX_COST;
 use cls_assemble::{Template, TemplateFault};
+use cls_base::limits::MAX_COST;
 use cls_lexer::{Numeral, Token, byte_at};
 use cls_syntax::{SpelledType, SpelledTypes, first_variable};
 use std::alloc::Global;

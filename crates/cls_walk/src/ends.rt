@@ -8,8 +8,8 @@ ghost use Rattle.cls_term.specs.Costs.{cost_of};
 ghost use Rattle.cls_walk.specs.Ends.{CostAtMost, EndsAt};
 
 use crate::numbers::{cost_at, plus, times};
-use cls_base::{NodeRules, Numbers, RuleBook, RuleRef};
 use cls_base::limits::MAX_TERM_LENGTH;
+use cls_base::{NodeRules, Numbers, RuleBook, RuleRef};
 
 /// The cost of the component that heads the rule, 0 where none does.
 fn head_cost(rule: RuleRef<'_>, costs: &Numbers) -> u32

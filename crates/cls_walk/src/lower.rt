@@ -12,8 +12,8 @@ use crate::numbers::{greater, plus};
 use crate::run::runs_of;
 use crate::stage::Stage;
 use crate::ways::pair_ways_of;
-use cls_base::{NodeRules, OutOfMemory, RuleBook, RuleRef};
 use cls_base::limits::MAX_TERM_LENGTH;
+use cls_base::{NodeRules, OutOfMemory, RuleBook, RuleRef};
 use std::alloc::Global;
 
 /// The greater of a number and the ways of the rule, where it is a pair of nodes.
