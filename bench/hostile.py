@@ -63,7 +63,7 @@ def long_replies() -> Iterator[Case]:
     yield Case("a page of 10,000 texts of 65,000 bytes", make.long_texts(10_000), "more", 1, 100)
     for query, last_line in (("grammar", "done"), ("certify", "qed")):
         yield Case(f"{query}, 19,457 goals of 341 long names", make.long_goals(query), last_line, 3, 357, MOST_GOALS)
-    yield Case("certify, 341 layers of 1,024 covers", make.chained(1, "certify", "N -> "), "qed", 2.5, 100, open_seconds=3)
+    yield Case("certify, 341 layers of 1,024 covers", make.chained(1, "certify", "N -> "), "qed", 2.5, 100)
 
 
 def certificates() -> Iterator[Case]:

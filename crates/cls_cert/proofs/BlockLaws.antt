@@ -1,13 +1,13 @@
 -- The blocks of a member, place after place.
-use Rattle.std.proofs.Common.{ℕ, zero, suc, ◌≡◌, ◌+◌, ◌<◌, ◌≤◌, ◌↔◌, ◌==◌, refl, sym, ◌∙◌, subst, ap, ◌⊎◌, inl, inr, Bool, false, not, IsTrue, List, [], ◌∷◌, ◌++◌, length, take, arith, rules, Contains, Option, Some, None, All}
+use Rattle.std.proofs.Common.{ℕ, zero, suc, ◌≡◌, ◌+◌, ◌<◌, ◌≤◌, ◌↔◌, ◌==◌, refl, sym, ◌∙◌, subst, ap, ◌⊎◌, inl, inr, Bool, false, not, IsTrue, List, [], ◌∷◌, ◌++◌, length, take, arith, rules, Contains, Option, Some, None}
 use Rattle.std.specs.Prelude.{slice_get}
-use Rattle.std.proofs.lemmas.List.Elements.{Contains-push, Contains-push_cases, Contains-append_left, All-take}
+use Rattle.std.proofs.lemmas.List.Elements.{Contains-push, Contains-push_cases, Contains-append_left}
 use Rattle.std.proofs.lemmas.Option.{slice_get_within, get_or_from_slice_get}
 use Rattle.cls_base.specs.Lists.{AreDistinct}
 use Rattle.cls_base.proofs.Lists.{Contains-nil, Contains-here, Contains-later, Contains-head}
 use Rattle.cls_base.specs.Limits.{max_covers}
 use Rattle.cls_path.specs.Paths.{TypePath, Paths, none, more, listed, type_of_paths}
-use Rattle.cls_cover.specs.Lists.{IsAscending, Sublist, ends, drops}
+use Rattle.cls_cover.specs.Lists.{Sublist, ends, drops}
 use Rattle.cls_cover.specs.Covers.{IsMinimal, AreMinimal, MeetsEach, AreCovers, HaveMore, AreWithinLimit}
 use Rattle.cls_library.specs.Arrows.{MultiArrow, arity_of}
 use Rattle.cls_library.specs.Families.{AreFamilies}
@@ -19,19 +19,7 @@ use Rattle.cls_proof.specs.Certificates as proof
 use Rattle.cls_proof.specs.Certificates.{Block}
 use Rattle.cls_cert.specs.Making.{front_of, path_count, HasFirst, AreLayers, BlockBefore, IsMemberFor}
 use Rattle.cls_cert.specs.Building.{AreCoversOfFronts, HasFirstFamily, IsPlaceBefore, AddsBlock, with_block, without_block, AreBlocks}
-use Rattle.cls_cert.proofs.Lists.{differs, not_false, is_true, rises_last, take_take}
-
--- fewer first families have no more covers either
-pub within_front : (families : List (List ℕ)) (n j : ℕ) → j ≤ length families → AreWithinLimit families n → AreWithinLimit (take j families) n
-within_front families n j l h i k m =
-    let e : i ≤ j = front_length families j i k in
-    h i (omega arith) (subst (λ (fs : List (List ℕ)). HaveMore fs n) (take_take i j families e) m)
-  where
-    front_length : (fs : List (List ℕ)) (j i : ℕ) → i ≤ length (take j fs) → i ≤ j
-    front_length fs zero i k = k
-    front_length [] (suc j) i k = omega arith
-    front_length (f ∷ fs) (suc j) zero k = omega arith
-    front_length (f ∷ fs) (suc j) (suc i) k = let e : i ≤ j = front_length fs j i (omega arith) in omega arith
+use Rattle.cls_cert.proofs.Lists.{differs, not_false, is_true, rises_last}
 
 -- without families there is one cover
 pub one_cover : (j : ℕ) → HaveMore (take j []) max_covers → ⊥
@@ -192,13 +180,6 @@ module _ (l : Library) where
       exactly = (λ x n. ((λ k. ((a.exactly x n).0 k).0), (λ h. (a.exactly x n).1 (h, inl (first_place goal x n h).0))));
       layers = a.layers;
     }
-
--- what calls tell of the first families
-pub front_few : (families front : List (List ℕ)) (n j : ℕ) → front ≡ take (j + 1) families → j < length families → AreWithinLimit families n → AreWithinLimit front n
-front_few families front n j e l h = subst (λ (fs : List (List ℕ)). AreWithinLimit fs n) (sym e) (within_front families n (j + 1) (omega arith) h)
-
-pub front_ascends : (families front : List (List ℕ)) (j : ℕ) → front ≡ take (j + 1) families → All IsAscending families → All IsAscending front
-front_ascends families front j e h = subst (λ (fs : List (List ℕ)). All IsAscending fs) (sym e) (All-take IsAscending (j + 1) families h)
 
 -- whether there is a first family that isn't empty
 pub first_some : (fs : List (List ℕ)) (f : List ℕ) (b : Bool) → slice_get fs 0 ≡ Some f → b ≡ (length f == 0) → IsTrue (not b) ↔ HasFirstFamily fs

@@ -12,7 +12,6 @@ pub mod Lists
 pub mod MadeMembers
 pub mod MemberLaws
 pub mod MemberWriting
-pub mod Narrow
 pub mod Ranking
 pub mod RowLaws
 pub mod RowMaking

@@ -21,12 +21,6 @@ got_within [] k d l = absurd (omega arith)
 got_within (x ∷ xs) zero d l = refl
 got_within (x ∷ xs) (suc k) d l = got_within xs k d (omega arith)
 
-pub take_take : {A : Type 0} (i j : ℕ) (xs : List A) → i ≤ j → take i (take j xs) ≡ take i xs
-take_take zero j xs l = refl
-take_take (suc i) zero xs l = absurd (omega arith)
-take_take (suc i) (suc j) [] l = refl
-take_take (suc i) (suc j) (x ∷ xs) l = ap (λ ys. x ∷ ys) (take_take i j xs (omega arith))
-
 pub not_false : IsTrue false → ⊥
 not_false t = search rules
 

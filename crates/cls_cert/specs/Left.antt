@@ -7,6 +7,7 @@ use Rattle.cls_core.specs.Rows.{Row}
 use Rattle.cls_cover.specs.Lists.{IsAscending}
 use Rattle.cls_cover.specs.Covers.{AreWithinLimit}
 use Rattle.cls_cover.specs.Forced.{IsForced}
+use Rattle.cls_cover.specs.Fronts.{HasCovers}
 use Rattle.cls_grammar.specs.Grammars.{book_of}
 use Rattle.cls_grammar.specs.Ranks.{AreRanks}
 use Rattle.cls_library.specs.declared.place.Place.{Place}
@@ -17,10 +18,11 @@ use Rattle.cls_cert.specs.declared.layers.BlockLeft.{BlockLeft}
 use Rattle.cls_cert.specs.declared.making.CertificateLeft.{CertificateLeft}
 use Rattle.cls_cert.specs.declared.making.CertificateLeft.TheVariants.{Rows, Members}
 use Rattle.cls_cert.specs.declared.members.MembersLeft.{MembersLeft}
+use Rattle.cls_cert.specs.declared.named.NamedGrammar.{NamedGrammar}
 use Rattle.cls_cert.specs.declared.rows.MadeRow.{MadeRow}
 use Rattle.cls_cert.specs.declared.row_lines.RowsLeft.{RowsLeft}
 use Rattle.cls_cert.specs.Computed.{layers_from, blocks_from, members_from}
-use Rattle.cls_cert.specs.Conditions.{IsGrammarOf}
+use Rattle.cls_cert.specs.Conditions.{forms_of, IsGrammarOf}
 use Rattle.cls_cert.specs.Making.{goal_in}
 
 -- A BLOCK
@@ -38,6 +40,7 @@ pub record IsBlockLeft (b : BlockLeft) : Type 0 where
   pub ascending : All IsAscending b.families.items
   pub few : AreWithinLimit b.families.items max_covers
   pub forced : IfSome b.forced (IsForced (take b.front b.families.items))
+  pub grown : IfSome b.grown (HasCovers b.families.items max_covers b.front)
   pub front : b.front ≤ length b.families.items
   pub set : b.set ≤ length b.sets
 
@@ -85,6 +88,17 @@ module _ (names components : List (List ℕ)) where
     abbrev pub certificate_left : CertificateLeft → List ℕ
     certificate_left (Rows rows) = rows_left goals rows
     certificate_left (Members members) = members_left members
+
+-- the same for a grammar with names
+module _ (named : NamedGrammar) where
+  abbrev pub named_row_text : MadeRow → List ℕ
+  named_row_text row = row_text named.names.now named.components.now (row_for (forms_of named.grammar.now) row)
+
+  abbrev pub named_rows_text : List MadeRow → List ℕ
+  named_rows_text rows = rows_text named.names.now named.components.now (forms_of named.grammar.now) rows
+
+  abbrev pub named_members_left : Library → MembersLeft → List ℕ
+  named_members_left l m = members_left named.names.now named.components.now l (forms_of named.grammar.now) m
 
 -- THE GRAMMAR HAS WHAT IS LEFT
 pub record AreRowsLeft (rows : List (Row (List TypePath))) (r : RowsLeft) : Type 0 where

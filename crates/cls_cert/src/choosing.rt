@@ -14,7 +14,7 @@ ghost use Rattle.cls_cert.specs.Conditions.{forms_of};
 ghost use Rattle.cls_cert.specs.Making.{IsFirst, IsFirstChoice};
 ghost use Rattle.cls_cert.specs.Building.{HaveLess, HasLess, GivesRule, IsFirstAt, IsGiven, goals_over, rule_over};
 
-use crate::layers::few_covers;
+use crate::fronts::few_covers;
 use cls_base::{NodeRules, NumberLists, OutOfMemory, RuleRef};
 use cls_expand::{arguments_of, families_of};
 use cls_grammar::Grammar;

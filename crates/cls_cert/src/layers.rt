@@ -6,14 +6,15 @@ ghost use Rattle.cls_base.specs.Limits.{max_covers};
 ghost use Rattle.cls_cover.specs.Lists.{IsAscending};
 ghost use Rattle.cls_cover.specs.Covers.{AreCovers, AreWithinLimit};
 ghost use Rattle.cls_cover.specs.Forced.{IsForced};
+ghost use Rattle.cls_cover.specs.Fronts.{HasCovers};
 ghost use Rattle.cls_proof.specs.Texts.{layer_text, set_text};
 ghost use Rattle.cls_cert.specs.Computed.{layers_from};
 ghost use Rattle.cls_cert.specs.Left.{IsBlockLeft, block_left, sets_left};
 
 use crate::forced::forced_with;
-use cls_base::limits::MAX_COVERS;
+use crate::fronts::grown_with;
 use cls_base::{NumberLists, Numbers, OutOfMemory};
-use cls_cover::{CoverFault, covers};
+use cls_cover::GrowingCovers;
 use cls_proof::{Positions, write_set};
 use std::alloc::Global;
 
@@ -25,6 +26,8 @@ pub(crate) struct BlockLeft {
     pub front: usize,
     /// The only cover of that front, if each of its families has a single position.
     pub forced: Option<Positions>,
+    /// Otherwise the covers of that front as they grow, once its layer is made.
+    pub grown: Option<GrowingCovers>,
     pub sets: NumberLists,
     pub set: usize,
 }
@@ -43,6 +46,7 @@ impl BlockLeft {
             families,
             front: 0,
             forced: Some(cover),
+            grown: None,
             sets,
             set: 0,
         }
@@ -132,10 +136,18 @@ impl BlockLeft {
         ensures families { OnOk result (self.new.families.items ≡ self.old.families.items) }
     {
         let cover = self.forced.take();
-        let (sets, forced) = next_layer(alloc, self.families.as_slice(), front, cover)?;
+        let grown = self.grown.take();
+        let (sets, forced, covers) = next_layer(
+            alloc,
+            self.families.as_slice(),
+            front,
+            cover,
+            grown,
+        )?;
         text.push_str("layer\n")?;
         self.front = front + 1;
         self.forced = forced;
+        self.grown = covers;
         self.sets = sets;
         self.set = 0;
         Ok(())
@@ -166,40 +178,35 @@ fn write_sets(
     Ok(count)
 }
 
-/// The minimal covers of one family more than the front has, and the only one if each family has a single position.
+/// The minimal covers of one family more than the front has, and what those of the next layer are made from: the only one if each
+/// family has a single position, and otherwise all of them as they grow.
 fn next_layer(
     alloc: Global,
     families: &[Numbers],
     front: usize,
     cover: Option<Positions>,
-) -> Result<(NumberLists, Option<Positions>), OutOfMemory>
+    grown: Option<GrowingCovers>,
+) -> Result<(NumberLists, Option<Positions>, Option<GrowingCovers>), OutOfMemory>
     requires ascending { All IsAscending families.now }
     requires few { AreWithinLimit families.now max_covers }
     requires forced { IfSome cover (IsForced (take front families.now)) }
+    requires grown { IfSome grown (HasCovers families.now max_covers front) }
     requires more { front < length families.now }
     ensures covers { IfOk result (λ next. AreCovers (take (front + 1) families.now) next.0) }
     ensures forced { IfOk result (λ next. IfSome next.1 (IsForced (take (front + 1) families.now))) }
+    ensures grown { IfOk result (λ next. IfSome next.2 (HasCovers families.now max_covers (front + 1))) }
 {
     let forced = forced_with(cover, families[front].as_slice())?;
-    let (longer, _) = families.split_at(front + 1);
-    let sets = front_covers(alloc, longer, &forced)?;
-    Ok((sets, forced))
-}
-
-/// The minimal covers of the families. Where these have a single position each, their only cover is given.
-fn front_covers(
-    alloc: Global,
-    families: &[Numbers],
-    forced: &Option<Positions>,
-) -> Result<NumberLists, OutOfMemory>
-    requires ascending { All IsAscending families.now }
-    requires few { AreWithinLimit families.now max_covers }
-    requires forced { IfSome forced.now (IsForced families.now) }
-    ensures { IfOk result (AreCovers families.now) }
-{
     match forced {
-        Some(cover) => one_set(alloc, cover.as_slice()),
-        None => few_covers(alloc, families),
+        Some(only) => {
+            let sets = one_set(alloc, only.as_slice())?;
+            Ok((sets, Some(only), None))
+        }
+        None => {
+            let covers = grown_with(alloc, families, front, grown)?;
+            let sets = covers.covers(alloc)?;
+            Ok((sets, None, Some(covers)))
+        }
     }
 }
 
@@ -210,17 +217,4 @@ fn one_set(alloc: Global, set: &[u32]) -> Result<NumberLists, OutOfMemory>
     let mut sets = NumberLists::new(alloc);
     sets.push(set)?;
     Ok(sets)
-}
-
-/// The minimal covers of the families, which have few.
-pub(crate) fn few_covers(alloc: Global, families: &[Numbers]) -> Result<NumberLists, OutOfMemory>
-    requires ascending { All IsAscending families.now }
-    requires few { AreWithinLimit families.now max_covers }
-    ensures { IfOk result (AreCovers families.now) }
-{
-    match covers(alloc, families, MAX_COVERS) {
-        Ok(list) => Ok(list),
-        Err(CoverFault::TooManyCovers(_)) => unreachable!(),
-        Err(CoverFault::OutOfMemory) => Err(OutOfMemory),
-    }
 }

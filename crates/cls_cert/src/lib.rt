@@ -5,17 +5,20 @@
 //! - `specs/` defines which certificate it is. [`laws`] says that it is the only one, and that it is accepted.
 //!
 //! Inside, `members`, `blocks` and `layers` make the members while they are written, with the help of `forced` for families of one
-//! position each. `rows` and `choosing` make the rows, and `row_lines` writes them. `buckets` sorts goals by rank.
+//! position each, and of `fronts` for others. `rows` and `choosing` make the rows, and `row_lines` writes them. `buckets` sorts
+//! goals by rank. `named` has what lines are written with: a grammar with names.
 #![tactic(auto)]
 
 mod blocks;
 mod buckets;
 mod choosing;
 mod forced;
+mod fronts;
 pub mod laws;
 mod layers;
 mod making;
 mod members;
+mod named;
 mod row_lines;
 mod rows;
 

@@ -1,12 +1,13 @@
 //! What is left of a certificate without rows while it is written: members, one for each unproductive goal of a grammar.
-ghost use Rattle.std.specs.Prelude.{◌≡◌, ℕ, ◌+◌, ◌<◌, ◌≤◌, ◌++◌, [], IfOk, IfSome, List, OnOk, None, length, string_bytes};
+ghost use Rattle.std.specs.Prelude.{◌≡◌, ◌+◌, ◌<◌, ◌≤◌, ◌++◌, [], IfOk, IfSome, OnOk, None, length, string_bytes};
 ghost use Rattle.cls_library.specs.Libraries as libraries;
 ghost use Rattle.cls_cert.specs.Computed.{start_place};
 ghost use Rattle.cls_cert.specs.Conditions.{forms_of};
-ghost use Rattle.cls_cert.specs.Left.{AreMembersLeft, IsWrittenOn, block_left, members_left};
+ghost use Rattle.cls_cert.specs.Left.{AreMembersLeft, IsWrittenOn, block_left, members_left, named_members_left};
 
 use crate::blocks::write_blocks;
 use crate::layers::BlockLeft;
+use crate::named::NamedGrammar;
 use cls_base::OutOfMemory;
 use cls_grammar::{Grammar, Ranks};
 use cls_lexer::Names;
@@ -56,9 +57,14 @@ impl MembersLeft {
         ensures lines { let left = members_left names.now components.now lib.now (forms_of grammar.now) in IfOk result
             (IsWrittenOn enough (left self.old) (left self.new) (string_bytes text.old) (string_bytes text.new)) }
     {
+        let named = NamedGrammar {
+            grammar,
+            names,
+            components,
+        };
         self.block.write_lines(alloc, enough, text)?;
-        self.write_goal(alloc, lib, grammar, names, components, enough, text)?;
-        self.write_members(alloc, lib, grammar, names, components, enough, text)?;
+        self.write_goal(alloc, lib, &named, enough, text)?;
+        self.write_members(alloc, lib, &named, enough, text)?;
         let written = text.len();
         if written >= enough {
             return Ok(true);
@@ -73,16 +79,14 @@ impl MembersLeft {
         &mut self,
         alloc: Global,
         lib: &Library,
-        grammar: &Grammar,
-        names: &Names,
-        components: &Names,
+        named: &NamedGrammar,
         enough: usize,
         text: &mut String,
     ) -> Result<(), OutOfMemory>
-        requires left { AreMembersLeft lib.now grammar.now self.old }
+        requires left { AreMembersLeft lib.now named.now.grammar.now self.old }
         requires full { length (string_bytes text.old) < enough → block_left self.old.block ≡ [] }
-        ensures left { OnOk result (AreMembersLeft lib.now grammar.now self.new) }
-        ensures lines { let left = members_left names.now components.now lib.now (forms_of grammar.now) in
+        ensures left { OnOk result (AreMembersLeft lib.now named.now.grammar.now self.new) }
+        ensures lines { let left = named_members_left named.now lib.now in
             OnOk result (string_bytes text.new ++ left self.new ≡ string_bytes text.old ++ left self.old) }
         ensures full { OnOk result (length (string_bytes text.new) < enough
             → (block_left self.new.block ≡ []) × (self.new.from ≡ None)) }
@@ -95,9 +99,18 @@ impl MembersLeft {
         if written >= enough {
             return Ok(());
         }
-        let goal = grammar.goal(self.goal);
+        let goal = named.grammar.goal(self.goal);
         let block = &mut self.block;
-        let next = write_blocks(alloc, lib, goal, from, components, enough, block, text)?;
+        let next = write_blocks(
+            alloc,
+            lib,
+            goal,
+            from,
+            named.components,
+            enough,
+            block,
+            text,
+        )?;
         self.from = next;
         Ok(())
     }
@@ -107,28 +120,27 @@ impl MembersLeft {
         &mut self,
         alloc: Global,
         lib: &Library,
-        grammar: &Grammar,
-        names: &Names,
-        components: &Names,
+        named: &NamedGrammar,
         enough: usize,
         text: &mut String,
     ) -> Result<(), OutOfMemory>
-        requires left { AreMembersLeft lib.now grammar.now self.old }
+        requires left { AreMembersLeft lib.now named.now.grammar.now self.old }
         requires full { length (string_bytes text.old) < enough
             → (block_left self.old.block ≡ []) × (self.old.from ≡ None) }
-        ensures left { OnOk result (AreMembersLeft lib.now grammar.now self.new) }
-        ensures lines { let left = members_left names.now components.now lib.now (forms_of grammar.now) in
+        ensures left { OnOk result (AreMembersLeft lib.now named.now.grammar.now self.new) }
+        ensures lines { let left = named_members_left named.now lib.now in
             OnOk result (string_bytes text.new ++ left self.new ≡ string_bytes text.old ++ left self.old) }
         ensures full { OnOk result (length (string_bytes text.new) < enough
-            → (block_left self.new.block ≡ []) × (self.new.from ≡ None) × (length grammar.now ≤ self.new.next)) }
+            → (block_left self.new.block ≡ []) × (self.new.from ≡ None)
+            × (length named.now.grammar.now ≤ self.new.next)) }
     {
-        for number in self.next..grammar.count() {
+        for number in self.next..named.grammar.count() {
             let written = text.len();
             if written >= enough {
                 return Ok(());
             }
-            self.begin_member(alloc, grammar, names, number, text)?;
-            self.write_goal(alloc, lib, grammar, names, components, enough, text)?;
+            self.begin_member(alloc, named, number, text)?;
+            self.write_goal(alloc, lib, named, enough, text)?;
         }
         Ok(())
     }
@@ -138,32 +150,30 @@ impl MembersLeft {
     fn begin_member(
         &mut self,
         alloc: Global,
-        grammar: &Grammar,
-        names: &Names,
+        named: &NamedGrammar,
         number: u32,
         text: &mut String,
     ) -> Result<(), OutOfMemory>
-        requires ranked { length self.old.ranks ≡ length grammar.now }
+        requires ranked { length self.old.ranks ≡ length named.now.grammar.now }
         requires next { self.old.next ≡ number }
-        requires more { number < length grammar.now }
-        requires goal { self.old.goal < length grammar.now }
+        requires more { number < length named.now.grammar.now }
+        requires goal { self.old.goal < length named.now.grammar.now }
         requires none { (block_left self.old.block ≡ []) × (self.old.from ≡ None) }
-        ensures lines { (components : List (List ℕ)) (l : libraries.Library)
-            → let left = members_left names.now components l (forms_of grammar.now) in
+        ensures lines { (l : libraries.Library) → let left = named_members_left named.now l in
             OnOk result (string_bytes text.new ++ left self.new ≡ string_bytes text.old ++ left self.old) }
-        ensures goal { OnOk result (self.new.goal < length grammar.now) }
+        ensures goal { OnOk result (self.new.goal < length named.now.grammar.now) }
         ensures from { OnOk result (IfSome self.new.from (λ place. place ≡ start_place)) }
         ensures same { OnOk result
             (self.new ≡ record self.old { goal = self.new.goal; from = self.new.from; next = number + 1 }) }
     {
         // For the prover: the number of goals is one of 32 bits.
-        let _count = grammar.count();
+        let _count = named.grammar.count();
         self.next = number + 1;
         if self.ranks.as_slice()[number as usize].is_some() {
             return Ok(());
         }
-        let ty = type_of(alloc, grammar.goal(number))?;
-        write_member(names, &ty, text)?;
+        let ty = type_of(alloc, named.grammar.goal(number))?;
+        write_member(named.names, &ty, text)?;
         self.goal = number;
         self.from = Some(Place {
             component: 0,

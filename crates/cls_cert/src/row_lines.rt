@@ -1,9 +1,9 @@
 //! What is left of a certificate with rows while it is written.
 ghost use Rattle.std.specs.Prelude.{◌≡◌, ◌<◌, ◌≤◌, ◌++◌, All, IfOk, OnOk, drop, length, string_bytes};
-ghost use Rattle.cls_proof.specs.Texts.{row_text};
 ghost use Rattle.cls_cert.specs.Conditions.{forms_of};
-ghost use Rattle.cls_cert.specs.Left.{AreRowsLeft, IsWrittenOn, row_for, rows_left, rows_text};
+ghost use Rattle.cls_cert.specs.Left.{AreRowsLeft, IsWrittenOn, rows_left, named_row_text, named_rows_text};
 
+use crate::named::NamedGrammar;
 use crate::rows::MadeRow;
 use cls_base::OutOfMemory;
 use cls_grammar::Grammar;
@@ -42,11 +42,14 @@ impl RowsLeft {
         ensures lines { let left = rows_left names.now components.now (forms_of grammar.now) in IfOk result
             (IsWrittenOn enough (left self.old) (left self.new) (string_bytes text.old) (string_bytes text.new)) }
     {
+        let named = NamedGrammar {
+            grammar,
+            names,
+            components,
+        };
         let rows = self.rows.as_slice();
         let count = rows.len();
-        let next = write_rows(
-            alloc, grammar, names, components, rows, self.next, enough, text,
-        )?;
+        let next = write_rows(alloc, &named, rows, self.next, enough, text)?;
         self.next = next;
         if next < count {
             return Ok(true);
@@ -59,18 +62,16 @@ impl RowsLeft {
 /// Writes rows from a place on at the end, until the text has enough bytes. Gives the place of the first that isn't written.
 fn write_rows(
     alloc: Global,
-    grammar: &Grammar,
-    names: &Names,
-    components: &Names,
+    named: &NamedGrammar,
     rows: &[MadeRow],
     from: usize,
     enough: usize,
     text: &mut String,
 ) -> Result<usize, OutOfMemory>
-    requires each { All (λ row. row.number < length grammar.now) rows.now }
+    requires each { All (λ row. row.number < length named.now.grammar.now) rows.now }
     requires from { from ≤ length rows.now }
     ensures within { IfOk result (λ next. next ≤ length rows.now) }
-    ensures lines { let lines = rows_text names.now components.now (forms_of grammar.now) in
+    ensures lines { let lines = named_rows_text named.now in
         IfOk result (λ next. string_bytes text.new ++ lines (drop next rows.now)
         ≡ string_bytes text.old ++ lines (drop from rows.now)) }
     ensures full { IfOk result (λ next. next < length rows.now → enough ≤ length (string_bytes text.new)) }
@@ -81,7 +82,7 @@ fn write_rows(
         if written >= enough {
             return Ok(place);
         }
-        write_made_row(alloc, grammar, names, components, &rows[place], text)?;
+        write_made_row(alloc, named, &rows[place], text)?;
     }
     Ok(count)
 }
@@ -89,22 +90,19 @@ fn write_rows(
 /// Writes the line of a row at the end.
 fn write_made_row(
     alloc: Global,
-    grammar: &Grammar,
-    names: &Names,
-    components: &Names,
+    named: &NamedGrammar,
     row: &MadeRow,
     text: &mut String,
 ) -> Result<(), OutOfMemory>
-    requires { row.now.number < length grammar.now }
-    ensures { OnOk result (string_bytes text.new ≡ string_bytes text.old
-        ++ row_text names.now components.now (row_for (forms_of grammar.now) row.now)) }
+    requires { row.now.number < length named.now.grammar.now }
+    ensures { OnOk result (string_bytes text.new ≡ string_bytes text.old ++ named_row_text named.now row.now) }
 {
-    let ty = type_of(alloc, grammar.goal(row.number))?;
+    let ty = type_of(alloc, named.grammar.goal(row.number))?;
     let row = RowRef {
         goal: &ty,
         component: row.component,
         n: row.n,
         cover: row.cover.as_slice(),
     };
-    write_row(names, components, row, text)
+    write_row(named.names, named.components, row, text)
 }

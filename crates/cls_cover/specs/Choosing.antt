@@ -1,4 +1,4 @@
--- internal: how the minimal covers grow by one family more, where positions are below 128
+-- How the minimal covers grow by one family more, where positions are below 128
 use Rattle.std.specs.Prelude.{ℕ, ◌≡◌, ◌<◌, ◌≤◌, ◌+◌, ◌↔◌, ◌⊎◌, List, length, take, map}
 use Rattle.cls_cover.specs.declared.small.Begun.{Begun}
 use Rattle.cls_cover.specs.Members.{Member, Differ}

@@ -1,4 +1,4 @@
--- internal: flags in words of 64
+-- Flags in words of 64
 use Rattle.std.specs.Prelude.{ℕ, zero, suc, ◌≡◌, ◌/◌, ◌%◌, Bool, true, false, IsTrue, not, ◌&&◌, ◌||◌, List, slice_index_or}
 use Rattle.std.specs.Int.{bit_at}
 

@@ -1,4 +1,4 @@
--- internal: minimal covers over membership as a data family. `specs/Covers.antt` has the definitions that are public.
+-- Minimal covers over membership as a data family. `specs/Covers.antt` has the definitions that are public.
 use Rattle.std.specs.Prelude.{ℕ, ◌≡◌, ◌<◌, ◌↔◌, List, length}
 use Rattle.cls_base.specs.Terms.{Precedes}
 use Rattle.cls_cover.specs.Members.{Member, Rises, Ascending, Differ}

@@ -1,4 +1,4 @@
--- internal: sets of positions below 128, each as a number of 128 bits
+-- Sets of positions below 128, each as a number of 128 bits
 use Rattle.std.specs.Prelude.{ℕ, zero, suc, ◌≡◌, ◌+◌, ◌-◌, ◌<◌, ◌↔◌, List, [], ◌∷◌, length, map, slice_index, cond}
 use Rattle.std.specs.Int.{bit_at}
 use Rattle.cls_cover.specs.Flags.{is_one}

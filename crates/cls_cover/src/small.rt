@@ -5,6 +5,7 @@ ghost use Rattle.cls_base.specs.Terms.{Precedes};
 ghost use Rattle.cls_cover.specs.Lists.{IsAscending};
 ghost use Rattle.cls_cover.specs.Covers.{AreCovers, AreWithinLimit};
 ghost use Rattle.cls_cover.specs.Faults.{HasCause};
+ghost use Rattle.cls_cover.specs.Fronts.{AreInOrder, AreSmall};
 ghost use Rattle.cls_cover.specs.Members.{Member, Rises, Differ};
 ghost use Rattle.cls_cover.specs.MemberCovers.{Shares};
 ghost use Rattle.cls_cover.specs.Growing.{IsPut};
@@ -141,6 +142,72 @@ fn in_order(alloc: Global, mut sets: Vec<u128>) -> Result<NumberLists, OutOfMemo
     Ok(from_greatest(alloc, sets)?)
 }
 
+/// The minimal covers of the first families, with the sets of all families.
+#[derive(Drop)]
+pub(crate) struct SmallCovers {
+    sets: Vec<u128>,
+    /// The positions of the first families.
+    seen: u128,
+    list: Vec<u128>,
+    /// Room for the covers of one family more, whatever it holds.
+    next: Vec<u128>,
+}
+
+/// The cover of none of the families, whose sets are given.
+pub(crate) fn start_small(alloc: Global, sets: Vec<u128>) -> Result<SmallCovers, OutOfMemory>
+    ensures sets { IfOk result (λ small. small.sets.items ≡ sets.items) }
+    ensures seen { IfOk result (λ small. small.seen ≡ 0) }
+    ensures list { IfOk result (λ small. small.list.items ≡ 0 ∷ []) }
+{
+    let list = empty_set(alloc)?;
+    let next = Vec::new(alloc);
+    Ok(SmallCovers {
+        sets,
+        seen: 0,
+        list,
+        next,
+    })
+}
+
+/// Makes the covers of the first `count` families those of one family more. After an error they aren't known.
+pub(crate) fn grow_small(
+    families: &[Numbers],
+    count: usize,
+    limit: u32,
+    small: &mut SmallCovers,
+) -> Result<(), CoverFault>
+    requires ascending { All IsAscending families.now }
+    requires covers { AreSmall families.now limit count small.old }
+    requires more { count < length families.now }
+    ensures covers { OnOk result (AreSmall families.now limit (count + 1) small.new) }
+    ensures fault { IfErr result (HasCause families.now limit) }
+{
+    let sets = small.sets.as_slice();
+    let begun = Begun {
+        families,
+        sets,
+        seen: small.seen,
+        count,
+    };
+    grow(&begun, small.list.as_slice(), limit, &mut small.next)?;
+    mem::swap(&mut small.list, &mut small.next);
+    if small.list.len() > limit as usize {
+        return Err(CoverFault::TooManyCovers(count + 1));
+    }
+    small.seen |= sets[count];
+    Ok(())
+}
+
+/// The covers as lists, in lexicographic order.
+pub(crate) fn list_small(alloc: Global, small: &SmallCovers) -> Result<NumberLists, OutOfMemory>
+    requires differ { Differ (map members small.now.list.items) }
+    requires apart { AreApart (map members small.now.list.items) }
+    ensures { IfOk result (λ all. AreInOrder (map members small.now.list.items) all) }
+{
+    let copy = Vec::from_slice(alloc, small.list.as_slice())?;
+    Ok(in_order(alloc, copy)?)
+}
+
 /// The minimal covers of the families, whose sets are given, in lexicographic order.
 ///
 /// Covers are made family by family. One that meets the next family stays. Another one is extended by each position of the
@@ -150,32 +217,20 @@ fn in_order(alloc: Global, mut sets: Vec<u128>) -> Result<NumberLists, OutOfMemo
 pub(crate) fn small_covers(
     alloc: Global,
     families: &[Numbers],
-    sets: &[u128],
+    sets: Vec<u128>,
     limit: u32,
 ) -> Result<NumberLists, CoverFault>
     requires ascending { All IsAscending families.now }
-    requires sets { AreSetsOf families.now sets.now }
+    requires sets { AreSetsOf families.now sets.items }
     requires positive { 0 < limit }
     ensures covers { IfOk result (λ list. AreCovers families.now list) }
     ensures within { IfOk result (λ _. AreWithinLimit families.now limit) }
     ensures fault { IfErr result (HasCause families.now limit) }
 {
-    let mut list = empty_set(alloc)?;
-    let mut next = Vec::new(alloc);
-    let mut seen = 0;
+    let mut small = start_small(alloc, sets)?;
     for count in 0..families.len() {
-        let begun = Begun {
-            families,
-            sets,
-            seen,
-            count,
-        };
-        grow(&begun, list.as_slice(), limit, &mut next)?;
-        mem::swap(&mut list, &mut next);
-        if list.len() > limit as usize {
-            return Err(CoverFault::TooManyCovers(count + 1));
-        }
-        seen |= sets[count];
+        grow_small(families, count, limit, &mut small)?;
     }
+    let SmallCovers { list, .. } = small;
     Ok(in_order(alloc, list)?)
 }

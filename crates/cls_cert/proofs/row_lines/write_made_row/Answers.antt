@@ -15,7 +15,7 @@ goal-requires c = c.requires
 pub returns : goal.returns
 returns c =
     let row = c.args.row.now in
-    let goals = forms_of c.args.grammar.now in
-    let form : goal_in goals row.number ≡ listed c.goal.result.now = told_form c.args.grammar.now row.number c.goal.result.now c.goal.ensures in
+    let goals = forms_of c.args.named.now.grammar.now in
+    let form : goal_in goals row.number ≡ listed c.goal.result.now = told_form c.args.named.now.grammar.now row.number c.goal.result.now c.goal.ensures in
     let type : type_of c.in_ok-ty.ty ≡ type_of_paths (goal_in goals row.number) = c.in_ok-ty.ensures ∙ ap type_of_paths (sym form) in
-    on_ok_weaker c.write_row.result (λ e. e ∙ ap (λ (r : ProofRow). string_bytes c.args.text.now ++ row_text c.args.names.now c.args.components.now r) (λ i. record { goal = type i; component = row.component; n = row.n; cover = c.as_slice.ensures i })) c.write_row.ensures
+    on_ok_weaker c.write_row.result (λ e. e ∙ ap (λ (r : ProofRow). string_bytes c.args.text.now ++ row_text c.args.named.now.names.now c.args.named.now.components.now r) (λ i. record { goal = type i; component = row.component; n = row.n; cover = c.as_slice.ensures i })) c.write_row.ensures

@@ -3,6 +3,7 @@ use Rattle.std.specs.Prelude.{IfSome}
 use Rattle.cls_base.specs.Limits.{max_covers}
 use Rattle.cls_cover.specs.Covers.{AreCovers, AreWithinLimit}
 use Rattle.cls_cover.specs.Forced.{IsForced}
+use Rattle.cls_cover.specs.Fronts.{HasCovers}
 use Rattle.cls_cover.specs.Lists.{IsAscending}
 use Rattle.cls_cert.specs.Left.{layers_left, sets_left}
 use Rattle.cls_cert.proofs.LayerWriting.{layer_begun, lines_left}
@@ -21,6 +22,13 @@ next_layer-requires-clause-forced c =
     let taken : IfSome c.take-cover.result (IsForced (take c.args.front b.families.items)) = subst (λ o. IfSome o (IsForced (take c.args.front b.families.items))) (sym c.take-cover.ensures.value) at in
     subst (λ (fs : List (List ℕ)). IfSome c.take-cover.result (IsForced (take c.args.front fs))) (sym c.as_slice.ensures.value) taken
 
+pub next_layer-requires-clause-grown : goal.next_layer-requires-clause-grown
+next_layer-requires-clause-grown c =
+    let b = c.args.self.now in
+    let at : IfSome b.grown (HasCovers b.families.items max_covers c.args.front) = subst (λ (k : ℕ). IfSome b.grown (HasCovers b.families.items max_covers k)) c.requires.front c.requires.left.grown in
+    let taken : IfSome c.take-grown.result (HasCovers b.families.items max_covers c.args.front) = subst (λ o. IfSome o (HasCovers b.families.items max_covers c.args.front)) (sym c.take-grown.ensures.value) at in
+    subst (λ (fs : List (List ℕ)). IfSome c.take-grown.result (HasCovers fs max_covers c.args.front)) (sym c.as_slice.ensures.value) taken
+
 pub next_layer-requires-clause-more : goal.next_layer-requires-clause-more
 next_layer-requires-clause-more c = subst (λ (fs : List (List ℕ)). c.args.front < length fs) (sym c.as_slice.ensures.value) c.requires.more
 
@@ -32,6 +40,7 @@ returns-clause-left c =
       ascending = left.ascending;
       few = left.few;
       forced = subst (λ (fs : List (List ℕ)). IfSome c.in_ok-sets.forced (IsForced (take (c.args.front + 1) fs))) c.as_slice.ensures.value c.in_ok-sets.ensures.forced;
+      grown = subst (λ (fs : List (List ℕ)). IfSome c.in_ok-sets.covers (HasCovers fs max_covers (c.args.front + 1))) c.as_slice.ensures.value c.in_ok-sets.ensures.grown;
       front = omega arith;
       set = omega arith;
     }

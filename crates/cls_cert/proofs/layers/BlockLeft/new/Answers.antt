@@ -13,6 +13,7 @@ returns-clause-left c = record {
   ascending = c.requires.ascending;
   few = c.requires.few;
   forced = forced_none c.new-cover.result c.new-cover.ensures;
+  grown = tt;
   front = omega arith;
   set = omega arith;
 }

@@ -9,7 +9,7 @@ write_sets-requires c = c.requires.set
 pub returns-clause-left : goal.returns-clause-left
 returns-clause-left c =
     let left = c.requires in
-    record { ascending = left.ascending; few = left.few; forced = left.forced; front = left.front; set = c.in_ok-next.ensures.within }
+    record { ascending = left.ascending; few = left.few; forced = left.forced; grown = left.grown; front = left.front; set = c.in_ok-next.ensures.within }
 
 pub returns-clause-lines : goal.returns-clause-lines
 returns-clause-lines c = c.in_ok-next.ensures.lines

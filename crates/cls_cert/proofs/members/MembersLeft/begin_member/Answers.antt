@@ -18,10 +18,11 @@ abbrev is_some_at : List (Option ℕ) → ℕ → Bool
 is_some_at xs i = is_some (get_or xs i None)
 
 pub returns-then-is_some-clause-lines : goal.returns-then-is_some-clause-lines
-returns-then-is_some-clause-lines c = λ components l.
+returns-then-is_some-clause-lines c = λ l.
     let m = c.args.self.now in
-    let names = c.args.names.now in
-    let rows = c.args.grammar.now in
+    let names = c.args.named.now.names.now in
+    let components = c.args.named.now.components.now in
+    let rows = c.args.named.now.grammar.now in
     let goals = forms_of rows in
     let i = c.args.number in
     let t = string_bytes c.args.text.now in
@@ -35,10 +36,11 @@ returns-then-is_some-clause-lines c = λ components l.
     ap (λ (v : List ℕ). t ++ (block_left m.block ++ (blocks_left components l (goal_in goals m.goal) m.from ++ (v ++ line (codes "qed"))))) same
 
 pub returns-clause-lines : goal.returns-clause-lines
-returns-clause-lines c = λ components l.
+returns-clause-lines c = λ l.
     let m = c.args.self.now in
-    let names = c.args.names.now in
-    let rows = c.args.grammar.now in
+    let names = c.args.named.now.names.now in
+    let components = c.args.named.now.components.now in
+    let rows = c.args.named.now.grammar.now in
     let goals = forms_of rows in
     let i = c.args.number in
     let t = string_bytes c.args.text.now in

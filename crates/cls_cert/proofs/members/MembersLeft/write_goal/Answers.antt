@@ -18,10 +18,10 @@ pub goal-goal-requires : goal.goal-goal-requires
 goal-goal-requires c = c.requires.left.goal
 
 pub write_blocks-requires-clause-ready : goal.write_blocks-requires-clause-ready
-write_blocks-requires-clause-ready c = (ruled c.args.lib.now c.args.grammar.now c.requires.left.grammar c.args.self.now.goal c.goal-goal.result.now c.goal-goal.ensures).ready
+write_blocks-requires-clause-ready c = (ruled c.args.lib.now c.args.named.now.grammar.now c.requires.left.grammar c.args.self.now.goal c.goal-goal.result.now c.goal-goal.ensures).ready
 
 pub write_blocks-requires-clause-narrow : goal.write_blocks-requires-clause-narrow
-write_blocks-requires-clause-narrow c = (ruled c.args.lib.now c.args.grammar.now c.requires.left.grammar c.args.self.now.goal c.goal-goal.result.now c.goal-goal.ensures).narrow
+write_blocks-requires-clause-narrow c = (ruled c.args.lib.now c.args.named.now.grammar.now c.requires.left.grammar c.args.self.now.goal c.goal-goal.result.now c.goal-goal.ensures).narrow
 
 pub write_blocks-requires-clause-start : goal.write_blocks-requires-clause-start
 write_blocks-requires-clause-start c = subst (λ o. IfSome o (IsStart c.args.lib.now)) c.in-Some.is c.requires.left.from
@@ -47,13 +47,13 @@ pub returns-clause-lines : goal.returns-clause-lines
 returns-clause-lines c =
     let m = c.args.self.now in
     let l = c.args.lib.now in
-    let components = c.args.components.now in
-    let goals = forms_of c.args.grammar.now in
+    let components = c.args.named.now.components.now in
+    let goals = forms_of c.args.named.now.grammar.now in
     let t = string_bytes c.args.text.now in
     let t' = string_bytes c.write_blocks.new.text in
     let block = c.write_blocks.new.block in
-    let rest = members_text c.args.names.now components l goals m.ranks m.next ++ line (codes "qed") in
-    let form : goal_in goals m.goal ≡ listed c.goal-goal.result.now = (ruled l c.args.grammar.now c.requires.left.grammar m.goal c.goal-goal.result.now c.goal-goal.ensures).goal in
+    let rest = members_text c.args.named.now.names.now components l goals m.ranks m.next ++ line (codes "qed") in
+    let form : goal_in goals m.goal ≡ listed c.goal-goal.result.now = (ruled l c.args.named.now.grammar.now c.requires.left.grammar m.goal c.goal-goal.result.now c.goal-goal.ensures).goal in
     let none = c.requires.full (let less = c.if-written-enough.false in omega (arith, c.len-written.ensures)) in
     let written : t' ++ (block_left block ++ blocks_left components l (goal_in goals m.goal) c.in_ok-next.next) ≡ t ++ blocks_text components l (goal_in goals m.goal) c.in-Some.from =
     subst (λ (g : Paths). t' ++ (block_left block ++ blocks_left components l g c.in_ok-next.next) ≡ t ++ blocks_text components l g c.in-Some.from) (sym form) c.in_ok-next.ensures.lines in

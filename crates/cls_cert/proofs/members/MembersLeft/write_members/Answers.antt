@@ -20,7 +20,7 @@ pub loop-number-init : goal.loop-number-init
 loop-number-init c = record { left = c.requires.left; lines = refl; full = c.requires.full; next = refl }
 
 pub begin_member-requires-clause-ranked : goal.begin_member-requires-clause-ranked
-begin_member-requires-clause-ranked c = c.loop-number.invariant.left.ranks.count ∙ length-map c.args.grammar.now (λ (r : Row (List TypePath)). rules_of r.answer)
+begin_member-requires-clause-ranked c = c.loop-number.invariant.left.ranks.count ∙ length-map c.args.named.now.grammar.now (λ (r : Row (List TypePath)). rules_of r.answer)
 
 pub begin_member-requires-clause-next : goal.begin_member-requires-clause-next
 begin_member-requires-clause-next c = c.loop-number.invariant.next
@@ -37,9 +37,9 @@ begin_member-requires-clause-none c = c.loop-number.invariant.full (let less = c
 pub write_goal-requires-clause-left : goal.write_goal-requires-clause-left
 write_goal-requires-clause-left c =
     let left = c.loop-number.invariant.left in
-    let more : c.loop-number.number < length c.args.grammar.now = (let test = c.loop-number-test.true in omega (arith, c.count-number-end.ensures.count)) in
+    let more : c.loop-number.number < length c.args.named.now.grammar.now = (let test = c.loop-number-test.true in omega (arith, c.count-number-end.ensures.count)) in
     let b = c.in_ok-begin_member.ensures in
-    subst (λ (m : MembersLeft). AreMembersLeft c.args.lib.now c.args.grammar.now m) (sym b.same)
+    subst (λ (m : MembersLeft). AreMembersLeft c.args.lib.now c.args.named.now.grammar.now m) (sym b.same)
     (record { grammar = left.grammar; ranks = left.ranks; block = left.block; goal = b.goal; from = begins c.args.lib.now c.begin_member.new.self.from b.from; next = omega arith })
 
 pub write_goal-requires-clause-full : goal.write_goal-requires-clause-full
@@ -50,7 +50,7 @@ write_goal-requires-clause-full c = λ few.
 pub loop-number-preserved : goal.loop-number-preserved
 loop-number-preserved c = record {
   left = c.in_ok-write_goal.ensures.left;
-  lines = c.in_ok-write_goal.ensures.lines ∙ (c.in_ok-begin_member.ensures.lines c.args.components.now c.args.lib.now ∙ c.loop-number.invariant.lines);
+  lines = c.in_ok-write_goal.ensures.lines ∙ (c.in_ok-begin_member.ensures.lines c.args.lib.now ∙ c.loop-number.invariant.lines);
   full = c.in_ok-write_goal.ensures.full;
   next = c.in_ok-write_goal.ensures.next ∙ ap (λ (m : MembersLeft). m.next) c.in_ok-begin_member.ensures.same;
 }

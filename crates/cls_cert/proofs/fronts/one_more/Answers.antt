@@ -1,7 +1,7 @@
 use Rattle.std.proofs.Common.{subst}
 use Rattle.cls_cover.specs.declared.minimal.CoverFault.{CoverFault}
 use Rattle.cls_cover.specs.Faults.{AreTooMany, HasCause}
-use Rattle.cls_cert.proofs.layers.few_covers.Goals as goal
+use Rattle.cls_cert.proofs.fronts.one_more.Goals as goal
 
 pub unreachable-requires : goal.unreachable-requires
 unreachable-requires c =
