@@ -11,6 +11,7 @@ ghost use Rattle.cls_engine.specs.Histories.{IsHistoryFrom};
 
 use crate::engine::Engine;
 use crate::fault::EngineFault;
+use crate::host::Host;
 use crate::library_expander::LibraryExpander;
 use crate::outcomes::Outcome;
 use cls_base::{Gate, OutOfMemory};
@@ -38,10 +39,8 @@ impl Engine {
     /// Has the workers find the closure of the goal. They look each goal up among the answers that are kept first.
     fn expand<R: Threads + Wait + Sync, T: Gate + Sync>(
         &self,
-        rt: &R,
-        alloc: Global,
+        host: &Host<R, T>,
         goal: Nf,
-        gate: &T,
     ) -> Result<Finished<Nf>, ExpandFault>
         requires ready { IsReady self.now.library goal }
         ensures complete { IfOk result (IsComplete same IsAnswer (tag_of self.now.library self.now.options goal)) }
@@ -52,7 +51,15 @@ impl Engine {
             goals: self.options.goals,
             rules: self.options.rules,
         };
-        expand_all(rt, alloc, &by, goal, self.options.workers, limits, gate)
+        expand_all(
+            host.rt,
+            host.alloc,
+            &by,
+            goal,
+            self.options.workers,
+            limits,
+            host.gate,
+        )
     }
 
     /// Has the library keep its arrows by what their targets end in, for the workers.
@@ -74,10 +81,8 @@ impl Engine {
     /// Works out the closure of the goal, and keeps its answers for later queries.
     fn work_out<R: Threads + Wait + Sync, T: Gate + Sync>(
         &mut self,
-        rt: &R,
-        alloc: Global,
+        host: &Host<R, T>,
         goal: Nf,
-        gate: &T,
     ) -> Result<Closed, EngineFault>
         requires ready { IsReady self.old.library goal }
         ensures same { self.new ≡ self.old }
@@ -89,11 +94,11 @@ impl Engine {
         complete_histories_make_grammars::<LibraryExpander>();
         renumbered_rows_are_canonical::<LibraryExpander>();
         self.facts();
-        self.index(alloc)?;
-        let finished = self.expand(rt, alloc, goal, gate)?;
+        self.index(host.alloc)?;
+        let finished = self.expand(host, goal)?;
         let Finished { rows, history } = finished;
-        let made = Grammar::of(alloc, &rows);
-        self.keep(alloc, rows)?;
+        let made = Grammar::of(host.alloc, &rows);
+        self.keep(host.alloc, rows)?;
         let grammar = made?;
         Ok(Closed { grammar, history })
     }
@@ -113,10 +118,8 @@ impl Engine {
     /// for later queries.
     pub(crate) fn close<R: Threads + Wait + Sync, T: Gate + Sync>(
         &mut self,
-        rt: &R,
-        alloc: Global,
+        host: &Host<R, T>,
         goal: Nf,
-        gate: &T,
     ) -> Result<Closed, EngineFault>
         requires ready { IsReady self.old.library goal }
         ensures same { self.new ≡ self.old }
@@ -124,12 +127,12 @@ impl Engine {
         ensures history { IfOk result (λ c. IsHistoryFrom self.old.library self.old.options.workers goal c.history) }
         ensures fault { IfErr result (IsClosingFault self.old.library self.old.options goal) }
     {
-        self.recall(alloc, &goal)?;
-        let asked = goal.copy(alloc)?;
-        match self.work_out(rt, alloc, goal, gate) {
+        self.recall(host.alloc, &goal)?;
+        let asked = goal.copy(host.alloc)?;
+        match self.work_out(host, goal) {
             Ok(closed) => Ok(closed),
             Err(fault) => {
-                self.keep_fault(alloc, &asked, &fault);
+                self.keep_fault(host.alloc, &asked, &fault);
                 Err(fault)
             }
         }

@@ -5,9 +5,9 @@ ghost use Rattle.cls_engine.specs.Faults.{IsFaultOf, closure_faults};
 
 use crate::engine::Engine;
 use crate::fault::EngineFault;
+use crate::host::Host;
 use cls_base::{Gate, Ty};
 use cls_grammar::Grammar;
-use std::alloc::Global;
 use std::sync::Wait;
 use std::thread::Threads;
 
@@ -15,20 +15,18 @@ impl Engine {
     /// The grammar of the type's goal. It is at hand if the goal is one of those that were asked for last.
     pub(crate) fn closure<R: Threads + Wait + Sync, T: Gate + Sync>(
         &mut self,
-        rt: &R,
-        alloc: Global,
+        host: &Host<R, T>,
         ty: &Ty,
-        gate: &T,
     ) -> Result<Grammar, EngineFault>
         ensures same { self.new ≡ self.old }
         ensures known { IfOk result (IsKnownOf self.old.library self.old.options (type_of ty.now)) }
         ensures fault { IfErr result
             (IsFaultOf (closure_faults self.old.library self.old.options (type_of ty.now))) }
     {
-        let goal = self.goal(alloc, ty)?;
+        let goal = self.goal(host.alloc, ty)?;
         if let Some(grammar) = self.take_recent(&goal) {
             return Ok(grammar);
         }
-        Ok(self.close(rt, alloc, goal, gate)?.grammar)
+        Ok(self.close(host, goal)?.grammar)
     }
 }

@@ -3,6 +3,7 @@
 //! - [`Engine`] owns a library and answers queries about types: subtyping, typing, certificates, whether a type has
 //!   terms, how large they are, its grammar, its history, and its terms page by page. It keeps answers from query to
 //!   query.
+//! - [`Host`] is what is lent to a call that works out an answer.
 //! - [`Options`] bound its work, [`Verdict`] is what it finds of a certificate, and [`EngineFault`] is why a query
 //!   isn't answered.
 //!
@@ -17,6 +18,7 @@ mod closure;
 mod compare;
 mod engine;
 mod fault;
+mod host;
 pub mod laws;
 mod library_expander;
 mod listing;
@@ -30,5 +32,6 @@ mod verify;
 
 pub use engine::Engine;
 pub use fault::EngineFault;
+pub use host::Host;
 pub use options::Options;
 pub use verdict::Verdict;

@@ -13,6 +13,7 @@ ghost use Rattle.cls_engine.specs.Faults.{IsFaultOf, AreSilent, list_faults};
 
 use crate::engine::Engine;
 use crate::fault::EngineFault;
+use crate::host::Host;
 use cls_base::{Gate, Ty};
 use cls_enum::{Page, PageFault};
 use cls_grammar::Grammar;
@@ -51,13 +52,11 @@ impl Engine {
     /// the type.
     pub fn list<R: Threads + Wait + Sync, T: Gate + Sync>(
         &mut self,
-        rt: &R,
-        alloc: Global,
+        host: &Host<R, T>,
         ty: &Ty,
         after: Option<&Term>,
         max: u32,
         take: u32,
-        gate: &T,
     ) -> Result<Page, EngineFault>
         requires max { max ≤ max_term_size }
         requires some { 1 ≤ take }
@@ -72,8 +71,8 @@ impl Engine {
     {
         // For the prover: what a component costs.
         self.facts();
-        let grammar = self.closure(rt, alloc, ty, gate)?;
-        let page = self.page_of(alloc, &grammar, after, max, take);
+        let grammar = self.closure(host, ty)?;
+        let page = self.page_of(host.alloc, &grammar, after, max, take);
         self.keep_recent(grammar);
         Ok(page?)
     }

@@ -12,6 +12,7 @@ ghost use Rattle.cls_engine.specs.Histories.{IsHistoryOf};
 
 use crate::engine::Engine;
 use crate::fault::EngineFault;
+use crate::host::Host;
 use crate::outcomes::Outcome;
 use cls_base::{Gate, OutOfMemory, Ty};
 use cls_core::History;
@@ -34,10 +35,8 @@ impl Engine {
     /// Whether some term has the type.
     pub fn inhabit<R: Threads + Wait + Sync, T: Gate + Sync>(
         &mut self,
-        rt: &R,
-        alloc: Global,
+        host: &Host<R, T>,
         ty: &Ty,
-        gate: &T,
     ) -> Result<bool, EngineFault>
         ensures same { self.new ≡ self.old }
         ensures exact { IfOk result
@@ -46,13 +45,13 @@ impl Engine {
         ensures fault { IfErr result
             (IsFaultOf (closure_faults self.old.library self.old.options (type_of ty.now))) }
     {
-        let goal = self.goal(alloc, ty)?;
+        let goal = self.goal(host.alloc, ty)?;
         if let Some(inhabited) = self.recent_verdict(&goal) {
             return Ok(inhabited);
         }
-        let grammar = self.closure(rt, alloc, ty, gate)?;
-        let inhabited = is_productive(alloc, &grammar)?;
-        self.keep_outcome(alloc, &goal, Outcome::Inhabited(inhabited));
+        let grammar = self.closure(host, ty)?;
+        let inhabited = is_productive(host.alloc, &grammar)?;
+        self.keep_outcome(host.alloc, &goal, Outcome::Inhabited(inhabited));
         self.keep_recent(grammar);
         Ok(inhabited)
     }
@@ -60,10 +59,8 @@ impl Engine {
     /// The grammar of the type's goal. It is no longer kept then, unless it is given back by [`Engine::take_back`].
     pub fn grammar<R: Threads + Wait + Sync, T: Gate + Sync>(
         &mut self,
-        rt: &R,
-        alloc: Global,
+        host: &Host<R, T>,
         ty: &Ty,
-        gate: &T,
     ) -> Result<Grammar, EngineFault>
         ensures same { self.new ≡ self.old }
         ensures closed { IfOk result (IsClosed self.old.library (type_of ty.now)) }
@@ -71,7 +68,7 @@ impl Engine {
         ensures fault { IfErr result
             (IsFaultOf (closure_faults self.old.library self.old.options (type_of ty.now))) }
     {
-        let grammar = self.closure(rt, alloc, ty, gate)?;
+        let grammar = self.closure(host, ty)?;
         Ok(grammar)
     }
 
@@ -89,10 +86,8 @@ impl Engine {
     /// The history of the work on the type's goal: one that is legal and complete.
     pub fn audit<R: Threads + Wait + Sync, T: Gate + Sync>(
         &mut self,
-        rt: &R,
-        alloc: Global,
+        host: &Host<R, T>,
         ty: &Ty,
-        gate: &T,
     ) -> Result<History, EngineFault>
         ensures same { self.new ≡ self.old }
         ensures history { IfOk result
@@ -101,10 +96,10 @@ impl Engine {
         ensures fault { IfErr result
             (IsFaultOf (closure_faults self.old.library self.old.options (type_of ty.now))) }
     {
-        let goal = self.goal(alloc, ty)?;
+        let goal = self.goal(host.alloc, ty)?;
         // A history is of work done anew. The grammar that comes of it stands in place of the one that is kept.
         drop(self.take_recent(&goal));
-        let closed = self.close(rt, alloc, goal, gate)?;
+        let closed = self.close(host, goal)?;
         self.keep_recent(closed.grammar);
         Ok(closed.history)
     }

@@ -10,6 +10,7 @@ ghost use Rattle.cls_engine.specs.Sizes.{IsGreatest, IsGreatestOver, IsUnbounded
 
 use crate::engine::Engine;
 use crate::fault::EngineFault;
+use crate::host::Host;
 use cls_base::limits::MAX_FINITE_SIZE;
 use cls_base::{Gate, OutOfMemory, Ty};
 use cls_finite::{FiniteAnswer, finite};
@@ -36,10 +37,8 @@ impl Engine {
     /// How large the terms of the type are. The steps of a walk are those of the grammar of the type's goal.
     pub fn finite<R: Threads + Wait + Sync, T: Gate + Sync>(
         &mut self,
-        rt: &R,
-        alloc: Global,
+        host: &Host<R, T>,
         ty: &Ty,
-        gate: &T,
     ) -> Result<FiniteAnswer, EngineFault>
         ensures same { self.new ≡ self.old }
         ensures greatest { IfOk result (λ answer.
@@ -54,8 +53,8 @@ impl Engine {
         ensures fault { IfErr result
             (IsFaultOf (closure_faults self.old.library self.old.options (type_of ty.now))) }
     {
-        let grammar = self.closure(rt, alloc, ty, gate)?;
-        let answer = self.sizes_of(alloc, &grammar);
+        let grammar = self.closure(host, ty)?;
+        let answer = self.sizes_of(host.alloc, &grammar);
         self.keep_recent(grammar);
         Ok(answer?)
     }

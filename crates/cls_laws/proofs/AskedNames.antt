@@ -9,7 +9,7 @@ use Rattle.cls_syntax.specs.TypeSchemas.{type_schema}
 use Rattle.cls_syntax.specs.TypeTexts.{TypeText}
 use Rattle.cls_syntax.proofs.ReadTypes.{Below, AllHeld, held_by}
 use Rattle.cls_syntax.specs.ClosedTypes.{closed}
-use Rattle.cls_query.specs.Queries.{QueryText, verify, query_parts, with_query, query_of, type_in}
+use Rattle.cls_query.specs.Queries.{QueryText, Tables, verify, query_parts, with_query, query_of, type_in}
 use Rattle.cls_replies.specs.Answering.{Asks}
 use Rattle.cls_replies.specs.Responder.{Responder, tables_in}
 use Rattle.cls_laws.proofs.DraftNames.{type_spelled, parts_known}
@@ -36,7 +36,7 @@ module _ (s m : Responder) (line : List ℕ) (goal : ClosedType) (asks : Asks s 
   named = constructors_named (query_parts (as_verify said.0))
 
   numbered : m.names ≡ with_texts s.names named
-  numbered = asks.0.numbered ∙ ap (λ (d : QueryText). (with_query (tables_in s) d).constructors) said.1
+  numbered = ap (λ (x : Tables). x.constructors) asks.0.numbered ∙ ap (λ (d : QueryText). (with_query (tables_in s) d).constructors) said.1
 
   asked : verify goal ≡ verify (type_in (with_texts s.names named) said.0)
   asked = asks.0.asked ∙ ap (λ (d : QueryText). query_of (with_query (tables_in s) d) d) said.1

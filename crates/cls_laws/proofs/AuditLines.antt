@@ -29,5 +29,5 @@ module _ (tables : Tables) (goal : ClosedType) where
   begins_so (Page word l) e = absurd (true≢false (asked_audit (Page word l) e))
 
 pub audits_named : AuditsAreNamed
-audits_named line other tables goal constructors read =
+audits_named line other tables after goal read =
     true≢false (sym (begins_so tables goal read.said read.asked) ∙ (ap (λ (ws : List Word). begins_with (codes "audit") ws) read.spelled.spelled ∙ other))

@@ -26,7 +26,7 @@ audit_or_not (Page word q) = inr (λ t e. cc)
 
 module _ (n : ℕ) where
   -- nothing that the engine can't do hangs on the number of workers
-  faults_by : (s : Responder) (q : Query) → faults_of (served_by n s).engine q ≡ faults_of s.engine q
+  faults_by : (s : Responder) (q : Query) → faults_of (served_by n s) q ≡ faults_of s q
   faults_by s (Sub a b) = refl
   faults_by s (Paths x) = refl
   faults_by s (Typed u t) = refl
@@ -34,10 +34,10 @@ module _ (n : ℕ) where
   faults_by s (About word t) = refl
   faults_by s (Page word q) = refl
 
-  pub fault_by : (s : Responder) (q : Query) (f : EngineFault) → First (faults_of s.engine q) f → First (faults_of (served_by n s).engine q) f
+  pub fault_by : (s : Responder) (q : Query) (f : EngineFault) → First (faults_of s q) f → First (faults_of (served_by n s) q) f
   fault_by s q f h = subst (λ (causes : List (Cause EngineFault)). First causes f) (sym (faults_by s q)) h
 
-  silent_by : (s : Responder) (q : Query) → IsSilent (First (faults_of s.engine q)) → IsSilent (First (faults_of (served_by n s).engine q))
+  silent_by : (s : Responder) (q : Query) → IsSilent (First (faults_of s q)) → IsSilent (First (faults_of (served_by n s) q))
   silent_by s q h = subst (λ (causes : List (Cause EngineFault)). IsSilent (First causes)) (sym (faults_by s q)) h
 
   reply_by : (s : Responder) (q : Query) (text : List ℕ) → ((t : ClosedType) → q ≡ audit t → ⊥) → Reply s q text → Reply (served_by n s) q text
@@ -49,9 +49,9 @@ module _ (n : ℕ) where
   reply_by s (Page listing.List q) text free h = h
   reply_by s (Page word q) text free h = h
 
-  pub answers_by : (s : Responder) (q : Query) (text : List ℕ) → ((t : ClosedType) → q ≡ audit t → ⊥) → Answers s q text → Answers (served_by n s) q text
-  answers_by s q text free (answering.Answers.failed f h e) = answering.Answers.failed f (fault_by s q f h) e
-  answers_by s q text free (answering.Answers.replied silent r) = answering.Answers.replied (silent_by s q silent) (reply_by s q text free r)
+  pub answers_by : (s : Responder) (q : Query) (text : List ℕ) (m : Responder) → ((t : ClosedType) → q ≡ audit t → ⊥) → Answers s q text m → Answers (served_by n s) q text (served_by n m)
+  answers_by s q text m free (answering.Answers.failed f h e same) = answering.Answers.failed f (fault_by s q f h) e (ap (served_by n) same)
+  answers_by s q text m free (answering.Answers.replied silent r same) = answering.Answers.replied (silent_by s q silent) (reply_by s q text free r) (ap (served_by n) same)
 
   pub misread_by : (s : Responder) (line text : List ℕ) (m : Responder) → IsMisread s line text m → IsMisread (served_by n s) line text (served_by n m)
   misread_by s line text m h = record { words = h.words; first = h.first; written = h.written; same = ap (served_by n) h.same }

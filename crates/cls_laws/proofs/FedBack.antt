@@ -47,7 +47,7 @@ can_compare lib o goal silent f (inl ((t, stands, spread), e)) = elim (Contains-
 ]
 can_compare lib o goal silent f (inr (none, h)) = h
 
-module _ (decide : CertificatesDecide) (o : Options) (lines : List (List ℕ)) (before : List ℕ) (s : Responder) (answered : IsAnswered o lines before s) (free : s.held ≡ []) (goal : ClosedType) (c : Certificate) (silent : AreSilent (faults_of s.engine (certify goal))) (certified : IsCertified s.engine.library goal c) (within : IsCertificateWithin s.names s.components c) (line : List ℕ) (asks : Asks s line (verify goal) s) where
+module _ (decide : CertificatesDecide) (o : Options) (lines : List (List ℕ)) (before : List ℕ) (s : Responder) (answered : IsAnswered o lines before s) (free : s.held ≡ []) (goal : ClosedType) (c : Certificate) (silent : AreSilent (faults_of s (certify goal))) (certified : IsCertified s.engine.library goal c) (within : IsCertificateWithin s.names s.components c) (line : List ℕ) (asks : Asks s line (verify goal) s) where
   abbrev printed : List (List ℕ)
   printed = lines_of (certificate_text s.names s.components c)
 

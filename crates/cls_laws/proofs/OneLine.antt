@@ -13,13 +13,13 @@ use Rattle.cls_proof.proofs.OneReading.{one_certificate, one_first_bad, exclusiv
 use Rattle.cls_check.specs.declared.fault.Reason.{Reason}
 use Rattle.cls_check.proofs.Verdicts.{accepted_silent, refusal_determined}
 use Rattle.cls_library.specs.Libraries.{Library}
-use Rattle.cls_query.specs.Queries.{Query, QueryText, verify, with_query, query_of}
+use Rattle.cls_query.specs.Queries.{Query, QueryText, Tables, verify, with_query, query_of}
 use Rattle.cls_query.proofs.QueryErrors.{errors_determined, lines_read_once}
 use Rattle.cls_engine.specs.declared.fault.EngineFault.{EngineFault}
 use Rattle.cls_engine.specs.declared.verdict.Verdict.{Verdict}
 use Rattle.cls_engine.specs.declared.verdict.Verdict.TheVariants.{Accepted, Refused}
 use Rattle.cls_engine.specs.Verdicts.{IsVerdict}
-use Rattle.cls_replies.specs.Responder.{Responder, tables_in, with_names, holding}
+use Rattle.cls_replies.specs.Responder.{Responder, tables_in, with_tables, with_names, holding}
 use Rattle.cls_replies.specs.Texts.{error_line, fault_words, verdict_text}
 use Rattle.cls_replies.specs.Errors.{proof_words}
 use Rattle.cls_replies.specs.Answering.{Asks, IsMisread, Judges, Verifies, Verified}
@@ -35,9 +35,9 @@ module _ (s : Responder) (line : List ℕ) where
   pub asks_one : (q r : Query) (m n : Responder) → Asks s line q m → Asks s line r n → (q ≡ r) × (m ≡ n)
   asks_one q r m n h k =
       let said : h.0.said ≡ k.0.said = lines_read_once (words_of line) h.0.said k.0.said h.0.spelled k.0.spelled in
-      let names : m.names ≡ n.names = h.0.numbered ∙ (ap (λ (v : QueryText). (with_query (tables_in s) v).constructors) said ∙ sym k.0.numbered) in (
+      let tables : tables_in m ≡ tables_in n = h.0.numbered ∙ (ap (λ (v : QueryText). with_query (tables_in s) v) said ∙ sym k.0.numbered) in (
         h.0.asked ∙ (ap (λ (v : QueryText). query_of (with_query (tables_in s) v) v) said ∙ sym k.0.asked),
-        h.1 ∙ (ap (λ (x : List (List ℕ)). with_names s x) names ∙ sym k.1),
+        h.1 ∙ (ap (λ (x : Tables). with_tables s x) tables ∙ sym k.1),
       )
 
   pub read_or_not : (q : Query) (t : List ℕ) (m n : Responder) → Asks s line q m → IsMisread s line t n → ⊥
@@ -53,7 +53,7 @@ verdict_one lib goal c (Refused row reason) (Refused row' reason') h k =
 
 judged_one : (s : Responder) (goal : ClosedType) (c : Certificate) → IsDetermined (Judges s goal c)
 judged_one s goal c t u (answering.Judges.failed f h e) (answering.Judges.failed g k d) =
-    e ∙ (ap (λ (x : EngineFault). error_line (fault_words s.names x)) (fault_one s.engine (verify goal) f g h k) ∙ sym d)
+    e ∙ (ap (λ (x : EngineFault). error_line (fault_words s.names x)) (fault_one s (verify goal) f g h k) ∙ sym d)
 judged_one s goal c t u (answering.Judges.failed f h e) (answering.Judges.judged silent v k d) = absurd (silent f h)
 judged_one s goal c t u (answering.Judges.judged silent v h e) (answering.Judges.failed g k d) = absurd (silent g k)
 judged_one s goal c t u (answering.Judges.judged silent v h e) (answering.Judges.judged silent' w k d) =

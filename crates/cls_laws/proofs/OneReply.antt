@@ -1,4 +1,4 @@
--- What is written for a query that isn't an audit is one text.
+-- What is written for a query that isn't an audit is one text, and queries are answered by one thing after it.
 use Rattle.std.proofs.Common.{ℕ, suc, ◌≡◌, refl, sym, ◌∙◌, ap, subst, inl, inr, List, [], ◌∷◌, length, slice_get, Bool, codes, Option, Some, None, arith}
 use Rattle.cls_base.specs.Firsts.{First, IsDetermined}
 use Rattle.cls_base.specs.Pages.{Request}
@@ -29,7 +29,6 @@ use Rattle.cls_term.specs.Texts.{name_at}
 use Rattle.cls_term.proofs.Orders.{Before-strict_total}
 use Rattle.cls_engine.specs.declared.fault.EngineFault.{EngineFault}
 use Rattle.cls_engine.specs.declared.fault.EngineFault.TheVariants.{Wide}
-use Rattle.cls_engine.specs.Engines.{EngineSeen}
 use Rattle.cls_engine.specs.Faults.{compare_faults, closure_faults, list_faults}
 use Rattle.cls_engine.specs.Goals.{Goal, IsFirstWide}
 use Rattle.cls_engine.proofs.Goals.{closed_unique}
@@ -59,24 +58,24 @@ module _ (lib : Library) (t : ClosedType) where
       let goal : p.0 ≡ q.0 = some_is (first_wide q.1.0) p.0 q.0 (subst (λ (rs : List (Row Goal)). first_wide rs ≡ Some p.0) rows p.1.2) q.1.2 in
       p.2 ∙ (ap (λ (g : Goal). Wide g) goal ∙ sym q.2)
 
-module _ (e : EngineSeen) where
+module _ (s : Responder) where
   compare_one : (ts : List ClosedType) → IsDetermined (First (compare_faults ts))
   compare_one ts = first-determined (compare_faults ts) ((λ f g p q. p.1 ∙ sym q.1), tt)
 
-  closure_one : (t : ClosedType) → IsDetermined (First (closure_faults e.library e.options t))
-  closure_one t = first-determined (closure_faults e.library e.options t) ((λ f g p q. p.1 ∙ sym q.1), ((λ f g p q. p.1 ∙ sym q.1), (wide_one e.library t, tt)))
+  closure_one : (t : ClosedType) → IsDetermined (First (closure_faults s.engine.library s.engine.options t))
+  closure_one t = first-determined (closure_faults s.engine.library s.engine.options t) ((λ f g p q. p.1 ∙ sym q.1), ((λ f g p q. p.1 ∙ sym q.1), (wide_one s.engine.library t, tt)))
 
-  list_one : (t : ClosedType) (r : Request) → IsDetermined (First (list_faults e.library e.options t r))
-  list_one t r = first-determined (list_faults e.library e.options t r)
-      ((λ f g p q. p.1 ∙ sym q.1), ((λ f g p q. p.1 ∙ sym q.1), (wide_one e.library t, ((λ f g p q. p.1 ∙ sym q.1), tt))))
+  list_one : (t : ClosedType) (r : Request) → IsDetermined (First (list_faults s.engine.library s.engine.options t r))
+  list_one t r = first-determined (list_faults s.engine.library s.engine.options t r)
+      ((λ f g p q. p.1 ∙ sym q.1), ((λ f g p q. p.1 ∙ sym q.1), (wide_one s.engine.library t, ((λ f g p q. p.1 ∙ sym q.1), tt))))
 
-  pub fault_one : (q : Query) → IsDetermined (First (faults_of e q))
+  pub fault_one : (q : Query) → IsDetermined (First (faults_of s q))
   fault_one (Sub a b) = compare_one (a ∷ b ∷ [])
   fault_one (Paths x) = λ f g h k. absurd h
   fault_one (Typed u t) = compare_one (t ∷ [])
   fault_one (About word.Verify t) = compare_one (t ∷ [])
   fault_one (About asks t) = closure_one t
-  fault_one (Page asks q) = list_one q.goal (request e.costs q.after q.max q.take)
+  fault_one (Page asks q) = list_one q.goal (request s.engine.costs q.after q.max q.take)
 
 -- THE REPLIES
 -- lists of one length with the same elements at each place
@@ -134,8 +133,9 @@ module _ (s : Responder) where
   reply_one (Page listing.List q) n = lists_one q (term_line (name_at s.components))
   reply_one (Page listing.Texts q) n = lists_one q (term_lines (name_at s.components) s.templates)
 
-  pub answer_one : (q : Query) → ((t : ClosedType) → q ≡ audit t → ⊥) → IsDetermined (Answers s q)
-  answer_one q n t u (answering.Answers.failed f h e) (answering.Answers.failed g k d) = e ∙ (ap (λ (x : EngineFault). error_line (fault_words s.names x)) (fault_one s.engine q f g h k) ∙ sym d)
-  answer_one q n t u (answering.Answers.failed f h e) (answering.Answers.replied silent r) = absurd (silent f h)
-  answer_one q n t u (answering.Answers.replied silent r) (answering.Answers.failed g k d) = absurd (silent g k)
-  answer_one q n t u (answering.Answers.replied silent p) (answering.Answers.replied silent' r) = reply_one q n t u p r
+  pub answer_one : (q : Query) → ((t : ClosedType) → q ≡ audit t → ⊥) → (t u : List ℕ) (m k : Responder) → Answers s q t m → Answers s q u k → (t ≡ u) × (m ≡ k)
+  answer_one q n t u m k (answering.Answers.failed f h e same) (answering.Answers.failed g i d same') =
+      (e ∙ (ap (λ (x : EngineFault). error_line (fault_words s.names x)) (fault_one s q f g h i) ∙ sym d), same ∙ sym same')
+  answer_one q n t u m k (answering.Answers.failed f h e same) (answering.Answers.replied silent r same') = absurd (silent f h)
+  answer_one q n t u m k (answering.Answers.replied silent r same) (answering.Answers.failed g i d same') = absurd (silent g i)
+  answer_one q n t u m k (answering.Answers.replied silent p same) (answering.Answers.replied silent' r same') = (reply_one q n t u p r, same ∙ sym same')

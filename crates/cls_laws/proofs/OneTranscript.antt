@@ -9,7 +9,8 @@ use Rattle.cls_repo.specs.Drafts.{Draft}
 use Rattle.cls_repo.specs.EndFaults.{declared_in, schemas_in}
 use Rattle.cls_repo.specs.Readings.{Reading}
 use Rattle.cls_engine.specs.declared.options.Options.{Options}
-use Rattle.cls_replies.specs.Answering.{Answered, Verifies, Verified}
+use Rattle.cls_query.specs.Queries.{Query}
+use Rattle.cls_replies.specs.Answering.{Answers, Answered, Verifies, Verified}
 use Rattle.cls_replies.specs.Answering as answering
 use Rattle.cls_replies.specs.Lines.{Goes, Replies, Ends}
 use Rattle.cls_replies.specs.Lines as lines
@@ -31,9 +32,13 @@ Keeps s m = m.components ≡ s.components
 same_keeps : (s m : Responder) → m ≡ s → Keeps s m
 same_keeps s m e = ap (λ (x : Responder). x.components) e
 
+answers_keeps : (s : Responder) (q : Query) (text : List ℕ) (m : Responder) → Answers s q text m → Keeps s m
+answers_keeps s q text m (answering.Answers.failed f h e same) = same_keeps s m same
+answers_keeps s q text m (answering.Answers.replied silent r same) = same_keeps s m same
+
 answered_keeps : (s : Responder) (line text : List ℕ) (m : Responder) → Answered s line text m → Keeps s m
 answered_keeps s line text m (answering.Answered.misread h) = same_keeps s m h.same
-answered_keeps s line text m (answering.Answered.asked q h a) = ap (λ (x : Responder). x.components) h.1
+answered_keeps s line text m (answering.Answered.asked q x h a) = answers_keeps x q text m a ∙ ap (λ (y : Responder). y.components) h.1
 
 verifies_keeps : (s : Responder) (line text : List ℕ) (certificate : List (List ℕ)) (m : Responder) → Verified s line certificate text m → Keeps s m
 verifies_keeps s line text certificate m (answering.Verified.misread h) = same_keeps s m h.same
@@ -62,7 +67,7 @@ replies_apart s (line ∷ queries) text m (x, first, rest, g, gs, e) h = replies
 
 -- LINES AFTER A REPOSITORY
 asks_none : (s : Responder) (line : List ℕ) → AsksNoAudit line → AsksAudit s line → ⊥
-asks_none s line free (goal, m, h) = free (tables_in s) goal m.names h.0
+asks_none s line free (goal, m, h) = free (tables_in s) (tables_in m) goal h.0
 
 module _ (n : ℕ) where
   replies_same : (s : Responder) → Apart s → (queries : List (List ℕ)) (t u : List ℕ) (m k : Responder) → Replies s queries t m → Replies (served_by n s) queries u k → AreSameReplies s n queries t u × (k ≡ served_by n m)
@@ -84,13 +89,25 @@ module _ (o : Options) (d : Draft) where
   serves_one : (s m : Responder) → Serves o d s → Serves o d m → s ≡ m
   serves_one s m h k =
       let names = h.same_names ∙ sym k.same_names in
+      let variables = h.same_variables ∙ sym k.same_variables in
       let components = h.same_components ∙ sym k.same_components in
+      let kinds = h.same_kinds ∙ sym k.same_kinds in
       let templates = h.templates_are ∙ sym k.templates_are in
+      let filters = h.no_filters ∙ sym k.no_filters in
       let library = library-unique (declared_in d) d.kinds (schemas_in d) s.engine.library m.engine.library h.library_is k.library_is in
       let costs = h.costs_are ∙ sym k.costs_are in
       let options = h.options_are ∙ sym k.options_are in
       let held = h.none_held ∙ sym k.none_held in
-      λ i. record { names = names i; components = components i; templates = templates i; engine = record { library = library i; costs = costs i; options = options i }; held = held i }
+      λ i. record {
+        names = names i;
+        variables = variables i;
+        components = components i;
+        kinds = kinds i;
+        templates = templates i;
+        filter_names = filters i;
+        engine = record { library = library i; costs = costs i; options = options i };
+        held = held i;
+      }
 
 same_split : (xs ys : List (List ℕ)) (x y : List ℕ) (us vs : List (List ℕ)) → length xs + 1 ≡ length ys + 1 → xs ++ x ∷ us ≡ ys ++ y ∷ vs → us ≡ vs
 same_split [] [] x y us vs l e = cc
@@ -128,8 +145,11 @@ module _ (o : Options) (n : ℕ) (input : List (List ℕ)) where
   serves_by : (d : Draft) (s : Responder) → Serves o d s → Serves (with_workers n o) d (served_by n s)
   serves_by d s h = record {
     same_names = h.same_names;
+    same_variables = h.same_variables;
     same_components = h.same_components;
+    same_kinds = h.same_kinds;
     templates_are = h.templates_are;
+    no_filters = h.no_filters;
     library_is = h.library_is;
     costs_are = h.costs_are;
     options_are = ap (with_workers n) h.options_are;

@@ -1,5 +1,5 @@
 -- Each line has a reply, by whatever answers the lines after a repository.
-use Rattle.std.proofs.Common.{ℕ, ◌≡◌, ◌≤◌, ◌<◌, ◌⊎◌, inl, inr, refl, sym, subst, arith, List, [], ◌∷◌, ◌++◌, length}
+use Rattle.std.proofs.Common.{ℕ, ◌≡◌, ◌≤◌, ◌<◌, ◌⊎◌, inl, inr, refl, sym, ◌∙◌, ap, subst, arith, List, [], ◌∷◌, ◌++◌, length}
 use Rattle.std.specs.Prelude.{codes}
 use Rattle.std.specs.Fmt.{decimal}
 use Rattle.cls_base.specs.Firsts.{Cause, First, IsSilent}
@@ -22,7 +22,7 @@ use Rattle.cls_proof.specs.Texts.{certificate_text}
 use Rattle.cls_query.specs.declared.query.Query.TheVariants.{Sub, Paths, Typed, About, Page}
 use Rattle.cls_query.specs.declared.word.GoalWord.TheVariants as word
 use Rattle.cls_query.specs.declared.word.ListingWord.TheVariants as listing
-use Rattle.cls_query.specs.Queries.{Listing, Query, grammar, audit, certify, verify, finite}
+use Rattle.cls_query.specs.Queries.{Listing, Query, Tables, tables_of, grammar, audit, certify, verify, finite}
 use Rattle.cls_query.specs.QueryErrors.{line_errors}
 use Rattle.cls_query.specs.Readable.{IsReadable, IsVerify}
 use Rattle.cls_query.specs.ReadQueries.{ReadsQuery}
@@ -38,14 +38,14 @@ use Rattle.cls_engine.specs.Certified.{IsCertified}
 use Rattle.cls_engine.specs.Faults.{closure_faults, AreSilent}
 use Rattle.cls_engine.specs.Goals.{Goal, IsClosed, HasLargePool}
 use Rattle.cls_engine.specs.Histories.{IsHistoryOf}
-use Rattle.cls_replies.specs.Answering.{Answers, Answered, Judges, Verifies, Verified, IsMisread}
+use Rattle.cls_replies.specs.Answering.{Asks, Answers, Answered, Judges, Verifies, Verified, IsMisread}
 use Rattle.cls_replies.specs.Answering as answering
 use Rattle.cls_replies.specs.Errors.{faults_of}
 use Rattle.cls_replies.specs.LineKinds.{Opens, IsQed}
 use Rattle.cls_replies.specs.Lines.{Goes, Ends, Replies}
 use Rattle.cls_replies.specs.Lines as lines
 use Rattle.cls_replies.specs.Replies.{Says, Lists, Reply, TellsSizes}
-use Rattle.cls_replies.specs.Responder.{Responder, tables_in, with_names, holding, AreHeld}
+use Rattle.cls_replies.specs.Responder.{Responder, tables_in, with_tables, with_names, holding, AreHeld}
 use Rattle.cls_replies.specs.Texts.{reply_line, error_line, fault_words, verdict_text, paths_text, history_text, sizes_text, term_line, term_lines, page_text}
 use Rattle.cls_laws.specs.Existence.{HasReading, HasVerdict}
 use Rattle.cls_laws.specs.Possible.{IsPossible}
@@ -99,7 +99,7 @@ module _ (s : Responder) (can : CanAnswer s) where
   abbrev pool_faults : Listing → List (Cause EngineFault)
   pool_faults q = (λ f. HasLargePool s.engine.library s.engine.options.pool q.goal (request s.engine.costs q.after q.max q.take) × (f ≡ TooManyTerms)) ∷ []
 
-  reply_exists : (q : Query) → AreSilent (faults_of s.engine q) → IsReadable (length s.components) q → (IsVerify q → ⊥) → IsPossible (HasReply q)
+  reply_exists : (q : Query) → AreSilent (faults_of s q) → IsReadable (length s.components) q → (IsVerify q → ⊥) → IsPossible (HasReply q)
   reply_exists (Sub a b) silent readable asks = says_exist (Subtype (below_in s.engine.library.taxonomy) (variances_in s.engine.library.taxonomy) a b) (codes "yes") (codes "no")
   reply_exists (Paths x) silent readable asks = surely (paths_text s.names (paths_at s.engine.library x), refl)
   reply_exists (Typed e t) silent readable asks = says_exist (HasTypeIn s.engine.library e t) (codes "yes") (codes "no")
@@ -117,34 +117,37 @@ module _ (s : Responder) (can : CanAnswer s) where
       lists_exist q (term_lines (name_at s.components) s.templates) (front_silent (closure_faults s.engine.library s.engine.options q.goal) (pool_faults q) silent) readable.some
 
   abbrev HasAnswer : Query → Type 0
-  HasAnswer q = (text : List ℕ) × Answers s q text
+  HasAnswer q = (text : List ℕ) × (s' : Responder) × Answers s q text s'
 
-  replied : (q : Query) → AreSilent (faults_of s.engine q) → HasReply q → HasAnswer q
-  replied q silent (text, r) = (text, answering.Answers.replied silent r)
+  replied : (q : Query) → AreSilent (faults_of s q) → HasReply q → HasAnswer q
+  replied q silent (text, r) = (text, s, answering.Answers.replied silent r refl)
 
-  answer_by : (q : Query) → IsReadable (length s.components) q → (IsVerify q → ⊥) → ((f : EngineFault) × First (faults_of s.engine q) f) ⊎ IsSilent (First (faults_of s.engine q)) → IsPossible (HasAnswer q)
-  answer_by q readable asks (inl (f, first)) = surely (error_line (fault_words s.names f), answering.Answers.failed f first refl)
+  answer_by : (q : Query) → IsReadable (length s.components) q → (IsVerify q → ⊥) → ((f : EngineFault) × First (faults_of s q) f) ⊎ IsSilent (First (faults_of s q)) → IsPossible (HasAnswer q)
+  answer_by q readable asks (inl (f, first)) = surely (error_line (fault_words s.names f), s, answering.Answers.failed f first refl refl)
   answer_by q readable asks (inr silent) = after (reply_exists q silent readable asks) (replied q silent)
 
   answer_exists : (q : Query) → IsReadable (length s.components) q → (IsVerify q → ⊥) → IsPossible (HasAnswer q)
-  answer_exists q readable asks = then (first_decided (faults_of s.engine q)) (answer_by q readable asks)
+  answer_exists q readable asks = then (first_decided (faults_of s q)) (answer_by q readable asks)
 
   -- THE REPLY TO A CERTIFICATE
   abbrev HasJudgement : ClosedType → Certificate → Type 0
   HasJudgement goal c = (text : List ℕ) × Judges s goal c text
 
-  judged : (goal : ClosedType) (c : Certificate) → AreSilent (faults_of s.engine (verify goal)) → HasVerdict s.engine.library goal c → HasJudgement goal c
+  judged : (goal : ClosedType) (c : Certificate) → AreSilent (faults_of s (verify goal)) → HasVerdict s.engine.library goal c → HasJudgement goal c
   judged goal c silent (inl a) = (verdict_text Accepted, answering.Judges.judged silent Accepted a refl)
   judged goal c silent (inr (p, r)) = (verdict_text (Refused p.0 p.1), answering.Judges.judged silent (Refused p.0 p.1) r refl)
 
-  judgement_by : (goal : ClosedType) (c : Certificate) → ((f : EngineFault) × First (faults_of s.engine (verify goal)) f) ⊎ IsSilent (First (faults_of s.engine (verify goal))) → IsPossible (HasJudgement goal c)
+  judgement_by : (goal : ClosedType) (c : Certificate) → ((f : EngineFault) × First (faults_of s (verify goal)) f) ⊎ IsSilent (First (faults_of s (verify goal))) → IsPossible (HasJudgement goal c)
   judgement_by goal c (inl (f, first)) = surely (error_line (fault_words s.names f), answering.Judges.failed f first refl)
   judgement_by goal c (inr silent) = after (verdicts_exist s.engine.library goal c) (judged goal c silent)
 
   judgement_exists : (goal : ClosedType) (c : Certificate) → IsPossible (HasJudgement goal c)
-  judgement_exists goal c = then (first_decided (faults_of s.engine (verify goal))) (judgement_by goal c)
+  judgement_exists goal c = then (first_decided (faults_of s (verify goal))) (judgement_by goal c)
 
--- with other names, or with other lines held, lines are answered as well
+-- with other tables or names, or with other lines held, lines are answered as well
+tabled_can : (s : Responder) (tables : Tables) → CanAnswer s → CanAnswer (with_tables s tables)
+tabled_can s tables can = record { library = can.library; costly = can.costly; opened = can.opened }
+
 named_can : (s : Responder) (names : List (List ℕ)) → CanAnswer s → CanAnswer (with_names s names)
 named_can s names can = record { library = can.library; costly = can.costly; opened = can.opened }
 
@@ -180,7 +183,16 @@ goal_of (Page asks q) h = absurd h
 module _ (s : Responder) (can : CanAnswer s) where
   abbrev IsDecided : List ℕ → Type 0
   IsDecided line = ((words : List ℕ) × First (line_errors (tables_in s) line) words)
-      ⊎ ((query : Query) × (constructors : List (List ℕ)) × ReadsQuery (tables_in s) line query constructors)
+      ⊎ ((query : Query) × (tables : Tables) × ReadsQuery (tables_in s) line query tables)
+
+  -- what was read is asked, and leaves these tables
+  abbrev kept : Tables → Tables
+  kept tables = tables_of tables.constructors tables.variables s.components s.filter_names
+
+  asks_so : (line : List ℕ) (q : Query) (new : Tables) → ReadsQuery (tables_in s) line q new → Asks s line q (with_tables s new)
+  asks_so line q new reads =
+      let same : new ≡ kept new = reads.numbered ∙ sym (ap kept reads.numbered) in
+      (subst (λ (tables : Tables). ReadsQuery (tables_in s) line q tables) same reads, refl)
 
   misread : (line words : List ℕ) → First (line_errors (tables_in s) line) words → IsMisread s line (error_line words) s
   misread line words first = record { words = words; first = first; written = refl; same = refl }
@@ -189,16 +201,16 @@ module _ (s : Responder) (can : CanAnswer s) where
   abbrev HasEnd : List ℕ → List (List ℕ) → Type 0
   HasEnd line certificate = (text : List ℕ) × (s' : Responder) × Verified s line certificate text s'
 
-  verified_by : (line : List ℕ) (certificate names : List (List ℕ)) (goal : ClosedType) → ReadsQuery (tables_in s) line (verify goal) names
-      → HasVerification (with_names s names) (named_can s names can) goal certificate → HasEnd line certificate
-  verified_by line certificate names goal reads (text, s', v) = (text, s', answering.Verified.asked goal (with_names s names) (reads, refl) v)
+  verified_by : (line : List ℕ) (certificate : List (List ℕ)) (tables : Tables) (goal : ClosedType) → ReadsQuery (tables_in s) line (verify goal) tables
+      → HasVerification (with_tables s tables) (tabled_can s tables can) goal certificate → HasEnd line certificate
+  verified_by line certificate tables goal reads (text, s', v) = (text, s', answering.Verified.asked goal (with_tables s tables) (asks_so line (verify goal) tables reads) v)
 
   end_by : (line : List ℕ) (certificate : List (List ℕ)) → Opens line → IsDecided line → IsPossible (HasEnd line certificate)
   end_by line certificate opens (inl (words, first)) = surely (error_line words, s, answering.Verified.misread (misread line words first))
-  end_by line certificate opens (inr (q, names, reads)) =
+  end_by line certificate opens (inr (q, tables, reads)) =
       let g = goal_of q ((query_verify reads).1 opens.begins) in
-      let asks : ReadsQuery (tables_in s) line (verify g.0) names = subst (λ (p : Query). ReadsQuery (tables_in s) line p names) g.1 reads in
-      after (verification_exists (with_names s names) (named_can s names can) g.0 certificate) (verified_by line certificate names g.0 asks)
+      let asks : ReadsQuery (tables_in s) line (verify g.0) tables = subst (λ (p : Query). ReadsQuery (tables_in s) line p tables) g.1 reads in
+      after (verification_exists (with_tables s tables) (tabled_can s tables can) g.0 certificate) (verified_by line certificate tables g.0 asks)
 
   end_exists : (line : List ℕ) (certificate : List (List ℕ)) → Opens line → IsPossible (HasEnd line certificate)
   end_exists line certificate opens = end_by line certificate opens (lines_decided (tables_in s) line)
@@ -207,8 +219,8 @@ module _ (s : Responder) (can : CanAnswer s) where
   abbrev IsAnsweredLine : List ℕ → Type 0
   IsAnsweredLine line = (text : List ℕ) × (s' : Responder) × Answered s line text s'
 
-  asks_none : (line : List ℕ) (q : Query) (names : List (List ℕ)) → (Opens line → ⊥) → ReadsQuery (tables_in s) line q names → IsVerify q → ⊥
-  asks_none line q names closed reads v =
+  asks_none : (line : List ℕ) (q : Query) (tables : Tables) → (Opens line → ⊥) → ReadsQuery (tables_in s) line q tables → IsVerify q → ⊥
+  asks_none line q tables closed reads v =
       let silent = reads.faultless in
       let short : length line ≤ max_line_bytes = at_most (length line) (λ l. silent (codes "long") (inl (l, refl))) in
       silent (codes "utf8") (inr ((λ t h. silent t (inl h)), inl ((λ u. closed (record { text = (short, u); begins = (query_verify reads).0 v })), refl)))
@@ -216,13 +228,13 @@ module _ (s : Responder) (can : CanAnswer s) where
       at_most : (n : ℕ) → (max_line_bytes < n → ⊥) → n ≤ max_line_bytes
       at_most n f = omega arith
 
-  answered : (line : List ℕ) (q : Query) (names : List (List ℕ)) → ReadsQuery (tables_in s) line q names → HasAnswer (with_names s names) (named_can s names can) q → IsAnsweredLine line
-  answered line q names reads (text, a) = (text, with_names s names, answering.Answered.asked q (reads, refl) a)
+  answered : (line : List ℕ) (q : Query) (tables : Tables) → ReadsQuery (tables_in s) line q tables → HasAnswer (with_tables s tables) (tabled_can s tables can) q → IsAnsweredLine line
+  answered line q tables reads (text, s', a) = (text, s', answering.Answered.asked q (with_tables s tables) (asks_so line q tables reads) a)
 
   answered_by : (line : List ℕ) → (Opens line → ⊥) → IsDecided line → IsPossible (IsAnsweredLine line)
   answered_by line closed (inl (words, first)) = surely (error_line words, s, answering.Answered.misread (misread line words first))
-  answered_by line closed (inr (q, names, reads)) =
-      after (answer_exists (with_names s names) (named_can s names can) q (query_readable reads) (asks_none line q names closed reads)) (answered line q names reads)
+  answered_by line closed (inr (q, tables, reads)) =
+      after (answer_exists (with_tables s tables) (tabled_can s tables can) q (query_readable reads) (asks_none line q tables closed reads)) (answered line q tables reads)
 
   abbrev HasNext : List ℕ → Type 0
   HasNext line = (text : List ℕ) × (s' : Responder) × Goes s line text s'
@@ -281,11 +293,15 @@ verifies_can m goal certificate text s' (answering.Verifies.read c says e j) can
 
 verified_can : (s : Responder) (line : List ℕ) (certificate : List (List ℕ)) (text : List ℕ) (s' : Responder) → Verified s line certificate text s' → CanAnswer s → CanAnswer s'
 verified_can s line certificate text s' (answering.Verified.misread m) can = same_can s s' m.same can
-verified_can s line certificate text s' (answering.Verified.asked goal m asks v) can = verifies_can m goal certificate text s' v (same_can (with_names s m.names) m asks.1 (named_can s m.names can))
+verified_can s line certificate text s' (answering.Verified.asked goal m asks v) can = verifies_can m goal certificate text s' v (same_can (with_tables s (tables_in m)) m asks.1 (tabled_can s (tables_in m) can))
+
+answers_can : (s : Responder) (q : Query) (text : List ℕ) (s' : Responder) → Answers s q text s' → CanAnswer s → CanAnswer s'
+answers_can s q text s' (answering.Answers.failed f first e same) can = same_can s s' same can
+answers_can s q text s' (answering.Answers.replied silent r same) can = same_can s s' same can
 
 answered_can : (s : Responder) (line text : List ℕ) (s' : Responder) → Answered s line text s' → CanAnswer s → CanAnswer s'
 answered_can s line text s' (answering.Answered.misread m) can = same_can s s' m.same can
-answered_can s line text s' (answering.Answered.asked q asks a) can = same_can (with_names s s'.names) s' asks.1 (named_can s s'.names can)
+answered_can s line text s' (answering.Answered.asked q m asks a) can = answers_can m q text s' a (same_can (with_tables s (tables_in m)) m asks.1 (tabled_can s (tables_in m) can))
 
 goes_can : (s : Responder) (line text : List ℕ) (s' : Responder) → Goes s line text s' → CanAnswer s → CanAnswer s'
 goes_can s line text s' (lines.Goes.skips e skipped t same) can = same_can s s' same can

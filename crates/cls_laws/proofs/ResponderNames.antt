@@ -28,7 +28,7 @@ use Rattle.cls_proof.specs.Forms as written
 use Rattle.cls_proof.specs.Reading.{Says, no_statement, one_statement, LinesSay}
 use Rattle.cls_proof.specs.Statements.{Statement, statements_of}
 use Rattle.cls_proof.proofs.ReadCertificates.{distinct_all}
-use Rattle.cls_query.specs.Queries.{Query, verify, query_parts}
+use Rattle.cls_query.specs.Queries.{Query, Tables, tables_of, verify, query_parts}
 use Rattle.cls_query.proofs.RowParts.{words_of_parts}
 use Rattle.cls_query.proofs.Searches.{all_both}
 use Rattle.cls_repo.specs.Drafts as drafts
@@ -36,11 +36,11 @@ use Rattle.cls_repo.specs.Drafts.{Draft}
 use Rattle.cls_repo.specs.EndFaults.{declared_in, schemas_in}
 use Rattle.cls_repo.specs.Sound.{IsSound}
 use Rattle.cls_engine.specs.declared.options.Options.{Options}
-use Rattle.cls_replies.specs.Answering.{Asks, Answered, Verifies, Verified}
+use Rattle.cls_replies.specs.Answering.{Asks, Answers, Answered, Verifies, Verified}
 use Rattle.cls_replies.specs.Answering as answering
 use Rattle.cls_replies.specs.Lines.{Goes, Replies}
 use Rattle.cls_replies.specs.Lines as lines
-use Rattle.cls_replies.specs.Responder.{Responder, Serves, with_names, holding}
+use Rattle.cls_replies.specs.Responder.{Responder, Serves, tables_in, with_tables, holding}
 use Rattle.cls_session.specs.Transcripts.{IsAnswered}
 use Rattle.cls_laws.proofs.DraftNames.{AreProper, IsNamed, grown_proper, parts_proper, below_more, repository_named}
 use Rattle.cls_laws.proofs.LibraryNames.{SchemaHas, library_has}
@@ -76,16 +76,16 @@ opened_called o d s h sound is = record {
 }
 
 -- NAMES THAT COME
-with_called : (s : Responder) (xs : List (List ℕ)) (m : Responder) → m ≡ with_names s m.names → m.names ≡ with_texts s.names xs → AreProper xs → IsCalled s → IsCalled m
-with_called s xs m e numbered proper h =
-    let grown : IsCalled (with_names s (with_texts s.names xs)) = record {
+with_called : (s : Responder) (tables : Tables) (xs : List (List ℕ)) (m : Responder) → m ≡ with_tables s tables → tables.constructors ≡ with_texts s.names xs → AreProper xs → IsCalled s → IsCalled m
+with_called s tables xs m e numbered proper h =
+    let grown : IsCalled (with_tables s (tables_of (with_texts s.names xs) tables.variables [] [])) = record {
       apart = distinct_all s.names xs h.apart;
       proper = grown_proper s.names xs h.proper proper;
       called = h.called;
       counted = h.counted;
       known = λ x. paths_to (Below s.names) (Below (with_texts s.names xs)) (below_more s.names xs) (paths_at s.engine.library x) (h.known x);
     } in
-    subst IsCalled (sym (e ∙ ap (λ (ts : List (List ℕ)). with_names s ts) numbered)) grown
+    subst IsCalled (sym (e ∙ ap (λ (ts : List (List ℕ)). with_tables s (tables_of ts tables.variables [] [])) numbered)) grown
 
 query_proper : (s : Responder) (line : List ℕ) (q : Query) (m : Responder) (h : Asks s line q m) → AreProper (constructors_named (query_parts h.0.said))
 query_proper s line q m h =
@@ -93,7 +93,7 @@ query_proper s line q m h =
     (subst (λ (ws : List Word). AllGood IsProperName ws) (sym h.0.spelled.spelled ∙ words_of_parts h.0.said) (line_proper line))
 
 asks_called : (s : Responder) (line : List ℕ) (q : Query) (m : Responder) → Asks s line q m → IsCalled s → IsCalled m
-asks_called s line q m h c = with_called s (constructors_named (query_parts h.0.said)) m h.1 h.0.numbered (query_proper s line q m h) c
+asks_called s line q m h c = with_called s (tables_in m) (constructors_named (query_parts h.0.said)) m h.1 (ap (λ (x : Tables). x.constructors) h.0.numbered) (query_proper s line q m h) c
 
 -- the constructors among words
 if_proper : (b : Bool) (x : List ℕ) → IsProperName x → AreProper (if b then x ∷ [] else [])
@@ -144,15 +144,19 @@ held_called s held h = record { apart = h.apart; proper = h.proper; called = h.c
 verifies_called : (s : Responder) (goal : ClosedType) (certificate : List (List ℕ)) (text : List ℕ) (m : Responder) → Verifies s goal certificate text m → IsCalled s → IsCalled m
 verifies_called s goal certificate text m (answering.Verifies.bad fault ws is w t e) h = same_called s m e h
 verifies_called s goal certificate text m (answering.Verifies.read c says e j) h =
-    with_called s says.names m e says.numbered (lines_names (number_of m.names) s.components certificate says.names (statements_of c) says.says) h
+    with_called s (tables_of m.names s.variables [] []) says.names m e says.numbered (lines_names (number_of m.names) s.components certificate says.names (statements_of c) says.says) h
 
 verified_called : (s : Responder) (line : List ℕ) (certificate : List (List ℕ)) (text : List ℕ) (m : Responder) → Verified s line certificate text m → IsCalled s → IsCalled m
 verified_called s line certificate text m (answering.Verified.misread k) h = same_called s m k.same h
 verified_called s line certificate text m (answering.Verified.asked goal x asks v) h = verifies_called x goal certificate text m v (asks_called s line (verify goal) x asks h)
 
+answers_called : (s : Responder) (q : Query) (text : List ℕ) (m : Responder) → Answers s q text m → IsCalled s → IsCalled m
+answers_called s q text m (answering.Answers.failed f k e same) h = same_called s m same h
+answers_called s q text m (answering.Answers.replied silent r same) h = same_called s m same h
+
 answered_called : (s : Responder) (line text : List ℕ) (m : Responder) → Answered s line text m → IsCalled s → IsCalled m
 answered_called s line text m (answering.Answered.misread k) h = same_called s m k.same h
-answered_called s line text m (answering.Answered.asked q asks a) h = asks_called s line q m asks h
+answered_called s line text m (answering.Answered.asked q x asks a) h = answers_called x q text m a (asks_called s line q x asks h)
 
 goes_called : (s : Responder) (line text : List ℕ) (m : Responder) → Goes s line text m → IsCalled s → IsCalled m
 goes_called s line text m (lines.Goes.skips e k t same) h = same_called s m same h

@@ -27,30 +27,33 @@ one_unless_audit s n line text other free (alike.AreSame.histories goal m none h
 
 module _ (n : ℕ) where
   -- A QUERY
-  -- what is written for an audit
-  audits_same : (s : Responder) (line : List ℕ) (m : Responder) (goal : ClosedType) (t u : List ℕ) → s.held ≡ [] → Asks s line (audit goal) m → Answers m (audit goal) t → Answers (served_by n m) (audit goal) u → AreSame s n line t u
-  audits_same s line m goal t u none h (answering.Answers.failed f p e) (answering.Answers.failed g q d) =
-      alike.AreSame.one_text (e ∙ (ap (λ (x : EngineFault). error_line (fault_words m.names x)) (fault_one (served_by n m).engine (audit goal) f g (fault_by n m (audit goal) f p) q) ∙ sym d))
-  audits_same s line m goal t u none h (answering.Answers.failed f p e) (answering.Answers.replied silent r) = absurd (silent f (fault_by n m (audit goal) f p))
-  audits_same s line m goal t u none h (answering.Answers.replied silent r) (answering.Answers.failed g q d) = absurd (silent g q)
-  audits_same s line m goal t u none h (answering.Answers.replied silent r) (answering.Answers.replied silent' r') = alike.AreSame.histories goal m none h r r'
+  -- what is written for an audit, by what has its names numbered
+  module _ (s : Responder) (line : List ℕ) (m : Responder) (t u : List ℕ) (next next' : Responder) (none : s.held ≡ []) where
+    audits_same : (goal : ClosedType) → Asks s line (audit goal) m → Answers m (audit goal) t next → Answers (served_by n m) (audit goal) u next' → AreSame s n line t u × (next' ≡ served_by n next)
+    audits_same goal h (answering.Answers.failed f p e same) (answering.Answers.failed g q d same') =
+        (alike.AreSame.one_text (e ∙ (ap (λ (x : EngineFault). error_line (fault_words m.names x)) (fault_one (served_by n m) (audit goal) f g (fault_by n m (audit goal) f p) q) ∙ sym d)), same' ∙ sym (ap (served_by n) same))
+    audits_same goal h (answering.Answers.failed f p e same) (answering.Answers.replied silent r same') = absurd (silent f (fault_by n m (audit goal) f p))
+    audits_same goal h (answering.Answers.replied silent r same) (answering.Answers.failed g q d same') = absurd (silent g q)
+    audits_same goal h (answering.Answers.replied silent r same) (answering.Answers.replied silent' r' same') = (alike.AreSame.histories goal m none h r r', same' ∙ sym (ap (served_by n) same))
 
-  answers_same : (s : Responder) (line : List ℕ) (q : Query) (m : Responder) (t u : List ℕ) → s.held ≡ [] → Asks s line q m → ((goal : ClosedType) × (q ≡ audit goal)) ⊎ ((goal : ClosedType) → q ≡ audit goal → ⊥)
-      → Answers m q t → Answers (served_by n m) q u → AreSame s n line t u
-  answers_same s line q m t u none h (inl (goal, e)) a b =
-      audits_same s line m goal t u none (subst (λ (x : Query). Asks s line x m) e h) (subst (λ (x : Query). Answers m x t) e a) (subst (λ (x : Query). Answers (served_by n m) x u) e b)
-  answers_same s line q m t u none h (inr free) a b = alike.AreSame.one_text (answer_one (served_by n m) q free t u (answers_by n m q t free a) b)
+    answers_same : (q : Query) → Asks s line q m → ((goal : ClosedType) × (q ≡ audit goal)) ⊎ ((goal : ClosedType) → q ≡ audit goal → ⊥)
+        → Answers m q t next → Answers (served_by n m) q u next' → AreSame s n line t u × (next' ≡ served_by n next)
+    answers_same q h (inl (goal, e)) a b =
+        audits_same goal (subst (λ (x : Query). Asks s line x m) e h) (subst (λ (x : Query). Answers m x t next) e a) (subst (λ (x : Query). Answers (served_by n m) x u next') e b)
+    answers_same q h (inr free) a b =
+        let one = answer_one (served_by n m) q free t u (served_by n next) next' (answers_by n m q t next free a) b in
+        (alike.AreSame.one_text one.0, sym one.1)
 
   answered_same : (s : Responder) (line : List ℕ) → s.held ≡ [] → (t u : List ℕ) (m k : Responder) → Answered s line t m → Answered (served_by n s) line u k → AreSame s n line t u × (k ≡ served_by n m)
   answered_same s line none t u m k (answering.Answered.misread h) (answering.Answered.misread g) =
       let one = misread_one (served_by n s) line t u (served_by n m) k (misread_by n s line t m h) g in
       (alike.AreSame.one_text one.0, sym one.1)
-  answered_same s line none t u m k (answering.Answered.misread h) (answering.Answered.asked r g b) = absurd (read_or_not (served_by n s) line r t k (served_by n m) g (misread_by n s line t m h))
-  answered_same s line none t u m k (answering.Answered.asked q h a) (answering.Answered.misread g) = absurd (read_or_not (served_by n s) line q u (served_by n m) k (asks_by n s line q m h) g)
-  answered_same s line none t u m k (answering.Answered.asked q h a) (answering.Answered.asked r g b) =
-      let one = asks_one (served_by n s) line q r (served_by n m) k (asks_by n s line q m h) g in
-      let b' : Answers (served_by n m) q u = subst (λ (x : Responder). Answers x q u) (sym one.1) (subst (λ (x : Query). Answers k x u) (sym one.0) b) in
-      (answers_same s line q m t u none h (audit_or_not q) a b', sym one.1)
+  answered_same s line none t u m k (answering.Answered.misread h) (answering.Answered.asked r y g b) = absurd (read_or_not (served_by n s) line r t y (served_by n m) g (misread_by n s line t m h))
+  answered_same s line none t u m k (answering.Answered.asked q x h a) (answering.Answered.misread g) = absurd (read_or_not (served_by n s) line q u (served_by n x) k (asks_by n s line q x h) g)
+  answered_same s line none t u m k (answering.Answered.asked q x h a) (answering.Answered.asked r y g b) =
+      let one = asks_one (served_by n s) line q r (served_by n x) y (asks_by n s line q x h) g in
+      let b' : Answers (served_by n x) q u k = subst (λ (z : Responder). Answers z q u k) (sym one.1) (subst (λ (p : Query). Answers y p u k) (sym one.0) b) in
+      answers_same s line x t u m k none q h (audit_or_not q) a b'
 
   -- A LINE
   module _ (s : Responder) (distinct : IsDistinct bytes_eq s.components) where

@@ -27,11 +27,12 @@ use Rattle.cls_query.specs.QueryErrors.{query_types, is_large, is_outside, is_un
 use Rattle.cls_query.specs.declared.query.Query.TheVariants.{Sub, Paths, Typed, About, Page}
 use Rattle.cls_query.specs.declared.word.GoalWord.TheVariants.{Certify, Verify}
 use Rattle.cls_query.specs.QueryForms.{goal_form}
-use Rattle.cls_query.specs.Queries.{Tables, Query, QueryText, certify, verify, query_words, query_parts, QueryStands, tables_of, with_query, query_of, type_in}
+use Rattle.cls_query.specs.Queries.{Tables, Query, QueryText, certify, verify, query_words, query_parts, QueryStands, with_query, query_of, type_in}
 use Rattle.cls_query.specs.ReadQueries.{ReadsQuery}
 use Rattle.cls_query.proofs.FirstErrors.{each_silent}
 use Rattle.cls_query.proofs.QueryLines.{holds_of, stays_silent}
 use Rattle.cls_query.proofs.Readable.{query_verify}
+use Rattle.cls_query.proofs.Variables.{reads_by}
 use Rattle.cls_replies.specs.Answering.{Asks}
 use Rattle.cls_replies.specs.LineKinds.{Opens}
 use Rattle.cls_replies.specs.Responder.{Responder, tables_in}
@@ -179,12 +180,12 @@ module _ (type : List ℕ) (v : TypeText) where
   of_words : (P : List Word → Type 0) → (P (name (codes "verify") ∷ words_from 0 type) → P (name (codes "certify") ∷ words_from 0 type)) → P (words_of (verifying type)) → P (words_of (certifying type))
   of_words P f h = subst P (sym (certify_words type)) (f (subst P (verify_words type) h))
 
-  module _ (old new components : List (List ℕ)) (says : FirstSays) (silent : IsSilent (First (line_errors (tables_of old components) (certifying type)))) where
-    each : EachCause IsSilent (line_errors (tables_of old components) (certifying type))
-    each = each_silent (line_errors (tables_of old components) (certifying type)) silent
+  module _ (old new : Tables) (same : new.components ≡ old.components) (says : FirstSays) (silent : IsSilent (First (line_errors old (certifying type)))) where
+    each : EachCause IsSilent (line_errors old (certifying type))
+    each = each_silent (line_errors old (certifying type)) silent
 
     text : IsText (certifying type)
-    text = read_text (tables_of old components) (certifying type) silent
+    text = read_text old (certifying type) silent
 
     -- what is said of the second line as a query
     of_second : (P : QueryText → Type 0) → IsQuery (verifying type) P → P (as_verify v)
@@ -205,19 +206,26 @@ module _ (type : List ℕ) (v : TypeText) where
     outside : IsSilent (out_of_range (verifying type))
     outside t h = each.1.1.1.1.1.1.0 (codes "number") ((as_certify v, says, of_second (λ said. list_any is_outside (query_parts said) ≡ true) h.0), refl)
 
-    unknown : IsSilent (unknown_component (verifying type) components)
+    unknown : IsSilent (unknown_component (verifying type) old.components)
     unknown t h =
-        let w = of_second (λ said. (x : List ℕ) × (find (is_unknown components) (query_parts said) ≡ Some (naming Component x)) × (t ≡ codes "unknown " ++ x)) h in
+        let w = of_second (λ said. (x : List ℕ) × (find (is_unknown old.components) (query_parts said) ≡ Some (naming Component x)) × (t ≡ codes "unknown " ++ x)) h in
         each.1.1.1.1.1.1.1.0 t (as_certify v, says, w)
 
-    stray : IsSilent (unknown_in_term (verifying type) components)
+    stray : IsSilent (unknown_in_term (verifying type) old.components)
     stray t h =
-        let w = of_second (λ said. (place : ℕ) × (position (is_unknown_in_term components) (query_parts said) ≡ Some place) × (t ≡ codes "token " ++ decimal (byte_at (verifying type) place))) h in
+        let w = of_second (λ said. (place : ℕ) × (position (is_unknown_in_term old.components) (query_parts said) ≡ Some place) × (t ≡ codes "token " ++ decimal (byte_at (verifying type) place))) h in
         each.1.1.1.1.1.1.1.1.0 (codes "token " ++ decimal (byte_at (certifying type) w.0)) (as_certify v, says, (w.0, w.1, refl))
 
-    faultless : IsSilent (First (line_errors (tables_of new components) (verifying type)))
-    faultless = none_applies (line_errors (tables_of new components) (verifying type))
-        (long, ((λ t h. h.0 (verify_utf8 type text.1)), (deep, (stays_silent (verifying type) (as_verify v) (second_says says), (large, (dollar, (outside, (unknown, (stray, tt)))))))))
+    -- by the new tables too, of which components have the same names
+    unknown_new : IsSilent (unknown_component (verifying type) new.components)
+    unknown_new = subst (λ (cs : List (List ℕ)). IsSilent (unknown_component (verifying type) cs)) (sym same) unknown
+
+    stray_new : IsSilent (unknown_in_term (verifying type) new.components)
+    stray_new = subst (λ (cs : List (List ℕ)). IsSilent (unknown_in_term (verifying type) cs)) (sym same) stray
+
+    faultless : IsSilent (First (line_errors new (verifying type)))
+    faultless = none_applies (line_errors new (verifying type))
+        (long, ((λ t h. h.0 (verify_utf8 type text.1)), (deep, (stays_silent (verifying type) (as_verify v) (second_says says), (large, (dollar, (outside, (unknown_new, (stray_new, tt)))))))))
 
 -- THE TWO LINES, one after the other
 module _ (s m : Responder) (type : List ℕ) (goal : ClosedType) (asks : Asks s (certifying type) (certify goal) m) where
@@ -234,7 +242,7 @@ module _ (s m : Responder) (type : List ℕ) (goal : ClosedType) (asks : Asks s 
   says = subst (λ (d : QueryText). Says query_words QueryStands d (words_of (certifying type))) said.1 asks.0.spelled
 
   numbered : m.names ≡ with_texts s.names named
-  numbered = asks.0.numbered ∙ ap (λ (d : QueryText). (with_query (tables_in s) d).constructors) said.1
+  numbered = ap (λ (x : Tables). x.constructors) asks.0.numbered ∙ ap (λ (d : QueryText). (with_query (tables_in s) d).constructors) said.1
 
   asked : certify goal ≡ certify (type_in (with_texts s.names named) said.0)
   asked = asks.0.asked ∙ ap (λ (d : QueryText). query_of (with_query (tables_in s) d) d) said.1
@@ -249,18 +257,11 @@ module _ (s m : Responder) (type : List ℕ) (goal : ClosedType) (asks : Asks s 
   components_stay = ap (λ (x : Responder). x.components) asks.1
 
   silent_then : IsSilent (First (line_errors (tables_in m) (verifying type)))
-  silent_then =
-      subst (λ (cs : List (List ℕ)). IsSilent (First (line_errors (tables_of m.names cs) (verifying type)))) (sym components_stay)
-      (faultless type said.0 s.names m.names s.components says asks.0.faultless)
+  silent_then = faultless type said.0 (tables_in s) (tables_in m) components_stay says asks.0.faultless
 
-  reads : ReadsQuery (tables_in m) (verifying type) (verify goal) m.names
-  reads = record {
-    faultless = silent_then;
-    said = as_verify said.0;
-    spelled = second_says type said.0 says;
-    asked = ap (λ (t : ClosedType). verify t) (goal_is ∙ ap (λ (ts : List (List ℕ)). type_in ts said.0) (sym stay));
-    numbered = sym stay;
-  }
+  reads : ReadsQuery (tables_in m) (verifying type) (verify goal) (tables_in m)
+  reads = reads_by m.names m.variables m.components m.filter_names m.names (verifying type) (verify goal) (as_verify said.0) silent_then (second_says type said.0 says)
+      (ap (λ (t : ClosedType). verify t) (goal_is ∙ ap (λ (ts : List (List ℕ)). type_in ts said.0) (sym stay))) (sym stay)
 
   pub same_type : Asks m (verifying type) (verify goal) m
   same_type = (reads, refl)

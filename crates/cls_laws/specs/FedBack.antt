@@ -56,7 +56,7 @@ pub record CertificatesAreAccepted : Type 0 where
   -- It is within the limits of lines.
   pub accepted :
       (o : Options) (lines : List (List ℕ)) (text : List ℕ) (s : Responder) → IsAnswered o lines text s → s.held ≡ []
-      → (goal : ClosedType) (c : Certificate) → AreSilent (faults_of s.engine (certify goal))
+      → (goal : ClosedType) (c : Certificate) → AreSilent (faults_of s (certify goal))
       → IsCertified s.engine.library goal c → IsCertificateWithin s.names s.components c
       → (line : List ℕ) → Asks s line (verify goal) s → AreAccepted s (fed_back s line c)
   pub alike :

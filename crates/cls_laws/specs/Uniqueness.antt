@@ -26,8 +26,7 @@ AsksAudit s line = (goal : ClosedType) × (s' : Responder) × answering.Asks s l
 
 -- Whatever names have numbers, the line asks for no audit.
 abbrev pub AsksNoAudit : List ℕ → Type 0
-AsksNoAudit line = (tables : Tables) (goal : ClosedType) (constructors : List (List ℕ))
-    → ReadsQuery tables line (audit goal) constructors → ⊥
+AsksNoAudit line = (tables after : Tables) (goal : ClosedType) → ReadsQuery tables line (audit goal) after → ⊥
 
 -- A line whose first word isn't `audit` asks for none.
 abbrev pub AuditsAreNamed : Type 0

@@ -213,22 +213,22 @@ module _ (table : List (List ℕ)) where
 -- WHAT IS ASKED
 module _ (constructors components : List (List ℕ)) where
   abbrev asked_in : SpelledQuery → Query
-  asked_in q = query_of (tables_of constructors components) (query_text q)
+  asked_in q = query_of (tables_of constructors [] components []) (query_text q)
 
   pub typed_means : {q : SpelledQuery} {e : SpelledTerm} {t : SpelledType} → q ≡ Typed e t → (term : Applicative) (type : ClosedType)
-      → term ≡ spelled_in components e → type ≡ type_in constructors (type_text t) → Path Query (Typed term type) (query_of (tables_of constructors components) (query_text q))
+      → term ≡ spelled_in components e → type ≡ type_in constructors (type_text t) → Path Query (Typed term type) (query_of (tables_of constructors [] components []) (query_text q))
   typed_means {q = q} {e = x} {t = t} e term type a b =
       let asks : Applicative → ClosedType → Query = λ u s. Typed u s in
       (λ i. asks (a i) (b i)) ∙ sym (ap asked_in e)
 
   pub about_means : {q : SpelledQuery} {word : GoalWord} {t : SpelledType} → q ≡ About word t → (type : ClosedType)
-      → type ≡ type_in constructors (type_text t) → Path Query (About word type) (query_of (tables_of constructors components) (query_text q))
+      → type ≡ type_in constructors (type_text t) → Path Query (About word type) (query_of (tables_of constructors [] components []) (query_text q))
   about_means {q = q} {word = word} {t = t} e type b =
       let asks : ClosedType → Query = λ s. About word s in
       ap asks b ∙ sym (ap asked_in e)
 
   pub page_means : {q : SpelledQuery} {word : ListingWord} {l : SpelledListing} → q ≡ Page word l → (page : Listing)
-      → page ≡ listing_of (tables_of constructors components) (listing_text l) → Path Query (Page word page) (query_of (tables_of constructors components) (query_text q))
+      → page ≡ listing_of (tables_of constructors [] components []) (listing_text l) → Path Query (Page word page) (query_of (tables_of constructors [] components []) (query_text q))
   page_means {q = q} {word = word} {l = l} e page b =
       let asks : Listing → Query = λ p. Page word p in
       ap asks b ∙ sym (ap asked_in e)

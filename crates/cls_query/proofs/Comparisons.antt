@@ -24,7 +24,7 @@ use Rattle.cls_syntax.proofs.ReadTypes.{none, type_open, type_opens, text_open}
 use Rattle.cls_syntax.proofs.TypeSpans.{spelled_words}
 use Rattle.cls_query.specs.Comparisons.{IsSmall, IsWholeClosed, AreBuilt}
 use Rattle.cls_query.specs.declared.query.Query.TheVariants.{Sub}
-use Rattle.cls_query.specs.Queries.{QueryText, sub, tables_of, query_words, query_parts, QueryStands, type_in, with_names}
+use Rattle.cls_query.specs.Queries.{QueryText, Tables, sub, tables_of, query_words, query_parts, QueryStands, type_in, with_names}
 use Rattle.cls_query.specs.QueryErrors.{line_errors}
 use Rattle.cls_query.specs.QueryForms.{comparison_form}
 use Rattle.cls_query.specs.ReadQueries.{ReadsQuery}
@@ -33,6 +33,7 @@ use Rattle.cls_query.proofs.LineSteps.{all_silent, text_silent, form_silent, typ
 use Rattle.cls_query.proofs.NodeBounds.{short_is_small}
 use Rattle.cls_query.proofs.Numbering.{names_of_type, spelled_is, type_stays}
 use Rattle.cls_query.proofs.Searches.{both_none, place_none}
+use Rattle.cls_query.proofs.Variables.{reads_by}
 
 -- no more parentheses are open in both texts than in each
 flat : (s t : TypeText) → most_open 0 0 (type_words s) ≤ max_type_depth → most_open 0 0 (type_words t) ≤ max_type_depth
@@ -58,16 +59,16 @@ module _ (line : List ℕ) (s t : TypeText) (spells : words_of line ≡ name (co
   closed : HasNoDollar (type_words s) → HasNoDollar (type_words t) → HasNoDollar (words_of line)
   closed a b = ap (list_any is_dollar) spells ∙ both_none is_dollar (type_words s) (sign AtMost ∷ type_words t) a b
 
-  module _ (constructors components : List (List ℕ)) (text : IsText line)
+  module _ (tables : Tables) (text : IsText line)
       (flat_lower : most_open 0 0 (type_words s) ≤ max_type_depth) (flat_upper : most_open 0 0 (type_words t) ≤ max_type_depth)
       (short_lower : 3 * length (type_words s) < 2 * max_type_nodes) (short_upper : 3 * length (type_words t) < 2 * max_type_nodes)
       (closed_lower : HasNoDollar (type_words s)) (closed_upper : HasNoDollar (type_words t)) where
-    faultless : IsSilent (First (line_errors (tables_of constructors components) line))
+    faultless : IsSilent (First (line_errors tables line))
     faultless =
-        all_silent (tables_of constructors components) line (text_silent line text)
+        all_silent tables line (text_silent line text)
         (form_silent line (compares s t) (subst (λ (ws : List Word). most_open 0 0 ws ≤ max_type_depth) (sym spells) (flat s t flat_lower flat_upper)) says)
         (types_silent line (compares s t) says (λ i. short_is_small s short_lower i || (short_is_small t short_upper i || false)) (place_none is_dollar (words_of line) (closed closed_lower closed_upper)))
-        (values_silent line (compares s t) says components (comparison_inside s t) (comparison_known components s t) (comparison_in_term components s t))
+        (values_silent line (compares s t) says tables.components (comparison_inside s t) (comparison_known tables.components s t) (comparison_in_term tables.components s t))
 
 -- the table and the query, where both types are built
 module _ (old : List (List ℕ)) (ls ks : List Token) (new : List (List ℕ)) (lower upper : ClosedType)
@@ -103,21 +104,18 @@ module _ (old : List (List ℕ)) (ls ks : List Token) (new : List (List ℕ)) (l
 
   pub reads :
       (line : List ℕ) → words_of line ≡ name (codes "sub") ∷ (words ls ++ sign AtMost ∷ words ks) → IsText line → IsSmall ls → IsSmall ks
-      → (components : List (List ℕ)) → ReadsQuery (tables_of old components) line (sub lower upper) new
-  reads line spells text small_lower small_upper components =
+      → (variables components filters : List (List ℕ)) → ReadsQuery (tables_of old variables components filters) line (sub lower upper) (tables_of new variables components filters)
+  reads line spells text small_lower small_upper variables components filters =
       let spells_types = spells ∙ (λ i. name (codes "sub") ∷ (spelled_lower i ++ sign AtMost ∷ spelled_upper i)) in
       let in_lower = small_text ls s small_lower spelled_lower in
       let in_upper = small_text ks t small_upper spelled_upper in
-      record {
-        faultless =
-            faultless line s t spells_types old components text in_lower.1 in_upper.1 in_lower.0 in_upper.0
-            (subst HasNoDollar spelled_lower a.closed)
-            (subst HasNoDollar spelled_upper b.closed);
-        said = compares s t;
-        spelled = says line s t spells_types;
-        asked = λ i. sub ((built.lower_is ∙ ap (λ (names : List (List ℕ)). type_in names s) numbered) i) ((built.upper_is ∙ ap (λ (names : List (List ℕ)). type_in names t) numbered) i);
-        numbered = numbered;
-      }
+      let silent =
+      faultless line s t spells_types (tables_of old variables components filters) text in_lower.1 in_upper.1 in_lower.0 in_upper.0
+      (subst HasNoDollar spelled_lower a.closed)
+      (subst HasNoDollar spelled_upper b.closed) in
+      reads_by old variables components filters new line (sub lower upper) (compares s t) silent (says line s t spells_types)
+      (λ i. sub ((built.lower_is ∙ ap (λ (names : List (List ℕ)). type_in names s) numbered) i) ((built.upper_is ∙ ap (λ (names : List (List ℕ)). type_in names t) numbered) i))
+      numbered
 
 -- the lower type keeps its meaning when the names of the upper one come
 pub both_built :

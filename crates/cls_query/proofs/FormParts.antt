@@ -35,7 +35,7 @@ pub page_types : (word : ListingWord) (l : ListingText) → query_types (Page wo
 page_types word l = ap (λ (ts : List TypeText). l.goal ∷ ts) (cursor_types l.after)
 
 -- A LISTING'S PARTS, its first word, type and numbers apart from what stands behind them
-abbrev cursor_parts : Option TermText → List Part
+abbrev pub cursor_parts : Option TermText → List Part
 cursor_parts None = []
 cursor_parts (Some e) = fixed (name (codes "after")) ∷ (term_parts e ++ [])
 
@@ -43,10 +43,10 @@ split_cursor : (after : Option TermText) → line_parts (perhaps cursor_form) (o
 split_cursor None = refl
 split_cursor (Some e) = refl
 
-abbrev page_with : ListingWord → ListingText → List Part → List Part
+abbrev pub page_with : ListingWord → ListingText → List Part → List Part
 page_with word l rest = fixed (name (listing_word_text word)) ∷ (type_parts l.goal ++ (number_parts l.max l.take ++ rest))
 
-split_page : (word : ListingWord) (l : ListingText) → query_parts (Page word l) ≡ page_with word l (cursor_parts l.after)
+pub split_page : (word : ListingWord) (l : ListingText) → query_parts (Page word l) ≡ page_with word l (cursor_parts l.after)
 split_page word l = ap (page_with word l) (split_cursor l.after)
 
 -- NUMBERS

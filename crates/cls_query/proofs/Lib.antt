@@ -14,3 +14,4 @@ pub mod QueryLines
 pub mod Readable
 pub mod RowParts
 pub mod Searches
+pub mod Variables

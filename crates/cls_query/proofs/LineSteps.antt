@@ -37,10 +37,6 @@ module _ (tables : Tables) (line : List ℕ) where
   abbrev of_spelling : List (Cause (List ℕ))
   of_spelling = spelling_errors line ++ of_types
 
-  pub by_text : (o : Option (List ℕ)) → IfSome o (λ w. First (text_errors line) w) → IfSome o (λ w. First (line_errors tables line) w)
-  by_text None h = h
-  by_text (Some w) h = first_front (text_errors line) of_spelling w h
-
   pub by_spelling : IsSilent (First (text_errors line)) → (o : Option (List ℕ)) → IfSome o (λ w. First (spelling_errors line) w) → IfSome o (λ w. First (line_errors tables line) w)
   by_spelling n None h = h
   by_spelling n (Some w) h = first_later (text_errors line) of_spelling w n (first_front (spelling_errors line) of_types w h)

@@ -236,14 +236,14 @@ module _ (tables : Tables) (line : List ℕ) where
     | inr p ↦ absurd (place_silent n p.0.0 p.0.1)
   ]
 
-  abbrev Reads : Query → List (List ℕ) → Type 0
-  Reads query constructors = ReadsQuery tables line query constructors
+  abbrev Reads : Query → Tables → Type 0
+  Reads query after = ReadsQuery tables line query after
 
-  read_or_error : IsDecided (First (line_errors tables line)) → ((words : List ℕ) × First (line_errors tables line) words) ⊎ ((query : Query) × (constructors : List (List ℕ)) × Reads query constructors)
+  read_or_error : IsDecided (First (line_errors tables line)) → ((words : List ℕ) × First (line_errors tables line) words) ⊎ ((query : Query) × (after : Tables) × Reads query after)
   read_or_error (inl h) = inl h
   read_or_error (inr n) =
       let q = silent_query n in
-      inr (query_of (with_query tables q.0) q.0, (with_query tables q.0).constructors, record { faultless = n; said = q.0; spelled = q.1; asked = refl; numbered = refl })
+      inr (query_of (with_query tables q.0) q.0, with_query tables q.0, record { faultless = n; said = q.0; spelled = q.1; asked = refl; numbered = refl })
 
 pub lines_decided : LinesAreDecided
 lines_decided tables line = read_or_error tables line (error_decided tables line)

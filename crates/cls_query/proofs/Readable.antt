@@ -28,7 +28,7 @@ use Rattle.cls_query.specs.declared.query.Query.TheVariants.{Sub, Paths, Typed, 
 use Rattle.cls_query.specs.declared.word.GoalWord.TheVariants.{Verify}
 use Rattle.cls_query.specs.declared.word.ListingWord.{ListingWord}
 use Rattle.cls_query.specs.declared.word.ListingWord.TheVariants as listing
-use Rattle.cls_query.specs.Queries.{ListingText, Tables, Query, QueryText, query_words, query_parts, QueryStands, listing_of, query_of, with_query, term_in}
+use Rattle.cls_query.specs.Queries.{ListingText, Tables, Query, QueryText, query_words, query_parts, QueryStands, tables_of, listing_of, query_of, with_query, term_in}
 use Rattle.cls_query.specs.QueryErrors.{is_outside, is_absent, is_unknown_in_term, line_errors}
 use Rattle.cls_query.specs.Readable.{IsPageAsked, IsReadable, IsVerify, begins_with}
 use Rattle.cls_query.specs.ReadQueries.{ReadsQuery}
@@ -179,8 +179,8 @@ module _ (tables : Tables) (line : List ℕ) (silent : IsSilent (First (line_err
     after_readable None is = tt
     after_readable (Some e) is = cursor_readable e is
 
-    page_readable : (constructors : List (List ℕ)) → IsPageAsked n (listing_of (record { constructors = constructors; components = tables.components }) l)
-    page_readable constructors =
+    page_readable : (constructors variables filters : List (List ℕ)) → IsPageAsked n (listing_of (tables_of constructors variables tables.components filters) l)
+    page_readable constructors variables filters =
         let range = both_within l.max l.take (sym (page_outside word l) ∙ in_range (Page word l) says) in
         record {
           max = range.0.1;
@@ -188,12 +188,12 @@ module _ (tables : Tables) (line : List ℕ) (silent : IsSilent (First (line_err
           cursor = after_readable l.after refl;
         }
 
-  query_readable_in : (constructors : List (List ℕ)) (q : QueryText) → IsLine q → IsReadable n (query_of (record { constructors = constructors; components = tables.components }) q)
-  query_readable_in names (Sub s t) says = tt
-  query_readable_in names (Paths x) says = held_below tables.components x (named_known x says)
-  query_readable_in names (Typed e t) says = typed_readable e t says
-  query_readable_in names (About word t) says = tt
-  query_readable_in names (Page word l) says = page_readable word l says names
+  query_readable_in : (constructors variables filters : List (List ℕ)) (q : QueryText) → IsLine q → IsReadable n (query_of (tables_of constructors variables tables.components filters) q)
+  query_readable_in constructors variables filters (Sub s t) says = tt
+  query_readable_in constructors variables filters (Paths x) says = held_below tables.components x (named_known x says)
+  query_readable_in constructors variables filters (Typed e t) says = typed_readable e t says
+  query_readable_in constructors variables filters (About word t) says = tt
+  query_readable_in constructors variables filters (Page word l) says = page_readable word l says constructors variables filters
 
 never : {A : Type 0} → (A → ⊥) → A ↔ (false ≡ true)
 never none = ((λ a. absurd (none a)), (λ h. absurd (true≢false (sym h))))
@@ -209,9 +209,11 @@ verify_begins tables (Page listing.List l) = never (λ a. a)
 verify_begins tables (Page word l) = never (λ a. a)
 
 -- THE QUERY
-module _ {tables : Tables} {line : List ℕ} {query : Query} {constructors : List (List ℕ)} (r : ReadsQuery tables line query constructors) where
+module _ {tables : Tables} {line : List ℕ} {query : Query} {after : Tables} (r : ReadsQuery tables line query after) where
   pub query_readable : IsReadable (length tables.components) query
-  query_readable = subst (IsReadable (length tables.components)) (sym r.asked) (query_readable_in tables line r.faultless (with_query tables r.said).constructors r.said r.spelled)
+  query_readable =
+      let new = with_query tables r.said in
+      subst (IsReadable (length tables.components)) (sym r.asked) (query_readable_in tables line r.faultless new.constructors new.variables new.filters r.said r.spelled)
 
   pub query_verify : IsVerify query ↔ (begins_with (codes "verify") (words_of line) ≡ true)
   query_verify =

@@ -1,6 +1,6 @@
 -- Searches along lists.
 use Rattle.std.proofs.Common.{suc, ◌≡◌, ℕ, ◌+◌, ◌<◌, ◌≤◌, Bool, true, false, cond, not, List, [], ◌∷◌, ◌++◌, length, refl, ap, sym, ◌∙◌, arith, inl, inr}
-use Rattle.std.specs.Prelude.{Option, Some, None, is_some, Result, Ok, Err, IfOk, nat_lt, find, position, ◌||◌}
+use Rattle.std.specs.Prelude.{Option, Some, None, is_some, nat_lt, find, position, ◌||◌}
 use Rattle.std.specs.List.{list_any, position_or_len, AllByRecursion}
 use Rattle.std.specs.Option.{option_map}
 use Rattle.std.proofs.lemmas.Bool.{cases_lt, lt-ltb, le-ltb, ltb-true, true≢false}
@@ -129,8 +129,3 @@ module _ {X : Type 0} (P : X → Type 0) where
 pub never_some : {A B : Type 0} (f : A → B) (o : Option A) → ((x : A) → o ≡ Some x → ⊥) → option_map f o ≡ None
 never_some f None n = refl
 never_some f (Some x) n = absurd (n x refl)
-
--- what follows for each good result
-pub if_ok_then : {A E : Type 0} {P : A → Type 0} (Q : A → Type 0) (r : Result A E) → ((a : A) → P a → Q a) → IfOk r P → IfOk r Q
-if_ok_then Q (Ok a) f h = f a h
-if_ok_then Q (Err e) f h = h

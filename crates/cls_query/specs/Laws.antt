@@ -22,4 +22,4 @@ abbrev pub LinesAreDecided : Type 0
 LinesAreDecided =
     (tables : Tables) (line : List ℕ)
     → ((words : List ℕ) × First (line_errors tables line) words)
-    ⊎ ((query : Query) × (constructors : List (List ℕ)) × ReadsQuery tables line query constructors)
+    ⊎ ((query : Query) × (after : Tables) × ReadsQuery tables line query after)

@@ -7,7 +7,7 @@ use Rattle.cls_lexer.specs.Names.{number_of, with_texts}
 use Rattle.cls_lexer.specs.Numerals.{number_value}
 use Rattle.cls_lexer.specs.Words.{Word, name}
 use Rattle.cls_syntax.specs.ClosedTypes.{closed}
-use Rattle.cls_syntax.specs.Forms.{Values, Part, fixed, line_parts, line_words, LineStands, constructors_named}
+use Rattle.cls_syntax.specs.Forms.{Values, Part, fixed, line_parts, line_words, LineStands, constructors_named, variables_named}
 use Rattle.cls_syntax.specs.TermTexts.{TermText}
 use Rattle.cls_syntax.specs.TypeSchemas.{type_schema}
 use Rattle.cls_syntax.specs.TypeTexts.{TypeText}
@@ -78,18 +78,26 @@ QueryStands q = LineStands (form_of (word_of q)) (values_of q)
 -- The names that have numbers.
 pub record Tables : Type 0 where
   pub constructors : List (List ℕ)
+  pub variables : List (List ℕ)
   pub components : List (List ℕ)
+  pub filters : List (List ℕ)
 
-abbrev pub tables_of : (constructors components : List (List ℕ)) → Tables
-tables_of constructors components = record { constructors = constructors; components = components }
+abbrev pub tables_of : (constructors variables components filters : List (List ℕ)) → Tables
+tables_of constructors variables components filters =
+    record { constructors = constructors; variables = variables; components = components; filters = filters }
 
--- The table after the constructors that the parts name came, in the order of the parts.
+-- The table after the constructors that the parts name came, in the order of the parts, and that after the variables.
 abbrev pub with_names : List (List ℕ) → List Part → List (List ℕ)
 with_names constructors parts = with_texts constructors (constructors_named parts)
 
--- The tables that hold the names of the query.
+abbrev pub with_variables : List (List ℕ) → List Part → List (List ℕ)
+with_variables variables parts = with_texts variables (variables_named parts)
+
+-- The tables that hold the names of the query. A query gives no number to a component or a filter.
 abbrev pub with_query : Tables → QueryText → Tables
-with_query tables said = tables_of (with_names tables.constructors (query_parts said)) tables.components
+with_query tables said =
+    tables_of (with_names tables.constructors (query_parts said)) (with_variables tables.variables (query_parts said))
+    tables.components tables.filters
 
 -- WHAT THE LINE ASKS
 -- The type and the term that the texts spell, with the numbers of their names in the table.

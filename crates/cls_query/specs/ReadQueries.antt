@@ -44,10 +44,10 @@ listing_of l = record { goal = type_of l.goal; max = l.max; take = l.take; after
 abbrev pub asked_of : BuiltQuery → Query
 asked_of q = map_query measured_type (λ (x : Name). x.0) (λ (e : Applicative). e) type_of listing_of q
 
--- No error is said of the line, it asks this query, and these are the constructors with its names.
-pub record ReadsQuery (tables : Tables) (line : List ℕ) (query : Query) (constructors : List (List ℕ)) : Type 0 where
+-- No error is said of the line, it asks this query, and these are the tables with its names.
+pub record ReadsQuery (tables : Tables) (line : List ℕ) (query : Query) (after : Tables) : Type 0 where
   pub faultless : IsSilent (First (line_errors tables line))
   pub said : QueryText
   pub spelled : Says query_words QueryStands said (words_of line)
   pub asked : query ≡ query_of (with_query tables said) said
-  pub numbered : constructors ≡ (with_query tables said).constructors
+  pub numbered : after ≡ with_query tables said

@@ -1,5 +1,5 @@
 //! Types, terms and numbers in place of the texts of a query.
-ghost use Rattle.std.specs.Prelude.{◌≡◌, false, IfOk, OnOk, OnErr};
+ghost use Rattle.std.specs.Prelude.{◌≡◌, false, [], IfOk, OnOk, OnErr};
 ghost use Rattle.std.specs.List.{AllByRecursion, list_any};
 ghost use Rattle.std.specs.Option.{option_map};
 ghost use Rattle.cls_base.specs.Ty.{type_of};
@@ -35,7 +35,7 @@ pub(crate) fn build(
     requires in_range { list_any is_outside (query_parts (query_text query.now)) ≡ false }
     requires term { term ≡ option_map (spelled_in components.now) (term_spelled query.now) }
     ensures query { IfOk result (λ built. asked_of built
-        ≡ query_of (tables_of constructors.new components.now) (query_text query.now)) }
+        ≡ query_of (tables_of constructors.new [] components.now []) (query_text query.now)) }
     ensures constructors { OnOk result (constructors.new
         ≡ with_names constructors.old (query_parts (query_text query.now))) }
     ensures stay { OnErr result (constructors.new ≡ constructors.old) }
@@ -97,7 +97,8 @@ fn page(
     requires in_range { AreInRange spelled.now.max.text.now spelled.now.take.text.now }
     ensures page { IfOk result (λ page. (components : _)
         → term ≡ option_map (spelled_in components) spelled.now.after
-        → answers.listing_of page ≡ listing_of (tables_of constructors.new components) (listing_text spelled.now)) }
+        → answers.listing_of page
+        ≡ listing_of (tables_of constructors.new [] components []) (listing_text spelled.now)) }
     ensures constructors { OnOk result (constructors.new
         ≡ with_constructors constructors.old (words_in spelled.now.goal)) }
     ensures stay { OnErr result (constructors.new ≡ constructors.old) }

@@ -27,8 +27,9 @@ impl<'t, 'a> CutLine<'t, 'a> {
         constructors: &mut Names,
     ) -> Result<Option<BuiltQuery>, OutOfMemory>
         requires { IsText self.now.text.now }
-        ensures read { IfOk result (λ read. IfSome read (λ query. (components : _)
-            → ReadsQuery (tables_of constructors.old components) self.now.text.now (asked_of query) constructors.new)) }
+        ensures read { IfOk result (λ read. IfSome read (λ query. (variables components filters : _)
+            → ReadsQuery (tables_of constructors.old variables components filters) self.now.text.now (asked_of query)
+            (tables_of constructors.new variables components filters))) }
         ensures left { IfOk result (λ read. IfNone read (constructors.new ≡ constructors.old)) }
         ensures stay { OnErr result (constructors.new ≡ constructors.old) }
     {

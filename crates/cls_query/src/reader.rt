@@ -1,5 +1,5 @@
 //! Reads the line of a query.
-ghost use Rattle.std.specs.Prelude.{◌≡◌, ◌↔◌, true, length, codes, IfOk, IfErr, IfSome, OnOk, OnErr};
+ghost use Rattle.std.specs.Prelude.{◌≡◌, ◌↔◌, true, [], length, codes, IfOk, IfErr, IfSome, OnOk, OnErr};
 ghost use Rattle.cls_base.specs.Firsts.{First};
 ghost use Rattle.cls_lexer.specs.Skipped.{IsText};
 ghost use Rattle.cls_lexer.specs.Words.{words_of};
@@ -18,22 +18,27 @@ use cls_lexer::{Line, Names, TextFault, Token};
 use std::alloc::Global;
 
 /// The query that the line is. Its types and terms have the numbers that the tables give their names. New names of
-/// constructors are numbered in the order of the line's tokens. After any error the table is as before. The buffer `room`
-/// may be reused for the tokens; its content is ignored.
+/// constructors are numbered in the order of the line's tokens. No query has a variable or names a filter: the tables of
+/// these aren't read, and stay. After any error the tables are as before. The buffer `room` may be reused for the
+/// tokens; its content is ignored.
 ///
 /// The error is the first that applies, in the order of [`LineFault`].
 pub fn read_query<'a, 'p>(
     alloc: Global,
     constructors: &mut Names,
+    variables: &mut Names,
     components: &Names,
+    filters: &Names,
     line: &'a Line<'p>,
     room: &mut Vec<Token<'p>>,
 ) -> Result<BuiltQuery, LineFault<'a>>
     ensures query { IfOk result (λ query.
-        ReadsQuery (tables_of constructors.old components.now) line.now (asked_of query) constructors.new) }
+        ReadsQuery (tables_of constructors.old variables.old components.now filters.now) line.now (asked_of query)
+        (tables_of constructors.new variables.new components.now filters.now)) }
     ensures fault { IfErr result (λ fault. IfSome (fault_words fault)
-        (First (line_errors (tables_of constructors.old components.now) line.now))) }
+        (First (line_errors (tables_of constructors.old variables.old components.now filters.now) line.now))) }
     ensures stay { OnErr result (constructors.new ≡ constructors.old) }
+    ensures variables_stay { OnErr result (variables.new ≡ variables.old) }
     ensures readable { IfOk result (λ query. IsReadable (length components.now) (asked_of query)) }
     ensures verify { IfOk result (λ query.
         IsVerify (asked_of query) ↔ (begins_with (codes "verify") (words_of line.now) ≡ true)) }
@@ -61,10 +66,11 @@ fn by_form<'a>(
     line: &CutLine<'_, 'a>,
 ) -> Result<BuiltQuery, LineFault<'a>>
     requires { IsText line.now.text.now }
-    ensures query { IfOk result (λ query. ReadsQuery (tables_of constructors.old components.now)
-        line.now.text.now (asked_of query) constructors.new) }
+    ensures query { IfOk result (λ query. (variables filters : _)
+        → ReadsQuery (tables_of constructors.old variables components.now filters) line.now.text.now (asked_of query)
+        (tables_of constructors.new variables components.now filters)) }
     ensures fault { IfErr result (λ fault. IfSome (fault_words fault)
-        (First (line_errors (tables_of constructors.old components.now) line.now.text.now))) }
+        (First (line_errors (tables_of constructors.old [] components.now []) line.now.text.now))) }
     ensures stay { OnErr result (constructors.new ≡ constructors.old) }
 {
     let spelled = line.spelled()?;

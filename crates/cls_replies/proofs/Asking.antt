@@ -1,23 +1,17 @@
--- How reading a line and answering it make what is written for it.
-use Rattle.std.proofs.Common.{◌≡◌, ℕ, List, sym, subst}
+-- How the first error of a line, or of the lines of a certificate, makes what is written.
+use Rattle.std.proofs.Common.{◌≡◌, ℕ, List}
 use Rattle.std.specs.Prelude.{Option, None, Some, IfSome}
 use Rattle.std.specs.Option.{option_map}
 use Rattle.cls_base.specs.Firsts.{First}
 use Rattle.cls_base.specs.Types.{ClosedType}
 use Rattle.cls_proof.specs.declared.proof_fault.ProofFault.{ProofFault}
 use Rattle.cls_proof.specs.Reading.{IsProofFault}
-use Rattle.cls_query.specs.Queries.{Query}
 use Rattle.cls_query.specs.QueryErrors.{line_errors}
-use Rattle.cls_query.specs.ReadQueries.{ReadsQuery}
-use Rattle.cls_replies.specs.Responder.{Responder, tables_in, with_names}
+use Rattle.cls_replies.specs.Responder.{Responder, tables_in}
 use Rattle.cls_replies.specs.Errors.{proof_words}
 use Rattle.cls_replies.specs.Texts.{error_line}
-use Rattle.cls_replies.specs.Answering.{Answers, IsMisread, Answered, Verifies}
+use Rattle.cls_replies.specs.Answering.{IsMisread, Verifies}
 use Rattle.cls_replies.specs.Answering as answering
-
--- The query was read, and answered.
-pub asks : (s m s' : Responder) (line text : List ℕ) (q : Query) → m ≡ with_names s m.names → s' ≡ m → ReadsQuery (tables_in s) line q m.names → Answers m q text → Answered s line text s'
-asks s m s' line text q w e r a = subst (λ (x : Responder). Answered s line text x) (sym e) (answering.Answered.asked q (r, w) a)
 
 -- The line has an error.
 pub misreads : (s m : Responder) (line text : List ℕ) (o : Option (List ℕ)) → IfSome o (λ words. First (line_errors (tables_in s) line) words) → option_map error_line o ≡ Some text → m ≡ s → IsMisread s line text m

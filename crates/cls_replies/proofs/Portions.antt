@@ -55,6 +55,11 @@ printing_as (Ok text) (Err f) s P h k = absurd h
 printing_as (Err e) (Ok p) s P h k = absurd h
 printing_as (Err e) (Err f) s P h k = record {}
 
+-- What holds in any case holds where there is a reply.
+pub printing_any : {F : Type 0} (o : Result Printing F) (P : Type 0) → P → OnOk o P
+printing_any (Ok p) P h = h
+printing_any (Err f) P h = record {}
+
 pub printing_ok : {A E F : Type 0} (r : Result (String A) E) (o : Result Printing F) (P : Type 0) → IsPrintingOf r o → OnOk r P → OnOk o P
 printing_ok (Ok text) (Ok p) P h k = k
 printing_ok (Ok text) (Err f) P h k = absurd h

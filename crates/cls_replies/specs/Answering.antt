@@ -11,14 +11,14 @@ use Rattle.cls_query.specs.ReadQueries.{ReadsQuery}
 use Rattle.cls_engine.specs.declared.fault.EngineFault.{EngineFault}
 use Rattle.cls_engine.specs.declared.verdict.Verdict.{Verdict}
 use Rattle.cls_engine.specs.Verdicts.{IsVerdict}
-use Rattle.cls_replies.specs.Responder.{Responder, tables_in, with_names}
+use Rattle.cls_replies.specs.Responder.{Responder, tables_in, with_tables, with_names}
 use Rattle.cls_replies.specs.Texts.{error_line, fault_words, verdict_text}
 use Rattle.cls_replies.specs.Errors.{faults_of, proof_words}
 use Rattle.cls_replies.specs.Replies.{Reply}
 
 -- The line asks the query, whose names are numbered then.
 abbrev pub Asks : Responder → (line : List ℕ) → Query → Responder → Type 0
-Asks s line q s' = ReadsQuery (tables_in s) line q s'.names × (s' ≡ with_names s s'.names)
+Asks s line q s' = ReadsQuery (tables_in s) line q (tables_in s') × (s' ≡ with_tables s (tables_in s'))
 
 -- The first error of the line is what is written, and the names stay.
 pub record IsMisread (s : Responder) (line text : List ℕ) (s' : Responder) : Type 0 where
@@ -27,22 +27,23 @@ pub record IsMisread (s : Responder) (line text : List ℕ) (s' : Responder) : T
   pub written : text ≡ error_line words
   pub same : s' ≡ s
 
--- What is written for a query that was read: the first thing that the engine can't do, otherwise the reply.
-pub data Answers (s : Responder) (q : Query) (text : List ℕ) : Type 0 where
-  failed : (fault : EngineFault) → First (faults_of s.engine q) fault → text ≡ error_line (fault_words s.names fault)
-      → Answers s q text
-  replied : IsSilent (First (faults_of s.engine q)) → Reply s q text → Answers s q text
+-- What is written for a query that was read, and what queries are answered by after it: the first thing that the engine
+-- can't do, otherwise the reply. Either leaves what it is answered by as it is.
+pub data Answers (s : Responder) (q : Query) (text : List ℕ) (s' : Responder) : Type 0 where
+  failed : (fault : EngineFault) → First (faults_of s q) fault → text ≡ error_line (fault_words s.names fault) → s' ≡ s
+      → Answers s q text s'
+  replied : IsSilent (First (faults_of s q)) → Reply s q text → s' ≡ s → Answers s q text s'
 
 -- What is written for a line that asks, and what queries are answered by after it.
 pub data Answered (s : Responder) (line text : List ℕ) (s' : Responder) : Type 0 where
   misread : IsMisread s line text s' → Answered s line text s'
-  asked : (q : Query) → Asks s line q s' → Answers s' q text → Answered s line text s'
+  asked : (q : Query) (m : Responder) → Asks s line q m → Answers m q text s' → Answered s line text s'
 
 -- What is written for a certificate that says whether it proves the goal.
 pub data Judges (s : Responder) (goal : ClosedType) (c : Certificate) (text : List ℕ) : Type 0 where
-  failed : (fault : EngineFault) → First (faults_of s.engine (verify goal)) fault
+  failed : (fault : EngineFault) → First (faults_of s (verify goal)) fault
       → text ≡ error_line (fault_words s.names fault) → Judges s goal c text
-  judged : IsSilent (First (faults_of s.engine (verify goal))) → (verdict : Verdict)
+  judged : IsSilent (First (faults_of s (verify goal))) → (verdict : Verdict)
       → IsVerdict s.engine.library goal c verdict → text ≡ verdict_text verdict → Judges s goal c text
 
 -- What is written for the lines of a certificate for the goal, whose names are numbered then, if they say one.

@@ -9,17 +9,18 @@ use Rattle.cls_query.specs.Queries.{Query}
 use Rattle.cls_proof.specs.declared.proof_fault.ProofFault.{ProofFault}
 use Rattle.cls_proof.specs.declared.proof_fault.ProofFault.TheVariants as proof
 use Rattle.cls_engine.specs.declared.fault.EngineFault.{EngineFault}
-use Rattle.cls_engine.specs.Engines.{EngineSeen}
 use Rattle.cls_engine.specs.Faults.{compare_faults, closure_faults, list_faults}
+use Rattle.cls_replies.specs.Responder.{Responder}
 
 -- What the engine can't do for a query.
-abbrev pub faults_of : EngineSeen → Query → List (Cause EngineFault)
-faults_of e (Sub a b) = compare_faults (a ∷ b ∷ [])
-faults_of e (Paths x) = []
-faults_of e (Typed u t) = compare_faults (t ∷ [])
-faults_of e (About Verify t) = compare_faults (t ∷ [])
-faults_of e (About word t) = closure_faults e.library e.options t
-faults_of e (Page word q) = list_faults e.library e.options q.goal (request e.costs q.after q.max q.take)
+abbrev pub faults_of : Responder → Query → List (Cause EngineFault)
+faults_of s (Sub a b) = compare_faults (a ∷ b ∷ [])
+faults_of s (Paths x) = []
+faults_of s (Typed u t) = compare_faults (t ∷ [])
+faults_of s (About Verify t) = compare_faults (t ∷ [])
+faults_of s (About word t) = closure_faults s.engine.library s.engine.options t
+faults_of s (Page word q) =
+    list_faults s.engine.library s.engine.options q.goal (request s.engine.costs q.after q.max q.take)
 
 -- The words of what is wrong with the lines of a certificate. Out of memory has none.
 abbrev pub proof_words : ProofFault → Option (List ℕ)

@@ -5,12 +5,10 @@ use Rattle.cls_base.specs.Terms.{Applicative, IsTermOver}
 use Rattle.cls_base.specs.Types.{ClosedType}
 use Rattle.cls_cert.specs.Conditions.{forms_of}
 use Rattle.cls_cert.specs.Left.{AreMembersLeft, AreRowsLeft, members_left, rows_left}
-use Rattle.cls_core.specs.declared.entry.Entry.{Entry}
 use Rattle.cls_core.specs.Rows.{Row}
 use Rattle.cls_engine.specs.Faults.{AreSilent, closure_faults}
 use Rattle.cls_engine.specs.Goals.{Goal, IsClosed}
 use Rattle.cls_enum.specs.declared.listed.Page.{Page}
-use Rattle.cls_finite.specs.declared.walk.Step.{Step}
 use Rattle.cls_grammar.specs.GrammarTexts.{IsPlaceIn, lines_from}
 use Rattle.cls_grammar.specs.Grammars.{book_of}
 use Rattle.cls_grammar.specs.Ranks.{AreRanks}
@@ -24,18 +22,15 @@ use Rattle.cls_replies.specs.declared.printing.Lines.{Lines}
 use Rattle.cls_replies.specs.declared.printing.Lines.TheVariants as lines
 use Rattle.cls_replies.specs.declared.printing.Printing.{Printing}
 use Rattle.cls_replies.specs.Responder.{Responder}
-use Rattle.cls_replies.specs.Texts.{history_text, page_text, paths_text, reply_line, step_line, term_line, term_lines}
+use Rattle.cls_replies.specs.Texts.{event_line, page_text, paths_text, reply_line, step_line, term_line, term_lines}
 
 -- the lines of a page from the term at a place on, each term shown in this way
 abbrev pub page_left : (Applicative → List ℕ) → Page → ℕ → List ℕ
 page_left shown page place = page_text shown (drop place page.terms) page.more
 
--- the events of a history from a place on, and the steps of a walk, each with the last line
-abbrev pub events_left : List Entry → ℕ → List ℕ
-events_left events place = history_text (drop place events)
-
-abbrev pub steps_left : List Step → ℕ → List ℕ
-steps_left steps place = flat_map step_line (drop place steps) ++ reply_line (codes "done")
+-- the lines of items from a place on, and the last line
+abbrev pub items_left : {A : Type 0} → (line : A → List ℕ) → List A → ℕ → List ℕ
+items_left line items place = flat_map line (drop place items) ++ reply_line (codes "done")
 
 -- the paths from a place on
 abbrev pub behind : ℕ → Paths → Paths
@@ -49,8 +44,8 @@ module _ (s : Responder) where
   left_lines (lines.Texts page place) = page_left (term_lines (name_at s.components) s.templates) page place
   left_lines (lines.Grammar grammar ranks place) = lines_from (name_in s.names) (name_in s.components) grammar ranks place
   left_lines (lines.Paths x place) = paths_text s.names (behind place (paths_at s.engine.library x))
-  left_lines (lines.Events history place) = events_left history place
-  left_lines (lines.Steps walk place) = steps_left walk place
+  left_lines (lines.Events history place) = items_left event_line history place
+  left_lines (lines.Steps walk place) = items_left step_line walk place
   left_lines (lines.Rows grammar rows) = rows_left s.names s.components (forms_of grammar) rows
   left_lines (lines.Members grammar members) =
       members_left s.names s.components s.engine.library (forms_of grammar) members

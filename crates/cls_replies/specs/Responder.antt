@@ -1,6 +1,7 @@
 -- What the lines after a repository are answered by.
 use Rattle.std.specs.Prelude.{ℕ, ◌≡◌, List, [], ◌∷◌, length, map}
 use Rattle.cls_assemble.specs.declared.piece.Piece.{Piece}
+use Rattle.cls_base.specs.Types.{ClosedType}
 use Rattle.cls_library.specs.Refusals.{IsLibraryOf}
 use Rattle.cls_query.specs.Queries.{Tables, tables_of}
 use Rattle.cls_repo.specs.Drafts.{Draft}
@@ -9,18 +10,26 @@ use Rattle.cls_engine.specs.declared.options.Options.{Options}
 use Rattle.cls_engine.specs.Engines.{EngineSeen}
 use Rattle.cls_replies.specs.LineKinds.{Opens}
 
--- The names of constructors so far, the names and the templates of components, the engine, and the lines of a query
--- whose certificate hasn't ended, none if there is no such query.
+-- What the repository is: the names of constructors and of variables so far, the names of components, the kinds of
+-- variables, the templates of components, the names of filters, and the engine. And the lines of a query whose
+-- certificate hasn't ended, none if there is no such query.
 pub record Responder : Type 0 where
   pub names : List (List ℕ)
+  pub variables : List (List ℕ)
   pub components : List (List ℕ)
+  pub kinds : List (ℕ × List ClosedType)
   pub templates : List (List Piece)
+  pub filter_names : List (List ℕ)
   pub engine : EngineSeen
   pub held : List (List ℕ)
 
 -- the numbers of names, as a query finds them
 abbrev pub tables_in : Responder → Tables
-tables_in s = tables_of s.names s.components
+tables_in s = tables_of s.names s.variables s.components s.filter_names
+
+-- the same with the constructors and the variables of the tables, or with these constructors
+abbrev pub with_tables : Responder → Tables → Responder
+with_tables s tables = record s { names = tables.constructors; variables = tables.variables }
 
 abbrev pub with_names : Responder → List (List ℕ) → Responder
 with_names s names = record s { names = names }
@@ -29,9 +38,18 @@ abbrev pub holding : Responder → List (List ℕ) → Responder
 holding s lines = record s { held = lines }
 
 abbrev pub responder_of :
-    (names components : List (List ℕ)) → (templates : List (List Piece)) → EngineSeen → (held : List (List ℕ)) → Responder
-responder_of names components templates engine held =
-    record { names = names; components = components; templates = templates; engine = engine; held = held }
+    (names variables components : List (List ℕ)) → (kinds : List (ℕ × List ClosedType)) → (templates : List (List Piece))
+    → (filter_names : List (List ℕ)) → EngineSeen → (held : List (List ℕ)) → Responder
+responder_of names variables components kinds templates filter_names engine held = record {
+  names = names;
+  variables = variables;
+  components = components;
+  kinds = kinds;
+  templates = templates;
+  filter_names = filter_names;
+  engine = engine;
+  held = held;
+}
 
 -- The lines are none, or the first of them opens a certificate.
 abbrev pub AreHeld : List (List ℕ) → Type 0
@@ -44,11 +62,14 @@ pub record IsResponder (s : Responder) : Type 0 where
   pub written : length s.templates ≡ length s.engine.library.components
   pub opened : AreHeld s.held
 
--- The repository was read, and no line after it.
+-- The repository was read, and no line after it. No line declares a filter.
 pub record Serves (o : Options) (d : Draft) (s : Responder) : Type 0 where
   pub same_names : s.names ≡ d.names
+  pub same_variables : s.variables ≡ d.variables
   pub same_components : s.components ≡ d.component_names
+  pub same_kinds : s.kinds ≡ d.kinds
   pub templates_are : s.templates ≡ map (λ c. c.template) d.components
+  pub no_filters : s.filter_names ≡ []
   pub library_is : IsLibraryOf (declared_in d) d.kinds (schemas_in d) s.engine.library
   pub costs_are : s.engine.costs ≡ map (λ c. c.cost) d.components
   pub options_are : s.engine.options ≡ o

@@ -10,13 +10,15 @@
 //! Inside, `responder` takes the lines and holds those of a certificate until `qed`; `queries` has one function for each
 //! query, which calls the engine; `printing` keeps what is left of a reply and prints it in portions; `verifying` reads
 //! a certificate and has it judged. `certificates` tells which lines open and end a certificate, `faults` and `words`
-//! write lines of errors and of one word, `paths`, `events`, `sizes` and `pages` the longer replies. In `specs/`,
+//! write lines of errors and of one word, `items` lists of what has a line, as `events` and the steps in `sizes`, and `paths`
+//! and `pages` the other longer replies. In `specs/`,
 //! `LineKinds` says which lines stand round a certificate.
 #![tactic(auto)]
 
 mod certificates;
 mod events;
 mod faults;
+mod items;
 mod pages;
 mod paths;
 mod printing;

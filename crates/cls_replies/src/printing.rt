@@ -8,20 +8,21 @@ ghost use Rattle.cls_grammar.specs.Grammars.{book_of};
 ghost use Rattle.cls_grammar.specs.Ranks.{AreRanks};
 ghost use Rattle.cls_library.specs.Libraries.{paths_at};
 ghost use Rattle.cls_replies.specs.Printing.{ArePrintable, IsOfGoal, IsPrintable, behind};
-ghost use Rattle.cls_replies.specs.Printing.{events_left, left_lines, left_of, page_left, steps_left};
+ghost use Rattle.cls_replies.specs.Printing.{items_left, left_lines, left_of, page_left};
 ghost use Rattle.cls_replies.specs.Responder as responder;
 ghost use Rattle.cls_replies.specs.Steps.{IsFaultLine};
 ghost use Rattle.cls_replies.specs.Rests.{IsCertificateText, IsPrintingOf, IsRest};
-ghost use Rattle.cls_replies.specs.Texts.{history_text, page_text, paths_text, sizes_text, term_line, term_lines};
+ghost use Rattle.cls_replies.specs.Texts.{event_line, history_text, page_text, paths_text, sizes_text, step_line};
+ghost use Rattle.cls_replies.specs.Texts.{term_line, term_lines};
 ghost use Rattle.cls_syntax.specs.TypePrinting.{name_in};
 ghost use Rattle.cls_term.specs.Texts.{name_at};
 
-use crate::events::print_events;
 use crate::faults::engine_fault;
+use crate::items::print_items;
 use crate::pages::{print_terms, print_texts};
 use crate::paths::print_paths;
 use crate::responder::Responder;
-use crate::sizes::{print_over, print_size, print_steps};
+use crate::sizes::{print_over, print_size};
 use cls_base::OutOfMemory;
 use cls_cert::{CertificateLeft, MembersLeft, RowsLeft, certify};
 use cls_core::History;
@@ -274,10 +275,10 @@ pub(crate) fn paths_printing(component: u32) -> Printing
 
 fn write_events(history: History, place: usize, text: &mut String) -> Result<Left, OutOfMemory>
     requires { place ≤ length history }
-    ensures { (s : responder.Responder) → IfOk result (IsRest s (events_left history place)
+    ensures { (s : responder.Responder) → IfOk result (IsRest s (items_left event_line history place)
         (string_bytes text.old) (string_bytes text.new)) }
 {
-    let next = print_events(&history, place, PORTION_BYTES, text)?;
+    let next = print_items(history.as_slice(), place, PORTION_BYTES, text)?;
     match next {
         Some(place) => Ok(Left::Lines(Lines::Events { history, place })),
         None => Ok(Left::Nothing),
@@ -286,10 +287,10 @@ fn write_events(history: History, place: usize, text: &mut String) -> Result<Lef
 
 fn write_steps(walk: Walk, place: usize, text: &mut String) -> Result<Left, OutOfMemory>
     requires { place ≤ length walk }
-    ensures { (s : responder.Responder) → IfOk result (IsRest s (steps_left walk place)
+    ensures { (s : responder.Responder) → IfOk result (IsRest s (items_left step_line walk place)
         (string_bytes text.old) (string_bytes text.new)) }
 {
-    let next = print_steps(&walk, place, PORTION_BYTES, text)?;
+    let next = print_items(walk.as_slice(), place, PORTION_BYTES, text)?;
     match next {
         Some(place) => Ok(Left::Lines(Lines::Steps { walk, place })),
         None => Ok(Left::Nothing),

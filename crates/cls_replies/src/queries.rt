@@ -24,7 +24,7 @@ use crate::printing::{
 use crate::responder::Responder;
 use crate::words::{says, verdict_line};
 use cls_base::{Gate, OutOfMemory, Ty};
-use cls_engine::EngineFault;
+use cls_engine::{EngineFault, Host};
 use cls_enum::Page;
 use cls_proof::Certificate;
 use cls_query::{BuiltListing, BuiltQuery, GoalWord, Listing, ListingWord, Query};
@@ -38,69 +38,63 @@ impl Responder {
     /// What is written for a query that is one by itself.
     pub(crate) fn answer<R: Threads + Wait + Sync, G: Gate + Sync>(
         &mut self,
-        rt: &R,
-        alloc: Global,
+        host: &Host<R, G>,
         query: &BuiltQuery,
-        gate: &G,
     ) -> Result<Printing, OutOfMemory>
         requires readable { IsReadable (length self.old.components) (asked_of query.now) }
         requires not_verify { IsVerify (asked_of query.now) → ⊥ }
-        ensures answers { IfOk result (λ p. Answers self.old (asked_of query.now) (left_of self.old p)) }
-        ensures printable { IfOk result (IsPrintable self.old) }
-        ensures same { self.new ≡ self.old }
+        ensures answers { IfOk result (λ p. Answers self.old (asked_of query.now) (left_of self.new p) self.new) }
+        ensures printable { IfOk result (IsPrintable self.new) }
+        ensures same_held { OnOk result (self.new.held ≡ self.old.held) }
     {
         match query {
-            Query::Sub(lower, upper) => text_printing(self.sub(alloc, lower, upper)),
+            Query::Sub(lower, upper) => text_printing(self.sub(host.alloc, lower, upper)),
             Query::Paths(name) => Ok(paths_printing(name.0)),
-            Query::Typed(term, ty) => text_printing(self.typed(alloc, term, ty)),
-            Query::About(asks, ty) => self.about(rt, alloc, *asks, ty, gate),
-            Query::Page(asks, listing) => self.show(rt, alloc, *asks, listing, gate),
+            Query::Typed(term, ty) => text_printing(self.typed(host.alloc, term, ty)),
+            Query::About(asks, ty) => self.about(host, *asks, ty),
+            Query::Page(asks, listing) => self.show(host, *asks, listing),
         }
     }
 
     /// What is written for a query about the type.
     fn about<R: Threads + Wait + Sync, G: Gate + Sync>(
         &mut self,
-        rt: &R,
-        alloc: Global,
+        host: &Host<R, G>,
         asks: GoalWord,
         ty: &Ty,
-        gate: &G,
     ) -> Result<Printing, OutOfMemory>
         requires { IsVerify (queries.About asks (type_of ty.now)) → ⊥ }
         ensures answers { IfOk result (λ p.
-            Answers self.old (queries.About asks (type_of ty.now)) (left_of self.old p)) }
+            Answers self.old (queries.About asks (type_of ty.now)) (left_of self.old p) self.old) }
         ensures printable { IfOk result (IsPrintable self.old) }
         ensures same { self.new ≡ self.old }
     {
         match asks {
-            GoalWord::Inhabit => text_printing(self.inhabit(rt, alloc, ty, gate)),
-            GoalWord::Grammar => self.grammar(rt, alloc, ty, gate),
-            GoalWord::Audit => self.audit(rt, alloc, ty, gate),
-            GoalWord::Certify => self.certify(rt, alloc, ty, gate),
+            GoalWord::Inhabit => text_printing(self.inhabit(host, ty)),
+            GoalWord::Grammar => self.grammar(host, ty),
+            GoalWord::Audit => self.audit(host, ty),
+            GoalWord::Certify => self.certify(host, ty),
             GoalWord::Verify => unreachable!(),
-            GoalWord::Finite => self.finite(rt, alloc, ty, gate),
+            GoalWord::Finite => self.finite(host, ty),
         }
     }
 
     /// What is written for a query for the page.
     fn show<R: Threads + Wait + Sync, G: Gate + Sync>(
         &mut self,
-        rt: &R,
-        alloc: Global,
+        host: &Host<R, G>,
         asks: ListingWord,
         listing: &BuiltListing,
-        gate: &G,
     ) -> Result<Printing, OutOfMemory>
         requires { IsPageAsked (length self.old.components) (listing_of listing.now) }
         ensures answers { IfOk result (λ p.
-            Answers self.old (queries.Page asks (listing_of listing.now)) (left_of self.old p)) }
+            Answers self.old (queries.Page asks (listing_of listing.now)) (left_of self.old p) self.old) }
         ensures printable { IfOk result (IsPrintable self.old) }
         ensures same { self.new ≡ self.old }
     {
         match asks {
-            ListingWord::List => self.list(rt, alloc, listing, gate),
-            ListingWord::Texts => self.texts(rt, alloc, listing, gate),
+            ListingWord::List => self.list(host, listing),
+            ListingWord::Texts => self.texts(host, listing),
         }
     }
 
@@ -111,7 +105,7 @@ impl Responder {
         upper: &MeasuredTy,
     ) -> Result<String, OutOfMemory>
         ensures answers { IfOk result (λ text.
-            Answers self.old (sub (measured_type lower.now) (measured_type upper.now)) (string_bytes text)) }
+            Answers self.old (sub (measured_type lower.now) (measured_type upper.now)) (string_bytes text) self.old) }
         ensures same { self.new ≡ self.old }
     {
         match self.engine.subtype(alloc, lower, upper) {
@@ -123,7 +117,7 @@ impl Responder {
     fn typed(&mut self, alloc: Global, term: &CodedTerm, ty: &Ty) -> Result<String, OutOfMemory>
         requires { IsTermOver (length self.old.components) term.now }
         ensures answers { IfOk result (λ text.
-            Answers self.old (typed term.now (type_of ty.now)) (string_bytes text)) }
+            Answers self.old (typed term.now (type_of ty.now)) (string_bytes text) self.old) }
         ensures same { self.new ≡ self.old }
     {
         match self.engine.typed(alloc, term, ty) {
@@ -134,142 +128,129 @@ impl Responder {
 
     fn inhabit<R: Threads + Wait + Sync, G: Gate + Sync>(
         &mut self,
-        rt: &R,
-        alloc: Global,
+        host: &Host<R, G>,
         ty: &Ty,
-        gate: &G,
     ) -> Result<String, OutOfMemory>
-        ensures answers { IfOk result (λ text. Answers self.old (inhabit (type_of ty.now)) (string_bytes text)) }
+        ensures answers { IfOk result (λ text.
+            Answers self.old (inhabit (type_of ty.now)) (string_bytes text) self.old) }
         ensures same { self.new ≡ self.old }
     {
-        match self.engine.inhabit(rt, alloc, ty, gate) {
-            Ok(yes) => says(self.empty_text(alloc), yes, "inhabited", "uninhabited"),
-            Err(fault) => engine_fault(alloc, &self.names, fault),
+        match self.engine.inhabit(host, ty) {
+            Ok(yes) => says(self.empty_text(host.alloc), yes, "inhabited", "uninhabited"),
+            Err(fault) => engine_fault(host.alloc, &self.names, fault),
         }
     }
 
     fn grammar<R: Threads + Wait + Sync, G: Gate + Sync>(
         &mut self,
-        rt: &R,
-        alloc: Global,
+        host: &Host<R, G>,
         ty: &Ty,
-        gate: &G,
     ) -> Result<Printing, OutOfMemory>
-        ensures answers { IfOk result (λ p. Answers self.old (grammar (type_of ty.now)) (left_of self.old p)) }
+        ensures answers { IfOk result (λ p. Answers self.old (grammar (type_of ty.now)) (left_of self.old p) self.old) }
         ensures printable { IfOk result (IsPrintable self.old) }
         ensures same { self.new ≡ self.old }
     {
-        match self.engine.grammar(rt, alloc, ty, gate) {
-            Ok(grammar) => grammar_printing(alloc, grammar),
-            Err(fault) => fault_printing(alloc, &self.names, fault),
+        match self.engine.grammar(host, ty) {
+            Ok(grammar) => grammar_printing(host.alloc, grammar),
+            Err(fault) => fault_printing(host.alloc, &self.names, fault),
         }
     }
 
     fn audit<R: Threads + Wait + Sync, G: Gate + Sync>(
         &mut self,
-        rt: &R,
-        alloc: Global,
+        host: &Host<R, G>,
         ty: &Ty,
-        gate: &G,
     ) -> Result<Printing, OutOfMemory>
-        ensures answers { IfOk result (λ p. Answers self.old (audit (type_of ty.now)) (left_of self.old p)) }
+        ensures answers { IfOk result (λ p. Answers self.old (audit (type_of ty.now)) (left_of self.old p) self.old) }
         ensures printable { IfOk result (IsPrintable self.old) }
         ensures same { self.new ≡ self.old }
     {
-        match self.engine.audit(rt, alloc, ty, gate) {
+        match self.engine.audit(host, ty) {
             Ok(history) => Ok(history_printing(history)),
-            Err(fault) => fault_printing(alloc, &self.names, fault),
+            Err(fault) => fault_printing(host.alloc, &self.names, fault),
         }
     }
 
     fn certify<R: Threads + Wait + Sync, G: Gate + Sync>(
         &mut self,
-        rt: &R,
-        alloc: Global,
+        host: &Host<R, G>,
         ty: &Ty,
-        gate: &G,
     ) -> Result<Printing, OutOfMemory>
-        ensures answers { IfOk result (λ p. Answers self.old (certify (type_of ty.now)) (left_of self.old p)) }
+        ensures answers { IfOk result (λ p. Answers self.old (certify (type_of ty.now)) (left_of self.old p) self.old) }
         ensures printable { IfOk result (IsPrintable self.old) }
         ensures same { self.new ≡ self.old }
     {
-        match self.engine.grammar(rt, alloc, ty, gate) {
+        match self.engine.grammar(host, ty) {
             Ok(grammar) => {
                 let lib = self.engine.library();
                 // For the prover: what holds of each library.
                 let _count = lib.count();
-                certificate_printing(alloc, lib, grammar)
+                certificate_printing(host.alloc, lib, grammar)
             }
-            Err(fault) => fault_printing(alloc, &self.names, fault),
+            Err(fault) => fault_printing(host.alloc, &self.names, fault),
         }
     }
 
     fn finite<R: Threads + Wait + Sync, G: Gate + Sync>(
         &mut self,
-        rt: &R,
-        alloc: Global,
+        host: &Host<R, G>,
         ty: &Ty,
-        gate: &G,
     ) -> Result<Printing, OutOfMemory>
-        ensures answers { IfOk result (λ p. Answers self.old (finite (type_of ty.now)) (left_of self.old p)) }
+        ensures answers { IfOk result (λ p. Answers self.old (finite (type_of ty.now)) (left_of self.old p) self.old) }
         ensures printable { IfOk result (IsPrintable self.old) }
         ensures same { self.new ≡ self.old }
     {
-        match self.engine.finite(rt, alloc, ty, gate) {
-            Ok(sizes) => sizes_printing(alloc, sizes),
-            Err(fault) => fault_printing(alloc, &self.names, fault),
+        match self.engine.finite(host, ty) {
+            Ok(sizes) => sizes_printing(host.alloc, sizes),
+            Err(fault) => fault_printing(host.alloc, &self.names, fault),
         }
     }
 
     fn list<R: Threads + Wait + Sync, G: Gate + Sync>(
         &mut self,
-        rt: &R,
-        alloc: Global,
+        host: &Host<R, G>,
         listing: &BuiltListing,
-        gate: &G,
     ) -> Result<Printing, OutOfMemory>
         requires { IsPageAsked (length self.old.components) (listing_of listing.now) }
-        ensures answers { IfOk result (λ p. Answers self.old (list (listing_of listing.now)) (left_of self.old p)) }
+        ensures answers { IfOk result (λ p.
+            Answers self.old (list (listing_of listing.now)) (left_of self.old p) self.old) }
         ensures printable { IfOk result (IsPrintable self.old) }
         ensures same { self.new ≡ self.old }
     {
-        match self.page(rt, alloc, listing, gate) {
+        match self.page(host, listing) {
             Ok(page) => Ok(terms_printing(page)),
-            Err(fault) => fault_printing(alloc, &self.names, fault),
+            Err(fault) => fault_printing(host.alloc, &self.names, fault),
         }
     }
 
     fn texts<R: Threads + Wait + Sync, G: Gate + Sync>(
         &mut self,
-        rt: &R,
-        alloc: Global,
+        host: &Host<R, G>,
         listing: &BuiltListing,
-        gate: &G,
     ) -> Result<Printing, OutOfMemory>
         requires { IsPageAsked (length self.old.components) (listing_of listing.now) }
-        ensures answers { IfOk result (λ p. Answers self.old (texts (listing_of listing.now)) (left_of self.old p)) }
+        ensures answers { IfOk result (λ p.
+            Answers self.old (texts (listing_of listing.now)) (left_of self.old p) self.old) }
         ensures printable { IfOk result (IsPrintable self.old) }
         ensures same { self.new ≡ self.old }
     {
-        match self.page(rt, alloc, listing, gate) {
+        match self.page(host, listing) {
             Ok(page) => Ok(texts_printing(page)),
-            Err(fault) => fault_printing(alloc, &self.names, fault),
+            Err(fault) => fault_printing(host.alloc, &self.names, fault),
         }
     }
 
     /// The page that is asked for.
     fn page<R: Threads + Wait + Sync, G: Gate + Sync>(
         &mut self,
-        rt: &R,
-        alloc: Global,
+        host: &Host<R, G>,
         listing: &BuiltListing,
-        gate: &G,
     ) -> Result<Page, EngineFault>
         requires { IsPageAsked (length self.old.components) (listing_of listing.now) }
         ensures page { IfOk result (IsPageOf self.old (listing_of listing.now)) }
         ensures over { IfOk result (λ page. All (IsTermOver (length self.old.components)) page.terms) }
-        ensures silent { OnOk result (IsSilent (First (faults_of self.old.engine (list (listing_of listing.now))))) }
-        ensures fault { IfErr result (IsFaultOf (faults_of self.old.engine (list (listing_of listing.now)))) }
+        ensures silent { OnOk result (IsSilent (First (faults_of self.old (list (listing_of listing.now))))) }
+        ensures fault { IfErr result (IsFaultOf (faults_of self.old (list (listing_of listing.now)))) }
         ensures same { self.new ≡ self.old }
     {
         let Listing {
@@ -278,8 +259,7 @@ impl Responder {
             take,
             after,
         } = listing;
-        self.engine
-            .list(rt, alloc, goal, after.as_ref(), *max, *take, gate)
+        self.engine.list(host, goal, after.as_ref(), *max, *take)
     }
 
     /// What is written for a certificate of the goal.

@@ -15,7 +15,8 @@ use crate::faults::line_fault;
 use crate::printing::{Printing, text_printing};
 use cls_assemble::Templates;
 use cls_base::{Gate, OutOfMemory};
-use cls_engine::{Engine, Options};
+use cls_engine::{Engine, Host, Options};
+use cls_kind::Kinds;
 use cls_lexer::{Line, Names, Token};
 use cls_proof::HeldLines;
 use cls_query::read_query;
@@ -36,12 +37,16 @@ struct Held {
     inside: HeldLines,
 }
 
-/// Answers the lines after a repository. It is seen as what it keeps: the names of constructors so far, the names and
-/// templates of components, the engine, and the lines of a query whose certificate hasn't ended.
+/// Answers the lines after a repository. It is seen as what it keeps. That is what the repository is: the names of
+/// constructors and of variables so far, the names of components, the kinds of variables, the templates of components,
+/// the names of filters, and the engine. And it is the lines of a query whose certificate hasn't ended.
 pub struct Responder {
     pub(crate) names: Names,
+    pub(crate) variables: Names,
     pub(crate) components: Names,
+    kinds: Kinds,
     pub(crate) templates: Templates,
+    pub(crate) filter_names: Names,
     pub(crate) engine: Engine,
     held: Option<Held>,
     // Room for the text of a reply: that of an earlier text.
@@ -53,8 +58,11 @@ impl Drop for Responder {
     fn drop(self) {
         let Responder {
             names: _,
+            variables: _,
             components: _,
+            kinds: _,
             templates: _,
+            filter_names: _,
             engine: _,
             held: _,
             room: _,
@@ -64,6 +72,7 @@ impl Drop for Responder {
 
 impl Model for Responder {
     ghost use Rattle.std.specs.Coded.{codes};
+    ghost use Rattle.cls_kind.specs.Stored.{coded_type};
     ghost use Rattle.cls_library.specs.Stored.{coded_library};
     ghost use Rattle.cls_replies.specs.Responder as responder;
     ghost use Rattle.cls_replies.specs.Responder.{responder_of, IsResponder};
@@ -71,11 +80,13 @@ impl Model for Responder {
 
     ghost Value = { responder.Responder };
 
-    ghost coded = { Prim.hlevel (codes, coded_library) };
+    ghost coded = { Prim.hlevel (codes, coded_type, coded_library) };
 
-    ghost view = { λ s. responder_of s.names s.components s.templates s.engine (held_lines s.held) };
+    ghost view = { λ s. responder_of s.names s.variables s.components s.kinds s.templates
+        s.filter_names s.engine (held_lines s.held) };
 
-    ghost invariant = { λ s. IsResponder (responder_of s.names s.components s.templates s.engine (held_lines s.held)) };
+    ghost invariant = { λ s. IsResponder (responder_of s.names s.variables s.components s.kinds s.templates
+        s.filter_names s.engine (held_lines s.held)) };
 }
 
 impl Responder {
@@ -86,13 +97,16 @@ impl Responder {
         requires costs { (x : ℕ) → 0 < cost_of repository.costs x }
         requires named { length repository.components ≡ length repository.library.components }
         requires written { length repository.templates ≡ length repository.library.components }
-        ensures { result ≡ responder_of repository.names repository.components repository.templates
-            (seen_as repository.library repository.costs options) [] }
+        ensures { result ≡ responder_of repository.names repository.variables repository.components repository.kinds
+            repository.templates [] (seen_as repository.library repository.costs options) [] }
     {
         Responder {
             names: repository.names,
+            variables: repository.variables,
             components: repository.components,
+            kinds: repository.kinds,
             templates: repository.templates,
+            filter_names: Names::new(alloc),
             engine: Engine::new(alloc, repository.library, repository.costs, options),
             held: None,
             room: String::new(alloc),
@@ -106,10 +120,8 @@ impl Responder {
     #[inline(never)]
     pub fn feed<'p, R: Threads + Wait + Sync, G: Gate + Sync>(
         &mut self,
-        rt: &R,
-        alloc: Global,
+        host: &Host<R, G>,
         line: Line<'p>,
-        gate: &G,
         room: &mut Vec<Token<'p>>,
     ) -> Result<Printing, OutOfMemory>
         requires { length self.old.held + 1 < 2 ^ 32 }
@@ -118,12 +130,12 @@ impl Responder {
         ensures counted { OnOk result (length self.new.held ≤ length self.old.held + 1) }
     {
         match &mut self.held {
-            None => self.feed_free(rt, alloc, line, gate, room),
+            None => self.feed_free(host, line, room),
             Some(held) => {
-                let ends = is_qed(alloc, &line)?;
+                let ends = is_qed(host.alloc, &line)?;
                 held.inside.push(&line)?;
                 if ends {
-                    text_printing(self.answer_held(alloc))
+                    text_printing(self.answer_held(host.alloc))
                 } else {
                     Ok(Printing::nothing())
                 }
@@ -174,10 +186,8 @@ impl Responder {
     /// Takes the next line, outside of a certificate.
     fn feed_free<'p, R: Threads + Wait + Sync, G: Gate + Sync>(
         &mut self,
-        rt: &R,
-        alloc: Global,
+        host: &Host<R, G>,
         line: Line<'p>,
-        gate: &G,
         room: &mut Vec<Token<'p>>,
     ) -> Result<Printing, OutOfMemory>
         requires { self.old.held ≡ [] }
@@ -185,26 +195,24 @@ impl Responder {
         ensures printable { IfOk result (IsPrintable self.new) }
         ensures counted { OnOk result (length self.new.held ≤ 1) }
     {
-        match kind_of(alloc, &line)? {
+        match kind_of(host.alloc, &line)? {
             LineKind::Skipped => Ok(Printing::nothing()),
             LineKind::Opening => {
                 self.held = Some(Held {
-                    line: line.into_owned(alloc)?,
-                    inside: HeldLines::new(alloc),
+                    line: line.into_owned(host.alloc)?,
+                    inside: HeldLines::new(host.alloc),
                 });
                 Ok(Printing::nothing())
             }
-            LineKind::Single => self.ask(rt, alloc, &line, gate, room),
+            LineKind::Single => self.ask(host, &line, room),
         }
     }
 
     /// Answers a line that is a query by itself.
     fn ask<'p, R: Threads + Wait + Sync, G: Gate + Sync>(
         &mut self,
-        rt: &R,
-        alloc: Global,
+        host: &Host<R, G>,
         line: &Line<'p>,
-        gate: &G,
         room: &mut Vec<Token<'p>>,
     ) -> Result<Printing, OutOfMemory>
         requires { IsSingle line.now }
@@ -212,9 +220,17 @@ impl Responder {
         ensures printable { IfOk result (IsPrintable self.new) }
         ensures same_held { OnOk result (self.new.held ≡ self.old.held) }
     {
-        match read_query(alloc, &mut self.names, &self.components, line, room) {
-            Ok(query) => self.answer(rt, alloc, &query, gate),
-            Err(fault) => text_printing(line_fault(alloc, &fault)),
+        match read_query(
+            host.alloc,
+            &mut self.names,
+            &mut self.variables,
+            &self.components,
+            &self.filter_names,
+            line,
+            room,
+        ) {
+            Ok(query) => self.answer(host, &query),
+            Err(fault) => text_printing(line_fault(host.alloc, &fault)),
         }
     }
 }

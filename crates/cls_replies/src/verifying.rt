@@ -30,7 +30,15 @@ impl Responder {
         ensures same_held { OnOk result (self.new.held ≡ self.old.held) }
     {
         let mut room = Vec::new(alloc);
-        let goal = match read_query(alloc, &mut self.names, &self.components, line, &mut room) {
+        let goal = match read_query(
+            alloc,
+            &mut self.names,
+            &mut self.variables,
+            &self.components,
+            &self.filter_names,
+            line,
+            &mut room,
+        ) {
             Ok(query) => verified(query),
             Err(fault) => return line_fault(alloc, &fault),
         };

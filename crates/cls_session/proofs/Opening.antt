@@ -4,16 +4,12 @@ use Rattle.std.specs.Prelude.{Option, None, Some, MatchOption, Result, Ok, Err, 
 use Rattle.std.specs.List.{AllByRecursion}
 use Rattle.cls_base.specs.Firsts.{First, IsSilent}
 use Rattle.cls_engine.specs.declared.options.Options.{Options}
-use Rattle.cls_engine.specs.Engines.{seen_as}
-use Rattle.cls_repo.specs.declared.repository.Repository.{Repository}
-use Rattle.cls_repo.specs.Drafts.{Draft}
 use Rattle.cls_repo.specs.declared.fault.RepoFault.{RepoFault}
 use Rattle.cls_repo.specs.FaultWords.{fault_words, IsSaid}
 use Rattle.cls_repo.specs.Readings.{Reading, Takes, Refuses, closing_faults}
 use Rattle.cls_repo.specs.Readings as readings
-use Rattle.cls_repo.specs.Repositories.{IsRepositoryOf}
 use Rattle.cls_repo.specs.Sound.{IsCost}
-use Rattle.cls_replies.specs.Responder.{Responder, Serves, responder_of}
+use Rattle.cls_replies.specs.Responder.{Responder, Serves}
 use Rattle.cls_session.specs.Sessions.{Declares, IsFaultAt, SaysFault}
 use Rattle.cls_session.specs.Sessions as sessions
 use Rattle.cls_session.specs.SessionStates.{SessionState, Stands, held_by, lines_of_session}
@@ -27,18 +23,6 @@ costly [] h zero = omega arith
 costly [] h (suc x) = omega arith
 costly (c ∷ cs) h zero = omega (arith, h.0)
 costly (c ∷ cs) h (suc x) = costly cs h.1 x
-
--- what lines are answered by at first
-pub serves : (o : Options) (d : Draft) (r : Repository) → IsRepositoryOf d r → Serves o d (responder_of r.names r.components r.templates (seen_as r.library r.costs o) [])
-serves o d r is = record {
-  same_names = is.same_names;
-  same_components = is.same_components;
-  templates_are = is.templates_are;
-  library_is = is.library_is;
-  costs_are = is.costs_are;
-  options_are = refl;
-  none_held = refl;
-}
 
 pub none_of : {A : Type 0} (v : Option A) → ((x : A) → v ≡ Some x → ⊥) → v ≡ None
 none_of None h = refl

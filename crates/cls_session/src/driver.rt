@@ -15,6 +15,7 @@ use crate::output::{PendingReplies, write_all};
 use crate::session::{Answer, Session};
 use crate::status::Status;
 use cls_base::{Failed, Gate, OutOfMemory, Sink};
+use cls_engine::Host;
 use cls_lexer::{Line, LineReader, Piece};
 use cls_replies::Printing;
 use std::alloc::Global;
@@ -51,12 +52,10 @@ impl From<Failed> for Stop {
 
 /// Answers one line, and writes the reply.
 pub fn answer_line<R: Threads + Wait + Sync, K: Sink, G: Gate + Sync>(
-    rt: &R,
-    alloc: Global,
+    host: &Host<R, G>,
     session: &mut Session,
     line: Line,
     sink: &mut K,
-    gate: &G,
 ) -> Result<(), Stop>
     requires few_lines { lines_of_session session.old + 1 < 2 ^ 32 }
     requires room { FitsLine (K.seen sink.old) session.old line }
@@ -67,9 +66,9 @@ pub fn answer_line<R: Threads + Wait + Sync, K: Sink, G: Gate + Sync>(
     ensures counted { OnOk result (lines_of_session session.new ≤ lines_of_session session.old + 1) }
     ensures faults { CountsFaults result (K.seen sink.old) (K.seen sink.new) }
 {
-    let answer = session.feed(rt, alloc, line, gate, &mut Vec::new(alloc))?;
+    let answer = session.feed(host, line, &mut Vec::new(host.alloc))?;
     match answer {
-        Answer::Reply(printing) => write_reply(alloc, session, printing, sink),
+        Answer::Reply(printing) => write_reply(host.alloc, session, printing, sink),
         Answer::Refusal(text) => {
             write_all(sink, text.as_bytes())?;
             Err(Stop::Refused)
@@ -108,13 +107,11 @@ fn write_reply<K: Sink>(
 /// Answers the lines that end in the piece one after another, and holds back what comes after the last line feed. The
 /// replies are written together, and all of them before the answer is given, also if it is an error.
 pub fn answer_lines<R: Threads + Wait + Sync, K: Sink, G: Gate + Sync>(
-    rt: &R,
-    alloc: Global,
+    host: &Host<R, G>,
     session: &mut Session,
     reader: &mut LineReader,
     piece: &[u8],
     sink: &mut K,
-    gate: &G,
 ) -> Result<(), Stop>
     requires few_lines { lines_of_session session.old + length (reader.old ++ piece.now) < 2 ^ 32 }
     requires room { FitsLines (K.seen sink.old) session.old (reader.old ++ piece.now) }
@@ -128,8 +125,8 @@ pub fn answer_lines<R: Threads + Wait + Sync, K: Sink, G: Gate + Sync>(
         ≤ lines_of_session session.old + length (reader.old ++ piece.now)) }
     ensures faults { CountsFaults result (K.seen sink.old) (K.seen sink.new) }
 {
-    let mut pending = PendingReplies::new(alloc);
-    let answered = collect_replies(rt, alloc, session, reader, piece, &mut pending, sink, gate);
+    let mut pending = PendingReplies::new(host.alloc);
+    let answered = collect_replies(host, session, reader, piece, &mut pending, sink);
     // After a failed write nothing more is written.
     if answered == Err(Stop::WriteFault) {
         return answered;
@@ -141,14 +138,12 @@ pub fn answer_lines<R: Threads + Wait + Sync, K: Sink, G: Gate + Sync>(
 /// Answers the lines that end in the piece, as `answer_lines` does, but for the last replies, which are left pending.
 /// After a failed write these are of no use.
 fn collect_replies<R: Threads + Wait + Sync, K: Sink, G: Gate + Sync>(
-    rt: &R,
-    alloc: Global,
+    host: &Host<R, G>,
     session: &mut Session,
     reader: &mut LineReader,
     piece: &[u8],
     pending: &mut PendingReplies,
     sink: &mut K,
-    gate: &G,
 ) -> Result<(), Stop>
     requires none_pending { pending.old ≡ [] }
     requires few_lines { lines_of_session session.old + length (reader.old ++ piece.now) < 2 ^ 32 }
@@ -165,15 +160,15 @@ fn collect_replies<R: Threads + Wait + Sync, K: Sink, G: Gate + Sync>(
     ensures faults { CountsFaults result (K.seen sink.old) (K.seen sink.new) }
 {
     let mut rest = Piece::new(piece);
-    let mut room = Vec::new(alloc);
+    let mut room = Vec::new(host.alloc);
     'lines: loop {
-        let (line, after) = reader.take(alloc, rest)?;
+        let (line, after) = reader.take(host.alloc, rest)?;
         let Some(line) = line else {
             return Ok(());
         };
-        let answer = session.feed(rt, alloc, line, gate, &mut room)?;
+        let answer = session.feed(host, line, &mut room)?;
         match answer {
-            Answer::Reply(printing) => put_reply(alloc, session, printing, pending, sink)?,
+            Answer::Reply(printing) => put_reply(host.alloc, session, printing, pending, sink)?,
             Answer::Refusal(text) => {
                 pending.put(text.as_str(), sink)?;
                 return Err(Stop::Refused);
@@ -215,12 +210,10 @@ fn put_reply<K: Sink>(
 
 /// Answers the last line, which has no line feed, if a byte stands in it.
 pub fn answer_last<R: Threads + Wait + Sync, K: Sink, G: Gate + Sync>(
-    rt: &R,
-    alloc: Global,
+    host: &Host<R, G>,
     session: &mut Session,
     reader: LineReader,
     sink: &mut K,
-    gate: &G,
 ) -> Result<(), Stop>
     requires few_lines { lines_of_session session.old + length reader < 2 ^ 32 }
     requires room { FitsLast (K.seen sink.old) session.old reader }
@@ -234,7 +227,7 @@ pub fn answer_last<R: Threads + Wait + Sync, K: Sink, G: Gate + Sync>(
     match reader.finish() {
         None => Ok(()),
         Some(line) => {
-            answer_line(rt, alloc, session, line, sink, gate)?;
+            answer_line(host, session, line, sink)?;
             Ok(())
         }
     }
@@ -242,12 +235,10 @@ pub fn answer_last<R: Threads + Wait + Sync, K: Sink, G: Gate + Sync>(
 
 /// Answers what is left at the end of the input, and ends the output. The memory of the session is left to the end of the process.
 pub fn finish<R: Threads + Wait + Sync, K: Sink, G: Gate + Sync>(
-    rt: &R,
-    alloc: Global,
+    host: &Host<R, G>,
     mut session: Session,
     reader: LineReader,
     sink: &mut K,
-    gate: &G,
 ) -> Result<Status, Stop>
     requires few_lines { lines_of_session session + length reader < 2 ^ 32 }
     requires room { FitsLast (K.seen sink.old) session reader }
@@ -257,8 +248,8 @@ pub fn finish<R: Threads + Wait + Sync, K: Sink, G: Gate + Sync>(
         (BreaksLast (K.seen sink.old) (K.seen sink.new) session reader) }
     ensures faults { CountsFaults result (K.seen sink.old) (K.seen sink.new) }
 {
-    answer_last(rt, alloc, &mut session, reader, sink, gate)?;
-    let outcome = session.finish(alloc)?;
+    answer_last(host, &mut session, reader, sink)?;
+    let outcome = session.finish(host.alloc)?;
     // The process ends with the run, and with it all memory goes back at once. To drop it piece by piece takes long.
     mem::forget(session);
     write_all(sink, outcome.text.as_bytes())?;

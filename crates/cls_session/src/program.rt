@@ -19,7 +19,7 @@ use crate::status::Status;
 use crate::words::{Command, read_words};
 use cls_base::limits::{MAX_INPUT_BYTES, MAX_READ_BYTES};
 use cls_base::{Gate, Sink, Source, SureSource};
-use cls_engine::Options;
+use cls_engine::{Host, Options};
 use cls_lexer::LineReader;
 use std::alloc::Global;
 use std::sync::Wait;
@@ -77,11 +77,10 @@ pub fn run<R: Threads + Wait + Sync, S: Source, K: Sink, G: Gate + Sync>(
     ensures no_read_fault { IsWhole result → (S.seen source.new).faults ≡ (S.seen source.old).faults }
     ensures no_write_fault { IsWhole result → (K.seen sink.new).faults ≡ (K.seen sink.old).faults }
 {
+    let host = Host { rt, alloc, gate };
     match read_words(words) {
-        Ok(Command::Session(options)) => answer_input(rt, alloc, options, source, sink, gate),
-        Ok(Command::Generate(options, count)) => {
-            answer_generated(rt, alloc, options, count, sink, gate)
-        }
+        Ok(Command::Session(options)) => answer_input(&host, options, source, sink),
+        Ok(Command::Generate(options, count)) => answer_generated(&host, options, count, sink),
         Err(_) => match write_all(sink, USAGE.as_bytes()) {
             Ok(()) => Status::Usage,
             Err(_) => Status::WriteFault,
@@ -91,12 +90,10 @@ pub fn run<R: Threads + Wait + Sync, S: Source, K: Sink, G: Gate + Sync>(
 
 /// Answers the lines of the generator's text, and ends the output.
 fn answer_generated<R: Threads + Wait + Sync, K: Sink, G: Gate + Sync>(
-    rt: &R,
-    alloc: Global,
+    host: &Host<R, G>,
     options: Options,
     count: u32,
     sink: &mut K,
-    gate: &G,
 ) -> Status
     requires in_range { AreInRange options }
     requires room { IfSome (K.seen sink.old).room
@@ -113,10 +110,10 @@ fn answer_generated<R: Threads + Wait + Sync, K: Sink, G: Gate + Sync>(
     ensures write_fault { result ≡ WriteFault → HasRisen (K.seen sink.old).faults (K.seen sink.new).faults }
     ensures no_write_fault { IsWhole result → (K.seen sink.new).faults ≡ (K.seen sink.old).faults }
 {
-    match generated_text(alloc, count) {
+    match generated_text(host.alloc, count) {
         Ok(text) => {
             let mut source = SureSource::new(text.into_bytes());
-            answer_input(rt, alloc, options, &mut source, sink, gate)
+            answer_input(host, options, &mut source, sink)
         }
         Err(_) => Status::NoMemory,
     }
@@ -124,12 +121,10 @@ fn answer_generated<R: Threads + Wait + Sync, K: Sink, G: Gate + Sync>(
 
 /// Answers the lines of the source while they come, and ends the output.
 fn answer_input<R: Threads + Wait + Sync, S: Source, K: Sink, G: Gate + Sync>(
-    rt: &R,
-    alloc: Global,
+    host: &Host<R, G>,
     options: Options,
     source: &mut S,
     sink: &mut K,
-    gate: &G,
 ) -> Status
     requires in_range { AreInRange options }
     requires room { SessionRoom options (S.seen source.old) (K.seen sink.old) }
@@ -151,8 +146,8 @@ fn answer_input<R: Threads + Wait + Sync, S: Source, K: Sink, G: Gate + Sync>(
     ensures no_read_fault { IsWhole result → (S.seen source.new).faults ≡ (S.seen source.old).faults }
     ensures no_write_fault { IsWhole result → (K.seen sink.new).faults ≡ (K.seen sink.old).faults }
 {
-    let mut session = Session::new(alloc, options);
-    let mut reader = LineReader::new(alloc);
+    let mut session = Session::new(host.alloc, options);
+    let mut reader = LineReader::new(host.alloc);
     let mut buffer = [0u8; MAX_READ_BYTES];
     let mut taken = 0;
     'pieces: loop {
@@ -160,13 +155,13 @@ fn answer_input<R: Threads + Wait + Sync, S: Source, K: Sink, G: Gate + Sync>(
             return Status::ReadFault;
         };
         if count == 0 {
-            return match finish(rt, alloc, session, reader, sink, gate) {
+            return match finish(host, session, reader, sink) {
                 Ok(status) => status,
                 Err(stop) => stop.into(),
             };
         }
         let (piece, over) = buffer[..count].split_at(count.min(MAX_INPUT_BYTES - taken));
-        if let Err(stop) = answer_lines(rt, alloc, &mut session, &mut reader, piece, sink, gate) {
+        if let Err(stop) = answer_lines(host, &mut session, &mut reader, piece, sink) {
             return stop.into();
         }
         if !over.is_empty() {

@@ -11,7 +11,7 @@ ghost use Rattle.cls_session.specs.Transcripts.{Ending, refusal};
 
 use crate::status::Status;
 use cls_base::{Gate, OutOfMemory};
-use cls_engine::Options;
+use cls_engine::{Host, Options};
 use cls_lexer::{Line, Token};
 use cls_replies::{Printing, Responder};
 use cls_repo::{FaultKind, RepoFault, RepoReader};
@@ -93,10 +93,8 @@ impl Session {
     /// The buffer `room` may be reused for the tokens of the line; its content is ignored.
     pub fn feed<'p, R: Threads + Wait + Sync, G: Gate + Sync>(
         &mut self,
-        rt: &R,
-        alloc: Global,
+        host: &Host<R, G>,
         line: Line<'p>,
-        gate: &G,
         room: &mut Vec<Token<'p>>,
     ) -> Result<Answer, OutOfMemory>
         requires few_lines { lines_of_session self.old + 1 < 2 ^ 32 }
@@ -105,11 +103,11 @@ impl Session {
         ensures counted { OnOk result (lines_of_session self.new ≤ lines_of_session self.old + 1) }
     {
         if let Some(responder) = &mut self.responder {
-            return Ok(Answer::Reply(responder.feed(rt, alloc, line, gate, room)?));
+            return Ok(Answer::Reply(responder.feed(host, line, room)?));
         }
-        match self.declare(alloc, &line, room) {
+        match self.declare(host.alloc, &line, room) {
             Ok(()) => Ok(Answer::Reply(Printing::nothing())),
-            Err(fault) => Ok(Answer::Refusal(refusal(alloc, &fault)?)),
+            Err(fault) => Ok(Answer::Refusal(refusal(host.alloc, &fault)?)),
         }
     }
 

@@ -8,4 +8,4 @@ use Rattle.cls_replies.proofs.responder.Responder.about.Goals as goal
 pub returns-in-Inhabit-clause-answers : goal.returns-in-Inhabit-clause-answers
 returns-in-Inhabit-clause-answers g c =
     let s = c.args.self.now in
-    printing_as c.inhabit.result c.text_printing.result s (λ (t : List ℕ). Answers s (About c.args.asks (type_of c.args.ty.now)) t) c.text_printing.ensures.text (rw c.in-Inhabit.is c.inhabit.ensures.answers)
+    printing_as c.inhabit.result c.text_printing.result s (λ (t : List ℕ). Answers s (About c.args.asks (type_of c.args.ty.now)) t s) c.text_printing.ensures.text (rw c.in-Inhabit.is c.inhabit.ensures.answers)

@@ -1,4 +1,4 @@
-use Rattle.std.proofs.Common.{subst}
+use Rattle.std.proofs.Common.{refl, subst}
 use Rattle.std.specs.Prelude.{IfOk}
 use Rattle.cls_base.specs.Ty.{type_of}
 use Rattle.cls_query.specs.Queries.{audit}
@@ -14,14 +14,14 @@ use Rattle.cls_replies.proofs.responder.Responder.audit.Goals.{in-Ok, in-Err}
 pub returns-clause-answers : goal.returns-clause-answers
 returns-clause-answers g c =
     let i = c.self.inside in
-    let s = responder_of i.names i.components i.templates i.engine (held_lines i.held) in
+    let s = responder_of i.names i.variables i.components i.kinds i.templates i.filter_names i.engine (held_lines i.held) in
     let q = audit (type_of c.args.ty.now) in
     elim c.match-audit.branch [
       | in-Ok w ↦
-          let told : Answers s q (left_of s w.history_printing.result) = answering.Answers.replied w.in-Ok.ensures.silent (w.in-Ok.history, w.in-Ok.ensures.history, w.history_printing.ensures.text s) in
-          rw w.result-is (subst (λ (z : Responder). Answers z q (left_of z w.history_printing.result)) c.self.view_is told)
+          let told : Answers s q (left_of s w.history_printing.result) s = answering.Answers.replied w.in-Ok.ensures.silent (w.in-Ok.history, w.in-Ok.ensures.history, w.history_printing.ensures.text s) refl in
+          rw w.result-is (subst (λ (z : Responder). Answers z q (left_of z w.history_printing.result) z) c.self.view_is told)
       | in-Err w ↦
-          rw w.result-is (subst (λ (z : Responder). IfOk w.fault_printing.result (λ p. Answers z q (left_of z p))) c.self.view_is
+          rw w.result-is (subst (λ (z : Responder). IfOk w.fault_printing.result (λ p. Answers z q (left_of z p) z)) c.self.view_is
           (fault_answers (left_of s) w.fault_printing.result s q w.in-Err.fault w.in-Err.ensures.fault (w.fault_printing.ensures.text s)))
     ]
 

@@ -27,18 +27,18 @@ certificate_printing-requires g c =
 pub returns-clause-answers : goal.returns-clause-answers
 returns-clause-answers g c =
     let i = c.self.inside in
-    let s = responder_of i.names i.components i.templates i.engine (held_lines i.held) in
+    let s = responder_of i.names i.variables i.components i.kinds i.templates i.filter_names i.engine (held_lines i.held) in
     let q = certify (type_of c.args.ty.now) in
     elim c.match-grammar.branch [
       | in-Ok w ↦
           let lib : w.library-lib.result.now ≡ i.engine.library = w.library-lib.ensures ∙ ap (λ (e : EngineSeen). e.library) c.grammar.ensures.same in
           let text = subst (λ (l : Library). IfOk w.certificate_printing.result (λ p. IsCertificateText l w.in-Ok.grammar i.names i.components (left_of s p))) lib (w.certificate_printing.ensures.text s (sym lib)) in
-          rw w.result-is (subst (λ (z : Responder). IfOk w.certificate_printing.result (λ p. Answers z q (left_of z p))) c.self.view_is
+          rw w.result-is (subst (λ (z : Responder). IfOk w.certificate_printing.result (λ p. Answers z q (left_of z p) z)) c.self.view_is
           (reply_answers (left_of s) w.certificate_printing.result s q w.in-Ok.ensures.silent
           (IfOk-weaker w.certificate_printing.result (λ p. IsCertificateText i.engine.library w.in-Ok.grammar i.names i.components (left_of s p)) (λ p. Reply s q (left_of s p))
           (λ p r. let t : Reply s q (left_of s p) = (r.0, (w.in-Ok.grammar, w.in-Ok.ensures.closed, r.1), r.2) in t) text)))
       | in-Err w ↦
-          rw w.result-is (subst (λ (z : Responder). IfOk w.fault_printing.result (λ p. Answers z q (left_of z p))) c.self.view_is
+          rw w.result-is (subst (λ (z : Responder). IfOk w.fault_printing.result (λ p. Answers z q (left_of z p) z)) c.self.view_is
           (fault_answers (left_of s) w.fault_printing.result s q w.in-Err.fault w.in-Err.ensures.fault (w.fault_printing.ensures.text s)))
     ]
 
@@ -47,7 +47,7 @@ returns-clause-printable g c =
     elim c.match-grammar.branch [
       | in-Ok w ↦
           let i = c.self.inside in
-          let s = responder_of i.names i.components i.templates i.engine (held_lines i.held) in
+          let s = responder_of i.names i.variables i.components i.kinds i.templates i.filter_names i.engine (held_lines i.held) in
           let lib : w.library-lib.result.now ≡ i.engine.library = w.library-lib.ensures ∙ ap (λ (e : EngineSeen). e.library) c.grammar.ensures.same in
           rw w.result-is (subst (λ (z : Responder). IfOk w.certificate_printing.result (IsPrintable z)) c.self.view_is
           (w.certificate_printing.ensures.printable s (sym lib) (type_of c.args.ty.now, w.in-Ok.ensures.closed, w.in-Ok.ensures.silent)))

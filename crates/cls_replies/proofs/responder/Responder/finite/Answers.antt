@@ -18,15 +18,15 @@ use Rattle.cls_replies.proofs.responder.Responder.finite.Goals.{in-Ok, in-Err}
 pub returns-clause-answers : goal.returns-clause-answers
 returns-clause-answers g c =
     let i = c.self.inside in
-    let s = responder_of i.names i.components i.templates i.engine (held_lines i.held) in
+    let s = responder_of i.names i.variables i.components i.kinds i.templates i.filter_names i.engine (held_lines i.held) in
     let q = finite (type_of c.args.ty.now) in
     elim c.match-finite.branch [
       | in-Ok w ↦
-          rw w.result-is (subst (λ (z : Responder). IfOk w.sizes_printing.result (λ p. Answers z q (left_of z p))) c.self.view_is
+          rw w.result-is (subst (λ (z : Responder). IfOk w.sizes_printing.result (λ p. Answers z q (left_of z p) z)) c.self.view_is
           (reply_answers (left_of s) w.sizes_printing.result s q w.in-Ok.ensures.silent
           (IfOk-weaker w.sizes_printing.result (λ p. left_of s p ≡ sizes_text w.in-Ok.sizes) (λ p. Reply s q (left_of s p)) (λ p e. let t : Reply s q (left_of s p) = (w.in-Ok.sizes, tells_sizes i.engine.library (cost_of i.engine.costs) (type_of c.args.ty.now) w.in-Ok.sizes w.in-Ok.ensures.greatest w.in-Ok.ensures.over w.in-Ok.ensures.infinite w.in-Ok.ensures.walk, e) in t) (w.sizes_printing.ensures.text s))))
       | in-Err w ↦
-          rw w.result-is (subst (λ (z : Responder). IfOk w.fault_printing.result (λ p. Answers z q (left_of z p))) c.self.view_is
+          rw w.result-is (subst (λ (z : Responder). IfOk w.fault_printing.result (λ p. Answers z q (left_of z p) z)) c.self.view_is
           (fault_answers (left_of s) w.fault_printing.result s q w.in-Err.fault w.in-Err.ensures.fault (w.fault_printing.ensures.text s)))
     ]
 

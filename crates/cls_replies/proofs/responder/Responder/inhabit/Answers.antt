@@ -14,9 +14,9 @@ use Rattle.cls_replies.proofs.responder.Responder.inhabit.Goals as goal
 pub returns-in-Ok-clause-answers : goal.returns-in-Ok-clause-answers
 returns-in-Ok-clause-answers g c =
     let i = c.self.inside in
-    let s = responder_of i.names i.components i.templates i.engine (held_lines i.held) in
+    let s = responder_of i.names i.variables i.components i.kinds i.templates i.filter_names i.engine (held_lines i.held) in
     let q = inhabit (type_of c.args.ty.now) in
-    subst (λ (s : Responder). IfOk c.says.result (λ text. Answers s q (string_bytes text))) c.self.view_is
+    subst (λ (z : Responder). IfOk c.says.result (λ text. Answers z q (string_bytes text) z)) c.self.view_is
     (reply_answers string_bytes c.says.result s q c.in-Ok.ensures.silent
     (IfOk-weaker c.says.result (λ text. string_bytes text ≡ reply_line (if c.in-Ok.yes then codes "inhabited" else codes "uninhabited")) (λ text. Reply s q (string_bytes text)) (λ text e. says_which _ c.in-Ok.yes (codes "inhabited") (codes "uninhabited") (string_bytes text) c.in-Ok.ensures.exact e) c.says.ensures))
 
@@ -24,5 +24,5 @@ pub returns-in-Err-clause-answers : goal.returns-in-Err-clause-answers
 returns-in-Err-clause-answers g c =
     let i = c.self.inside in
     let q = inhabit (type_of c.args.ty.now) in
-    subst (λ (s : Responder). IfOk c.engine_fault.result (λ text. Answers s q (string_bytes text))) c.self.view_is
-    (fault_answers string_bytes c.engine_fault.result (responder_of i.names i.components i.templates i.engine (held_lines i.held)) q c.in-Err.fault c.in-Err.ensures.fault c.engine_fault.ensures)
+    subst (λ (z : Responder). IfOk c.engine_fault.result (λ text. Answers z q (string_bytes text) z)) c.self.view_is
+    (fault_answers string_bytes c.engine_fault.result (responder_of i.names i.variables i.components i.kinds i.templates i.filter_names i.engine (held_lines i.held)) q c.in-Err.fault c.in-Err.ensures.fault c.engine_fault.ensures)

@@ -1,4 +1,4 @@
-use Rattle.std.proofs.Common.{◌≡◌, ◌∙◌, subst}
+use Rattle.std.proofs.Common.{◌≡◌, ◌∙◌, refl, subst}
 use Rattle.std.specs.Prelude.{IfOk}
 use Rattle.cls_query.specs.Queries.{list}
 use Rattle.cls_query.specs.ReadQueries.{listing_of}
@@ -15,11 +15,11 @@ returns-clause-answers g c =
     let s = c.args.self.now in
     elim c.match-page.branch [
       | in-Ok w ↦
-          rw w.result-is (answering.Answers.replied w.in-Ok.ensures.silent (record { terms = w.in-Ok.page.terms; more = w.in-Ok.page.more; page = w.in-Ok.ensures.page; written = w.terms_printing.ensures.text s }))
+          rw w.result-is (answering.Answers.replied w.in-Ok.ensures.silent (record { terms = w.in-Ok.page.terms; more = w.in-Ok.page.more; page = w.in-Ok.ensures.page; written = w.terms_printing.ensures.text s }) refl)
       | in-Err w ↦
           let i = c.self.inside in
           let q = list (listing_of c.args.listing.now) in
-          let same : responder_of i.names i.components i.templates i.engine (held_lines i.held) ≡ s = c.self.view_is ∙ c.page.ensures.same in
+          let same : responder_of i.names i.variables i.components i.kinds i.templates i.filter_names i.engine (held_lines i.held) ≡ s = c.self.view_is ∙ c.page.ensures.same in
           rw w.result-is (fault_answers (left_of s) w.fault_printing.result s q w.in-Err.fault w.in-Err.ensures.fault
           (subst (λ (z : Responder). IfOk w.fault_printing.result (λ p. IsFaultLine z.names w.in-Err.fault (left_of s p))) same (w.fault_printing.ensures.text s)))
     ]

@@ -23,7 +23,7 @@ pub returns-clause-silent : goal.returns-clause-silent
 returns-clause-silent g c =
     let i = c.self.inside in
     let l = c.args.listing.now in
-    subst (λ (s : Responder). OnOk c.list.result (IsSilent (First (faults_of s.engine (list (listing_of l)))))) c.self.view_is
+    subst (λ (s : Responder). OnOk c.list.result (IsSilent (First (faults_of s (list (listing_of l)))))) c.self.view_is
     (subst (λ (a : Option Applicative). OnOk c.list.result (IsSilent (First (list_faults i.engine.library i.engine.options (type_of l.goal) (request i.engine.costs a l.max l.take))))) c.as_ref.ensures.value
     c.list.ensures.silent)
 
@@ -31,6 +31,6 @@ pub returns-clause-fault : goal.returns-clause-fault
 returns-clause-fault g c =
     let i = c.self.inside in
     let l = c.args.listing.now in
-    subst (λ (s : Responder). IfErr c.list.result (IsFaultOf (faults_of s.engine (list (listing_of l))))) c.self.view_is
+    subst (λ (s : Responder). IfErr c.list.result (IsFaultOf (faults_of s (list (listing_of l))))) c.self.view_is
     (subst (λ (a : Option Applicative). IfErr c.list.result (IsFaultOf (list_faults i.engine.library i.engine.options (type_of l.goal) (request i.engine.costs a l.max l.take)))) c.as_ref.ensures.value
     c.list.ensures.fault)
