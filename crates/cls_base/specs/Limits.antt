@@ -79,6 +79,10 @@ max_covers = 1024
 abbrev pub max_cost : ℕ
 max_cost = 255
 
+-- states of a filter
+abbrev pub max_states : ℕ
+max_states = 16
+
 -- size of a term that is told as a number
 abbrev pub max_finite_size : ℕ
 max_finite_size = 1000000000

@@ -59,6 +59,9 @@ pub const MAX_COVERS: u32 = 1_024;
 /// The greatest cost of a component.
 pub const MAX_COST: u32 = 255;
 
+/// The most states of a filter.
+pub const MAX_STATES: u32 = 16;
+
 /// The greatest size of a term that is told as a number.
 pub const MAX_FINITE_SIZE: u64 = 1_000_000_000;
 

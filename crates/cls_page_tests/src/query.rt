@@ -51,7 +51,7 @@ pub(crate) fn codes_of(alloc: Global, page: &Page) -> Result<Codes, PageFault> {
 }
 
 /// The costs, of which none is less than 1.
-fn positive(alloc: Global, costs: &[u32]) -> Result<Numbers, OutOfMemory>
+pub(crate) fn positive(alloc: Global, costs: &[u32]) -> Result<Numbers, OutOfMemory>
     ensures { IfOk result (λ list. (x : ℕ) → 1 ≤ cost_of list x) }
 {
     let mut list = Vec::new(alloc);

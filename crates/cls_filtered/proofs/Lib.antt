@@ -1,0 +1,16 @@
+pub mod Books
+pub mod Equations
+pub mod FaultLaws
+pub mod Filtering
+pub mod FlagLists
+pub mod Following
+pub mod Keeping
+pub mod FilteredLaws
+pub mod Leading
+pub mod Makings
+pub mod Nodes
+pub mod Onward
+pub mod Pairs
+pub mod KnownStates
+pub mod StepBooks
+pub mod Steps
