@@ -1,4 +1,4 @@
--- internal: the numbers of goals, as they are given one after the other. A goal's number is the place at which it stands.
+-- The numbers of goals, as they are given one after the other. A goal's number is the place at which it stands.
 -- A goal that doesn't stand there yet is put last.
 use Rattle.std.specs.Prelude.{ℕ, Bool, List, [], ◌∷◌}
 use Rattle.std.specs.List.{position_or_len}

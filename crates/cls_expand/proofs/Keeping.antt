@@ -108,7 +108,7 @@ module _ {G : Type 0} (eq : G → G → Bool) where
 
 module _ {G : Type 0} (eq : G → G → Bool) (exact : (x y : G) → eq x y ≡ true → x ≡ y) (reflexive : (x : G) → eq x x ≡ true) where
   -- what stands at a goal's place beside the goals
-  at-place : {B : Type 0} (f : G → B) (gs : List G) (g : G) (d : B) → list_any (eq g) gs ≡ true
+  pub at-place : {B : Type 0} (f : G → B) (gs : List G) (g : G) (d : B) → list_any (eq g) gs ≡ true
       → get_or (map f gs) (position_or_len (eq g) gs) d ≡ f g
   at-place f [] g d e = cc
   at-place f (x ∷ gs) g d e = by (at-place f gs g d) (eq g x) refl e

@@ -6,6 +6,7 @@ pub mod FamilyCovers
 pub mod Fresh
 pub mod Keeping
 pub mod Keys
+pub mod Known
 pub mod LanguageTyping
 pub mod Languages
 pub mod Making

@@ -70,6 +70,12 @@ abbrev pub AreRulesBetween : Library → List TypePath → ℕ → ℕ → Answe
 AreRulesBetween l goal begin end (Rules rs) = AreBegun l (listed goal) begin end 0 [] (map rule_of rs)
 AreRulesBetween l goal begin end Wide = (x : ℕ) × (begin ≤ x) × (x < end) × IsWideBy l x (listed goal)
 
+-- the rules by the components from one on that come before another one are put behind those by earlier components, or one of
+-- these makes the goal wide
+abbrev pub PutsBetween : Library → List TypePath → ℕ → ℕ → List (Rule (List TypePath)) → Answer (List TypePath) → Type 0
+PutsBetween l goal begin end old answer =
+    (first : ℕ) → first ≤ begin → AreBegun l (listed goal) first begin 0 [] (map rule_of old) → AreRulesBetween l goal first end answer
+
 -- x is put last, unless it is one of some
 abbrev pub PutsNew : {A : Type 0} → List A → A → List A → List A → Type 0
 PutsNew some x old new = (Contains some x × (new ≡ old)) ⊎ ((Contains some x → ⊥) × (new ≡ old ++ x ∷ []))

@@ -40,8 +40,9 @@ fn number_goal<G: Key + Drop>(
     Ok((goals.len() + place) as u32)
 }
 
-/// The numbers that the goals of the rows get, if those that aren't among the goals are put behind them, and these.
-fn number_rows<G: Key + Drop>(
+/// The numbers that the goals of the rows get, if those that aren't among the goals are put behind them, and these. The only
+/// error is out of memory.
+pub fn number_rows<G: Key + Drop>(
     alloc: Global,
     goals: &IndexSet<G>,
     rows: &Rows<G>,

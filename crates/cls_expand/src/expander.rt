@@ -7,8 +7,8 @@ ghost use Rattle.cls_library.specs.Arrows.{arity_of};
 ghost use Rattle.cls_library.specs.Families.{AreFamilies, IsPlace};
 ghost use Rattle.cls_library.specs.Libraries.{paths_at, arrows_at};
 ghost use Rattle.cls_library.specs.Rules.{omega_rules};
-ghost use Rattle.cls_expand.specs.Answers.{IsAnswer, IsAnswerBy, IsReady, rule_of};
-ghost use Rattle.cls_expand.specs.Making.{AddsPlace, AreRulesBetween, IsNextBefore};
+ghost use Rattle.cls_expand.specs.Answers.{IsAnswer, IsAnswerBy, AreRulesBefore, IsReady, rule_of};
+ghost use Rattle.cls_expand.specs.Making.{AddsPlace, AreRulesBetween, IsNextBefore, PutsBetween};
 
 use crate::cover_rules::{add_covers, add_lone};
 use cls_base::limits::MAX_COVERS;
@@ -85,6 +85,24 @@ impl<'a> Expander<'a> {
     {
         component_rules(alloc, self.lib, goal, x)
     }
+
+    /// The rules of the goal, or that it is wide, where the rules by the components before x are known. The goal has a path.
+    /// The only error is out of memory.
+    pub fn rules_from(
+        &self,
+        alloc: Global,
+        goal: &Nf,
+        x: u32,
+        known: GoalRules<Nf>,
+    ) -> Result<Answer<Nf>, OutOfMemory>
+        requires ready { IsReady self.now goal.now }
+        requires path { 0 < length goal.now }
+        requires within { x ≤ length self.now.components }
+        requires before { AreRulesBefore self.now x goal.now known }
+        ensures { IfOk result (IsAnswer self.now goal.now) }
+    {
+        more_rules(alloc, self.lib, goal, x, known)
+    }
 }
 
 impl Expand for Expander<'_> {
@@ -148,6 +166,30 @@ fn component_rules(
     rules_between(alloc, lib, goal, x, x + 1)
 }
 
+/// The rules of the goal by all components, where those by the components before x are known. The goal has a path.
+fn more_rules(
+    alloc: Global,
+    lib: &Library,
+    goal: &Nf,
+    x: u32,
+    known: GoalRules<Nf>,
+) -> Result<Answer<Nf>, OutOfMemory>
+    requires ready { IsReady lib.now goal.now }
+    requires path { 0 < length goal.now }
+    requires within { x ≤ length lib.now.components }
+    requires before { AreRulesBefore lib.now x goal.now known }
+    ensures { IfOk result (IsAnswer lib.now goal.now) }
+{
+    let count = lib.count();
+    if x >= count {
+        return Ok(Answer::Rules(known));
+    }
+    let Some(finder) = Finder::new(alloc, lib, goal)? else {
+        return Ok(Answer::Rules(known));
+    };
+    put_between(alloc, lib, finder, x, count, known)
+}
+
 /// The rules of the goal by the components from one on that come before another one. The goal has a path.
 fn rules_between(
     alloc: Global,
@@ -162,11 +204,30 @@ fn rules_between(
     requires within { end ≤ length lib.now.components }
     ensures { IfOk result (AreRulesBetween lib.now goal.now begin end) }
 {
-    let Some(mut finder) = Finder::new(alloc, lib, goal)? else {
+    let Some(finder) = Finder::new(alloc, lib, goal)? else {
         return Ok(Answer::Rules(GoalRules::new(alloc)));
     };
     let places = finder.room().min(MAX_ROOM);
-    let mut rules = GoalRules::with_room(alloc, places, places)?;
+    let rules = GoalRules::with_room(alloc, places, places)?;
+    put_between(alloc, lib, finder, begin, end, rules)
+}
+
+/// Puts the rules of the goal by the components from one on that come before another one behind those by earlier components.
+fn put_between(
+    alloc: Global,
+    lib: &Library,
+    mut finder: Finder<'_>,
+    begin: u32,
+    end: u32,
+    mut rules: GoalRules<Nf>,
+) -> Result<Answer<Nf>, OutOfMemory>
+    requires library { finder.library ≡ lib.now }
+    requires ready { IsReady lib.now finder.goal }
+    requires path { 0 < length finder.goal }
+    requires order { begin ≤ end }
+    requires within { end ≤ length lib.now.components }
+    ensures { IfOk result (PutsBetween lib.now finder.entry.goal begin end rules) }
+{
     let mut room = Room::new(alloc);
     let mut from = Place {
         component: begin,

@@ -15,8 +15,9 @@ fn name<G: Key + Drop>(alloc: Global, goals: &[G], other: &G, number: u32) -> Re
     goals.get(number as usize).unwrap_or(other).copy(alloc)
 }
 
-/// Makes the list the goals with these numbers.
-fn name_goals<G: Key + Drop>(
+/// Makes the list copies of the goals with these numbers, whatever it held, and of the other goal for a number that no goal has.
+/// The only error is out of memory.
+pub fn name_goals<G: Key + Drop>(
     alloc: Global,
     goals: &[G],
     other: &G,

@@ -1,16 +1,15 @@
-use Rattle.std.proofs.Common.{◌≡◌, ◌∙◌, ◌≤◌, inl, [], List, length, sym, subst, arith}
-use Rattle.std.specs.Prelude.{None, Some, map}
+use Rattle.std.proofs.Common.{[], List, sym, ap, subst}
+use Rattle.std.specs.Prelude.{map}
 use Rattle.cls_base.specs.declared.rule.Rule.{Rule}
 use Rattle.cls_path.specs.Paths.{TypePath, listed}
 use Rattle.cls_library.specs.declared.place.Place.{Place}
-use Rattle.cls_library.specs.Arrows.{arity_of}
 use Rattle.cls_library.specs.Families.{Finder}
-use Rattle.cls_library.specs.Libraries.{paths_at}
-use Rattle.cls_expand.specs.Answers.{rule_of}
-use Rattle.cls_expand.specs.Making.{AddsPlace, AreBegun, IsNextBefore}
+use Rattle.cls_expand.specs.Answers.{rule_of, IsReady}
+use Rattle.cls_expand.specs.Making.{AreBegun}
+use Rattle.cls_expand.proofs.Known.{between_put, path_of_goal}
 use Rattle.cls_expand.proofs.Making.{begun_none}
-use Rattle.cls_expand.proofs.Places.{when_false, when_true, some_parts, next_added, arity_within}
-use Rattle.cls_expand.proofs.Unreached.{reached, reached_at_most, reached_start, begun_before, fewer_left}
+use Rattle.cls_expand.proofs.Places.{if_ok_map, some_parts}
+use Rattle.cls_expand.proofs.Unreached.{reached_start, begun_before}
 use Rattle.cls_expand.proofs.expander.rules_between.Goals as goal
 
 pub returns-in_default : goal.returns-in_default
@@ -24,71 +23,19 @@ returns-in_default c =
     (begun_before l (listed goal) q.0 q.1 q.2 c.args.begin from [] (begun_none l (listed goal) c.args.begin) c.args.end c.requires.within
     (reached_start c.args.begin c.args.end c.requires.order) (λ p place later before. none from p place later))
 
-pub loop-place-init : goal.loop-place-init
-loop-place-init c = record {
-  finder = rw c.in-Some.is at c.in_ok-finder.ensures.finder;
-  begun = subst (λ (rs : List (Rule (List TypePath))). AreBegun c.args.lib.now (listed c.args.goal.now) c.args.begin c.args.begin 0 [] (map rule_of rs)) (sym c.in_ok-rules.ensures) (begun_none c.args.lib.now (listed c.args.goal.now) c.args.begin);
-  after = omega arith;
-  left = reached_start c.args.begin c.args.end c.requires.order;
-  count = omega arith;
-}
+pub put_between-requires-clause-library : goal.put_between-requires-clause-library
+put_between-requires-clause-library c = ap (λ (f : Finder). f.library) (rw c.in-Some.is at c.in_ok-finder.ensures.finder)
 
-pub loop-place-preserved : goal.loop-place-preserved
-loop-place-preserved c =
-    let l = c.args.lib.now in
-    let goal = c.args.goal.now in
-    let from = c.loop-place.from in
-    let p = c.in-Some-next_before.place in
-    let inv = c.loop-place.invariant in
-    let same : c.next_before.new.finder ≡ record { library = l; goal = goal } = c.in-Some-next_before.ensures.same ∙ inv.finder in
-    let h = subst (λ (f : Finder). IsNextBefore f.library (listed f.goal) from c.args.end (Some p)) inv.finder c.in-Some-next_before.ensures.next in
-    let a = subst (λ (f : Finder). AddsPlace l f.goal p c.loop-place.rules c.add_place.new.rules c.in_ok-add_place.field-0) same c.in_ok-add_place.ensures.rules in
-    let later : from.component ≤ p.component = reached_at_most from.component from.count p.component p.count (reached from.component from.count p.component p.count h.0.later) in
-    let arity : arity_of (paths_at l p.component) ≤ 32 = arity_within l p.component c.requires.ready.library h.0.place.declared in
-    let within : p.count ≤ arity_of (paths_at l p.component) = h.0.place.within in
-    let after : c.args.begin ≤ from.component = inv.after in
-    record {
-      finder = c.in_ok-add_place.ensures.same ∙ same;
-      begun = when_true _ c.if-not-branch.false (next_added l goal c.args.begin from p c.loop-place.rules c.add_place.new.rules c.in_ok-add_place.field-0 c.requires.path after inv.begun h.0 a);
-      after = omega arith;
-      left = inl h.1;
-      count = omega arith;
-    }
+pub put_between-requires-clause-ready : goal.put_between-requires-clause-ready
+put_between-requires-clause-ready c =
+    subst (λ (g : List TypePath). IsReady c.args.lib.now g) (sym (ap (λ (f : Finder). f.goal) (rw c.in-Some.is at c.in_ok-finder.ensures.finder))) c.requires.ready
 
-pub loop-place-smaller : goal.loop-place-smaller
-loop-place-smaller c =
-    let l = c.args.lib.now in
-    let from = c.loop-place.from in
-    let p = c.in-Some-next_before.place in
-    let inv = c.loop-place.invariant in
-    let h = subst (λ (f : Finder). IsNextBefore f.library (listed f.goal) from c.args.end (Some p)) inv.finder c.in-Some-next_before.ensures.next in
-    let arity : arity_of (paths_at l p.component) ≤ 32 = arity_within l p.component c.requires.ready.library h.0.place.declared in
-    let within : p.count ≤ arity_of (paths_at l p.component) = h.0.place.within in
-    let left : from.component ≤ c.args.end = reached_at_most from.component from.count c.args.end 0 inv.left in
-    let end : c.args.end ≤ length l.components = c.requires.within in
-    fewer_left (length l.components) from.component from.count p.component p.count
-    (reached from.component from.count p.component p.count h.0.later) (omega arith) inv.count h.0.place.declared (omega arith)
-
-pub returns-then-not-branch : goal.returns-then-not-branch
-returns-then-not-branch c =
-    let l = c.args.lib.now in
-    let goal = c.args.goal.now in
-    let from = c.loop-place.from in
-    let p = c.in-Some-next_before.place in
-    let inv = c.loop-place.invariant in
-    let same : c.next_before.new.finder ≡ record { library = l; goal = goal } = c.in-Some-next_before.ensures.same ∙ inv.finder in
-    let h = subst (λ (f : Finder). IsNextBefore f.library (listed f.goal) from c.args.end (Some p)) inv.finder c.in-Some-next_before.ensures.next in
-    let a = subst (λ (f : Finder). AddsPlace l f.goal p c.loop-place.rules c.add_place.new.rules c.in_ok-add_place.field-0) same c.in_ok-add_place.ensures.rules in
-    let later : from.component ≤ p.component = reached_at_most from.component from.count p.component p.count (reached from.component from.count p.component p.count h.0.later) in
-    let after : c.args.begin ≤ from.component = inv.after in
-    (p.component, omega arith, h.1, when_false _ c.if-not-branch.true (next_added l goal c.args.begin from p c.loop-place.rules c.add_place.new.rules c.in_ok-add_place.field-0 c.requires.path after inv.begun h.0 a))
+pub put_between-requires-clause-path : goal.put_between-requires-clause-path
+put_between-requires-clause-path c =
+    path_of_goal _ c.args.goal.now (ap (λ (f : Finder). f.goal) (rw c.in-Some.is at c.in_ok-finder.ensures.finder)) c.requires.path
 
 pub returns : goal.returns
 returns c =
-    let l = c.args.lib.now in
-    let goal = c.args.goal.now in
-    let from = c.loop-place.from in
-    let inv = c.loop-place.invariant in
-    let h = subst (λ (f : Finder). IsNextBefore f.library (listed f.goal) from c.args.end None) inv.finder c.in_default-next_before.ensures.next in
-    let q = some_parts goal c.requires.path in
-    begun_before l (listed goal) q.0 q.1 q.2 c.args.begin from (map rule_of c.loop-place.rules) inv.begun c.args.end c.requires.within inv.left h
+    let is = rw c.in-Some.is at c.in_ok-finder.ensures.finder in
+    if_ok_map c.put_between.result _ _
+    (λ a h. between_put c.args.lib.now _ c.args.goal.now c.args.begin c.args.end c.in_ok-rules.rules a is c.in_ok-rules.ensures h) c.put_between.ensures

@@ -1,15 +1,17 @@
-use Rattle.std.proofs.Common.{◌≡◌, ◌+◌, ◌-◌, ◌*◌, ◌≤◌, [], length}
+use Rattle.std.proofs.Common.{ℕ, ◌≡◌, ◌+◌, ◌-◌, ◌*◌, ◌≤◌, [], length}
 use Rattle.std.specs.Prelude.{map}
 use Rattle.cls_path.specs.Paths.{listed}
 use Rattle.cls_expand.specs.Answers.{rule_of}
 use Rattle.cls_expand.specs.Making.{AreBegun}
 use Rattle.cls_expand.proofs.Unreached.{IsReached}
-use Rattle.cls_expand.proofs.expander.rules_between.Given as goal
+use Rattle.cls_expand.proofs.expander.put_between.Given as goal
 
 abbrev pub invariant-loop-place : goal.invariant-loop-place
 invariant-loop-place l = record {
-  finder : l.finder ≡ record { library = l.lib; goal = l.goal };
-  begun : AreBegun l.lib (listed l.goal) l.begin l.from.component l.from.count [] (map rule_of l.rules);
+  finder : l.finder ≡ l.fn.finder;
+  begun :
+      (first : ℕ) → first ≤ l.begin → AreBegun l.lib (listed l.fn.finder.goal) first l.begin 0 [] (map rule_of l.fn.rules)
+      → AreBegun l.lib (listed l.fn.finder.goal) first l.from.component l.from.count [] (map rule_of l.rules);
   after : l.begin ≤ l.from.component;
   left : IsReached l.from.component l.from.count l.end 0;
   count : l.from.count ≤ 33;

@@ -1,0 +1,10 @@
+pub mod Changing
+pub mod Complete
+pub mod Keeping
+pub mod Ordering
+pub mod Parting
+pub mod Readings
+pub mod Rows
+pub mod Settlings
+pub mod SlotLaws
+pub mod Updating

@@ -1,0 +1,4 @@
+-- Begin with Parts.
+pub mod Parts
+pub mod Slots
+pub mod Updates
