@@ -102,7 +102,7 @@ impl Members {
     }
 
     /// Puts a layer without a set last in the last block of the last member. The only error is out of memory.
-    pub fn push_layer(&mut self) -> Result<(), OutOfMemory>
+    pub(crate) fn push_layer(&mut self) -> Result<(), OutOfMemory>
         requires { HasBlock self.old }
         ensures { OnOk result
             (self.new ≡ in_last_member (in_last_block (λ layers. layers ++ [] ∷ [])) self.old) }
@@ -111,7 +111,7 @@ impl Members {
     }
 
     /// Puts a set last in the last layer of the last block of the last member. The only error is out of memory.
-    pub fn push_set(&mut self, set: &[u32]) -> Result<(), OutOfMemory>
+    pub(crate) fn push_set(&mut self, set: &[u32]) -> Result<(), OutOfMemory>
         requires { HasLayer self.old }
         ensures { OnOk result (self.new ≡ in_last_member (in_last_block (with_set set.now)) self.old) }
     {
