@@ -71,7 +71,7 @@ def certificates() -> Iterator[Case]:
     yield Case("verify, 74,000 equal sets, 44,000 members", make.equal_sets(), "accepted", 0.15, 40)
     yield Case("verify, 50,000 sets that hold one of 70,000", make.equal_layers(), "refused 1 unblocked", 0.3, 40)
     yield Case("verify, equal rows behind 14,000 others", make.equal_rows(), "accepted", 0.15, 40)
-    yield Case("verify, 500 members of the head of 65,536 paths", make.members_of_one_head(16, 500), "accepted", 0.9, 40, open_seconds=2)
+    yield Case("verify, 500 members of the head of 65,536 paths", make.members_of_one_head(16, 500), "accepted", 0.9, 40)
     yield Case("verify, 50,000 members of a head of 65,536 arrows", make.members_of_arrows(16, 50_000), "accepted", 0.3, 40)
 
 
@@ -93,14 +93,14 @@ def repeated_queries() -> Iterator[Case]:
 
 
 def libraries() -> Iterator[Case]:
-    yield Case("4 components of 4,096 names below one", make.one_class(4), "", 0.5, 40, open_seconds=2)
-    yield Case("4 times 4,096 paths of one class", make.wrapped_class(4), "", 0.6, 40, open_seconds=2)
+    yield Case("4 components of 4,096 names below one", make.one_class(4), "", 0.5, 40)
+    yield Case("4 times 4,096 paths of one class", make.wrapped_class(4), "", 0.6, 40)
 
 
 def heads_and_covers() -> Iterator[Case]:
     yield Case("4 components with 1,024 covers of 341 paths", make.chained(4, "inhabit"), "inhabited", 1.6, 40)
-    yield Case("typed, twice 32 arguments of one head", make.arguments_of_one_head(16, 2), "yes", 0.3, 60, open_seconds=2)
-    yield Case("inhabit, 500 goals of the head of 65,536 paths", make.goals_of_one_head(16, 500), "uninhabited", 1, 60, open_seconds=2)
+    yield Case("typed, twice 32 arguments of one head", make.arguments_of_one_head(16, 2), "yes", 0.3, 60)
+    yield Case("inhabit, 500 goals of the head of 65,536 paths", make.goals_of_one_head(16, 500), "uninhabited", 1, 60)
     yield Case("inhabit, 5,000 goals of a head of 65,536 arrows", make.goals_of_arrows(16, 5_000), "uninhabited", 0.3, 40)
     yield Case("typed, 20 times 32 arguments of a head of 16,384", make.arguments_of_one_head(4, 20), "yes", 3, 40)
     yield Case("a page of 1,000 texts by 300,000 holes each", make.many_holes(1_000), "more", 0.6, 40, MOST_TERMS, open_seconds=2)

@@ -22,7 +22,7 @@ use Rattle.cls_path.specs.NormalForms.{PathBefore, LeadsAntichain, IsCanonical, 
 use Rattle.cls_path.specs.PathOrder.{path_order}
 use Rattle.cls_path.specs.OrderLaws.{path_order_total, order_same}
 use Rattle.cls_path.specs.Tests.{path_below}
-use Rattle.cls_path.specs.Labels.{label_of, key_of, digest_of, Fits}
+use Rattle.cls_path.specs.Labels.{key_of, digest_of, Fits}
 use Rattle.cls_path.specs.Groups.{Holds, AreKeyed, comparable, AreApart, AreGroups, IsReduced}
 use Rattle.cls_path.proofs.Sorting.{path_order-greater}
 use Rattle.cls_path.proofs.Completeness.{covered, covers_all, covers_subset, le_refl}
@@ -169,7 +169,7 @@ all_by : {X : Type 0} (P : X → Type 0) (xs : List X) → ((x : X) → Contains
 all_by P [] f = tt
 all_by P (x ∷ xs) f = (f x (Contains-here x xs), all_by P xs (λ y c. f y (Contains-later y x xs c)))
 
-by_all : {X : Type 0} (P : X → Type 0) (xs : List X) → AllByRecursion P xs → (x : X) → Contains xs x → P x
+pub by_all : {X : Type 0} (P : X → Type 0) (xs : List X) → AllByRecursion P xs → (x : X) → Contains xs x → P x
 by_all P [] a x c = absurd (Contains-nil x c)
 by_all P (y ∷ xs) a x c = elim (Contains-cases y xs x c) [ inl e ↦ subst P (sym e) a.0 | inr k ↦ by_all P xs a.1 x k ]
 
@@ -418,7 +418,7 @@ module _ (test : ℕ → ℕ → Bool) (variance : ℕ → Variance) where
         sorted_form paths paths paths s c (reduced_one paths l s) (IsPermutation-refl paths) (λ k d low high. absurd (omega arith))
 
     -- groups by a key are apart
-    module _ (class : ℕ → ℕ) (one_class : (c d : ℕ) → Below test c d → class c ≡ class d) (mask : Mask) (paths : List TypePath) (suits : SuitsAll variance (listed paths)) (fits : (p : TypePath) → Contains paths p → Fits mask (label_of class p)) where
+    module _ (class : ℕ → ℕ) (one_class : (c d : ℕ) → Below test c d → class c ≡ class d) (mask : Mask) (paths : List TypePath) (suits : SuitsAll variance (listed paths)) (fits : (p : TypePath) → Contains paths p → Fits (Below test) class mask p) where
       keys_apart : (p q : TypePath) → Contains paths p → Contains paths q → (key_of class mask p ≡ key_of class mask q → ⊥) → comparable test variance p q ≡ false
       keys_apart p q i j f =
           not_comparable p q (suits_at paths p suits i) (suits_at paths q suits j)

@@ -87,7 +87,7 @@ filtered_in f (q ∷ n) r i = step (f q) i (λ x j. filtered_in f n x j)
     step true j g = past r j g
     step false j g = later_in (g r j)
 
-in_filtered : (f : TypePath → Bool) (n : List TypePath) (r : TypePath) → In r (listed n) → f r ≡ true → In r (listed (filter f n))
+pub in_filtered : (f : TypePath → Bool) (n : List TypePath) (r : TypePath) → In r (listed n) → f r ≡ true → In r (listed (filter f n))
 in_filtered f [] r i e = i
 in_filtered f (q ∷ n) _ first_in e = rw e first_in
 in_filtered f (q ∷ n) r (later_in i) e = elim (f q) as (λ v. In r (listed (cond v (q ∷ filter f n) (filter f n)))) [

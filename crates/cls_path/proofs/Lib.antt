@@ -1,4 +1,5 @@
 pub mod Ascending
+pub mod Clearing
 pub mod Completeness
 pub mod Decided
 pub mod Derivations

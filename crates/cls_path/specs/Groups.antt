@@ -39,3 +39,8 @@ module _ (test : ℕ → ℕ → Bool) (variance : ℕ → Variance) where
     pub within : (p : TypePath) → Contains out p → Contains paths p
     pub apart : IsDistinct comparable out
     pub lower : PathsLe (Below test) variance (listed out) (listed paths)
+
+  -- some of the paths, and below each path is one of them
+  pub record IsCleared (paths rest : List TypePath) : Type 0 where
+    pub within : (p : TypePath) → Contains rest p → Contains paths p
+    pub lower : PathsLe (Below test) variance (listed rest) (listed paths)

@@ -1,6 +1,7 @@
 -- internal: labels of paths, made of spans of the classes of their names. If a path is below another one, the span of its
 -- end has that of the other's end, and the spans of its sources lie in those of the other's. So labels tell most pairs apart.
-use Rattle.std.specs.Prelude.{ℕ, ◌+◌, ◌*◌, ◌%◌, ◌^◌, ◌≡◌, ◌==◌, min, max, cond, Bool, true, ◌&&◌, nat_le, List, [], ◌∷◌}
+-- Its stem goes on from that of the other one: the names and the sides of products that it begins with, arrows left out.
+use Rattle.std.specs.Prelude.{ℕ, zero, suc, ◌+◌, ◌*◌, ◌%◌, ◌^◌, ◌≡◌, ◌≤◌, ◌==◌, min, max, cond, Bool, true, false, ◌&&◌, nat_le, List, [], ◌∷◌}
 use Rattle.cls_path.specs.Paths.{TypePath, atom, inside, unit, left, right, function, sealed, Paths, none, more}
 use Rattle.cls_path.specs.declared.label.Span.{Span}
 use Rattle.cls_path.specs.declared.label.Label.{Label}
@@ -114,44 +115,131 @@ admits l m = within m.head l.head && (within m.inner l.inner && (within l.first 
 abbrev pub is_single : Span → Bool
 is_single s = s.low == s.high
 
--- the spans of the mask that are one number in the label
-abbrev pub narrowed : Mask → Label → Mask
-narrowed m l = record {
-  inner = m.inner && is_single l.inner;
-  first = m.first && is_single l.first;
-  later = m.later && is_single l.later;
-}
+-- the first number spread over 64 bits, and the second added
+abbrev pub mixed : ℕ → ℕ → ℕ
+mixed m n = ((m * 11400714819323198485) % 2 ^ 64 + n) % 2 ^ 64
 
--- the spans of the mask are one number each in the label
-abbrev pub Fits : Mask → Label → Type 0
-Fits m l =
-    (m.inner ≡ true → l.inner.low ≡ l.inner.high)
-    × (m.first ≡ true → l.first.low ≡ l.first.high)
-    × (m.later ≡ true → l.later.low ≡ l.later.high)
+-- how many names stand on the way to the end, at most the greatest number
+abbrev pub depth_of : TypePath → ℕ
+depth_of (atom c) = 1
+depth_of (inside c p) = min (depth_of p + 1) greatest
+depth_of unit = 0
+depth_of (left p) = depth_of p
+depth_of (right p) = depth_of p
+depth_of (function n p) = depth_of p
+depth_of (sealed c n) = 1
+
+-- The first so many names on the way, and the sides of products before them, mixed into the number. A name counts as its code.
+abbrev pub stem_of : (ℕ → ℕ) → ℕ → ℕ → TypePath → ℕ
+stem_of code zero s p = s
+stem_of code (suc k) s (atom c) = mixed s (code c)
+stem_of code (suc k) s (inside c p) = stem_of code k (mixed s (code c)) p
+stem_of code (suc k) s unit = s
+stem_of code (suc k) s (left p) = stem_of code (suc k) (mixed s 0) p
+stem_of code (suc k) s (right p) = stem_of code (suc k) (mixed s 1) p
+stem_of code (suc k) s (function n p) = stem_of code (suc k) s p
+stem_of code (suc k) s (sealed c n) = mixed s (code c)
+
+-- the name itself if the names are alone, else its class
+abbrev pub code_by : Bool → (ℕ → ℕ) → ℕ → ℕ
+code_by alone class c = cond alone c (class c)
+
+-- the spans of sources by their names if they are alone, else by their classes
+abbrev pub first_by : Bool → (ℕ → ℕ) → TypePath → Span
+first_by own class p = cond own (first_of (λ c. c) p) (first_of class p)
+
+abbrev pub later_by : Bool → (ℕ → ℕ) → TypePath → Span
+later_by own class p = cond own (later_of (λ c. c) p) (later_of class p)
+
+-- each name on the way to the end is such a name
+abbrev pub HasNames : (ℕ → Type 0) → TypePath → Type 0
+HasNames f (atom c) = f c
+HasNames f (inside c p) = f c × HasNames f p
+HasNames f unit = Unit {0}
+HasNames f (left p) = HasNames f p
+HasNames f (right p) = HasNames f p
+HasNames f (function n p) = HasNames f p
+HasNames f (sealed c n) = f c
+
+-- the source of each leading arrow, and the list under the name, is such a list
+abbrev pub HasLists : (Paths → Type 0) → TypePath → Type 0
+HasLists f (atom c) = Unit {0}
+HasLists f (inside c p) = Unit {0}
+HasLists f unit = Unit {0}
+HasLists f (left p) = Unit {0}
+HasLists f (right p) = Unit {0}
+HasLists f (function n p) = f n × HasLists f p
+HasLists f (sealed c n) = f n
+
+module _ (below : ℕ → ℕ → Type 0) where
+  -- no other name is below the name
+  abbrev pub IsAlone : ℕ → Type 0
+  IsAlone c = (a : ℕ) → below a c → a ≡ c
+
+  -- the names on the way to the end are alone
+  abbrev pub AreAlone : TypePath → Type 0
+  AreAlone p = HasNames IsAlone p
+
+  -- the list is one bare name, and alone
+  abbrev pub IsLoneName : Paths → Type 0
+  IsLoneName (more (atom c) none) = IsAlone c
+  IsLoneName _ = ⊥
+
+  -- the sources are bare names, and alone
+  abbrev pub AreLoneSources : TypePath → Type 0
+  AreLoneSources p = HasLists IsLoneName p
+
+-- the mask of any paths, and what no path has narrowed yet
+abbrev pub heads_mask : Mask
+heads_mask = record { depth = 0; alone = false; own = false; first = false; later = false }
+
+abbrev pub whole_mask : Mask
+whole_mask = record { depth = greatest; alone = false; own = false; first = true; later = true }
+
+-- by the spans of first sources and of later ones
+module _ (firsts laters : TypePath → Span) where
+  -- as much of the mask as is true of the path too, but for which names are alone
+  abbrev pub narrowed : Mask → TypePath → Mask
+  narrowed m p = record {
+    depth = min m.depth (depth_of p);
+    alone = m.alone;
+    own = m.own;
+    first = m.first && is_single (firsts p);
+    later = m.later && is_single (laters p);
+  }
+
+  -- as much as is true of all paths
+  abbrev pub mask_from : Mask → List TypePath → Mask
+  mask_from m [] = m
+  mask_from m (p ∷ n) = mask_from (narrowed m p) n
+
+  -- the path has so many names on its way, and the spans of the mask are one number each
+  abbrev pub IsMasked : Mask → TypePath → Type 0
+  IsMasked m p =
+      (m.depth ≤ depth_of p)
+      × (m.first ≡ true → (firsts p).low ≡ (firsts p).high)
+      × (m.later ≡ true → (laters p).low ≡ (laters p).high)
+
+-- what a mask says is true of the path
+abbrev pub Fits : (ℕ → ℕ → Type 0) → (ℕ → ℕ) → Mask → TypePath → Type 0
+Fits below class m p =
+    IsMasked (first_by m.own class) (later_by m.own class) m p × (m.alone ≡ true → AreAlone below p)
+    × (m.own ≡ true → AreLoneSources below p)
 
 -- the least number of the span, or 0
 abbrev pub low_when : Span → Bool → ℕ
 low_when s kept = cond kept s.low 0
 
 module _ (class : ℕ → ℕ) where
-  -- what paths share if one is below the other and the spans of the mask are one number in both
+  -- what paths share if one is below the other and the mask fits both
   abbrev pub key_of : Mask → TypePath → GroupKey
   key_of m p = record {
     head = (head_of class p).low;
-    inner = low_when (inner_of class p) m.inner;
-    first = low_when (first_of class p) m.first;
-    later = low_when (later_of class p) m.later;
+    stem = stem_of (code_by m.alone class) m.depth 0 p;
+    first = low_when (first_by m.own class p) m.first;
+    later = low_when (later_by m.own class p) m.later;
   }
-
-  -- the spans of the mask that are one number in the labels of all paths
-  abbrev pub mask_from : Mask → List TypePath → Mask
-  mask_from m [] = m
-  mask_from m (p ∷ n) = mask_from (narrowed m (label_of class p)) n
-
--- the first number spread over 64 bits, and the second added
-abbrev pub mixed : ℕ → ℕ → ℕ
-mixed m n = ((m * 11400714819323198485) % 2 ^ 64 + n) % 2 ^ 64
 
 -- a number that few other keys have
 abbrev pub digest_of : GroupKey → ℕ
-digest_of k = mixed (mixed (mixed k.head k.inner) k.first) k.later
+digest_of k = mixed (mixed (mixed k.head k.stem) k.first) k.later

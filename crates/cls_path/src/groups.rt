@@ -1,5 +1,6 @@
-//! Least paths, found group by group: if one path is below another, their heads have one class. So have the names inside
-//! them and those of their sources, where each path of a group has names of one class there. Only paths of one group are
+//! Least paths, found group by group: if one path is below another, their heads have one class, and so have the first names on
+//! their ways, as many as each path of the group has. The same is true of the names of their sources, where each path of the
+//! group has names of one class there. Names below which there is no other one are even equal. Only paths of one group are
 //! compared.
 ghost use Rattle.std.specs.List.{IsDistinct};
 ghost use Rattle.std.specs.Prelude.{◌≡◌, ◌⊎◌, ◌↔◌, Contains, IsTrue, IfOk, OnOk};
@@ -7,9 +8,10 @@ ghost use Rattle.cls_base.specs.Taxa.{Below};
 ghost use Rattle.cls_path.specs.Paths.{TypePath, SuitsAll, listed};
 ghost use Rattle.cls_path.specs.NormalForms.{EachCanonical};
 ghost use Rattle.cls_path.specs.Groups.{Holds, AreKeyed, AreGroups, IsReduced, comparable};
-ghost use Rattle.cls_path.specs.Labels.{Fits, key_of, label_of};
+ghost use Rattle.cls_path.specs.Labels.{Fits, key_of};
 
-use crate::label::{GroupKey, HEADS, Mask};
+use crate::clear::cleared;
+use crate::label::{GroupKey, Mask};
 use crate::meet::pairwise;
 use crate::path::Path;
 use cls_base::{OutOfMemory, Taxa};
@@ -40,8 +42,9 @@ impl Model for Group {
 }
 
 /// The paths that no other one is below, each once, in no order. If no two have one key, they are left as they are. Else, with
-/// 2 `rounds`, they are grouped by the classes of their heads, and each group then has one round: by the spans that are one
-/// number in all its labels. With none, as in groups of few paths, they are compared pairwise. The only error is out of memory.
+/// 3 `rounds`, they are grouped by the classes of their heads, and each group then has two rounds by what its mask says of all
+/// its paths. Before a round, what is above one of its paths is dropped. With no round, as in groups of few paths, they are
+/// compared pairwise. The only error is out of memory.
 pub(crate) fn reduced<T: Taxa>(
     alloc: Global,
     taxa: &T,
@@ -64,11 +67,12 @@ pub(crate) fn reduced<T: Taxa>(
     if are_apart(alloc, taxa, &paths, all)? {
         return Ok(paths);
     }
-    let mask = if rounds == 1 { all } else { HEADS };
+    let mask = all.in_round(rounds);
     let mut groups = grouped(alloc, taxa, paths, mask)?;
     let mut least = Vec::new(alloc);
     while let Some(group) = groups.pop() {
-        let mut few = reduced(alloc, taxa, group.paths, rounds - 1)?;
+        let rest = cleared(alloc, taxa, group.paths)?;
+        let mut few = reduced(alloc, taxa, rest, rounds - 1)?;
         least.append(&mut few)?;
     }
     Ok(least)
@@ -82,7 +86,8 @@ fn are_apart<T: Taxa>(
     mask: Mask,
 ) -> Result<bool, OutOfMemory>
     requires suits { SuitsAll (T.variance_of_name taxa.now) (listed paths.now) }
-    requires fits { (p : TypePath) → Contains paths.now p → Fits mask (label_of (T.class taxa.now) p) }
+    requires fits { (p : TypePath) → Contains paths.now p
+        → Fits (Below (T.is_below taxa.now)) (T.class taxa.now) mask p }
     ensures { IfOk result (λ apart. IsTrue apart
         → IsDistinct (comparable (T.is_below taxa.now) (T.variance_of_name taxa.now)) paths.now) }
 {
@@ -104,7 +109,8 @@ fn grouped<T: Taxa>(
     mask: Mask,
 ) -> Result<Vec<Group>, OutOfMemory>
     requires suits { SuitsAll (T.variance_of_name taxa.now) (listed paths.items) }
-    requires fits { (p : TypePath) → Contains paths.items p → Fits mask (label_of (T.class taxa.now) p) }
+    requires fits { (p : TypePath) → Contains paths.items p
+        → Fits (Below (T.is_below taxa.now)) (T.class taxa.now) mask p }
     ensures { IfOk result (λ groups.
         AreGroups (T.is_below taxa.now) (T.variance_of_name taxa.now) paths.items groups.items) }
 {

@@ -1,10 +1,13 @@
 //! Labels of paths, by which most pairs are told apart.
-ghost use Rattle.std.specs.Prelude.{◌≡◌, Contains};
+ghost use Rattle.std.specs.Prelude.{◌≡◌, ◌⊎◌, Contains};
+ghost use Rattle.cls_base.specs.Taxa.{Below};
 ghost use Rattle.cls_path.specs.Paths.{TypePath, atom, none, more, listed};
-ghost use Rattle.cls_path.specs.Labels.{one_span, join, plus, within, names_of, head_of, inner_of, join_all, all_names_of, sources_of, first_of, later_of, label_of, admits, is_single, narrowed, key_of, mask_from, mixed, digest_of, Fits};
+ghost use Rattle.cls_path.specs.Labels.{one_span, join, plus, within, names_of, head_of, inner_of, all_names_of, sources_of, first_of, later_of, first_by, later_by, label_of, admits, is_single, narrowed, key_of, mask_from, heads_mask, whole_mask, mixed, digest_of, Fits};
 
+use crate::alone::{are_all_alone, have_all_own};
 use crate::path::{Form, Nf, Path};
-use cls_base::{Name, Taxa};
+use crate::stem::{depth, stem};
+use cls_base::{Flat, Name, Taxa};
 
 /// The numbers from the low to the high one, none if the low one is the greater.
 #[derive(Clone, Copy, Debug, PartialEq, Eq)]
@@ -32,34 +35,43 @@ pub(crate) struct Label {
     later: Span,
 }
 
-/// The spans that are one number each in all paths that are compared. Of two such paths, one below the other, they are equal.
+/// What is true of all paths that are compared: how many names each has on the way to its end at least, whether no other name is
+/// below any of these, whether each source is one name of that kind, and which spans of sources are one number each. Of two
+/// such paths, one below the other, these spans are equal, and so are the classes of so many first names. Where no other name
+/// is below them, names stand for their classes.
 #[derive(Clone, Copy, Debug, PartialEq, Eq)]
 pub(crate) struct Mask {
-    inner: bool,
+    depth: u64,
+    alone: bool,
+    own: bool,
     first: bool,
     later: bool,
 }
 
-/// None of them.
-pub(crate) const HEADS: Mask = Mask {
-    inner: false,
+/// Nothing, so that the heads alone count.
+const HEADS: Mask = Mask {
+    depth: 0,
+    alone: false,
+    own: false,
     first: false,
     later: false,
 };
 
-/// All of them.
-const ALL: Mask = Mask {
-    inner: true,
+/// What no path has narrowed yet.
+const WHOLE: Mask = Mask {
+    depth: u64::MAX,
+    alone: false,
+    own: false,
     first: true,
     later: true,
 };
 
-/// The least numbers of the head of a label and of the spans of a mask, with 0 for each other one. Of two paths that are
-/// compared, one below the other, they are equal.
+/// The least numbers of the head of a label and of the spans of a mask, with 0 for each other one, and the first names of the
+/// path by the mask, mixed into one number. Of two paths that are compared, one below the other, they are equal.
 #[derive(Clone, Copy, Debug, PartialEq, Eq, Hash)]
 pub(crate) struct GroupKey {
     head: u64,
-    inner: u64,
+    stem: u64,
     first: u64,
     later: u64,
 }
@@ -114,26 +126,53 @@ impl Span {
 }
 
 impl Mask {
-    /// The spans of the mask that are one number in the label of the path.
-    fn narrowed<T: Taxa>(self, taxa: &T, path: &Path) -> Mask
-        ensures { result ≡ narrowed self (label_of (T.class taxa.now) path.now) }
+    /// As much of the mask as is true of the path too. Its sources count by their names if these are `own`.
+    fn narrowed<T: Taxa>(self, taxa: &T, path: &Path, own: bool) -> Mask
+        ensures { result ≡ narrowed (first_by own (T.class taxa.now)) (later_by own (T.class taxa.now)) self path.now }
     {
         Mask {
-            inner: self.inner && inner(taxa, path).is_single(),
-            first: self.first && first(taxa, path).is_single(),
-            later: self.later && later(taxa, path).is_single(),
+            depth: self.depth.min(depth(path)),
+            alone: self.alone,
+            own: self.own,
+            first: self.first && first_by(taxa, path, own).is_single(),
+            later: self.later && later_by(taxa, path, own).is_single(),
         }
     }
 
-    /// The spans that are one number in the labels of all paths.
-    pub fn of<T: Taxa>(taxa: &T, paths: &[Path]) -> Mask
-        ensures { (p : TypePath) → Contains paths.now p → Fits result (label_of (T.class taxa.now) p) }
+    /// As much as is true of all paths. Which names are alone isn't looked at.
+    fn shared<T: Taxa>(taxa: &T, paths: &[Path], own: bool) -> Mask
+        ensures { result ≡ mask_from (first_by own (T.class taxa.now)) (later_by own (T.class taxa.now))
+            whole_mask paths.now }
     {
-        let mut mask = ALL;
+        let mut mask = WHOLE;
         for path in paths {
-            mask = mask.narrowed(taxa, path);
+            mask = mask.narrowed(taxa, path, own);
         }
         mask
+    }
+
+    /// The mask by which paths that it fits are grouped: itself in the last two rounds, before that the heads alone.
+    pub fn in_round(self, rounds: u8) -> Mask
+        ensures { (result ≡ self) ⊎ (result ≡ heads_mask) }
+    {
+        if rounds <= 2 { self } else { HEADS }
+    }
+
+    /// What is true of all paths.
+    pub fn of<T: Taxa>(taxa: &T, paths: &[Path]) -> Mask
+        ensures { (p : TypePath) → Contains paths.now p
+            → Fits (Below (T.is_below taxa.now)) (T.class taxa.now) result p }
+    {
+        let alone = are_all_alone(taxa, paths);
+        let own = have_all_own(taxa, paths);
+        let mask = Mask::shared(taxa, paths, own);
+        Mask {
+            depth: mask.depth,
+            alone,
+            own,
+            first: mask.first,
+            later: mask.later,
+        }
     }
 }
 
@@ -161,15 +200,23 @@ impl Label {
 }
 
 impl GroupKey {
-    /// The key of the path. The spans that the mask leaves out aren't looked for.
+    /// The key of the path. The names and spans that the mask leaves out aren't looked for.
     pub fn of<T: Taxa>(taxa: &T, path: &Path, mask: Mask) -> GroupKey
         ensures { result ≡ key_of (T.class taxa.now) mask path.now }
     {
         GroupKey {
             head: head(taxa, path).low,
-            inner: if mask.inner { inner(taxa, path).low } else { 0 },
-            first: if mask.first { first(taxa, path).low } else { 0 },
-            later: if mask.later { later(taxa, path).low } else { 0 },
+            stem: stem(taxa, path, mask.alone, mask.depth, 0),
+            first: if mask.first {
+                first_by(taxa, path, mask.own).low
+            } else {
+                0
+            },
+            later: if mask.later {
+                later_by(taxa, path, mask.own).low
+            } else {
+                0
+            },
         }
     }
 
@@ -177,12 +224,12 @@ impl GroupKey {
     pub fn digest(self) -> u64
         ensures { result ≡ digest_of self }
     {
-        mixed(mixed(mixed(self.head, self.inner), self.first), self.later)
+        mixed(mixed(mixed(self.head, self.stem), self.first), self.later)
     }
 }
 
 /// The first number spread over 64 bits, and the second added.
-fn mixed(first: u64, second: u64) -> u64
+pub(crate) fn mixed(first: u64, second: u64) -> u64
     ensures { result ≡ mixed first second }
 {
     first.wrapping_mul(SPREAD).wrapping_add(second)
@@ -284,5 +331,27 @@ fn later<T: Taxa>(taxa: &T, path: &Path) -> Span
         Form::From(_, rest) => sources(taxa, rest),
         Form::Arrow(arrow) => sources(taxa, &arrow.target),
         _ => ZERO,
+    }
+}
+
+/// The span of the first source by its names if they are `own`, else by their classes.
+fn first_by<T: Taxa>(taxa: &T, path: &Path, own: bool) -> Span
+    ensures { result ≡ first_by own (T.class taxa.now) path.now }
+{
+    if own {
+        first(&Flat, path)
+    } else {
+        first(taxa, path)
+    }
+}
+
+/// The same for the sums over the later sources.
+fn later_by<T: Taxa>(taxa: &T, path: &Path, own: bool) -> Span
+    ensures { result ≡ later_by own (T.class taxa.now) path.now }
+{
+    if own {
+        later(&Flat, path)
+    } else {
+        later(taxa, path)
     }
 }

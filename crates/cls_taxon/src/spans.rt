@@ -1,6 +1,6 @@
 //! Sets of numbers as sorted lists of intervals, here called spans.
 ghost use Rattle.std.specs.Prelude.{◌≡◌, ℕ, ◌-◌, ◌^◌, ◌<◌, ◌↔◌, All, IsTrue, IfOk};
-ghost use Rattle.cls_taxon.specs.Spans.{InSpans, IsSpan, IsRising, start_of};
+ghost use Rattle.cls_taxon.specs.Spans.{HaveOne, InSpans, IsSpan, IsRising, start_of};
 
 use cls_base::OutOfMemory;
 use smallvec::SmallVec;
@@ -82,6 +82,13 @@ impl Spans {
         is_in_spans(self.as_slice(), number)
     }
 
+    /// Whether no two numbers are in the set. It may be no where one number is in several spans.
+    pub fn is_one(&self) -> bool
+        ensures { IsTrue result → HaveOne self.now }
+    {
+        have_one(self.as_slice())
+    }
+
     /// The spans.
     pub fn as_slice(&self) -> &[Span]
         ensures items { result.now ≡ self.now }
@@ -99,6 +106,19 @@ fn is_in_spans(spans: &[Span], number: usize) -> bool
     let place = spans.partition_point(|span| span.end <= number);
     match spans.get(place) {
         Some(span) => span.start <= number,
+        None => false,
+    }
+}
+
+/// Whether no two numbers lie in the spans. It may be no where one number lies in several.
+fn have_one(spans: &[Span]) -> bool
+    ensures { IsTrue result → HaveOne spans.now }
+{
+    if spans.len() != 1 {
+        return false;
+    }
+    match spans.get(0) {
+        Some(span) => span.end.saturating_sub(1) <= span.start,
         None => false,
     }
 }

@@ -1,5 +1,5 @@
 //! The order of names that declared pairs make.
-ghost use Rattle.std.specs.Prelude.{◌≡◌, ℕ, true, Contains, ◌<◌, ◌↔◌, map, IsTrue, IfOk, OnOk, IfErr, length};
+ghost use Rattle.std.specs.Prelude.{◌≡◌, ℕ, true, Contains, ◌<◌, ◌≤◌, ◌⊎◌, ◌↔◌, map, IsTrue, IfOk, OnOk, IfErr, length};
 ghost use Rattle.cls_base.specs.Lists.{AreDistinct};
 ghost use Rattle.cls_base.specs.Taxonomies.{Chain};
 ghost use Rattle.cls_taxon.specs.Closures.{spans_at};
@@ -7,7 +7,7 @@ ghost use Rattle.cls_taxon.specs.Faults.{IsFaultOf};
 ghost use Rattle.cls_taxon.specs.Orders.{IsOrder, stands_in};
 ghost use Rattle.cls_taxon.specs.PairGraphs.{pair_of, AreHeld};
 ghost use Rattle.cls_taxon.specs.Places.{place_of};
-ghost use Rattle.cls_taxon.specs.Spans.{InSpans};
+ghost use Rattle.cls_taxon.specs.Spans.{HaveOne, InSpans};
 ghost use Rattle.cls_taxon.specs.Variances.{declaration};
 
 use crate::closure::close;
@@ -152,7 +152,7 @@ impl Taxa for Taxonomy {
     }
 
     fn stands_alone(&self, name: Name) -> bool {
-        self.places.place(name.0) >= self.places.len()
+        is_least(&self.below, &self.places, name.0)
     }
 
     ghost reflexive = { is_below-reflexive };
@@ -174,6 +174,17 @@ fn is_under(below: &[Spans], places: &Places, lower: u32, upper: u32) -> bool
     match below.get(places.place(upper)) {
         Some(spans) => spans.contains(places.place(lower)),
         None => false,
+    }
+}
+
+/// Whether the name has no place, or the spans there have its own place alone.
+fn is_least(below: &[Spans], places: &Places, name: u32) -> bool
+    ensures { IsTrue result → (length below.now ≤ place_of places.now name)
+        ⊎ HaveOne (spans_at below.now (place_of places.now name)) }
+{
+    match below.get(places.place(name)) {
+        Some(spans) => spans.is_one(),
+        None => true,
     }
 }
 

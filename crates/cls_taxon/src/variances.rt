@@ -1,5 +1,5 @@
 //! The variances of names.
-ghost use Rattle.std.specs.Prelude.{◌≡◌, map, IfOk, OnOk};
+ghost use Rattle.std.specs.Prelude.{◌≡◌, map, IfOk};
 ghost use Rattle.cls_base.specs.Lists.{AreDistinct};
 ghost use Rattle.cls_base.specs.Taxa.{variance_of};
 ghost use Rattle.cls_taxon.specs.Orders.{variance_in};
