@@ -20,7 +20,7 @@ abbrev pub IsHeapAnswer : ℕ → Node → Answer Node → Type 0
 IsHeapAnswer size g a = a ≡ heap_answer size g
 
 abbrev pub IsInHeap : ℕ → Node → Type 0
-IsInHeap size g = (g.id < size) × (size < 1000)
+IsInHeap size g = (g.id < size) × (size < 100000)
 
 pub one_heap_answer : (size : ℕ) → HasUniqueAnswers (IsHeapAnswer size)
 one_heap_answer size g a b first second = first ∙ sym second

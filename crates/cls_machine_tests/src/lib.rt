@@ -1,7 +1,7 @@
 //! Tests of the machine: workers over a closure whose goals are numbers. No code of the program's own.
 //!
 //! [`Heap`] is an expander that can be made to run out of memory at one call, and [`Meeting`] a gate that holds one
-//! worker until another makes a claim.
+//! worker until another makes the next claim.
 #![tactic(auto)]
 
 mod heap;

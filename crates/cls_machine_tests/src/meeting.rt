@@ -4,22 +4,30 @@ use std::sync::atomic::AtomicU64;
 use std::sync::atomic::Ordering::SeqCst;
 use std::thread::yield_now;
 
-/// Holds the maker of claim 1 until claim 2 is made, for so many turns at most, and keeps who made which claim.
+/// Holds the maker of one claim until the next one is made, for so many turns at most, and keeps who made which claim.
 #[derive(Drop)]
 pub struct Meeting {
-    second: AtomicU64,
+    held: u64,
+    next: AtomicU64,
     calls: AtomicU64,
     turns: u64,
-    makers: [AtomicU64; 3],
+    makers: [AtomicU64; 4],
 }
 
 impl Meeting {
-    pub fn new(turns: u64) -> Meeting {
+    /// Holds the maker of the claim with this number.
+    pub fn new(held: u64, turns: u64) -> Meeting {
         Meeting {
-            second: AtomicU64::new(0),
+            held,
+            next: AtomicU64::new(0),
             calls: AtomicU64::new(0),
             turns,
-            makers: [AtomicU64::new(9), AtomicU64::new(9), AtomicU64::new(9)],
+            makers: [
+                AtomicU64::new(9),
+                AtomicU64::new(9),
+                AtomicU64::new(9),
+                AtomicU64::new(9),
+            ],
         }
     }
 
@@ -38,15 +46,15 @@ impl Meeting {
 impl Gate for Meeting {
     fn at_claim(&self, worker: u32, nth: u64) {
         self.calls.fetch_add(1, SeqCst);
-        if nth < 3 {
+        if nth < 4 {
             self.makers[nth as usize].store(u64::from(worker), SeqCst);
         }
-        if nth == 2 {
-            self.second.store(1, SeqCst);
+        if nth > 0 && nth - 1 == self.held {
+            self.next.store(1, SeqCst);
         }
-        if nth == 1 {
+        if nth == self.held {
             for _ in 0..self.turns {
-                if self.second.load(SeqCst) == 1 {
+                if self.next.load(SeqCst) == 1 {
                     return;
                 }
                 yield_now();

@@ -17,7 +17,7 @@ use std::thread::Threads;
 // claim 1 until claim 2 is made, so two workers hold a claim at once, and it is told of each claim by its maker.
 #[test]
 fn two_workers_hold_claims_at_once(rt: HostRuntime) -> Result<(), Fail> {
-    let gate = Meeting::new(50_000_000);
+    let gate = Meeting::new(1, 50_000_000);
     let heap = Heap::new(3, 0);
     let limits = Limits { goals: 3, rules: 3 };
     let Ok(done) = expand_all(&rt, rt.alloc(), &heap, Node { id: 0 }, 2, limits, &gate) else {

@@ -10,7 +10,7 @@ const APPLICATION: &[u8] = b"comp f : A -> B -> C\ncomp a : A\ncomp b : B\nend\n
 /// one of them.
 #[test]
 fn two_workers_hold_claims_at_once(rt: HostRuntime) -> Result<(), Fail> {
-    let gate = Meeting::new(50_000_000);
+    let gate = Meeting::new(1, 50_000_000);
     let outside = Outside {
         chunk: WHOLE,
         failing_reads: &[],
