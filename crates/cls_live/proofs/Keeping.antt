@@ -213,9 +213,9 @@ module _ (l : Library) (live : List ℕ) (next : ℕ) (gs : List Goal) (ks : Lis
     part_right v m =
         let p = u.each v m in
         let r = row_of p.goal p.rules in
-        let h = answered p.row r p.here in
+        let h = answered p.place r p.here in
         let right = row_known p.goal p.rules h.answer h.is_answer h.closed h.is_numbered in
-        let at : get_or all (get_or numbers p.row 0) [] ≡ p.goal = row_goal p.row r p.here in
+        let at : get_or all (get_or numbers p.place 0) [] ≡ p.goal = row_goal p.place r p.here in
         subst (λ (w : Part). IsKnown l live next all (get_or all w.number []) w.known) (sym p.is)
         (subst (λ (g : Goal). IsKnown l live next all g (record { end = next; rules = map (settled live numbers) p.rules })) (sym at) right)
 
@@ -225,7 +225,7 @@ module _ (l : Library) (live : List ℕ) (next : ℕ) (gs : List Goal) (ks : Lis
     pub part_within : (v : Part) → Contains parts v → v.number < length blank
     part_within v m =
         let p = u.each v m in
-        let at = row_within p.row (row_of p.goal p.rules) p.here in
+        let at = row_within p.place (row_of p.goal p.rules) p.here in
         let long = zip_length _ all blank blank_known in
         let is = ap (λ (w : Part). w.number) p.is in
         omega arith

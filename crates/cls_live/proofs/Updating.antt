@@ -49,8 +49,8 @@ puts_one live numbers next end number a rules stored old new e is put =
 row_is : (o : Option (Row Goal)) (r q : Row Goal) → o ≡ Some r → o ≡ Some q → r ≡ q
 row_is o r q e f = cc
 
-last_or_before : (row n : ℕ) → row < n + 1 → (row < n) ⊎ (row ≡ n)
-last_or_before row n m = grind arith
+last_or_before : (place n : ℕ) → place < n + 1 → (place < n) ⊎ (place ≡ n)
+last_or_before place n m = grind arith
 
 module _ (live : List ℕ) (next : ℕ) (known : List Known) (rows : List (Row Goal)) (numbers : List ℕ) where
   abbrev Parts : ℕ → List Part → Type 0
@@ -62,16 +62,16 @@ module _ (live : List ℕ) (next : ℕ) (known : List Known) (rows : List (Row G
   pub none_put : Parts 0 []
   none_put = record {
     each = λ u m. absurd (Contains-nil u m);
-    all = λ row goal rules m e. absurd (let k : row < 0 = m in omega arith);
+    all = λ place goal rules m e. absurd (let k : place < 0 = m in omega arith);
     light = omega arith;
   }
 
   part_later : (n : ℕ) (u : Part) → IsPart live next known rows numbers n u → IsPart live next known rows numbers (n + 1) u
   part_later n u p = record {
-    row = p.row;
+    place = p.place;
     goal = p.goal;
     rules = p.rules;
-    first = let m : p.row < n = p.first in omega arith;
+    first = let m : p.place < n = p.first in omega arith;
     here = p.here;
     is = p.is;
   }
@@ -87,14 +87,14 @@ module _ (live : List ℕ) (next : ℕ) (known : List Known) (rows : List (Row G
         ((goal : Goal) (rules : List (Rule ℕ)) → r ≡ row_of goal rules → end_at known (get_or numbers n 0) ≡ next) → Parts (n + 1) old
     same_parts f = record {
       each = λ u m. part_later n u (h.each u m);
-      all = λ row goal rules m e. by row goal rules e (last_or_before row n m);
+      all = λ place goal rules m e. by place goal rules e (last_or_before place n m);
       light = let light = h.light in let sum = more in omega arith;
     }
       where
-        by : (row : ℕ) (goal : Goal) (rules : List (Rule ℕ)) → slice_get rows row ≡ Some (row_of goal rules) → (row < n) ⊎ (row ≡ n)
-            → (end_at known (get_or numbers row 0) ≡ next) ⊎ Contains old (part_of live numbers next (get_or numbers row 0) rules)
-        by row goal rules e (inl m) = h.all row goal rules m e
-        by row goal rules e (inr same) =
+        by : (place : ℕ) (goal : Goal) (rules : List (Rule ℕ)) → slice_get rows place ≡ Some (row_of goal rules) → (place < n) ⊎ (place ≡ n)
+            → (end_at known (get_or numbers place 0) ≡ next) ⊎ Contains old (part_of live numbers next (get_or numbers place 0) rules)
+        by place goal rules e (inl m) = h.all place goal rules m e
+        by place goal rules e (inr same) =
             let at = subst (λ k. slice_get rows k ≡ Some (row_of goal rules)) same e in
             inl (ap (λ k. end_at known (get_or numbers k 0)) same ∙ f goal rules (row_is (slice_get rows n) r (row_of goal rules) here at))
 
@@ -105,7 +105,7 @@ module _ (live : List ℕ) (next : ℕ) (known : List Known) (rows : List (Row G
     part_put : (rules : List (Rule ℕ)) → r.answer ≡ Rules rules → Parts (n + 1) (old ++ part_of live numbers next (get_or numbers n 0) rules ∷ [])
     part_put rules e = record {
       each = λ u m. each u (Contains-append_cases old (last_part rules ∷ []) u m);
-      all = λ row goal others m f. by row goal others f (last_or_before row n m);
+      all = λ place goal others m f. by place goal others f (last_or_before place n m);
       light =
           let light = h.light in
           let sum = more in
@@ -122,7 +122,7 @@ module _ (live : List ℕ) (next : ℕ) (known : List Known) (rows : List (Row G
         each u (inl m) = part_later n u (h.each u m)
         each u (inr m) = elim (Contains-cases (last_part rules) [] u m) [
           | inl same ↦ record {
-            row = n;
+            place = n;
             goal = r.goal;
             rules = rules;
             first = omega arith;
@@ -132,14 +132,14 @@ module _ (live : List ℕ) (next : ℕ) (known : List Known) (rows : List (Row G
           | inr k ↦ absurd (Contains-nil u k)
         ]
 
-        by : (row : ℕ) (goal : Goal) (others : List (Rule ℕ)) → slice_get rows row ≡ Some (row_of goal others) → (row < n) ⊎ (row ≡ n)
-            → (end_at known (get_or numbers row 0) ≡ next)
-            ⊎ Contains (old ++ last_part rules ∷ []) (part_of live numbers next (get_or numbers row 0) others)
-        by row goal others e (inl m) = elim (h.all row goal others m e) [
+        by : (place : ℕ) (goal : Goal) (others : List (Rule ℕ)) → slice_get rows place ≡ Some (row_of goal others) → (place < n) ⊎ (place ≡ n)
+            → (end_at known (get_or numbers place 0) ≡ next)
+            ⊎ Contains (old ++ last_part rules ∷ []) (part_of live numbers next (get_or numbers place 0) others)
+        by place goal others e (inl m) = elim (h.all place goal others m e) [
           | inl k ↦ inl k
-          | inr k ↦ inr (Contains-append_left old (last_part rules ∷ []) (part_of live numbers next (get_or numbers row 0) others) k)
+          | inr k ↦ inr (Contains-append_left old (last_part rules ∷ []) (part_of live numbers next (get_or numbers place 0) others) k)
         ]
-        by row goal others f (inr same) =
+        by place goal others f (inr same) =
             let at = subst (λ k. slice_get rows k ≡ Some (row_of goal others)) same f in
             let is = row_is (slice_get rows n) (row_of r.goal rules) (row_of goal others) (here ∙ ap Some this_row) at in
             let same_rules : rules ≡ others = ap (λ (q : Row Goal). rules_of q.answer) is in

@@ -36,20 +36,20 @@ rules_in_parts parts = sum_by (λ (u : Part). length u.known.rules) parts
 module _ (live : List ℕ) (next : ℕ) (known : List Known) (rows : List (Row Goal)) (numbers : List ℕ) where
   -- the part is that of one of the first n rows
   pub record IsPart (n : ℕ) (u : Part) : Type 0 where
-    pub row : ℕ
+    pub place : ℕ
     pub goal : Goal
     pub rules : List (Rule ℕ)
-    pub first : row < n
-    pub here : slice_get rows row ≡ Some (row_of goal rules)
-    pub is : u ≡ part_of live numbers next (slice_index_or numbers row 0) rules
+    pub first : place < n
+    pub here : slice_get rows place ≡ Some (row_of goal rules)
+    pub is : u ≡ part_of live numbers next (slice_index_or numbers place 0) rules
 
   -- The parts are those of the first n rows, but for those that are wide or known already.
   pub record AreUpdates (n : ℕ) (parts : List Part) : Type 0 where
     pub each : (u : Part) → Contains parts u → IsPart n u
     pub all :
-        (row : ℕ) (goal : Goal) (rules : List (Rule ℕ)) → row < n → slice_get rows row ≡ Some (row_of goal rules)
-        → (end_at known (slice_index_or numbers row 0) ≡ next)
-        ⊎ Contains parts (part_of live numbers next (slice_index_or numbers row 0) rules)
+        (place : ℕ) (goal : Goal) (rules : List (Rule ℕ)) → place < n → slice_get rows place ≡ Some (row_of goal rules)
+        → (end_at known (slice_index_or numbers place 0) ≡ next)
+        ⊎ Contains parts (part_of live numbers next (slice_index_or numbers place 0) rules)
     pub light : rules_in_parts parts ≤ sum_by (λ (r : Row Goal). rule_count r.answer) (take n rows)
 
 -- what is known once each part is put at its number
