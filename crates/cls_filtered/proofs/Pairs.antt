@@ -8,7 +8,7 @@ use Rattle.cls_base.specs.declared.rule.Rule.TheVariants.{Head, Any}
 use Rattle.cls_base.specs.Languages.{rules_at}
 use Rattle.cls_base.proofs.Lists.{Contains-nil, Contains-cases, Contains-here, Contains-map, Contains-from_map, Contains-flat_map, Contains-from_flat_map}
 use Rattle.cls_filter.specs.Automata.{Automaton, leaf_state, joined_state}
-use Rattle.cls_filtered.specs.Filtered.{below, pair_of, is_state, count_true, state_pairs, is_kept, node_of, pairs_to, are_kept, state_rules, rules_to, pair_rules, filtered_book}
+use Rattle.cls_filtered.specs.Filtered.{below, pair_of, is_state, count_true, state_pairs, is_kept, node_of, leads_to, pairs_to, are_kept, state_rules, rules_to, pair_rules, filtered_book}
 use Rattle.cls_filtered.proofs.FlagLists.{below-length, below-has, below-less, below-at, filter-cases, filter-has, picked-at, count-one, blocks-length, blocks-at}
 
 -- a state by its test
@@ -71,7 +71,7 @@ module _ (a : Automaton) (flags : List Bool) where
       by (Any k l) m d =
           let u = Contains-from_map (λ (s : ℕ × ℕ). Any (node_of flags k s.0) (node_of flags l s.1)) (filter (are_kept flags k l) (pairs_to a q)) r d in
           let v = filter-cases (are_kept flags k l) (pairs_to a q) u.0 u.1 in
-          let w = filter-cases (λ (s : ℕ × ℕ). is_state (joined_state a s.0 s.1) q) state_pairs u.0 v.0 in
+          let w = filter-cases (leads_to a q) state_pairs u.0 v.0 in
           let small = state_pairs-less u.0 w.0 in
           let kept = and_parts (is_kept flags k u.0.0) (is_kept flags l u.0.1) v.1 in
           inr (record {
@@ -96,7 +96,7 @@ module _ (a : Automaton) (flags : List Bool) where
 
   pub rules_to-application : (rs : List (Rule ℕ)) (q k l p s : ℕ) → Contains rs (Any k l) → p < max_states → s < max_states → joined_state a p s ≡ Some q → is_kept flags k p ≡ true → is_kept flags l s ≡ true → Contains (rules_to a flags rs q) (Any (node_of flags k p) (node_of flags l s))
   rules_to-application rs q k l p s c m n e h i =
-      let leads = filter-has (λ (t : ℕ × ℕ). is_state (joined_state a t.0 t.1) q) state_pairs (p, s) (state_pairs-has p s m n) (is_state-of (joined_state a p s) q e) in
+      let leads = filter-has (leads_to a q) state_pairs (p, s) (state_pairs-has p s m n) (is_state-of (joined_state a p s) q e) in
       let kept = filter-has (are_kept flags k l) (pairs_to a q) (p, s) leads (and_from (is_kept flags k p) (is_kept flags l s) h i) in
       Contains-flat_map (state_rules a flags q) rs (Any k l) (Any (node_of flags k p) (node_of flags l s)) c
       (Contains-map (λ (t : ℕ × ℕ). Any (node_of flags k t.0) (node_of flags l t.1)) (filter (are_kept flags k l) (pairs_to a q)) (p, s) kept)

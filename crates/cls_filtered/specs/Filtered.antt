@@ -42,9 +42,12 @@ count_true [] = 0
 count_true (true ∷ flags) = suc (count_true flags)
 count_true (false ∷ flags) = count_true flags
 
--- pairs of states, in lexicographic order
+-- pairs of states, those of one left state and all of them, in lexicographic order
+abbrev pub left_pairs : ℕ → List (ℕ × ℕ)
+left_pairs p = map (λ q. (p, q)) (below max_states)
+
 abbrev pub state_pairs : List (ℕ × ℕ)
-state_pairs = flat_map (λ p. map (λ q. (p, q)) (below max_states)) (below max_states)
+state_pairs = flat_map left_pairs (below max_states)
 
 -- the items whose flag is true
 abbrev pub picked : {A : Type 0} → List Bool → List A → List A
@@ -52,9 +55,12 @@ picked [] xs = []
 picked (b ∷ flags) [] = []
 picked (b ∷ flags) (x ∷ xs) = cond b (x ∷ picked flags xs) (picked flags xs)
 
--- those whose application has state q
+-- the application of the states of the pair has state q
+abbrev pub leads_to : Automaton → ℕ → ℕ × ℕ → Bool
+leads_to a q s = is_state (joined_state a s.0 s.1) q
+
 abbrev pub pairs_to : Automaton → ℕ → List (ℕ × ℕ)
-pairs_to a q = filter (λ s. is_state (joined_state a s.0 s.1) q) state_pairs
+pairs_to a q = filter (leads_to a q) state_pairs
 
 module _ (flags : List Bool) where
   abbrev pub is_kept : ℕ → ℕ → Bool

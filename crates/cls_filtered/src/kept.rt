@@ -3,9 +3,8 @@ ghost use Rattle.std.specs.Prelude.{◌≡◌, ◌+◌, ◌^◌, ◌<◌, false,
 ghost use Rattle.cls_filtered.specs.Filtered.{count_true, is_kept};
 ghost use Rattle.cls_filtered.specs.Makings.{AreNodes, kept_node};
 
-use crate::flags::is_up;
+use crate::flags::{is_up, pair_of};
 use cls_base::OutOfMemory;
-use cls_base::limits::MAX_STATES;
 use std::alloc::Global;
 use std::marker::Model;
 
@@ -44,16 +43,14 @@ impl Kept {
     {
         let flags = self.flags.as_slice();
         let numbers = self.numbers.as_slice();
-        let pair = node as usize * MAX_STATES as usize + state as usize;
-        number_at(flags, numbers, pair)
+        number_at(flags, numbers, pair_of(node, state))
     }
 
     /// Whether the pair is kept.
     pub(crate) fn has(&self, node: u32, state: u32) -> bool
         ensures { result ≡ is_kept self.now node state }
     {
-        let pair = node as usize * MAX_STATES as usize + state as usize;
-        is_up(self.flags.as_slice(), pair)
+        is_up(self.flags.as_slice(), pair_of(node, state))
     }
 }
 

@@ -1,8 +1,7 @@
 //! To which state the application of a state to another leads.
 ghost use Rattle.std.specs.Prelude.{◌≡◌, ◌<◌, ◌++◌, [], ◌∷◌, IfOk, OnOk, cond, filter as filtered_by, length, map, slice_index_or};
 ghost use Rattle.cls_base.specs.Limits.{max_states};
-ghost use Rattle.cls_filter.specs.Automata.{joined_state};
-ghost use Rattle.cls_filtered.specs.Filtered.{below, is_state, pairs_to};
+ghost use Rattle.cls_filtered.specs.Filtered.{below, is_state, leads_to, left_pairs, pairs_to};
 
 use cls_base::OutOfMemory;
 use cls_base::limits::MAX_STATES;
@@ -77,8 +76,7 @@ fn put_pairs(
     pairs: &mut StatePairs,
 ) -> Result<(), OutOfMemory>
     requires { left < max_states }
-    ensures { OnOk result (pairs.new ≡ pairs.old ++ filtered_by (λ s. is_state (joined_state filter.now s.0 s.1) state)
-        (map (λ s. (left, s)) (below max_states))) }
+    ensures { OnOk result (pairs.new ≡ pairs.old ++ filtered_by (leads_to filter.now state) (left_pairs left)) }
 {
     for right in 0..MAX_STATES {
         put_pair(filter, left, right, state, pairs)?;
@@ -97,7 +95,7 @@ fn put_pair(
     requires left { left < max_states }
     requires right { right < max_states }
     ensures { OnOk result (pairs.new ≡ pairs.old
-        ++ cond (is_state (joined_state filter.now left right) state) ((left, right) ∷ []) []) }
+        ++ cond (leads_to filter.now state (left, right)) ((left, right) ∷ []) []) }
 {
     if !is_state(filter.joined_state(left, right), state) {
         return Ok(());

@@ -11,7 +11,7 @@ ghost use Rattle.cls_filtered.specs.States.{AppliesAt, Follows, FollowsAll, IsCl
 ghost use Rattle.cls_filtered.specs.StepBooks.{step_rule};
 ghost use Rattle.cls_filtered.specs.Stepwise.{AreSteps};
 
-use crate::flags::is_up;
+use crate::flags::{is_up, pair_of};
 use crate::step::Step;
 use crate::step_book::StepBook;
 use crate::users::{Users, users_at, users_of};
@@ -81,8 +81,7 @@ impl States {
     fn has(&self, node: u32, state: u32) -> bool
         ensures { result ≡ is_known self.now.flags node state }
     {
-        let place = node as usize * MAX_STATES as usize + state as usize;
-        is_up(self.flags.as_slice(), place)
+        is_up(self.flags.as_slice(), pair_of(node, state))
     }
 
     // How many pairs are known to have a term.
@@ -101,9 +100,9 @@ impl States {
         if self.has(node, state) {
             return Ok(());
         }
-        let place = node as usize * MAX_STATES as usize + state as usize;
+        let pair = pair_of(node, state);
         self.changed.push(node)?;
-        self.flags[place] = true;
+        self.flags[pair] = true;
         self.count += 1;
         Ok(())
     }

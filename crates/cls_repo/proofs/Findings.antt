@@ -1,6 +1,6 @@
 -- What the tests of a line have found.
 use Rattle.std.proofs.Common.{◌≡◌, ℕ, ◌≤◌, ◌<◌, Bool, true, false, List, [], refl, sym, ◌∙◌, subst, inl, inr, Contains, length}
-use Rattle.std.specs.Prelude.{◌↔◌, ◌≢◌, IsTrue, IsNone, IfSome, Option, Some, None, is_some, slice_get}
+use Rattle.std.specs.Prelude.{◌↔◌, ◌≢◌, IsTrue, IsNone, IfSome, Option, Some, None, is_some, slice_get, Result, Ok, Err, OnOk}
 use Rattle.std.proofs.lemmas.Bool.{true≢false, cases_lt}
 use Rattle.std.proofs.lemmas.Option.{slice_get_within}
 use Rattle.cls_base.specs.declared.ty.Name.{Name}
@@ -23,7 +23,19 @@ pub absent_by : (texts : List (List ℕ)) (x : List ℕ) (r : Option Name) → i
 absent_by texts x None e h = h.0 refl
 absent_by texts x (Some name) e h = absurd (true≢false e)
 
+pub has_text : (texts : List (List ℕ)) (x : List ℕ) (r : Option Name) (b : Bool) → b ≡ is_some r → IfSome r (λ name. slice_get texts name.0 ≡ Some x) → (IsNone r ↔ (Contains texts x → ⊥)) → IsTrue b ↔ Contains texts x
+has_text texts x None b e h n = ((λ t. absurd (true≢false (sym t ∙ e))), (λ c. absurd (n.0 refl c)))
+has_text texts x (Some name) b e h n = ((λ t. Contains-at texts name.0 x h), (λ c. e))
+
+-- two facts of a result
+pub on_both : {T E : Type 0} {P Q R : Type 0} (r : Result T E) → (P → Q → R) → OnOk r P → OnOk r Q → OnOk r R
+on_both (Ok x) f p q = f p q
+on_both (Err e) f p q = tt
+
 -- whether a number is within its limit
+pub few_by : (b : Bool) (n most : ℕ) → (IsTrue b ↔ (most < n)) → b ≡ false → n ≤ most
+few_by b n most h e = elim (cases_lt most n) [ inl l ↦ absurd (true≢false (sym (h.1 l) ∙ e)) | inr g ↦ g ]
+
 pub large_by : (b : Bool) (n most : ℕ) → (IsTrue b ↔ (n ≤ most)) → b ≡ false → most < n
 large_by b n most h e = elim (cases_lt most n) [ inl l ↦ l | inr g ↦ absurd (true≢false (sym (h.1 g) ∙ e)) ]
 

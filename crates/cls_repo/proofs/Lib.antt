@@ -19,3 +19,6 @@ pub mod KindLines
 pub mod TemplateTexts
 pub mod Findings
 pub mod Soundness
+pub mod StateNames
+pub mod FilterLines
+pub mod SmallStates

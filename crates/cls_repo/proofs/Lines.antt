@@ -9,7 +9,7 @@ use Rattle.cls_syntax.specs.Sorts.{begins_reserved}
 use Rattle.cls_syntax.specs.SyntaxFaults.{LeavesAt}
 use Rattle.cls_syntax.proofs.GrammarFronts.{grammar_exactly, grammar_reads}
 use Rattle.cls_syntax.proofs.TypeFaults.{stops_at}
-use Rattle.cls_repo.specs.Directives.{Directive, sub, kind, comp, text, end, cost, variance, repository_rows, row_of, WordsSay}
+use Rattle.cls_repo.specs.Directives.{Directive, sub, kind, comp, text, end, cost, variance, filter, leaf, app, other, repository_rows, row_of, WordsSay}
 use Rattle.cls_repo.specs.LineFaults.{misspelled, spelling_words}
 
 repository_good : IsGoodGrammar repository_rows
@@ -24,7 +24,11 @@ directive_in (inr (inr (inr (inl v)))) = text v.0 v.1
 directive_in (inr (inr (inr (inr (inl v))))) = end
 directive_in (inr (inr (inr (inr (inr (inl v)))))) = cost v.0 v.1.0
 directive_in (inr (inr (inr (inr (inr (inr (inl v))))))) = variance v.0 v.1.0
-directive_in (inr (inr (inr (inr (inr (inr (inr v))))))) = absurd v
+directive_in (inr (inr (inr (inr (inr (inr (inr (inl v)))))))) = filter v.0 v.1.0 v.1.1
+directive_in (inr (inr (inr (inr (inr (inr (inr (inr (inl v))))))))) = leaf v.0 v.1.0 v.1.1.0
+directive_in (inr (inr (inr (inr (inr (inr (inr (inr (inr (inl v)))))))))) = app v.0 v.1.0 v.1.1.0 v.1.1.1.0
+directive_in (inr (inr (inr (inr (inr (inr (inr (inr (inr (inr (inl v))))))))))) = other v.0 v.1.0
+directive_in (inr (inr (inr (inr (inr (inr (inr (inr (inr (inr (inr v))))))))))) = absurd v
 
 back : (said : Directive) → directive_in (row_of said) ≡ said
 back (sub a b) = refl
@@ -34,6 +38,10 @@ back (text x ws) = refl
 back end = refl
 back (cost x ds) = refl
 back (variance c w) = refl
+back (filter f q qs) = refl
+back (leaf f x q) = refl
+back (app f p q r) = refl
+back (other f q) = refl
 
 abbrev said_or : Directive → Result (LineOf repository_rows) Stop → Directive
 said_or d (Ok v) = directive_in v

@@ -12,7 +12,7 @@ use Rattle.cls_syntax.specs.ClosedTypes.{AreSpelled}
 use Rattle.cls_syntax.specs.TypeTexts.{TypeList, last, more}
 use Rattle.cls_syntax.proofs.ClosedAgain.{spelled-once}
 use Rattle.cls_repo.specs.Declarations.{with_names, with_kind, with_template, template_text, AreChoices, Declares}
-use Rattle.cls_repo.specs.Directives.{Directive, sub, kind, comp, text, end, cost, variance, LineSays, is_end}
+use Rattle.cls_repo.specs.Directives.{Directive, sub, kind, comp, text, end, cost, variance, filter, leaf, app, other, LineSays, is_end}
 use Rattle.cls_repo.specs.Drafts.{Draft}
 use Rattle.cls_repo.specs.Readings.{Reading, Takes, skipped, declares, Refuses, TakesAll, FirstFault, closing_faults}
 use Rattle.cls_repo.proofs.Lines.{said_one}
@@ -38,17 +38,21 @@ declares_one d n line (comp x t) a b p q = p ∙ sym q
 declares_one d n line end a b p q = p ∙ sym q
 declares_one d n line (cost x ds) a b p q = p ∙ sym q
 declares_one d n line (variance x w) a b p q = p ∙ sym q
+declares_one d n line (filter f s ss) a b p q = p ∙ sym q
+declares_one d n line (leaf f x s) a b p q = p ∙ sym q
+declares_one d n line (app f l r s) a b p q = p ∙ sym q
+declares_one d n line (other f s) a b p q = p ∙ sym q
 
-pub says_one : (line : List ℕ) (said other : Directive) → LineSays line said → LineSays line other → said ≡ other
-says_one line said other p q = said_one (words_of line) said other p.says q.says
+pub says_one : (line : List ℕ) (said second : Directive) → LineSays line said → LineSays line second → said ≡ second
+says_one line said second p q = said_one (words_of line) said second p.says q.says
 
 -- a line is taken in one way
 pub takes_one : (old : Reading) (line : List ℕ) (a b : Reading) → Takes old line a → Takes old line b → a ≡ b
 takes_one old line a b (skipped s e) (skipped t f) = e ∙ sym f
 takes_one old line a b (skipped s e) (declares said l silent d h f) = absurd (l.unskipped s)
 takes_one old line a b (declares said l silent d h e) (skipped s f) = absurd (l.unskipped s)
-takes_one old line a b (declares said l silent d h e) (declares other m quiet c k f) =
-    let same = says_one line said other l m in
+takes_one old line a b (declares said l silent d h e) (declares second m quiet c k f) =
+    let same = says_one line said second l m in
     let drafts = declares_one old.draft (old.lines + 1) line said d c h (subst (λ (g : Directive). Declares old.draft (old.lines + 1) line g c) (sym same) k) in
     e ∙ ((λ i. record { draft = drafts i; lines = old.lines + 1; ended = is_end (same i) }) ∙ sym f)
 
@@ -58,9 +62,9 @@ taken_or_refused old line new said (skipped s e) r = r.unskipped s
 taken_or_refused old line new said (declares d l silent c h e) r = silent said.1 r.first
 
 refuses_one : (old : Reading) (line : List ℕ) → IsDetermined (Refuses old line)
-refuses_one old line said other p q =
+refuses_one old line said second p q =
     let number = p.number ∙ sym q.number in
-    let words = fault_one old.draft line said.1 other.1 p.first q.first in
+    let words = fault_one old.draft line said.1 second.1 p.first q.first in
     λ i. (number i, words i)
 
 not_both : (r : Reading) → r.ended ≡ true → r.ended ≡ false → ⊥
@@ -86,11 +90,11 @@ module _ (next : Reading) (lines : List (List ℕ)) where
   closing_behind new said on (inr e) (inl f) = absurd (not_both next f.0 e.0)
   closing_behind new said on (inr e) (inr f) = on e.1 f.1
 
-  faulty_one : (said other : ℕ × List ℕ) → (FirstFault next lines said → FirstFault next lines other → said ≡ other) → Faulty lines said next → Faulty lines other next → said ≡ other
-  faulty_one said other one (inl e) (inl f) = closing_one next said other e.1 f.1
-  faulty_one said other one (inl e) (inr f) = absurd (not_both next e.0 f.0)
-  faulty_one said other one (inr e) (inl f) = absurd (not_both next f.0 e.0)
-  faulty_one said other one (inr e) (inr f) = one e.1 f.1
+  faulty_one : (said second : ℕ × List ℕ) → (FirstFault next lines said → FirstFault next lines second → said ≡ second) → Faulty lines said next → Faulty lines second next → said ≡ second
+  faulty_one said second one (inl e) (inl f) = closing_one next said second e.1 f.1
+  faulty_one said second one (inl e) (inr f) = absurd (not_both next e.0 f.0)
+  faulty_one said second one (inr e) (inl f) = absurd (not_both next f.0 e.0)
+  faulty_one said second one (inr e) (inr f) = one e.1 f.1
 
 -- lines are read in one way
 pub takes_all_one : (old : Reading) (lines : List (List ℕ)) (a b : Reading) → TakesAll old lines a → TakesAll old lines b → a ≡ b
@@ -105,9 +109,9 @@ closing_of old (line ∷ lines) new said p (inr q) = closing_behind p.0 lines ne
 
 -- lines have one first fault
 pub first_fault_one : (old : Reading) (lines : List (List ℕ)) → IsDetermined (FirstFault old lines)
-first_fault_one old [] said other p q = closing_one old said other p q
-first_fault_one old (line ∷ lines) said other (inl p) (inl q) = refuses_one old line said other p q
-first_fault_one old (line ∷ lines) said other (inl p) (inr q) = absurd (taken_or_refused old line q.0 said q.1 p)
-first_fault_one old (line ∷ lines) said other (inr p) (inl q) = absurd (taken_or_refused old line p.0 other p.1 q)
-first_fault_one old (line ∷ lines) said other (inr p) (inr q) =
-    faulty_one p.0 lines said other (λ e f. first_fault_one p.0 lines said other e f) p.2 (subst (Faulty lines other) (sym (takes_one old line p.0 q.0 p.1 q.1)) q.2)
+first_fault_one old [] said second p q = closing_one old said second p q
+first_fault_one old (line ∷ lines) said second (inl p) (inl q) = refuses_one old line said second p q
+first_fault_one old (line ∷ lines) said second (inl p) (inr q) = absurd (taken_or_refused old line q.0 said q.1 p)
+first_fault_one old (line ∷ lines) said second (inr p) (inl q) = absurd (taken_or_refused old line p.0 second p.1 q)
+first_fault_one old (line ∷ lines) said second (inr p) (inr q) =
+    faulty_one p.0 lines said second (λ e f. first_fault_one p.0 lines said second e f) p.2 (subst (Faulty lines second) (sym (takes_one old line p.0 q.0 p.1 q.1)) q.2)

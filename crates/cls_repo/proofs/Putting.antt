@@ -116,8 +116,8 @@ kind_put d names variables x ts n types kinds closed e f g h =
     let all = h ∙ (λ i. d.kinds ++ ((g ∙ ap (λ (vs : List (List ℕ)). number_of vs x) f') i, types) ∷ []) in
     λ i. record d { names = e i; variables = f' i; kinds = all i }
 
--- the component at the place has another template, or another cost
-module _ {X : Type 0} (view : X → Component) (xs : List X) (n : ℕ) (there : n < length xs) (change : Component → Component) where
+-- what stands at the place is changed
+module _ {X Y : Type 0} (view : X → Y) (xs : List X) (n : ℕ) (there : n < length xs) (change : Y → Y) where
   pub changed_view : (x d : X) → view x ≡ change (view (get_or xs n d)) → map view (set xs n x) ≡ changed_at n change (map view xs)
   changed_view x d e = map-set view xs n x ∙ (ap (set (map view xs) n) (e ∙ ap change (sym (get_or-map view xs n d))) ∙ sym (changed_set n change (map view xs) (view d) (subst (λ k. n < k) (sym (length-map xs view)) there)))
 

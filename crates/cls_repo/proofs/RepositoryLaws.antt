@@ -4,10 +4,10 @@ use Rattle.cls_repo.specs.Readings.{no_reading}
 use Rattle.cls_repo.proofs.OneReading.{says_one, takes_all_one, first_fault_one, closing_of}
 
 pub lines_say_one_thing : LinesSayOneThing
-lines_say_one_thing line said other p q = says_one line said other p q
+lines_say_one_thing line said again p q = says_one line said again p q
 
 pub readings_are_determined : ReadingsAreDetermined
-readings_are_determined old lines new other p q = takes_all_one old lines new other p q
+readings_are_determined old lines new again p q = takes_all_one old lines new again p q
 
 pub faults_are_determined : FaultsAreDetermined
 faults_are_determined old lines = first_fault_one old lines

@@ -2,12 +2,12 @@
 use Rattle.std.specs.Prelude.{ℕ, Bool, true, false, ◌||◌, List, [], ◌∷◌, codes, Option}
 use Rattle.std.proofs.Common.{inl, inr}
 use Rattle.cls_base.specs.Limits.{max_cost}
-use Rattle.cls_lexer.specs.declared.token.TokenKind.TheVariants.{Colon, Equals}
+use Rattle.cls_lexer.specs.declared.token.TokenKind.TheVariants.{Colon, Equals, To}
 use Rattle.cls_lexer.specs.Skipped.{IsText, IsSkipped}
 use Rattle.cls_lexer.specs.Words.{Word, words_of, name}
-use Rattle.cls_syntax.specs.declared.role.Role.TheVariants.{Constructor, NewVariable, Component, NewComponent, Variance}
+use Rattle.cls_syntax.specs.declared.role.Role.TheVariants.{Constructor, NewVariable, Component, NewComponent, Variance, Filter, NewFilter, State, StateOrAny, StateOrNone}
 use Rattle.cls_syntax.specs.Faults.{Says}
-use Rattle.cls_syntax.specs.Forms.{nothing, ◌⨾◌, the_sign, a_name, a_number, a_type, perhaps, types, anything, Part, fixed, line_parts}
+use Rattle.cls_syntax.specs.Forms.{nothing, ◌⨾◌, the_word, the_sign, a_name, a_number, a_type, perhaps, names, types, anything, Part, fixed, line_parts}
 use Rattle.cls_syntax.specs.Fronts.{is_word}
 use Rattle.cls_syntax.specs.LineGrammars.{Row, LineOf, row_words, RowStands}
 use Rattle.cls_syntax.specs.TypeTexts.{TypeText, TypeList}
@@ -28,6 +28,14 @@ pub data Directive : Type 0 where
   cost : (component digits : List ℕ) → Directive
   -- the variance of the constructor, by its word
   variance : (constructor word : List ℕ) → Directive
+  -- a filter and its accepting states, of which there is one
+  filter : (filter state : List ℕ) → (states : List (List ℕ)) → Directive
+  -- the state of the component by the filter, or `none`
+  leaf : (filter component state : List ℕ) → Directive
+  -- the state of an application by those of its parts, of which each may be `_`, or `none`
+  app : (filter left right state : List ℕ) → Directive
+  -- the state of what no line of the filter speaks of
+  other : (filter state : List ℕ) → Directive
 
 -- The forms of the lines, by their first words.
 abbrev pub repository_rows : List Row
@@ -39,6 +47,10 @@ repository_rows =
     ∷ record { first = codes "end"; form = nothing }
     ∷ record { first = codes "cost"; form = a_name Component ⨾ a_number 1 max_cost ⨾ nothing }
     ∷ record { first = codes "variance"; form = a_name Constructor ⨾ a_name Variance ⨾ nothing }
+    ∷ record { first = codes "filter"; form = a_name NewFilter ⨾ the_word (codes "accepts") ⨾ a_name State ⨾ names State }
+    ∷ record { first = codes "leaf"; form = a_name Filter ⨾ a_name Component ⨾ the_sign To ⨾ a_name StateOrNone ⨾ nothing }
+    ∷ record { first = codes "app"; form = a_name Filter ⨾ a_name StateOrAny ⨾ a_name StateOrAny ⨾ the_sign To ⨾ a_name StateOrNone ⨾ nothing }
+    ∷ record { first = codes "other"; form = a_name Filter ⨾ a_name State ⨾ nothing }
     ∷ []
 
 -- The line of the table that says this.
@@ -50,6 +62,10 @@ row_of (text x ws) = inr (inr (inr (inl (x, ws))))
 row_of end = inr (inr (inr (inr (inl tt))))
 row_of (cost x ds) = inr (inr (inr (inr (inr (inl (x, (ds, tt)))))))
 row_of (variance c w) = inr (inr (inr (inr (inr (inr (inl (c, (w, tt))))))))
+row_of (filter f q qs) = inr (inr (inr (inr (inr (inr (inr (inl (f, (q, qs)))))))))
+row_of (leaf f x q) = inr (inr (inr (inr (inr (inr (inr (inr (inl (f, (x, (q, tt)))))))))))
+row_of (app f p q r) = inr (inr (inr (inr (inr (inr (inr (inr (inr (inl (f, (p, (q, (r, tt)))))))))))))
+row_of (other f q) = inr (inr (inr (inr (inr (inr (inr (inr (inr (inr (inl (f, (q, tt))))))))))))
 
 -- The words say this.
 abbrev pub WordsSay : Directive → List Word → Type 0
@@ -80,7 +96,8 @@ abbrev pub begins_directive : List Word → Bool
 begins_directive ws =
     begins_word (codes "sub") ws || begins_word (codes "kind") ws || begins_word (codes "comp") ws
     || begins_word (codes "text") ws || begins_word (codes "end") ws || begins_word (codes "cost") ws
-    || begins_word (codes "variance") ws
+    || begins_word (codes "variance") ws || begins_word (codes "filter") ws || begins_word (codes "leaf") ws
+    || begins_word (codes "app") ws || begins_word (codes "other") ws
 
 -- It is the last line of a repository.
 abbrev pub is_end : Directive → Bool

@@ -4,6 +4,7 @@ use Rattle.cls_base.specs.Schemas.{OpenType}
 use Rattle.cls_base.specs.Taxonomies.{Variance}
 use Rattle.cls_base.specs.Types.{ClosedType}
 use Rattle.cls_assemble.specs.declared.piece.Piece.{Piece}
+use Rattle.cls_filter.specs.Automata.{Automaton}
 
 -- What is declared of a component beside its name.
 pub record Component : Type 0 where
@@ -13,7 +14,12 @@ pub record Component : Type 0 where
   pub template : List Piece
   pub cost : ℕ
 
--- The tables have constructors, variables and components by their numbers. Pairs, variances and kinds name constructors
+-- A filter, and the names of its states by their numbers.
+pub record DraftFilter : Type 0 where
+  pub states : List (List ℕ)
+  pub automaton : Automaton
+
+-- The tables have constructors, variables, components and filters by their numbers. Pairs, variances and kinds name constructors
 -- and variables by number.
 pub record Draft : Type 0 where
   pub names : List (List ℕ)
@@ -23,6 +29,8 @@ pub record Draft : Type 0 where
   pub pairs : List (ℕ × ℕ)
   pub variances : List (ℕ × Variance)
   pub kinds : List (ℕ × List ClosedType)
+  pub filter_names : List (List ℕ)
+  pub filters : List DraftFilter
 
 -- the draft of no lines
 abbrev pub no_draft : Draft
@@ -34,4 +42,6 @@ no_draft = record {
   pairs = [];
   variances = [];
   kinds = [];
+  filter_names = [];
+  filters = [];
 }

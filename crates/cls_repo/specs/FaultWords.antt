@@ -3,7 +3,7 @@ use Rattle.std.specs.Prelude.{ℕ, ◌≡◌, ◌++◌, List, [], Some, codes, s
 use Rattle.std.specs.Fmt.{decimal}
 use Rattle.cls_base.specs.Firsts.{Cause, First}
 use Rattle.cls_repo.specs.declared.fault.FaultKind.{FaultKind}
-use Rattle.cls_repo.specs.declared.fault.FaultKind.TheVariants.{LineTooLong, NotUtf8, UnknownDirective, TooDeep, Unexpected, ReservedName, TooManyNodes, DuplicateComponent, DuplicateKind, EmptyKind, KindHasVariable, UnknownComponent, BadHole, HoleZero, HoleOver16, CostOutOfRange, DuplicateVariance, NoEnd, Cycle, VarianceMix, TooManyComponents, LibraryTooLarge, UnknownVariable, TooManyInstances, InstanceTooLarge, ArityTooLarge, OutOfMemory}
+use Rattle.cls_repo.specs.declared.fault.FaultKind.TheVariants.{LineTooLong, NotUtf8, UnknownDirective, TooDeep, Unexpected, ReservedName, TooManyNodes, DuplicateComponent, DuplicateKind, EmptyKind, KindHasVariable, UnknownComponent, BadHole, HoleZero, HoleOver16, CostOutOfRange, DuplicateVariance, UnknownFilter, DuplicateFilter, TooManyStates, NoEnd, Cycle, VarianceMix, TooManyComponents, LibraryTooLarge, UnknownVariable, TooManyInstances, InstanceTooLarge, ArityTooLarge, OutOfMemory}
 use Rattle.cls_repo.specs.declared.fault.RepoFault.{RepoFault}
 use Rattle.cls_assemble.specs.declared.fault.TemplateFault.{TemplateFault}
 use Rattle.cls_repo.specs.LineFaults.{template_words}
@@ -27,6 +27,9 @@ fault_words (HoleZero byte) = codes "hole-zero " ++ decimal byte
 fault_words (HoleOver16 byte) = codes "hole-over " ++ decimal byte
 fault_words (CostOutOfRange name) = codes "cost " ++ string_bytes name
 fault_words (DuplicateVariance name) = codes "duplicate-variance " ++ string_bytes name
+fault_words (UnknownFilter name) = codes "unknown-filter " ++ string_bytes name
+fault_words (DuplicateFilter name) = codes "duplicate-filter " ++ string_bytes name
+fault_words (TooManyStates name) = codes "states " ++ string_bytes name
 fault_words NoEnd = codes "no-end"
 fault_words (Cycle name) = codes "cycle " ++ string_bytes name
 fault_words (VarianceMix name) = codes "variance-mix " ++ string_bytes name

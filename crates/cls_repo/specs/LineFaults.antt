@@ -1,5 +1,5 @@
 -- The faults of a line of a repository, in the order in which they are tested. Each is a cause, which says its words.
-use Rattle.cls_base.specs.Limits.{max_line_bytes, max_type_depth, max_type_nodes, max_cost}
+use Rattle.cls_base.specs.Limits.{max_line_bytes, max_type_depth, max_type_nodes, max_cost, max_states}
 use Rattle.std.specs.Prelude.{ℕ, ◌≡◌, ◌≢◌, ◌≤◌, ◌<◌, ◌+◌, ◌-◌, Bool, false, List, [], ◌∷◌, ◌++◌, length, map, codes, Contains, IsUtf8, Option, Some, None, position, if◌then◌else◌}
 use Rattle.std.specs.Fmt.{decimal}
 use Rattle.cls_base.specs.Firsts.{Cause, First}
@@ -17,9 +17,9 @@ use Rattle.cls_syntax.specs.TypeTexts.{type_nodes}
 use Rattle.cls_assemble.specs.declared.fault.TemplateFault.{TemplateFault}
 use Rattle.cls_assemble.specs.declared.fault.TemplateFault.TheVariants.{BadHole, HoleZero, HoleOver16, OutOfMemory}
 use Rattle.cls_assemble.specs.Faults.{IsFaultOf}
-use Rattle.cls_repo.specs.Directives.{Directive, kind, comp, text, cost, variance, repository_rows, begins_word, begins_directive, LineSays}
+use Rattle.cls_repo.specs.Directives.{Directive, kind, comp, text, cost, variance, filter, leaf, app, other, repository_rows, begins_word, begins_directive, LineSays}
 use Rattle.cls_repo.specs.Drafts.{Draft}
-use Rattle.cls_repo.specs.Declarations.{template_text}
+use Rattle.cls_repo.specs.Declarations.{template_text, filter_of, states_after}
 
 -- A fault of a line, said in its words.
 abbrev pub Fault : Type 1
@@ -86,13 +86,14 @@ kind_variable line (kind x ts) words =
     × (words ≡ codes "kind-variable " ++ decimal (byte_at line place))
 kind_variable line _ words = ⊥
 
--- A `text` or a `cost` line names a component that isn't declared.
+-- A `text`, a `cost` or a `leaf` line names a component that isn't declared.
 abbrev pub is_unknown : Draft → List ℕ → Fault
 is_unknown d x words = (Contains d.component_names x → ⊥) × (words ≡ codes "unknown-component " ++ x)
 
 abbrev pub unknown_component : Draft → Directive → Fault
 unknown_component d (text x ws) words = is_unknown d x words
 unknown_component d (cost x digits) words = is_unknown d x words
+unknown_component d (leaf f x q) words = is_unknown d x words
 unknown_component d _ words = ⊥
 
 -- The words of a fault of a template, in front of which stand so many bytes of the line. Out of memory has none.
@@ -121,6 +122,26 @@ duplicate_variance d (variance c word) words =
     Contains (map (λ v. v.0) d.variances) (number_of d.names c) × (words ≡ codes "duplicate-variance " ++ c)
 duplicate_variance d _ words = ⊥
 
+-- A `leaf`, an `app` or an `other` line names a filter that isn't declared.
+abbrev pub is_unknown_filter : Draft → List ℕ → Fault
+is_unknown_filter d f words = (Contains d.filter_names f → ⊥) × (words ≡ codes "unknown-filter " ++ f)
+
+abbrev pub unknown_filter : Draft → Directive → Fault
+unknown_filter d (leaf f x q) words = is_unknown_filter d f words
+unknown_filter d (app f p q r) words = is_unknown_filter d f words
+unknown_filter d (other f q) words = is_unknown_filter d f words
+unknown_filter d _ words = ⊥
+
+-- A `filter` line names a filter that is declared.
+abbrev pub duplicate_filter : Draft → Directive → Fault
+duplicate_filter d (filter f q qs) words = Contains d.filter_names f × (words ≡ codes "duplicate-filter " ++ f)
+duplicate_filter d _ words = ⊥
+
+-- The filter would have too many states after the line.
+abbrev pub too_many_states : Draft → Directive → Fault
+too_many_states d said words =
+    (f : List ℕ) × (filter_of said ≡ Some f) × (max_states < length (states_after d said)) × (words ≡ codes "states " ++ f)
+
 -- What is wrong with what the line says, after what is declared so far.
 abbrev pub directive_faults : Draft → List ℕ → Directive → List Fault
 directive_faults d line said =
@@ -133,6 +154,9 @@ directive_faults d line said =
     ∷ bad_template line said
     ∷ cost_out_of_range said
     ∷ duplicate_variance d said
+    ∷ unknown_filter d said
+    ∷ duplicate_filter d said
+    ∷ too_many_states d said
     ∷ []
 
 -- What the line says is wrong.

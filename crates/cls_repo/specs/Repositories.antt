@@ -7,7 +7,8 @@ use Rattle.cls_repo.specs.Drafts.{Draft}
 use Rattle.cls_repo.specs.EndFaults.{declared_in, schemas_in}
 use Rattle.cls_repo.specs.Readings.{Reading, no_reading, TakesAll, closing_faults}
 
--- The repository keeps what was declared. Templates and costs are those of the components by number.
+-- The repository keeps what was declared. Templates and costs are those of the components by number, automata those of the
+-- filters by number.
 pub record IsRepositoryOf (d : Draft) (r : Repository) : Type 0 where
   pub same_names : r.names ≡ d.names
   pub same_variables : r.variables ≡ d.variables
@@ -16,6 +17,8 @@ pub record IsRepositoryOf (d : Draft) (r : Repository) : Type 0 where
   pub templates_are : r.templates ≡ map (λ c. c.template) d.components
   pub costs_are : r.costs ≡ map (λ c. c.cost) d.components
   pub same_kinds : r.kinds ≡ d.kinds
+  pub same_filter_names : r.filter_names ≡ d.filter_names
+  pub filters_are : r.filters ≡ map (λ f. f.automaton) d.filters
 
 -- The repository is read from the lines up to `end`, which have no fault.
 pub record IsReadFrom (lines : List (List ℕ)) (r : Repository) : Type 0 where

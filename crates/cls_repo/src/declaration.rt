@@ -1,5 +1,5 @@
 //! What the lines of a repository declare, and what is wrong with what they say.
-ghost use Rattle.std.specs.Prelude.{◌≡◌, ◌+◌, ◌<◌, ◌≤◌, ◌^◌, List, length, map, IfErr, OnOk, OnErr};
+ghost use Rattle.std.specs.Prelude.{◌≡◌, ◌+◌, ◌<◌, ◌≤◌, ◌^◌, List, length, map, Some, IfErr, OnOk, OnErr};
 ghost use Rattle.cls_assemble.specs.Faults.{IsFaultOf};
 ghost use Rattle.std.specs.Option.{SomeIff, option_map};
 ghost use Rattle.cls_base.specs.Limits.{max_cost};
@@ -7,11 +7,12 @@ ghost use Rattle.cls_lexer.specs.Numerals.{number_value};
 ghost use Rattle.cls_lexer.specs.Tokens.{tokens_of, located};
 ghost use Rattle.cls_lexer.specs.Words.{Word, words, words_of};
 ghost use Rattle.cls_syntax.specs.SpelledTypes.{type_text, types_text};
-ghost use Rattle.cls_repo.specs.Declarations.{template_text, without_blank};
-ghost use Rattle.cls_repo.specs.Directives.{WordsSay, kind, comp, text, cost, variance};
+ghost use Rattle.cls_syntax.specs.TokenTexts.{texts};
+ghost use Rattle.cls_repo.specs.Declarations.{filter_of, template_text, without_blank};
+ghost use Rattle.cls_repo.specs.Directives.{WordsSay, kind, comp, text, cost, variance, filter, leaf, app, other};
 ghost use Rattle.cls_repo.specs.FaultWords.{IsFirst, IsTemplateFault};
 ghost use Rattle.cls_repo.specs.LineFaults.{directive_faults};
-ghost use Rattle.cls_repo.specs.Written.{directive_of, draft_of, TakesDirective};
+ghost use Rattle.cls_repo.specs.Written.{directive_of, draft_of, TakesDirective, TakesFilterLine, own_faults};
 
 use crate::directive::Directive;
 use crate::draft::Draft;
@@ -39,7 +40,7 @@ pub(crate) struct CutLine<'t, 'a> {
     ghost says: { words tokens.now ≡ words_of text.now },
 }
 
-/// Declares what the line says. The faults are those of the kinds from `TooManyNodes` to `DuplicateVariance`, in their
+/// Declares what the line says. The faults are those of the kinds from `TooManyNodes` to `TooManyStates`, in their
 /// order. After a fault the draft is as before.
 pub(crate) fn declare(
     alloc: Global,
@@ -66,6 +67,16 @@ pub(crate) fn declare(
         Directive::Variance(constructor, word) => {
             declare_variance(alloc, draft, line, constructor, word)
         }
+        Directive::Filter(filter, first, others) => {
+            declare_filter(alloc, draft, line, filter, first, others)
+        }
+        Directive::Leaf(filter, component, state) => {
+            declare_leaf(alloc, draft, line, filter, component, state)
+        }
+        Directive::App(filter, left, right, state) => {
+            declare_app(alloc, draft, line, filter, left, right, state)
+        }
+        Directive::Other(filter, state) => declare_other(alloc, draft, line, filter, state),
     }
 }
 
@@ -270,4 +281,101 @@ fn declare_variance(
         return Err(FaultKind::DuplicateVariance(String::from_str(alloc, constructor)?));
     }
     Ok(draft.put_variance(alloc, constructor, word)?)
+}
+
+/// Declares a filter, with its accepting states.
+fn declare_filter<'t, 'a>(
+    alloc: Global,
+    draft: &mut Draft,
+    line: &CutLine,
+    name: &'a str,
+    first: &'a str,
+    others: &'t [Token<'a>],
+) -> Result<(), FaultKind>
+    ensures taken { let said = filter name.now first.now (texts others.now) in OnOk result
+        (TakesDirective (draft_of draft.old) line.now.number line.now.text.now said (draft_of draft.new)) }
+    ensures fault { let said = filter name.now first.now (texts others.now) in IfErr result
+        (IsFirst (directive_faults (draft_of draft.old) line.now.text.now said)) }
+    ensures unchanged { OnErr result (draft_of draft.new ≡ draft_of draft.old) }
+{
+    if draft.has_filter(name) {
+        return Err(FaultKind::DuplicateFilter(String::from_str(alloc, name)?));
+    }
+    draft.put_filter(alloc, name, Directive::Filter(name, first, others))
+}
+
+/// Declares the state of a component by a filter.
+fn declare_leaf<'a>(
+    alloc: Global,
+    draft: &mut Draft,
+    line: &CutLine,
+    name: &'a str,
+    component: &'a str,
+    state: &'a str,
+) -> Result<(), FaultKind>
+    ensures taken { let said = leaf name.now component.now state.now in OnOk result
+        (TakesDirective (draft_of draft.old) line.now.number line.now.text.now said (draft_of draft.new)) }
+    ensures fault { let said = leaf name.now component.now state.now in IfErr result
+        (IsFirst (directive_faults (draft_of draft.old) line.now.text.now said)) }
+    ensures unchanged { OnErr result (draft_of draft.new ≡ draft_of draft.old) }
+{
+    if !draft.has_component(component) {
+        return Err(FaultKind::UnknownComponent(String::from_str(alloc, component)?));
+    }
+    declare_own(alloc, draft, name, Directive::Leaf(name, component, state))
+}
+
+/// Declares the state of an application by a filter.
+fn declare_app<'a>(
+    alloc: Global,
+    draft: &mut Draft,
+    line: &CutLine,
+    name: &'a str,
+    left: &'a str,
+    right: &'a str,
+    state: &'a str,
+) -> Result<(), FaultKind>
+    ensures taken { let said = app name.now left.now right.now state.now in OnOk result
+        (TakesDirective (draft_of draft.old) line.now.number line.now.text.now said (draft_of draft.new)) }
+    ensures fault { let said = app name.now left.now right.now state.now in IfErr result
+        (IsFirst (directive_faults (draft_of draft.old) line.now.text.now said)) }
+    ensures unchanged { OnErr result (draft_of draft.new ≡ draft_of draft.old) }
+{
+    declare_own(alloc, draft, name, Directive::App(name, left, right, state))
+}
+
+/// Declares the state of what no line of a filter speaks of.
+fn declare_other<'a>(
+    alloc: Global,
+    draft: &mut Draft,
+    line: &CutLine,
+    name: &'a str,
+    state: &'a str,
+) -> Result<(), FaultKind>
+    ensures taken { let said = other name.now state.now in OnOk result
+        (TakesDirective (draft_of draft.old) line.now.number line.now.text.now said (draft_of draft.new)) }
+    ensures fault { let said = other name.now state.now in IfErr result
+        (IsFirst (directive_faults (draft_of draft.old) line.now.text.now said)) }
+    ensures unchanged { OnErr result (draft_of draft.new ≡ draft_of draft.old) }
+{
+    declare_own(alloc, draft, name, Directive::Other(name, state))
+}
+
+/// Takes a line of a filter that is to be declared.
+fn declare_own(
+    alloc: Global,
+    draft: &mut Draft,
+    name: &str,
+    said: Directive,
+) -> Result<(), FaultKind>
+    requires { filter_of (directive_of said) ≡ Some name.now }
+    ensures taken { OnOk result
+        (TakesFilterLine (draft_of draft.old) (directive_of said.entry) name.now (draft_of draft.new)) }
+    ensures fault { IfErr result (IsFirst (own_faults (draft_of draft.old) (directive_of said.entry) name.now)) }
+    ensures unchanged { OnErr result (draft_of draft.new ≡ draft_of draft.old) }
+{
+    let Some(number) = draft.filter_names.find(name) else {
+        return Err(FaultKind::UnknownFilter(String::from_str(alloc, name)?));
+    };
+    draft.put_filter_line(alloc, number, name, said)
 }

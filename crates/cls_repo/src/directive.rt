@@ -1,20 +1,21 @@
 //! The lines of a repository as they are written, read from the left.
 ghost use Rattle.cls_lexer.specs.Words.{words};
-ghost use Rattle.std.specs.Prelude.{◌≡◌};
+ghost use Rattle.std.specs.Prelude.{◌≡◌, codes};
 ghost use Rattle.std.specs.Option.{option_map};
 ghost use Rattle.cls_base.specs.Limits.{max_cost};
-ghost use Rattle.cls_lexer.specs.declared.token.TokenKind.TheVariants.{Colon, Equals};
-ghost use Rattle.cls_syntax.specs.declared.role.Role.TheVariants.{Constructor, NewVariable, Component, NewComponent, Variance};
-ghost use Rattle.cls_syntax.specs.Forms.{nothing, ◌⨾◌, the_sign, a_name, a_number, a_type, perhaps, types, anything};
+ghost use Rattle.cls_lexer.specs.declared.token.TokenKind.TheVariants.{Colon, Equals, To};
+ghost use Rattle.cls_syntax.specs.declared.role.Role.TheVariants.{Constructor, NewVariable, Component, NewComponent, Variance, Filter, NewFilter, State, StateOrAny, StateOrNone};
+ghost use Rattle.cls_syntax.specs.Forms.{nothing, ◌⨾◌, the_word, the_sign, a_name, a_number, a_type, perhaps, names, types, anything};
 ghost use Rattle.cls_syntax.specs.Readings.{Reads, ReadsLine};
 ghost use Rattle.cls_syntax.specs.SpelledTypes.{type_text, types_text};
+ghost use Rattle.cls_syntax.specs.TokenTexts.{texts};
 ghost use Rattle.cls_repo.specs.Directives.{repository_rows, row_of, is_end};
 ghost use Rattle.cls_repo.specs.Written.{directive_of};
 
 use cls_lexer::{Numeral, Token, TokenKind};
 use cls_syntax::{
-    Role, SpelledType, SpelledTypes, Stop, end_at, name_at, number_at, sign_at, type_at, types_at,
-    word_at,
+    Role, SpelledType, SpelledTypes, Stop, end_at, name_at, names_at, number_at, sign_at, type_at,
+    types_at, word_at,
 };
 
 /// A line of a repository as it is written.
@@ -35,6 +36,15 @@ pub(crate) enum Directive<'t, 'a> {
     Cost(&'a str, Numeral<'a>),
     /// `variance NAME contra` or `variance NAME inv`: a constructor and the word.
     Variance(&'a str, &'a str),
+    /// `filter NAME accepts STATE STATE ..`: a filter, its first accepting state, and the tokens of the others.
+    Filter(&'a str, &'a str, &'t [Token<'a>]),
+    /// `leaf NAME NAME -> STATE`: a filter, a component and its state, or `none`.
+    Leaf(&'a str, &'a str, &'a str),
+    /// `app NAME STATE STATE -> STATE`: a filter, the states of two parts, each of which may be `_`, and the state of the
+    /// application, or `none`.
+    App(&'a str, &'a str, &'a str, &'a str),
+    /// `other NAME STATE`: a filter, and the state of what no line of it speaks of.
+    Other(&'a str, &'a str),
 }
 
 impl Directive<'_, '_> {
@@ -79,6 +89,22 @@ pub(crate) fn directive_at<'t, 'a>(
     if let Ok(rest) = word_at(tokens, "variance") {
         let (constructor, word) = two_names(rest, Role::Variance)?;
         return Ok(Directive::Variance(constructor, word));
+    }
+    if let Ok(rest) = word_at(tokens, "filter") {
+        let (filter, first, others) = filter_form(rest)?;
+        return Ok(Directive::Filter(filter, first, others));
+    }
+    if let Ok(rest) = word_at(tokens, "leaf") {
+        let (filter, component, state) = leaf_form(rest)?;
+        return Ok(Directive::Leaf(filter, component, state));
+    }
+    if let Ok(rest) = word_at(tokens, "app") {
+        let (filter, left, right, state) = app_form(rest)?;
+        return Ok(Directive::App(filter, left, right, state));
+    }
+    if let Ok(rest) = word_at(tokens, "other") {
+        let (filter, state) = other_form(rest)?;
+        return Ok(Directive::Other(filter, state));
     }
     Err(Stop {
         rest: tokens,
@@ -154,4 +180,54 @@ fn cost_form<'t, 'a>(tokens: &'t [Token<'a>]) -> Result<(&'a str, Numeral<'a>), 
     let (cost, rest) = number_at(rest)?;
     end_at(rest)?;
     Ok((component, cost))
+}
+
+fn filter_form<'t, 'a>(
+    tokens: &'t [Token<'a>],
+) -> Result<(&'a str, &'a str, &'t [Token<'a>]), Stop<'t, 'a>>
+    ensures { Reads (a_name NewFilter ⨾ the_word (codes "accepts") ⨾ a_name State ⨾ names State) tokens.now result
+        (λ x. (x.0.now, (x.1.now, texts x.2.now))) }
+{
+    let (filter, rest) = name_at(tokens, Role::NewFilter)?;
+    let rest = word_at(rest, "accepts")?;
+    let (first, rest) = name_at(rest, Role::State)?;
+    let others = names_at(rest, Role::State)?;
+    Ok((filter, first, others))
+}
+
+fn leaf_form<'t, 'a>(tokens: &'t [Token<'a>]) -> Result<(&'a str, &'a str, &'a str), Stop<'t, 'a>>
+    ensures { Reads (a_name Filter ⨾ a_name Component ⨾ the_sign To ⨾ a_name StateOrNone ⨾ nothing) tokens.now result
+        (λ x. (x.0.now, (x.1.now, (x.2.now, tt)))) }
+{
+    let (filter, rest) = name_at(tokens, Role::Filter)?;
+    let (component, rest) = name_at(rest, Role::Component)?;
+    let rest = sign_at(rest, TokenKind::To)?;
+    let (state, rest) = name_at(rest, Role::StateOrNone)?;
+    end_at(rest)?;
+    Ok((filter, component, state))
+}
+
+fn app_form<'t, 'a>(
+    tokens: &'t [Token<'a>],
+) -> Result<(&'a str, &'a str, &'a str, &'a str), Stop<'t, 'a>>
+    ensures { Reads
+        (a_name Filter ⨾ a_name StateOrAny ⨾ a_name StateOrAny ⨾ the_sign To ⨾ a_name StateOrNone ⨾ nothing)
+        tokens.now result (λ x. (x.0.now, (x.1.now, (x.2.now, (x.3.now, tt))))) }
+{
+    let (filter, rest) = name_at(tokens, Role::Filter)?;
+    let (left, rest) = name_at(rest, Role::StateOrAny)?;
+    let (right, rest) = name_at(rest, Role::StateOrAny)?;
+    let rest = sign_at(rest, TokenKind::To)?;
+    let (state, rest) = name_at(rest, Role::StateOrNone)?;
+    end_at(rest)?;
+    Ok((filter, left, right, state))
+}
+
+fn other_form<'t, 'a>(tokens: &'t [Token<'a>]) -> Result<(&'a str, &'a str), Stop<'t, 'a>>
+    ensures { Reads (a_name Filter ⨾ a_name State ⨾ nothing) tokens.now result (λ x. (x.0.now, (x.1.now, tt))) }
+{
+    let (filter, rest) = name_at(tokens, Role::Filter)?;
+    let (state, rest) = name_at(rest, Role::State)?;
+    end_at(rest)?;
+    Ok((filter, state))
 }

@@ -4,6 +4,9 @@ ghost use Rattle.std.specs.Prelude.{◌≡◌, length};
 ghost use Rattle.cls_base.specs.Taxa.{variance_of};
 ghost use Rattle.cls_repo.specs.Declarations.{variance_named};
 
+use crate::directive::Directive;
+use crate::draft_filter::DraftFilter;
+use crate::fault::FaultKind;
 use crate::numbering::{number_both, number_name};
 use cls_assemble::Template;
 use cls_base::{Name, OutOfMemory, Schema, Variance};
@@ -43,12 +46,18 @@ pub(crate) struct Draft {
     pub(crate) variances: IndexMap<u32, Variance>,
     /// The kind of each variable that has one.
     pub(crate) kinds: Kinds,
+    /// The names of the filters.
+    pub(crate) filter_names: Names,
+    /// The filters by number.
+    pub(crate) filters: Vec<DraftFilter>,
     // There is one component for each name.
     ghost counted: { length components.items ≡ length component_names },
+    // There is one filter for each name.
+    ghost filtered: { length filters.items ≡ length filter_names },
 }
 
 impl Draft {
-    ghost use Rattle.std.specs.Prelude.{ℕ, ◌<◌, ◌↔◌, List, [], map, take, Contains, IsTrue, OnOk, OnErr};
+    ghost use Rattle.std.specs.Prelude.{ℕ, ◌<◌, ◌↔◌, List, [], map, take, Some, slice_get, Contains, IsTrue, IfErr, OnOk, OnErr};
     ghost use Rattle.cls_kind.specs.Kinds.{kind_of};
     ghost use Rattle.cls_lexer.specs.declared.token.TokenKind.TheVariants.{Bar};
     ghost use Rattle.cls_lexer.specs.Names.{number_of};
@@ -56,9 +65,11 @@ impl Draft {
     ghost use Rattle.cls_syntax.specs.SpelledTypes.{type_text, types_text};
     ghost use Rattle.cls_syntax.specs.TypeLists.{types_words};
     ghost use Rattle.cls_repo.specs.Drafts.{no_draft};
-    ghost use Rattle.cls_repo.specs.Declarations.{with_names, with_pair, with_component, with_template, with_cost, with_variance};
+    ghost use Rattle.cls_repo.specs.Declarations.{with_names, with_pair, with_component, with_template, with_cost, with_variance, filter_of};
     ghost use Rattle.cls_repo.specs.Directives.{sub, comp, variance};
-    ghost use Rattle.cls_repo.specs.Written.{draft_of, PutsKind, IsBesideTables};
+    ghost use Rattle.cls_repo.specs.FaultWords.{OnWords};
+    ghost use Rattle.cls_repo.specs.LineFaults.{too_many_states};
+    ghost use Rattle.cls_repo.specs.Written.{directive_of, draft_of, PutsKind, IsBesideTables, is_full, TakesFilter, TakesFilterLine};
 
     /// The draft of no lines. It takes no memory.
     pub(crate) fn new(alloc: Global) -> Draft
@@ -72,6 +83,8 @@ impl Draft {
             pairs: Vec::new(alloc),
             variances: IndexMap::new(alloc),
             kinds: Kinds::new(alloc),
+            filter_names: Names::new(alloc),
+            filters: Vec::new(alloc),
         }
     }
 
@@ -221,6 +234,61 @@ impl Draft {
     {
         let component = &mut self.components[component.0 as usize];
         component.cost = cost;
+    }
+
+    /// Whether the component is declared.
+    pub(crate) fn has_component(&self, component: &str) -> bool
+        ensures { IsTrue result ↔ Contains self.now.component_names component.now }
+    {
+        self.component_names.find(component).is_some()
+    }
+
+    /// Whether the filter is declared.
+    pub(crate) fn has_filter(&self, filter: &str) -> bool
+        ensures { IsTrue result ↔ Contains self.now.filter_names filter.now }
+    {
+        self.filter_names.find(filter).is_some()
+    }
+
+    /// Declares a filter that isn't declared, by its line. The fault is `TooManyStates` or out of memory.
+    pub(crate) fn put_filter(
+        &mut self,
+        alloc: Global,
+        filter: &str,
+        said: Directive,
+    ) -> Result<(), FaultKind>
+        requires { Contains self.old.filter_names filter.now → ⊥ }
+        ensures put { OnOk result
+            (TakesFilter (draft_of self.old) (directive_of said.entry) filter.now (draft_of self.new)) }
+        ensures fault { IfErr result (OnWords (is_full [] (directive_of said.entry) filter.now)) }
+        ensures unchanged { OnErr result (draft_of self.new ≡ draft_of self.old) }
+    {
+        let mut made = DraftFilter::new(alloc);
+        made.take_line(alloc, &self.component_names, filter, said)?;
+        self.filters.reserve(1)?;
+        number_name(alloc, &mut self.filter_names, filter)?;
+        self.filters.push_reserved(made);
+        Ok(())
+    }
+
+    /// Takes a line of the filter, which has this name. The fault is `TooManyStates` or out of memory.
+    pub(crate) fn put_filter_line(
+        &mut self,
+        alloc: Global,
+        number: Name,
+        filter: &str,
+        said: Directive,
+    ) -> Result<(), FaultKind>
+        requires stands { slice_get self.old.filter_names number.0 ≡ Some filter.now }
+        requires numbered { number.0 ≡ number_of self.old.filter_names filter.now }
+        requires own { filter_of (directive_of said) ≡ Some filter.now }
+        ensures put { OnOk result
+            (TakesFilterLine (draft_of self.old) (directive_of said.entry) filter.now (draft_of self.new)) }
+        ensures fault { IfErr result (OnWords (too_many_states (draft_of self.old) (directive_of said.entry))) }
+        ensures unchanged { OnErr result (draft_of self.new ≡ draft_of self.old) }
+    {
+        let own = &mut self.filters[number.0 as usize];
+        own.take_line(alloc, &self.component_names, filter, said)
     }
 }
 

@@ -74,6 +74,15 @@ pub enum FaultKind {
     /// The constructor of this name has a variance already.
     #[error("constructor {0} has a variance already")]
     DuplicateVariance(String),
+    /// No filter of this name is declared.
+    #[error("filter {0} is not declared")]
+    UnknownFilter(String),
+    /// A filter of this name is declared already.
+    #[error("filter {0} is declared already")]
+    DuplicateFilter(String),
+    /// The filter of this name would have more than [`MAX_STATES`](cls_base::limits::MAX_STATES) states.
+    #[error("filter {0} has too many states")]
+    TooManyStates(String),
     /// No line is `end`.
     #[error("no line ends the repository")]
     NoEnd,
@@ -137,6 +146,9 @@ fn words(alloc: Global, kind: &FaultKind) -> Result<String, OutOfMemory>
         FaultKind::HoleOver16(byte) => Ok(format!(in alloc; "hole-over {byte}")?),
         FaultKind::CostOutOfRange(name) => Ok(format!(in alloc; "cost {name}")?),
         FaultKind::DuplicateVariance(name) => Ok(format!(in alloc; "duplicate-variance {name}")?),
+        FaultKind::UnknownFilter(name) => Ok(format!(in alloc; "unknown-filter {name}")?),
+        FaultKind::DuplicateFilter(name) => Ok(format!(in alloc; "duplicate-filter {name}")?),
+        FaultKind::TooManyStates(name) => Ok(format!(in alloc; "states {name}")?),
         FaultKind::NoEnd => Ok(String::from_str(alloc, "no-end")?),
         FaultKind::Cycle(name) => Ok(format!(in alloc; "cycle {name}")?),
         FaultKind::VarianceMix(name) => Ok(format!(in alloc; "variance-mix {name}")?),

@@ -8,13 +8,15 @@ ghost use Rattle.cls_repo.specs.EndFaults.{declared_in, end_faults, name_at, lib
 ghost use Rattle.cls_repo.specs.FaultWords.{IsSaid, OnWords};
 ghost use Rattle.cls_repo.specs.Readings.{no_reading, TakesAll, FirstFault, closing_faults};
 ghost use Rattle.cls_repo.specs.Repositories.{IsRepositoryOf, IsReadFrom};
-ghost use Rattle.cls_repo.specs.Written.{draft_of, component_of, AreColumns, IsOrderFault, order_words};
+ghost use Rattle.cls_repo.specs.Written.{draft_of, component_of, filter_seen, AreColumns, IsOrderFault, order_words};
 
 use crate::draft::{Component, Draft};
+use crate::draft_filter::DraftFilter;
 use crate::fault::{FaultKind, RepoFault};
 use crate::reader::RepoReader;
 use cls_assemble::{Template, Templates};
 use cls_base::{Name, Numbers, OutOfMemory, Schema, Variance};
+use cls_filter::Filters;
 use cls_kind::{KindFault, Kinds};
 use cls_lexer::{Line, Names};
 use cls_library::{Library, LibraryKind};
@@ -38,6 +40,10 @@ pub struct Repository {
     pub costs: Numbers,
     /// The kinds of the variables.
     pub kinds: Kinds,
+    /// The names of the filters.
+    pub filter_names: Names,
+    /// The filters by number.
+    pub filters: Filters,
 }
 
 impl Repository {
@@ -102,6 +108,12 @@ pub(crate) fn build(alloc: Global, draft: Draft, line: u32) -> Result<Repository
             });
         }
     };
+    let Ok(filters) = filters_of(alloc, draft.filters) else {
+        return Err(RepoFault {
+            line,
+            kind: FaultKind::OutOfMemory,
+        });
+    };
     match Library::build(alloc, taxonomy, &columns.schemas, &draft.kinds) {
         Ok(library) => Ok(Repository {
             names: draft.names,
@@ -111,6 +123,8 @@ pub(crate) fn build(alloc: Global, draft: Draft, line: u32) -> Result<Repository
             templates: Templates::from_vec(columns.templates),
             costs: Numbers::new(columns.costs),
             kinds: draft.kinds,
+            filter_names: draft.filter_names,
+            filters,
         }),
         Err(fault) => {
             let component = text_at(&draft.component_names, Name(fault.component));
@@ -216,4 +230,15 @@ fn columns_of(alloc: Global, components: Vec<Component>) -> Result<Columns, OutO
         columns.costs.push(component.cost)?;
     }
     Ok(columns)
+}
+
+/// The automata of the filters.
+fn filters_of(alloc: Global, filters: Vec<DraftFilter>) -> Result<Filters, OutOfMemory>
+    ensures { IfOk result (λ made. made ≡ map (λ f. f.automaton) (map filter_seen filters.items)) }
+{
+    let mut made = Vec::with_capacity(alloc, filters.len())?;
+    for own in filters {
+        made.push(own.filter)?;
+    }
+    Ok(Filters::from_vec(made))
 }

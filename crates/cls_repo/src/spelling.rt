@@ -80,6 +80,10 @@ fn begins_directive(tokens: &[Token]) -> bool
         || begins_word(tokens, "end")
         || begins_word(tokens, "cost")
         || begins_word(tokens, "variance")
+        || begins_word(tokens, "filter")
+        || begins_word(tokens, "leaf")
+        || begins_word(tokens, "app")
+        || begins_word(tokens, "other")
 }
 
 /// Whether the tokens begin with this very word, which isn't `omega`.

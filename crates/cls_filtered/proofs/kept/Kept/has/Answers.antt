@@ -1,7 +1,8 @@
-use Rattle.std.proofs.Common.{List, Bool, ap, ◌∙◌}
-use Rattle.cls_filtered.specs.Filtered.{is_kept}
+use Rattle.std.proofs.Common.{false, ◌∙◌}
+use Rattle.std.specs.Prelude.{slice_index_or}
 use Rattle.cls_filtered.proofs.kept.Kept.has.Goals as goal
 
 pub returns : goal.returns
 returns c =
-    c.is_up.ensures ∙ ap (λ (fs : List Bool). is_kept fs c.args.node c.args.state) (c.as_slice.ensures.value ∙ c.self.view_is)
+    let flags = c.as_slice.ensures.value ∙ c.self.view_is in
+    c.is_up.ensures ∙ (λ j. slice_index_or (flags j) (c.pair_of.ensures j) false)

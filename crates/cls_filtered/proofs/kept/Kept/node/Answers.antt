@@ -1,6 +1,6 @@
 use Rattle.std.proofs.Common.{◌+◌, ℕ, List, Bool, false, cond, Some, None, take, sym, ap, subst, ◌∙◌}
 use Rattle.std.specs.Prelude.{slice_index_or}
-use Rattle.cls_filtered.specs.Filtered.{pair_of, count_true}
+use Rattle.cls_filtered.specs.Filtered.{count_true}
 use Rattle.cls_filtered.specs.Makings.{AreNodes, kept_node}
 use Rattle.cls_filtered.proofs.Keeping.{kept-number}
 use Rattle.cls_filtered.proofs.kept.Kept.node.Goals as goal
@@ -12,7 +12,8 @@ number_at-requires c =
 
 pub returns : goal.returns
 returns c =
-    let k = pair_of c.args.node c.args.state in
+    let flags = c.as_slice-flags.ensures.value in
+    let pair = c.pair_of.ensures in
     c.number_at.ensures
-    ∙ (ap (λ (fs : List Bool). cond (slice_index_or fs k false) (Some (count_true (take k fs) + 1)) None) c.as_slice-flags.ensures.value
+    ∙ ((λ j. cond (slice_index_or (flags j) (pair j) false) (Some (count_true (take (pair j) (flags j)) + 1)) None)
     ∙ (kept-number c.self.inside.flags.items c.args.node c.args.state ∙ ap (λ (fs : List Bool). kept_node fs c.args.node c.args.state) c.self.view_is))

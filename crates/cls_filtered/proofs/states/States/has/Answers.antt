@@ -1,7 +1,9 @@
-use Rattle.std.proofs.Common.{List, Bool, ap, ◌∙◌}
-use Rattle.cls_filtered.specs.States.{Known, is_known}
+use Rattle.std.proofs.Common.{false, ap, ◌∙◌}
+use Rattle.std.specs.Prelude.{slice_index_or}
+use Rattle.cls_filtered.specs.States.{Known}
 use Rattle.cls_filtered.proofs.states.States.has.Goals as goal
 
 pub returns : goal.returns
 returns c =
-    c.is_up.ensures ∙ ap (λ (fs : List Bool). is_known fs c.args.node c.args.state) (c.as_slice.ensures.value ∙ ap (λ (s : Known). s.flags) c.self.view_is)
+    let flags = c.as_slice.ensures.value ∙ ap (λ (s : Known). s.flags) c.self.view_is in
+    c.is_up.ensures ∙ (λ j. slice_index_or (flags j) (c.pair_of.ensures j) false)

@@ -1,4 +1,4 @@
-use Rattle.std.proofs.Common.{true, false, ◌∙◌, arith}
+use Rattle.std.proofs.Common.{◌∙◌, arith}
 use Rattle.std.proofs.lemmas.Bool.{false≢true, true≢false}
 use Rattle.cls_filtered.proofs.Following.{passes-begun, passes-more, passes-closed, keeps-turns, keeps-then}
 use Rattle.cls_filtered.proofs.states.States.pass.Goals as goal

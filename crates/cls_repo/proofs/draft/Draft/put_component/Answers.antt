@@ -26,4 +26,4 @@ invariant_of-self-in-Ok c =
     let components = ap length (c.push_reserved.ensures.items ∙ ap (λ (cs : List Component). cs ++ made ∷ []) c.in_ok-reserve.ensures.items) ∙ length-append old.components.items (made ∷ []) in
     let names = ap length (c.in_ok-number_name.ensures.table ∙ with_new old.component_names x c.requires) ∙ length-append old.component_names (x ∷ []) in
     let before = old.counted in
-    record { counted = omega (arith, components, names, before) }
+    record { counted = omega (arith, components, names, before); filtered = old.filtered }
