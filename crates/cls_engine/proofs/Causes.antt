@@ -3,11 +3,6 @@ use Rattle.std.proofs.Common.{inl, inr, List, [], ◌∷◌, ◌++◌}
 use Rattle.cls_base.specs.Firsts.{Cause, IsSilent, First}
 
 module _ {T : Type 0} where
-  pub first_more : (xs ys : List (Cause T)) (t : T) → First xs t → First (xs ++ ys) t
-  first_more [] ys t h = absurd h
-  first_more (x ∷ xs) ys t (inl h) = inl h
-  first_more (x ∷ xs) ys t (inr h) = inr (h.0, first_more xs ys t h.1)
-
   head_silent : (x : Cause T) (xs : List (Cause T)) → IsSilent (First (x ∷ xs)) → IsSilent x
   head_silent x xs s t h = s t (inl h)
 

@@ -6,7 +6,7 @@ use Rattle.cls_expand.specs.Answers.{IsReady}
 use Rattle.cls_library.specs.Libraries.{Library}
 use Rattle.cls_engine.specs.declared.options.Options.{Options}
 use Rattle.cls_engine.specs.declared.fault.EngineFault.{EngineFault}
-use Rattle.cls_engine.specs.declared.fault.EngineFault.TheVariants.{Size, TooLarge, Wide, TooManyTerms, OutOfMemory}
+use Rattle.cls_engine.specs.declared.fault.EngineFault.TheVariants.{Size, TooLarge, Wide, FilterTooLarge, TooManyTerms, OutOfMemory}
 use Rattle.cls_engine.specs.Closing.{IsKnown, IsKnownOf, IsClosingFault}
 use Rattle.cls_engine.specs.Faults.{closure_faults, IsFaultOf, IsOversizedOr, AreSilent}
 use Rattle.cls_engine.specs.Goals.{Goal, IsSpread, IsGoalOf, IsUnfit, IsClosed}
@@ -18,6 +18,7 @@ module _ (lib : Library) (o : Options) (t : ClosedType) where
   by_size Size h = inl h
   by_size TooLarge h = inl h
   by_size (Wide g) h = inl h
+  by_size FilterTooLarge h = inl h
   by_size TooManyTerms h = inl h
 
   module _ (goal : Goal) (is : IsGoalOf lib t goal) (narrow : IsSpread t → ⊥) where
@@ -27,6 +28,7 @@ module _ (lib : Library) (o : Options) (t : ClosedType) where
 
     pub by_closing : IsReady lib goal → (f : EngineFault) → IsClosingFault lib o goal f → IsFaultOf (closure_faults lib o t) f
     by_closing ready Size h = absurd h
+    by_closing ready FilterTooLarge h = absurd h
     by_closing ready TooManyTerms h = absurd h
     by_closing ready OutOfMemory h = tt
     by_closing ready TooLarge h = inr ((λ f k. not_oversized ready k.0), inl ((goal, is, h), refl))

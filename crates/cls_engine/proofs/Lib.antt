@@ -3,10 +3,12 @@ pub mod Certifying
 pub mod Completions
 pub mod Deciding
 pub mod Faulting
+pub mod FilteredPages
 pub mod Finiteness
 pub mod Goals
 pub mod Keeping
 pub mod Languages
 pub mod Pages
+pub mod RuleBooks
 pub mod Verdicts
 pub mod Widths

@@ -37,7 +37,7 @@ module _ (P Q : Applicative → Type 0) (same : (e : Applicative) → P e ↔ Q 
   due_back : (e : Applicative) → IsDue Q q e → IsDue P q e
   due_back e d = record { typed = (same e).1 d.typed; small = d.small; short = d.short; later = d.later }
 
-  page_to : (es : List Applicative) (more : Bool) → IsPage P q es more → IsPage Q q es more
+  pub page_to : (es : List Applicative) (more : Bool) → IsPage P q es more → IsPage Q q es more
   page_to es more p = record {
     rises = p.rises;
     due = λ e c. due_to e (p.due e c);

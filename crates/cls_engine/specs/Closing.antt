@@ -10,7 +10,7 @@ use Rattle.cls_expand.specs.Answers.{IsAnswer, IsReady}
 use Rattle.cls_grammar.specs.Grammars.{first_wide}
 use Rattle.cls_engine.specs.declared.options.Options.{Options}
 use Rattle.cls_engine.specs.declared.fault.EngineFault.{EngineFault}
-use Rattle.cls_engine.specs.declared.fault.EngineFault.TheVariants.{Size, TooLarge, Wide, TooManyTerms, OutOfMemory}
+use Rattle.cls_engine.specs.declared.fault.EngineFault.TheVariants.{Size, TooLarge, Wide, FilterTooLarge, TooManyTerms, OutOfMemory}
 use Rattle.cls_engine.specs.Goals.{Goal, same, IsSpread, IsGoalOf}
 
 module _ (lib : Library) (o : Options) where
@@ -43,4 +43,5 @@ module _ (lib : Library) (o : Options) where
       × (rows : List (Row Goal)) × IsCanonical same (IsAnswer lib) start rows × (first_wide rows ≡ Some g)
   IsClosingFault start OutOfMemory = Unit {0}
   IsClosingFault start Size = ⊥
+  IsClosingFault start FilterTooLarge = ⊥
   IsClosingFault start TooManyTerms = ⊥

@@ -6,6 +6,7 @@ use Rattle.cls_base.specs.Types.{ClosedType, spread}
 use Rattle.cls_base.specs.Languages.{IsGenerated}
 use Rattle.cls_base.specs.Pages.{Request, IsDue}
 use Rattle.cls_base.specs.Pools.{IsDecidingSize, PoolIs}
+use Rattle.cls_base.specs.declared.rule.Rule.{Rule}
 use Rattle.cls_path.specs.Paths.{TypePath, listed, type_of_paths}
 use Rattle.cls_path.specs.PathOrder.{list_order}
 use Rattle.cls_path.specs.NormalForms.{IsNormalForm}
@@ -13,6 +14,8 @@ use Rattle.cls_norm.specs.Fit.{IsFit}
 use Rattle.cls_core.specs.Rows.{Row}
 use Rattle.cls_core.specs.Closure.{IsTooLarge}
 use Rattle.cls_core.specs.Canonical.{IsCanonical}
+use Rattle.cls_filter.specs.Automata.{Automaton}
+use Rattle.cls_filtered.specs.Filtered.{IsFiltered, HasLargeFilter}
 use Rattle.cls_library.specs.Libraries.{Library, below_in, variances_in}
 use Rattle.cls_expand.specs.Answers.{IsAnswer}
 use Rattle.cls_grammar.specs.Grammars.{book_of, first_wide}
@@ -60,4 +63,20 @@ module _ (lib : Library) where
     pub decides : IsDecidingSize (IsDue (IsGenerated (book_of rows) 0) q) q.cost q.take q.max size
     pub count : ℕ
     pub pool : PoolIs (book_of rows) q.cost size count
+    pub over : bound < count
+
+  -- the closure of the type's goal, filtered by the automaton, has more rules than the limit
+  abbrev pub HasLargeFilterOf : (limit : ℕ) → ClosedType → Automaton → Type 0
+  HasLargeFilterOf limit t a = (rows : List (Row Goal)) × IsClosed t rows × HasLargeFilter (book_of rows) a limit
+
+  -- more terms than the bound are pooled for the page that is asked of the filtered closure, at the size that decides it
+  pub record HasLargeFilteredPool (bound : ℕ) (t : ClosedType) (a : Automaton) (q : Request) : Type 0 where
+    pub rows : List (Row Goal)
+    pub closed : IsClosed t rows
+    pub book : List (List (Rule ℕ))
+    pub filtered : IsFiltered (book_of rows) a book
+    pub size : ℕ
+    pub decides : IsDecidingSize (IsDue (IsGenerated book 0) q) q.cost q.take q.max size
+    pub count : ℕ
+    pub pool : PoolIs book q.cost size count
     pub over : bound < count

@@ -41,7 +41,8 @@ pub struct Engine {
     pub(crate) outcomes: Outcomes,
 }
 
-// Not derived, for the prover: so a caller's proof has one step where a value is dropped, and not one for each part of it.
+// Not derived, for the prover: so a caller's proof has one step where a value is dropped, and not one for each part of
+// it.
 impl Drop for Engine {
     fn drop(self) {
         let Engine {

@@ -2,6 +2,7 @@ ghost use Rattle.std.specs.Prelude.{◌≡◌};
 ghost use Rattle.cls_engine.specs.declared.fault.EngineFault.TheVariants.{OutOfMemory};
 
 use cls_enum::PageFault;
+use cls_filtered::FilterFault;
 use cls_grammar::GrammarFault;
 use cls_path::Nf;
 use cls_table::ExpandFault;
@@ -15,6 +16,8 @@ pub enum EngineFault {
     TooLarge,
     /// This goal of the closure is wide, the first one in its canonical numbering.
     Wide(Nf),
+    /// The closure, filtered, has more rules than the options allow.
+    FilterTooLarge,
     /// More terms than the options allow would have to be held to make the page.
     TooManyTerms,
     /// Out of memory.
@@ -51,6 +54,19 @@ impl From<GrammarFault> for EngineFault {
         match fault {
             GrammarFault::Wide(goal) => EngineFault::Wide(goal),
             GrammarFault::OutOfMemory => EngineFault::OutOfMemory,
+        }
+    }
+}
+
+impl From<FilterFault> for EngineFault {
+    ghost use Rattle.cls_engine.specs.Conversions.{of_filter};
+
+    ghost from_gives = { λ e fault. fault ≡ of_filter e };
+
+    fn from(fault: FilterFault) -> EngineFault {
+        match fault {
+            FilterFault::OutOfMemory => EngineFault::OutOfMemory,
+            FilterFault::TooManyRules => EngineFault::FilterTooLarge,
         }
     }
 }

@@ -7,16 +7,14 @@ ghost use Rattle.cls_base.specs.Ty.{type_of};
 ghost use Rattle.cls_enum.specs.Faults.{IfTooMany};
 ghost use Rattle.cls_enum.specs.Requests.{request};
 ghost use Rattle.cls_enum.specs.States.{ExceedsPool, FitsPool};
-ghost use Rattle.cls_grammar.specs.Grammars.{book_of};
 ghost use Rattle.cls_library.specs.Typing.{HasTypeIn};
 ghost use Rattle.cls_engine.specs.Faults.{IsFaultOf, AreSilent, list_faults};
 
 use crate::engine::Engine;
 use crate::fault::EngineFault;
 use crate::host::Host;
-use cls_base::{Gate, Ty};
+use cls_base::{Gate, RuleBook, Ty};
 use cls_enum::{Page, PageFault};
-use cls_grammar::Grammar;
 use cls_term::Term;
 use cls_walk::page;
 use std::alloc::Global;
@@ -24,11 +22,11 @@ use std::sync::Wait;
 use std::thread::Threads;
 
 impl Engine {
-    /// The page of the terms of the grammar's start.
-    fn page_of(
+    /// The page of the terms of the book's start.
+    pub(crate) fn page_of<B: RuleBook>(
         &self,
         alloc: Global,
-        grammar: &Grammar,
+        book: &B,
         after: Option<&Term>,
         max: u32,
         take: u32,
@@ -37,14 +35,14 @@ impl Engine {
         requires some { 1 ≤ take }
         requires cursor { IfSome (option_copied after) (λ e. length_of e < 2 ^ 32) }
         ensures page { let r = request self.now.costs (option_copied after.entry) max take in
-            IfOk result (λ p. IsPage (IsGenerated (book_of grammar.now) 0) r p.terms p.more) }
+            IfOk result (λ p. IsPage (IsGenerated (B.book book.now) 0) r p.terms p.more) }
         ensures within { let r = request self.now.costs (option_copied after.entry) max take in
-            IfOk result (λ _. FitsPool (book_of grammar.now) r self.now.options.pool) }
+            IfOk result (λ _. FitsPool (B.book book.now) r self.now.options.pool) }
         ensures over { let r = request self.now.costs (option_copied after.entry) max take in
-            IfErr result (λ fault. IfTooMany fault (ExceedsPool (book_of grammar.now) r self.now.options.pool)) }
+            IfErr result (λ fault. IfTooMany fault (ExceedsPool (B.book book.now) r self.now.options.pool)) }
     {
         let pool = self.options.pool;
-        page(alloc, grammar, &self.costs, after, max, take, pool)
+        page(alloc, book, &self.costs, after, max, take, pool)
     }
 
     /// The first `take` terms of the type that come after the cursor, if there is one, and have at most the size `max`

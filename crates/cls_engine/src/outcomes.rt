@@ -32,7 +32,10 @@ impl Outcome {
                 Ok(copy) => Some(Outcome::Wide(copy)),
                 Err(_) => None,
             },
-            EngineFault::Size | EngineFault::TooManyTerms | EngineFault::OutOfMemory => None,
+            EngineFault::Size
+            | EngineFault::FilterTooLarge
+            | EngineFault::TooManyTerms
+            | EngineFault::OutOfMemory => None,
         }
     }
 

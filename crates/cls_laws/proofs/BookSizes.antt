@@ -1,14 +1,11 @@
 -- The terms of a rule book have a greatest size, or the determined walk shows that they have none: the descent that
 -- measures them comes to an end.
 use Rattle.std.proofs.Common.{◌≡◌, ℕ, zero, suc, ◌<◌, ◌≤◌, Bool, true, false, List, [], ◌∷◌, ◌++◌, Option, None, Some, length, take, slice_get, refl, ap, subst, arith, ◌⊎◌, inl, inr}
-use Rattle.std.specs.Prelude.{IsTrue, ◌↔◌, Contains}
+use Rattle.std.specs.Prelude.{IsTrue, ◌↔◌}
 use Rattle.cls_base.specs.Languages.{rules_at}
-use Rattle.cls_base.specs.Lists.{AreBelow}
 use Rattle.cls_base.specs.declared.rule.Rule.{Rule}
-use Rattle.cls_base.specs.declared.rule.Rule.TheVariants.{Head, Any}
-use Rattle.cls_base.proofs.Lists.{Contains-here, Contains-later}
 use Rattle.cls_base.specs.Arguments.{arguments_of_rule}
-use Rattle.cls_base.specs.Books.{HasNodesBelow, HaveNodesBelow}
+use Rattle.cls_base.specs.Books.{HaveNodesBelow}
 use Rattle.cls_grammar.specs.Ranks.{IsProductiveIn, AreProductive}
 use Rattle.cls_grammar.specs.Trimming.{is_useful}
 use Rattle.cls_finite.specs.declared.walk.Step.{Step}
@@ -33,19 +30,6 @@ module _ (book : List (List (Rule ℕ))) where
   flags_exist =
       after (by_index Flags (length book) (λ i l. after (either_way (IsProductiveIn book i)) (flag_by i)))
       (λ r. (r.0, record { count = r.1; each = r.2 }))
-
--- NODES WITHIN THE BOOK
-nodes_below : (n : ℕ) (ns : List ℕ) → ((m : ℕ) → Contains ns m → m < n) → AreBelow n ns
-nodes_below n [] f = tt
-nodes_below n (m ∷ ns) f = (f m (Contains-here m ns), nodes_below n ns (λ k c. f k (Contains-later k m ns c)))
-
-rule_below : (n : ℕ) (r : Rule ℕ) → ((m : ℕ) → Contains (arguments_of_rule r) m → m < n) → HasNodesBelow n r
-rule_below n (Head x ns) f = nodes_below n ns f
-rule_below n (Any l m) f = (f l (Contains-here l (m ∷ [])), f m (Contains-later m l (m ∷ []) (Contains-here m [])))
-
-pub rules_below : (n : ℕ) (rs : List (Rule ℕ)) → ((r : Rule ℕ) → Contains rs r → (m : ℕ) → Contains (arguments_of_rule r) m → m < n) → HaveNodesBelow n rs
-rules_below n [] f = tt
-rules_below n (r ∷ rs) f = (rule_below n r (f r (Contains-here r rs)), rules_below n rs (λ q c. f q (Contains-later q r rs c)))
 
 -- MARKS
 -- The marks of nodes are a type that `cls_finite` alone can name. A state has some, and at the beginning node 0 is open.

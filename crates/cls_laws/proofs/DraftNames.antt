@@ -63,6 +63,10 @@ said_words line (directive.text x ws) h = subst (λ (us : List Word). AllGood Is
 said_words line directive.end h = subst (λ (ws : List Word). AllGood IsProperName ws) (sym h.says.spelled) (line_proper line)
 said_words line (directive.cost x ds) h = subst (λ (ws : List Word). AllGood IsProperName ws) (sym h.says.spelled) (line_proper line)
 said_words line (directive.variance c w) h = subst (λ (ws : List Word). AllGood IsProperName ws) (sym h.says.spelled) (line_proper line)
+said_words line (directive.filter f q qs) h = subst (λ (ws : List Word). AllGood IsProperName ws) (sym h.says.spelled) (line_proper line)
+said_words line (directive.leaf f x q) h = subst (λ (ws : List Word). AllGood IsProperName ws) (sym h.says.spelled) (line_proper line)
+said_words line (directive.app f p q r) h = subst (λ (ws : List Word). AllGood IsProperName ws) (sym h.says.spelled) (line_proper line)
+said_words line (directive.other f q) h = subst (λ (ws : List Word). AllGood IsProperName ws) (sym h.says.spelled) (line_proper line)
 
 -- NUMBERS BELOW THE LENGTH OF A TABLE
 pub no_fewer : (names xs : List (List ℕ)) → length names ≤ length (with_texts names xs)
@@ -238,6 +242,14 @@ declared_named d n line (directive.cost x digits) new says e h =
 declared_named d n line (directive.variance c word) new says e h =
     let w = with_named d line (directive.variance c word) says h in
     subst IsNamed (sym e) record { apart = w.apart; proper = w.proper; called = w.called; typed = w.typed; ranged = w.ranged }
+declared_named d n line (directive.filter f q qs) new says e h =
+    subst IsNamed (sym e) record { apart = h.apart; proper = h.proper; called = h.called; typed = h.typed; ranged = h.ranged }
+declared_named d n line (directive.leaf f x q) new says e h =
+    subst IsNamed (sym e) record { apart = h.apart; proper = h.proper; called = h.called; typed = h.typed; ranged = h.ranged }
+declared_named d n line (directive.app f p q r) new says e h =
+    subst IsNamed (sym e) record { apart = h.apart; proper = h.proper; called = h.called; typed = h.typed; ranged = h.ranged }
+declared_named d n line (directive.other f q) new says e h =
+    subst IsNamed (sym e) record { apart = h.apart; proper = h.proper; called = h.called; typed = h.typed; ranged = h.ranged }
 
 taken_named : (old : Reading) (line : List ℕ) (new : Reading) → Takes old line new → IsNamed old.draft → IsNamed new.draft
 taken_named old line new (skipped s e) h = subst (λ (r : Reading). IsNamed r.draft) (sym e) h

@@ -1,8 +1,7 @@
 -- What is known of a closure exists, and so do its certificate, its sizes, its pages and a history of it, if no fault of
 -- closing applies.
-use Rattle.std.proofs.Common.{ℕ, ◌≡◌, ◌≤◌, ◌<◌, ◌⊎◌, inl, inr, refl, sym, subst, arith, List, [], ◌∷◌, Option, None, Some, Bool, length}
-use Rattle.std.proofs.lemmas.List.{length-map}
-use Rattle.cls_base.specs.Languages.{rules_at}
+use Rattle.std.proofs.Common.{ℕ, ◌≡◌, ◌≤◌, ◌<◌, ◌⊎◌, inl, inr, refl, sym, subst, arith, List, [], ◌∷◌, ◌++◌, Option, None, Some, Bool, length}
+use Rattle.cls_base.specs.Firsts.{Cause}
 use Rattle.cls_base.specs.Pages.{Request, IsPage}
 use Rattle.cls_base.specs.Terms.{Applicative}
 use Rattle.cls_base.specs.Types.{ClosedType}
@@ -13,11 +12,9 @@ use Rattle.cls_core.specs.declared.entry.Entry.{Entry}
 use Rattle.cls_core.specs.declared.entry.Entry.TheVariants.{Claim, File}
 use Rattle.cls_core.specs.Canonical.{IsCanonical}
 use Rattle.cls_core.specs.Rows.{Row}
-use Rattle.cls_base.specs.Books.{HaveNodesBelow}
 use Rattle.cls_base.specs.Limits.{max_finite_size}
 use Rattle.cls_table.specs.Lawful.{NamesUpTo}
 use Rattle.cls_cert.specs.Conditions.{IsGrammarOf}
-use Rattle.cls_cert.proofs.Ruled.{some_goal, ruled_within}
 use Rattle.cls_enum.proofs.Existence.{each_page-exists}
 use Rattle.cls_expand.specs.Answers.{IsAnswer}
 use Rattle.cls_expand.specs.Listing.{unlisted}
@@ -36,12 +33,13 @@ use Rattle.cls_engine.specs.Histories.{IsHistoryOf}
 use Rattle.cls_engine.proofs.Faulting.{closed-of}
 use Rattle.cls_engine.proofs.Finiteness.{type-greatest, type-unbounded, type-walk}
 use Rattle.cls_engine.proofs.Pages.{list-page}
+use Rattle.cls_engine.proofs.RuleBooks.{rule_book}
 use Rattle.cls_replies.specs.Replies.{TellsSizes}
 use Rattle.cls_laws.specs.Histories.{AreBy}
 use Rattle.cls_laws.specs.Existence.{TypesHaveClosures, CertificatesExist, SizesExist, PagesExist, AuditsExist}
 use Rattle.cls_laws.specs.Possible.{IsPossible}
 use Rattle.cls_laws.proofs.Answers.{listed_back}
-use Rattle.cls_laws.proofs.BookSizes.{flags_exist, rules_below, SizesAreFound, sizes_found}
+use Rattle.cls_laws.proofs.BookSizes.{flags_exist, SizesAreFound, sizes_found}
 use Rattle.cls_laws.proofs.Classical.{then, after}
 use Rattle.cls_laws.proofs.Closures.{closures_exist, histories_exist}
 use Rattle.cls_laws.proofs.Making.{certificate_exists}
@@ -49,6 +47,12 @@ use Rattle.cls_laws.proofs.Verdicts.{form_exists}
 
 up_to_or_over : (n m : ℕ) → (n ≤ m) ⊎ (m < n)
 up_to_or_over n m = grind arith
+
+-- no front of causes applies if none of all of them does
+pub front_silent : (xs ys : List (Cause EngineFault)) → AreSilent (xs ++ ys) → AreSilent xs
+front_silent [] ys h f k = k
+front_silent (x ∷ xs) ys h f (inl k) = h f (inl k)
+front_silent (x ∷ xs) ys h f (inr (none, k)) = front_silent xs ys (λ g m. h g (inr (none, m))) f k
 
 module _ (lib : Library) (law : IsLibrary lib) (o : Options) (t : ClosedType) (silent : AreSilent (closure_faults lib o t)) where
   goal_of : (g : Goal) × IsGoalOf lib t g
@@ -82,7 +86,7 @@ module _ (lib : Library) (law : IsLibrary lib) (o : Options) (t : ClosedType) (s
     };
   }
 
-  known_exists : IsPossible ((rows : List (Row Goal)) × IsKnownOf lib o t rows)
+  pub known_exists : IsPossible ((rows : List (Row Goal)) × IsKnownOf lib o t rows)
   known_exists =
       let g = goal_of in
       then (λ (unfit : IsFit (type_of_paths (listed g.0)) → ⊥). size_silent Size (inr (g.0, g.1, unfit), refl)) (λ fit.
@@ -106,13 +110,7 @@ module _ (lib : Library) (law : IsLibrary lib) (o : Options) (t : ClosedType) (s
     grammar_of = record { start = k.goal; ready = k.known.ready; canonical = k.known.canonical; narrow = k.known.none_wide }
 
     some_node : 0 < length (book_of rows)
-    some_node = let s = some_goal lib rows grammar_of in let c : length (book_of rows) ≡ length rows = length-map rows _ in omega arith
-
-    nodes_within : (i : ℕ) → i < length (book_of rows) → HaveNodesBelow (length (book_of rows)) (rules_at (book_of rows) i)
-    nodes_within i l =
-        let c : length (book_of rows) ≡ length rows = length-map rows _ in
-        let u = ruled_within lib rows grammar_of i (omega arith) in
-        rules_below (length (book_of rows)) (rules_at (book_of rows) i) (λ r m n d. let b = u.1.within r m n d in omega arith)
+    some_node = let s = (rule_book lib o t rows k).some in omega arith
 
     module _ (cost : ℕ → ℕ) where
       sizes_told : SizesAreFound cost (book_of rows) → (sizes : FiniteAnswer) × TellsSizes lib cost t sizes
@@ -125,7 +123,7 @@ module _ (lib : Library) (law : IsLibrary lib) (o : Options) (t : ClosedType) (s
       sizes_known : ((x : ℕ) → 0 < cost x) → IsPossible ((sizes : FiniteAnswer) × TellsSizes lib cost t sizes)
       sizes_known costly =
           then (flags_exist (book_of rows)) (λ flags.
-          after (sizes_found cost (book_of rows) flags.0 flags.1 (λ i x ns r. let h = costly x in omega arith) nodes_within (let s = some_node in omega arith)) sizes_told)
+          after (sizes_found cost (book_of rows) flags.0 flags.1 (λ i x ns r. let h = costly x in omega arith) (λ i l. (rule_book lib o t rows k).within i) (let s = some_node in omega arith)) sizes_told)
 
     abbrev HasPage : Request → Type 0
     HasPage q = (terms : List Applicative) × (more : Bool) × IsPage (λ e. HasTypeIn lib e t) q terms more

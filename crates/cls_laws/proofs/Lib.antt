@@ -11,6 +11,7 @@ pub mod Classical
 pub mod Closures
 pub mod DraftNames
 pub mod FedBack
+pub mod FilteredBooks
 pub mod Firsts
 pub mod GoalNames
 pub mod Grammars

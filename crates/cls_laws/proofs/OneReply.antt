@@ -11,6 +11,7 @@ use Rattle.cls_cert.specs.Making.{IsMadeFor}
 use Rattle.cls_cert.proofs.Ranking.{rank_same}
 use Rattle.cls_cert.proofs.Unique.{one_made}
 use Rattle.cls_core.specs.Rows.{Row}
+use Rattle.cls_filter.specs.Automata.{Automaton, Accepts}
 use Rattle.cls_grammar.specs.Grammars.{book_of, first_wide}
 use Rattle.cls_grammar.specs.GrammarTexts.{grammar_text}
 use Rattle.cls_grammar.specs.Ranks.{IsRankIn, AreRanks}
@@ -19,7 +20,7 @@ use Rattle.cls_library.specs.Typing.{HasTypeIn}
 use Rattle.cls_enum.specs.Requests.{request}
 use Rattle.cls_proof.specs.Certificates.{Certificate}
 use Rattle.cls_proof.specs.Texts.{certificate_text}
-use Rattle.cls_query.specs.declared.query.Query.TheVariants.{Sub, Paths, Typed, About, Page}
+use Rattle.cls_query.specs.declared.query.Query.TheVariants.{Sub, Paths, Typed, About, Page, Filtered}
 use Rattle.cls_query.specs.declared.word.GoalWord.TheVariants as word
 use Rattle.cls_query.specs.declared.word.ListingWord.TheVariants as listing
 use Rattle.cls_query.specs.Queries.{Listing, Query, grammar, audit, certify, finite}
@@ -29,13 +30,13 @@ use Rattle.cls_term.specs.Texts.{name_at}
 use Rattle.cls_term.proofs.Orders.{Before-strict_total}
 use Rattle.cls_engine.specs.declared.fault.EngineFault.{EngineFault}
 use Rattle.cls_engine.specs.declared.fault.EngineFault.TheVariants.{Wide}
-use Rattle.cls_engine.specs.Faults.{compare_faults, closure_faults, list_faults}
+use Rattle.cls_engine.specs.Faults.{compare_faults, closure_faults, list_faults, filter_faults}
 use Rattle.cls_engine.specs.Goals.{Goal, IsFirstWide}
 use Rattle.cls_engine.proofs.Goals.{closed_unique}
-use Rattle.cls_replies.specs.Responder.{Responder}
+use Rattle.cls_replies.specs.Responder.{Responder, filter_in}
 use Rattle.cls_replies.specs.Texts.{page_text, sizes_text, term_line, term_lines, error_line, fault_words}
 use Rattle.cls_replies.specs.Errors.{faults_of}
-use Rattle.cls_replies.specs.Replies.{Says, Lists, Reply}
+use Rattle.cls_replies.specs.Replies.{Says, Lists, ListsPage, Reply}
 use Rattle.cls_replies.specs.Answering.{Answers}
 use Rattle.cls_replies.specs.Answering as answering
 use Rattle.cls_laws.proofs.OnePage.{page_one, more_one}
@@ -69,6 +70,10 @@ module _ (s : Responder) where
   list_one t r = first-determined (list_faults s.engine.library s.engine.options t r)
       ((λ f g p q. p.1 ∙ sym q.1), ((λ f g p q. p.1 ∙ sym q.1), (wide_one s.engine.library t, ((λ f g p q. p.1 ∙ sym q.1), tt))))
 
+  filter_one : (t : ClosedType) (a : Automaton) (r : Request) → IsDetermined (First (filter_faults s.engine.library s.engine.options t a r))
+  filter_one t a r = first-determined (filter_faults s.engine.library s.engine.options t a r)
+      ((λ f g p q. p.1 ∙ sym q.1), ((λ f g p q. p.1 ∙ sym q.1), (wide_one s.engine.library t, ((λ f g p q. p.1 ∙ sym q.1), ((λ f g p q. p.1 ∙ sym q.1), tt)))))
+
   pub fault_one : (q : Query) → IsDetermined (First (faults_of s q))
   fault_one (Sub a b) = compare_one (a ∷ b ∷ [])
   fault_one (Paths x) = λ f g h k. absurd h
@@ -76,6 +81,7 @@ module _ (s : Responder) where
   fault_one (About word.Verify t) = compare_one (t ∷ [])
   fault_one (About asks t) = closure_one t
   fault_one (Page asks q) = list_one q.goal (request s.engine.costs q.after q.max q.take)
+  fault_one (Filtered x q) = filter_one q.goal (filter_in s x) (request s.engine.costs q.after q.max q.take)
 
 -- THE REPLIES
 -- lists of one length with the same elements at each place
@@ -95,16 +101,15 @@ module _ (book : List (List (Rule ℕ))) where
   ranks_one : (xs ys : List (Option ℕ)) → AreRanks book xs → AreRanks book ys → xs ≡ ys
   ranks_one xs ys h k = same_at_each xs ys (h.count ∙ sym k.count) (λ i x y e f. rank_one i x y (h.each i x e) (k.each i y f))
 
-module _ (s : Responder) where
-  lists_one : (q : Listing) (shown : Applicative → List ℕ) → IsDetermined (Lists s q shown)
-  lists_one q shown t u h k =
-      let r = request s.engine.costs q.after q.max q.take in
-      let IsListed : Applicative → Type 0 = λ e. HasTypeIn s.engine.library e q.goal in
+module _ (IsListed : Applicative → Type 0) (r : Request) where
+  lists_one : (shown : Applicative → List ℕ) → IsDetermined (ListsPage IsListed r shown)
+  lists_one shown t u h k =
       let order = Before-strict_total r.cost in
       h.written
       ∙ (ap (λ (es : List Applicative). page_text shown es h.more) (page_one IsListed r order h.terms k.terms h.more k.more h.page k.page)
       ∙ (ap (λ (m : Bool). page_text shown k.terms m) (more_one IsListed r order h.terms k.terms h.more k.more h.page k.page) ∙ sym k.written))
 
+module _ (s : Responder) where
   grammar_one : (t : ClosedType) → IsDetermined (Reply s (grammar t))
   grammar_one t u w p q =
       let rows : p.0 ≡ q.0 = closed_unique s.engine.library t p.0 q.0 p.1 q.1 in
@@ -120,6 +125,9 @@ module _ (s : Responder) where
   finite_one : (t : ClosedType) → IsDetermined (Reply s (finite t))
   finite_one t u w p q = p.2 ∙ (ap sizes_text (sizes_one s.engine.library (cost_of s.engine.costs) t p.0 q.0 p.1 q.1) ∙ sym q.2)
 
+  page_reply : (q : Listing) (shown : Applicative → List ℕ) → IsDetermined (Lists s q shown)
+  page_reply q shown = lists_one (λ e. HasTypeIn s.engine.library e q.goal) (request s.engine.costs q.after q.max q.take) shown
+
   reply_one : (q : Query) → ((t : ClosedType) → q ≡ audit t → ⊥) → IsDetermined (Reply s q)
   reply_one (Sub a b) n = says_one _ (codes "yes") (codes "no")
   reply_one (Paths x) n = λ t u p q. p ∙ sym q
@@ -130,8 +138,10 @@ module _ (s : Responder) where
   reply_one (About word.Certify t) n = certificate_one t
   reply_one (About word.Verify t) n = λ u w p q. absurd p
   reply_one (About word.Finite t) n = finite_one t
-  reply_one (Page listing.List q) n = lists_one q (term_line (name_at s.components))
-  reply_one (Page listing.Texts q) n = lists_one q (term_lines (name_at s.components) s.templates)
+  reply_one (Page listing.List q) n = page_reply q (term_line (name_at s.components))
+  reply_one (Page listing.Texts q) n = page_reply q (term_lines (name_at s.components) s.templates)
+  reply_one (Filtered x q) n =
+      lists_one (λ e. HasTypeIn s.engine.library e q.goal × Accepts (filter_in s x) e) (request s.engine.costs q.after q.max q.take) (term_line (name_at s.components))
 
   pub answer_one : (q : Query) → ((t : ClosedType) → q ≡ audit t → ⊥) → (t u : List ℕ) (m k : Responder) → Answers s q t m → Answers s q u k → (t ≡ u) × (m ≡ k)
   answer_one q n t u m k (answering.Answers.failed f h e same) (answering.Answers.failed g i d same') =

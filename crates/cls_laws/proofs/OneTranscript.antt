@@ -93,7 +93,8 @@ module _ (o : Options) (d : Draft) where
       let components = h.same_components ∙ sym k.same_components in
       let kinds = h.same_kinds ∙ sym k.same_kinds in
       let templates = h.templates_are ∙ sym k.templates_are in
-      let filters = h.no_filters ∙ sym k.no_filters in
+      let filter_names = h.same_filter_names ∙ sym k.same_filter_names in
+      let filters = h.filters_are ∙ sym k.filters_are in
       let library = library-unique (declared_in d) d.kinds (schemas_in d) s.engine.library m.engine.library h.library_is k.library_is in
       let costs = h.costs_are ∙ sym k.costs_are in
       let options = h.options_are ∙ sym k.options_are in
@@ -104,7 +105,8 @@ module _ (o : Options) (d : Draft) where
         components = components i;
         kinds = kinds i;
         templates = templates i;
-        filter_names = filters i;
+        filter_names = filter_names i;
+        filters = filters i;
         engine = record { library = library i; costs = costs i; options = options i };
         held = held i;
       }
@@ -149,7 +151,8 @@ module _ (o : Options) (n : ℕ) (input : List (List ℕ)) where
     same_components = h.same_components;
     same_kinds = h.same_kinds;
     templates_are = h.templates_are;
-    no_filters = h.no_filters;
+    same_filter_names = h.same_filter_names;
+    filters_are = h.filters_are;
     library_is = h.library_is;
     costs_are = h.costs_are;
     options_are = ap (with_workers n) h.options_are;

@@ -6,6 +6,9 @@ use Rattle.std.proofs.lemmas.List.Elements.{All-cons}
 use Rattle.cls_base.specs.Limits.{max_components, max_library_weight}
 use Rattle.cls_base.specs.Schemas.{OpenType}
 use Rattle.cls_base.specs.Types.{ClosedType, spread}
+use Rattle.cls_filter.specs.Automata.{Automaton}
+use Rattle.cls_filter.specs.Lines.{no_lines}
+use Rattle.cls_filter.specs.States.{IsAutomaton}
 use Rattle.cls_kind.specs.Kinds.{instances_of}
 use Rattle.cls_taxon.specs.Orders.{Declared}
 use Rattle.cls_library.specs.Libraries.{Library, Component, IsLibrary, IsWithinLimits, AreComponentsOf, no_components, one_component, below_in, variances_in, all_of, weight_of, total_of}
@@ -14,9 +17,10 @@ use Rattle.cls_library.proofs.Gathering.{acceptable-arity}
 use Rattle.cls_library.proofs.Splitting.{arity-form}
 use Rattle.cls_engine.specs.declared.options.Options.{Options}
 use Rattle.cls_repo.specs.Drafts as drafts
-use Rattle.cls_repo.specs.Drafts.{Draft}
+use Rattle.cls_repo.specs.Drafts.{Draft, DraftFilter}
 use Rattle.cls_repo.specs.Readings.{Reading, no_reading, TakesAll}
 use Rattle.cls_repo.specs.Sound.{IsCost, IsSound}
+use Rattle.cls_repo.proofs.SmallStates.{no_lines_small}
 use Rattle.cls_repo.proofs.Soundness.{no_draft_sound, taken_sound}
 use Rattle.cls_term.specs.Costs.{cost_of}
 use Rattle.cls_replies.specs.Responder.{Responder, Serves, AreHeld}
@@ -72,10 +76,18 @@ each_costly [] h (suc x) = omega arith
 each_costly (c ∷ cs) h zero = omega (arith, h.0)
 each_costly (c ∷ cs) h (suc x) = each_costly cs h.1 x
 
+-- THE FILTERS
+each_small : (fs : List DraftFilter) → AllByRecursion (λ (f : DraftFilter). IsAutomaton f.automaton) fs → (i : ℕ) → IsAutomaton (slice_index_or (map (λ f. f.automaton) fs) i no_lines)
+each_small [] h zero = no_lines_small
+each_small [] h (suc i) = no_lines_small
+each_small (f ∷ fs) h zero = h.0
+each_small (f ∷ fs) h (suc i) = each_small fs h.1 i
+
 pub opened_can : (o : Options) (d : Draft) (s : Responder) → IsSound d → Serves o d s → CanAnswer s
 opened_can o d s sound h = record {
   library = library_law _ _ _ s.engine.library h.library_is;
   costly = λ x. subst (λ (costs : List ℕ). 0 < cost_of costs x) (sym h.costs_are) (each_costly (map (λ c. c.cost) d.components) (costs_costly d.components sound.costly) x);
+  small = λ i. subst (λ (filters : List Automaton). IsAutomaton (slice_index_or filters i no_lines)) (sym h.filters_are) (each_small d.filters sound.small i);
   opened = subst AreHeld (sym h.none_held) tt;
 }
 

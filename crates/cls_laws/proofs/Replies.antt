@@ -10,6 +10,7 @@ use Rattle.cls_base.specs.Types.{ClosedType}
 use Rattle.cls_core.specs.declared.entry.Entry.{Entry}
 use Rattle.cls_core.specs.Rows.{Row}
 use Rattle.cls_enum.specs.Requests.{request}
+use Rattle.cls_filter.specs.States.{IsAutomaton}
 use Rattle.cls_finite.specs.declared.answer.FiniteAnswer.{FiniteAnswer}
 use Rattle.cls_grammar.specs.GrammarTexts.{IsGrammarText}
 use Rattle.cls_lexer.specs.Skipped.{IsSkipped}
@@ -19,10 +20,10 @@ use Rattle.cls_proof.specs.declared.proof_fault.ProofFault.TheVariants.{BadLine,
 use Rattle.cls_proof.specs.Certificates.{Certificate}
 use Rattle.cls_proof.specs.Reading.{SaysCertificate}
 use Rattle.cls_proof.specs.Texts.{certificate_text}
-use Rattle.cls_query.specs.declared.query.Query.TheVariants.{Sub, Paths, Typed, About, Page}
+use Rattle.cls_query.specs.declared.query.Query.TheVariants.{Sub, Paths, Typed, About, Page, Filtered}
 use Rattle.cls_query.specs.declared.word.GoalWord.TheVariants as word
 use Rattle.cls_query.specs.declared.word.ListingWord.TheVariants as listing
-use Rattle.cls_query.specs.Queries.{Listing, Query, Tables, tables_of, grammar, audit, certify, verify, finite}
+use Rattle.cls_query.specs.Queries.{Listing, Query, Tables, tables_of, grammar, audit, certify, verify, finite, filtered}
 use Rattle.cls_query.specs.QueryErrors.{line_errors}
 use Rattle.cls_query.specs.Readable.{IsReadable, IsVerify}
 use Rattle.cls_query.specs.ReadQueries.{ReadsQuery}
@@ -44,28 +45,25 @@ use Rattle.cls_replies.specs.Errors.{faults_of}
 use Rattle.cls_replies.specs.LineKinds.{Opens, IsQed}
 use Rattle.cls_replies.specs.Lines.{Goes, Ends, Replies}
 use Rattle.cls_replies.specs.Lines as lines
-use Rattle.cls_replies.specs.Replies.{Says, Lists, Reply, TellsSizes}
-use Rattle.cls_replies.specs.Responder.{Responder, tables_in, with_tables, with_names, holding, AreHeld}
+use Rattle.cls_replies.specs.Replies.{Says, Lists, ListsFiltered, Reply, TellsSizes}
+use Rattle.cls_replies.specs.Responder.{Responder, tables_in, with_tables, with_names, holding, AreHeld, filter_in}
 use Rattle.cls_replies.specs.Texts.{reply_line, error_line, fault_words, verdict_text, paths_text, history_text, sizes_text, term_line, term_lines, page_text}
 use Rattle.cls_laws.specs.Existence.{HasReading, HasVerdict}
 use Rattle.cls_laws.specs.Possible.{IsPossible}
 use Rattle.cls_laws.proofs.Classical.{surely, then, after, either_way, first_decided}
+use Rattle.cls_laws.proofs.FilteredBooks.{filtered_pages_exist}
 use Rattle.cls_laws.proofs.Grammars.{grammar_texts_exist}
-use Rattle.cls_laws.proofs.Known.{types_have_closures, audits_exist, certificates_exist, sizes_exist, pages_exist}
+use Rattle.cls_laws.proofs.Known.{front_silent, types_have_closures, audits_exist, certificates_exist, sizes_exist, pages_exist}
 use Rattle.cls_laws.proofs.Readings.{readings_exist}
 use Rattle.cls_laws.proofs.Verdicts.{verdicts_exist}
 
--- What answers lines by a library, whose components cost at least 1. The lines that are held were opened.
+-- What answers lines by a library, whose components cost at least 1, and by filters, whose states have numbers below their
+-- limit. The lines that are held were opened.
 pub record CanAnswer (s : Responder) : Type 0 where
   pub library : IsLibrary s.engine.library
   pub costly : (x : ℕ) → 0 < cost_of s.engine.costs x
+  pub small : (i : ℕ) → IsAutomaton (filter_in s i)
   pub opened : AreHeld s.held
-
--- no front of causes applies if none of all of them does
-front_silent : (xs ys : List (Cause EngineFault)) → AreSilent (xs ++ ys) → AreSilent xs
-front_silent [] ys h f k = k
-front_silent (x ∷ xs) ys h f (inl k) = h f (inl k)
-front_silent (x ∷ xs) ys h f (inr (none, k)) = front_silent xs ys (λ g m. h g (inr (none, m))) f k
 
 -- THE REPLY TO A QUERY
 module _ (s : Responder) (can : CanAnswer s) where
@@ -80,6 +78,11 @@ module _ (s : Responder) (can : CanAnswer s) where
   lists_exist q shown silent some =
       after (pages_exist s.engine.library can.library s.engine.options q.goal silent (request s.engine.costs q.after q.max q.take) can.costly (omega arith))
       (λ p. (page_text shown p.0 p.1, record { terms = p.0; more = p.1; page = p.2; written = refl }))
+
+  filtered_exist : (f : ℕ) (q : Listing) → AreSilent (faults_of s (filtered f q)) → 1 ≤ q.take → IsPossible ((text : List ℕ) × ListsFiltered s f q (term_line (name_at s.components)) text)
+  filtered_exist f q silent some =
+      after (filtered_pages_exist s.engine.library can.library s.engine.options q.goal (filter_in s f) (can.small f) (request s.engine.costs q.after q.max q.take) silent can.costly (omega arith))
+      (λ p. (page_text (term_line (name_at s.components)) p.0 p.1, record { terms = p.0; more = p.1; page = p.2; written = refl }))
 
   abbrev HasReply : Query → Type 0
   HasReply q = (text : List ℕ) × Reply s q text
@@ -99,7 +102,7 @@ module _ (s : Responder) (can : CanAnswer s) where
   abbrev pool_faults : Listing → List (Cause EngineFault)
   pool_faults q = (λ f. HasLargePool s.engine.library s.engine.options.pool q.goal (request s.engine.costs q.after q.max q.take) × (f ≡ TooManyTerms)) ∷ []
 
-  reply_exists : (q : Query) → AreSilent (faults_of s q) → IsReadable (length s.components) q → (IsVerify q → ⊥) → IsPossible (HasReply q)
+  reply_exists : (q : Query) → AreSilent (faults_of s q) → IsReadable (length s.components) (length s.filter_names) q → (IsVerify q → ⊥) → IsPossible (HasReply q)
   reply_exists (Sub a b) silent readable asks = says_exist (Subtype (below_in s.engine.library.taxonomy) (variances_in s.engine.library.taxonomy) a b) (codes "yes") (codes "no")
   reply_exists (Paths x) silent readable asks = surely (paths_text s.names (paths_at s.engine.library x), refl)
   reply_exists (Typed e t) silent readable asks = says_exist (HasTypeIn s.engine.library e t) (codes "yes") (codes "no")
@@ -115,6 +118,7 @@ module _ (s : Responder) (can : CanAnswer s) where
       lists_exist q (term_line (name_at s.components)) (front_silent (closure_faults s.engine.library s.engine.options q.goal) (pool_faults q) silent) readable.some
   reply_exists (Page listing.Texts q) silent readable asks =
       lists_exist q (term_lines (name_at s.components) s.templates) (front_silent (closure_faults s.engine.library s.engine.options q.goal) (pool_faults q) silent) readable.some
+  reply_exists (Filtered f q) silent readable asks = filtered_exist f q silent readable.1.some
 
   abbrev HasAnswer : Query → Type 0
   HasAnswer q = (text : List ℕ) × (s' : Responder) × Answers s q text s'
@@ -122,11 +126,11 @@ module _ (s : Responder) (can : CanAnswer s) where
   replied : (q : Query) → AreSilent (faults_of s q) → HasReply q → HasAnswer q
   replied q silent (text, r) = (text, s, answering.Answers.replied silent r refl)
 
-  answer_by : (q : Query) → IsReadable (length s.components) q → (IsVerify q → ⊥) → ((f : EngineFault) × First (faults_of s q) f) ⊎ IsSilent (First (faults_of s q)) → IsPossible (HasAnswer q)
+  answer_by : (q : Query) → IsReadable (length s.components) (length s.filter_names) q → (IsVerify q → ⊥) → ((f : EngineFault) × First (faults_of s q) f) ⊎ IsSilent (First (faults_of s q)) → IsPossible (HasAnswer q)
   answer_by q readable asks (inl (f, first)) = surely (error_line (fault_words s.names f), s, answering.Answers.failed f first refl refl)
   answer_by q readable asks (inr silent) = after (reply_exists q silent readable asks) (replied q silent)
 
-  answer_exists : (q : Query) → IsReadable (length s.components) q → (IsVerify q → ⊥) → IsPossible (HasAnswer q)
+  answer_exists : (q : Query) → IsReadable (length s.components) (length s.filter_names) q → (IsVerify q → ⊥) → IsPossible (HasAnswer q)
   answer_exists q readable asks = then (first_decided (faults_of s q)) (answer_by q readable asks)
 
   -- THE REPLY TO A CERTIFICATE
@@ -146,13 +150,13 @@ module _ (s : Responder) (can : CanAnswer s) where
 
 -- with other tables or names, or with other lines held, lines are answered as well
 tabled_can : (s : Responder) (tables : Tables) → CanAnswer s → CanAnswer (with_tables s tables)
-tabled_can s tables can = record { library = can.library; costly = can.costly; opened = can.opened }
+tabled_can s tables can = record { library = can.library; costly = can.costly; small = can.small; opened = can.opened }
 
 named_can : (s : Responder) (names : List (List ℕ)) → CanAnswer s → CanAnswer (with_names s names)
-named_can s names can = record { library = can.library; costly = can.costly; opened = can.opened }
+named_can s names can = record { library = can.library; costly = can.costly; small = can.small; opened = can.opened }
 
 holding_can : (s : Responder) (held : List (List ℕ)) → AreHeld held → CanAnswer s → CanAnswer (holding s held)
-holding_can s held opened can = record { library = can.library; costly = can.costly; opened = opened }
+holding_can s held opened can = record { library = can.library; costly = can.costly; small = can.small; opened = opened }
 
 module _ (m : Responder) (can : CanAnswer m) (goal : ClosedType) (certificate : List (List ℕ)) where
   abbrev HasVerification : Type 0
@@ -179,6 +183,7 @@ goal_of (Typed e t) h = absurd h
 goal_of (About word.Verify t) h = (t, refl)
 goal_of (About asks t) h = absurd h
 goal_of (Page asks q) h = absurd h
+goal_of (Filtered f q) h = absurd h
 
 module _ (s : Responder) (can : CanAnswer s) where
   abbrev IsDecided : List ℕ → Type 0

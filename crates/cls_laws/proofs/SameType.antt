@@ -13,7 +13,7 @@ use Rattle.cls_lexer.specs.Names.{with_text, with_texts}
 use Rattle.cls_lexer.specs.Skipped.{IsText}
 use Rattle.cls_lexer.specs.Tokens.{byte_at, token_at}
 use Rattle.cls_lexer.specs.Words.{Word, name, words_of}
-use Rattle.cls_syntax.specs.declared.role.Role.TheVariants.{Component}
+use Rattle.cls_syntax.specs.declared.role.Role.{Role}
 use Rattle.cls_syntax.specs.Depths.{most_open}
 use Rattle.cls_syntax.specs.Faults.{Says}
 use Rattle.cls_syntax.specs.Forms.{naming, constructors_named, line_words}
@@ -23,8 +23,8 @@ use Rattle.cls_syntax.proofs.ReadTypes.{AllHeld, held_by}
 use Rattle.cls_syntax.proofs.TypeBytes.{words_from, words_are}
 use Rattle.cls_proof.proofs.PlainBytes.{plain_append, plain_name, plain_utf8}
 use Rattle.cls_proof.proofs.WordCuts.{words_cut}
-use Rattle.cls_query.specs.QueryErrors.{query_types, is_large, is_outside, is_unknown, is_unknown_in_term, IsQuery, too_long, too_deep, too_many_nodes, has_variable, out_of_range, unknown_component, unknown_in_term, line_errors}
-use Rattle.cls_query.specs.declared.query.Query.TheVariants.{Sub, Paths, Typed, About, Page}
+use Rattle.cls_query.specs.QueryErrors.{query_types, is_large, is_outside, is_unknown, is_unknown_in_term, IsQuery, too_long, too_deep, too_many_nodes, has_variable, out_of_range, unknown_name, unknown_in_term, line_errors}
+use Rattle.cls_query.specs.declared.query.Query.TheVariants.{Sub, Paths, Typed, About, Page, Filtered}
 use Rattle.cls_query.specs.declared.word.GoalWord.TheVariants.{Certify, Verify}
 use Rattle.cls_query.specs.QueryForms.{goal_form}
 use Rattle.cls_query.specs.Queries.{Tables, Query, QueryText, certify, verify, query_words, query_parts, QueryStands, with_query, query_of, type_in}
@@ -145,6 +145,7 @@ module _ (tables : Tables) where
   one_of_two (About Verify t) = inr (inl (t, refl))
   one_of_two (About word t) = inr (inr (refl, refl))
   one_of_two (Page word l) = inr (inr (refl, refl))
+  one_of_two (Filtered x l) = inr (inr (refl, refl))
 
   certify_said : (goal : ClosedType) (said : QueryText) → certify goal ≡ query_of tables said → OneOfTwo said → (v : TypeText) × (said ≡ as_certify v)
   certify_said goal said e (inl p) = p
@@ -180,7 +181,7 @@ module _ (type : List ℕ) (v : TypeText) where
   of_words : (P : List Word → Type 0) → (P (name (codes "verify") ∷ words_from 0 type) → P (name (codes "certify") ∷ words_from 0 type)) → P (words_of (verifying type)) → P (words_of (certifying type))
   of_words P f h = subst P (sym (certify_words type)) (f (subst P (verify_words type) h))
 
-  module _ (old new : Tables) (same : new.components ≡ old.components) (says : FirstSays) (silent : IsSilent (First (line_errors old (certifying type)))) where
+  module _ (old new : Tables) (same : new.components ≡ old.components) (alike : new.filters ≡ old.filters) (says : FirstSays) (silent : IsSilent (First (line_errors old (certifying type)))) where
     each : EachCause IsSilent (line_errors old (certifying type))
     each = each_silent (line_errors old (certifying type)) silent
 
@@ -206,9 +207,9 @@ module _ (type : List ℕ) (v : TypeText) where
     outside : IsSilent (out_of_range (verifying type))
     outside t h = each.1.1.1.1.1.1.0 (codes "number") ((as_certify v, says, of_second (λ said. list_any is_outside (query_parts said) ≡ true) h.0), refl)
 
-    unknown : IsSilent (unknown_component (verifying type) old.components)
+    unknown : IsSilent (unknown_name (verifying type) old.components old.filters)
     unknown t h =
-        let w = of_second (λ said. (x : List ℕ) × (find (is_unknown old.components) (query_parts said) ≡ Some (naming Component x)) × (t ≡ codes "unknown " ++ x)) h in
+        let w = of_second (λ said. (role : Role) × (x : List ℕ) × (find (is_unknown old.components old.filters) (query_parts said) ≡ Some (naming role x)) × (t ≡ codes "unknown " ++ x)) h in
         each.1.1.1.1.1.1.1.0 t (as_certify v, says, w)
 
     stray : IsSilent (unknown_in_term (verifying type) old.components)
@@ -216,9 +217,12 @@ module _ (type : List ℕ) (v : TypeText) where
         let w = of_second (λ said. (place : ℕ) × (position (is_unknown_in_term old.components) (query_parts said) ≡ Some place) × (t ≡ codes "token " ++ decimal (byte_at (verifying type) place))) h in
         each.1.1.1.1.1.1.1.1.0 (codes "token " ++ decimal (byte_at (certifying type) w.0)) (as_certify v, says, (w.0, w.1, refl))
 
-    -- by the new tables too, of which components have the same names
-    unknown_new : IsSilent (unknown_component (verifying type) new.components)
-    unknown_new = subst (λ (cs : List (List ℕ)). IsSilent (unknown_component (verifying type) cs)) (sym same) unknown
+    -- by the new tables too, of which components and filters have the same names
+    unknown_there : IsSilent (unknown_name (verifying type) new.components old.filters)
+    unknown_there = subst (λ (cs : List (List ℕ)). IsSilent (unknown_name (verifying type) cs old.filters)) (sym same) unknown
+
+    unknown_new : IsSilent (unknown_name (verifying type) new.components new.filters)
+    unknown_new = subst (λ (fs : List (List ℕ)). IsSilent (unknown_name (verifying type) new.components fs)) (sym alike) unknown_there
 
     stray_new : IsSilent (unknown_in_term (verifying type) new.components)
     stray_new = subst (λ (cs : List (List ℕ)). IsSilent (unknown_in_term (verifying type) cs)) (sym same) stray
@@ -256,8 +260,11 @@ module _ (s m : Responder) (type : List ℕ) (goal : ClosedType) (asks : Asks s 
   components_stay : m.components ≡ s.components
   components_stay = ap (λ (x : Responder). x.components) asks.1
 
+  filters_stay : m.filter_names ≡ s.filter_names
+  filters_stay = ap (λ (x : Responder). x.filter_names) asks.1
+
   silent_then : IsSilent (First (line_errors (tables_in m) (verifying type)))
-  silent_then = faultless type said.0 (tables_in s) (tables_in m) components_stay says asks.0.faultless
+  silent_then = faultless type said.0 (tables_in s) (tables_in m) components_stay filters_stay says asks.0.faultless
 
   reads : ReadsQuery (tables_in m) (verifying type) (verify goal) (tables_in m)
   reads = reads_by m.names m.variables m.components m.filter_names m.names (verifying type) (verify goal) (as_verify said.0) silent_then (second_says type said.0 says)

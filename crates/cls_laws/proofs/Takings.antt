@@ -22,8 +22,8 @@ use Rattle.cls_syntax.proofs.Dollars.{no_dollar}
 use Rattle.cls_syntax.proofs.GrammarFronts.{grammar_exactly}
 use Rattle.cls_syntax.proofs.LineParts.{line_same}
 use Rattle.cls_query.proofs.FirstErrors.{each_silent}
-use Rattle.cls_repo.specs.Declarations.{template_text, AreChoices, with_names, with_pair, with_kind, with_component, with_template, with_cost, with_variance, Declares}
-use Rattle.cls_repo.specs.Directives.{Directive, sub, kind, comp, text, end, cost, variance, repository_rows, row_of, WordsSay, LineSays, is_end}
+use Rattle.cls_repo.specs.Declarations.{template_text, AreChoices, with_names, with_pair, with_kind, with_component, with_template, with_cost, with_variance, with_filter, with_filter_line, Declares}
+use Rattle.cls_repo.specs.Directives.{Directive, sub, kind, comp, text, end, cost, variance, filter, leaf, app, other, repository_rows, row_of, WordsSay, LineSays, is_end}
 use Rattle.cls_repo.specs.Drafts.{Draft}
 use Rattle.cls_repo.specs.LineFaults.{misspelled, spelling_words, kind_variable, bad_template, directive_faults, line_faults}
 use Rattle.cls_repo.specs.Readings.{Reading, Takes, skipped, declares, Refuses}
@@ -46,7 +46,11 @@ row_again (inr (inr (inr (inl v)))) = (text v.0 v.1, refl)
 row_again (inr (inr (inr (inr (inl v))))) = (end, refl)
 row_again (inr (inr (inr (inr (inr (inl v)))))) = (cost v.0 v.1.0, refl)
 row_again (inr (inr (inr (inr (inr (inr (inl v))))))) = (variance v.0 v.1.0, refl)
-row_again (inr (inr (inr (inr (inr (inr (inr v))))))) = absurd v
+row_again (inr (inr (inr (inr (inr (inr (inr (inl v)))))))) = (filter v.0 v.1.0 v.1.1, refl)
+row_again (inr (inr (inr (inr (inr (inr (inr (inr (inl v))))))))) = (leaf v.0 v.1.0 v.1.1.0, refl)
+row_again (inr (inr (inr (inr (inr (inr (inr (inr (inr (inl v)))))))))) = (app v.0 v.1.0 v.1.1.0 v.1.1.1.0, refl)
+row_again (inr (inr (inr (inr (inr (inr (inr (inr (inr (inr (inl v))))))))))) = (other v.0 v.1.0, refl)
+row_again (inr (inr (inr (inr (inr (inr (inr (inr (inr (inr (inr v))))))))))) = absurd v
 
 module _ (line : List ℕ) (spelled : IsSilent (misspelled line)) where
   abbrev ReadAs : Result (LineOf repository_rows) Stop → Type 0
@@ -106,6 +110,10 @@ module _ (d : Draft) (n : ℕ) (line : List ℕ) where
   draft_exists end says silent = surely (d, refl)
   draft_exists (cost x digits) says silent = surely (with_cost d x (number_value digits), refl)
   draft_exists (variance c word) says silent = surely (with_variance (with_names d (variance c word)) c word, refl)
+  draft_exists (filter f q qs) says silent = surely (with_filter d (filter f q qs) f, refl)
+  draft_exists (leaf f x q) says silent = surely (with_filter_line d (leaf f x q) f, refl)
+  draft_exists (app f p q r) says silent = surely (with_filter_line d (app f p q r) f, refl)
+  draft_exists (other f q) says silent = surely (with_filter_line d (other f q) f, refl)
 
 -- ONE LINE
 module _ (old : Reading) (line : List ℕ) where

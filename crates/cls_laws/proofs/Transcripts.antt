@@ -65,14 +65,15 @@ module _ (o : Options) where
 
   served : (d : Draft) (l : Library) → IsLibraryOf (declared_in d) d.kinds (schemas_in d) l → (s : Responder) × Serves o d s
   served d l is = (
-    responder_of d.names d.variables d.component_names d.kinds (map (λ c. c.template) d.components) [] (seen_as l (map (λ c. c.cost) d.components) o) [],
+    responder_of d.names d.variables d.component_names d.kinds (map (λ c. c.template) d.components) d.filter_names (map (λ f. f.automaton) d.filters) (seen_as l (map (λ c. c.cost) d.components) o) [],
     record {
       same_names = refl;
       same_variables = refl;
       same_components = refl;
       same_kinds = refl;
       templates_are = refl;
-      no_filters = refl;
+      same_filter_names = refl;
+      filters_are = refl;
       library_is = is;
       costs_are = refl;
       options_are = refl;

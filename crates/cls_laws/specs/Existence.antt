@@ -16,6 +16,9 @@ use Rattle.cls_core.specs.Laws.{Completes}
 use Rattle.cls_library.specs.Libraries.{Library, IsLibrary}
 use Rattle.cls_library.specs.Typing.{HasTypeIn}
 use Rattle.cls_expand.specs.Answers.{IsAnswer}
+use Rattle.cls_filter.specs.Automata as automata
+use Rattle.cls_filter.specs.Automata.{Automaton}
+use Rattle.cls_filter.specs.States.{IsAutomaton}
 use Rattle.cls_finite.specs.declared.answer.FiniteAnswer.{FiniteAnswer}
 use Rattle.cls_grammar.specs.GrammarTexts.{IsGrammarText}
 use Rattle.cls_proof.specs.Certificates.{Certificate}
@@ -24,7 +27,7 @@ use Rattle.cls_check.specs.declared.fault.Reason.{Reason}
 use Rattle.cls_check.specs.Checking.{Accepts, Refuses}
 use Rattle.cls_engine.specs.declared.options.Options.{Options}
 use Rattle.cls_engine.specs.Certified.{IsCertified}
-use Rattle.cls_engine.specs.Faults.{closure_faults, AreSilent}
+use Rattle.cls_engine.specs.Faults.{closure_faults, filter_faults, AreSilent}
 use Rattle.cls_engine.specs.Goals.{Goal, IsClosed}
 use Rattle.cls_engine.specs.Histories.{IsHistoryOf}
 use Rattle.cls_replies.specs.Replies.{TellsSizes}
@@ -104,12 +107,20 @@ SizesExist =
     (lib : Library) → IsLibrary lib → (o : Options) (t : ClosedType) → AreSilent (closure_faults lib o t)
     → (cost : ℕ → ℕ) → ((x : ℕ) → 0 < cost x) → IsPossible ((sizes : FiniteAnswer) × TellsSizes lib cost t sizes)
 
--- and each page that asks for a term or more, with such costs.
+-- each page that asks for a term or more, with such costs,
 abbrev pub PagesExist : Type 0
 PagesExist =
     (lib : Library) → IsLibrary lib → (o : Options) (t : ClosedType) → AreSilent (closure_faults lib o t)
     → (q : Request) → ((x : ℕ) → 0 < q.cost x) → 0 < q.take
     → IsPossible ((terms : List Applicative) × (more : Bool) × IsPage (λ e. HasTypeIn lib e t) q terms more)
+
+-- and such a page of the terms that an automaton accepts, if no fault of filtering applies either.
+abbrev pub FilteredPagesExist : Type 0
+FilteredPagesExist =
+    (lib : Library) → IsLibrary lib → (o : Options) (t : ClosedType) (a : Automaton) → IsAutomaton a → (q : Request)
+    → AreSilent (filter_faults lib o t a q) → ((x : ℕ) → 0 < q.cost x) → 0 < q.take
+    → IsPossible ((terms : List Applicative) × (more : Bool)
+    × IsPage (λ e. HasTypeIn lib e t × automata.Accepts a e) q terms more)
 
 -- OF A RUN: the text is written for the lines, and `s` answers after them.
 

@@ -1,7 +1,7 @@
 //! What there is of replies, transcripts and outputs: that there is one, and not two, as calls that do nothing and promise
 //! the law.
 ghost use Rattle.cls_laws.specs.FedBack.{CertificatesAreAccepted};
-ghost use Rattle.cls_laws.specs.Existence.{AnswersExist, HistoriesExist, ClosuresExist, GrammarTextsExist, VerdictsExist, ReadingsExist, TypesHaveClosures, AuditsExist, CertificatesExist, SizesExist, PagesExist, LinesHaveReplies, TranscriptsGoOn, OutputsExist, WhatMayStandBegins, RoomForOutputsIsEnough};
+ghost use Rattle.cls_laws.specs.Existence.{AnswersExist, HistoriesExist, ClosuresExist, GrammarTextsExist, VerdictsExist, ReadingsExist, TypesHaveClosures, AuditsExist, CertificatesExist, SizesExist, PagesExist, FilteredPagesExist, LinesHaveReplies, TranscriptsGoOn, OutputsExist, WhatMayStandBegins, RoomForOutputsIsEnough};
 ghost use Rattle.cls_laws.specs.Uniqueness.{AuditsAreNamed, RepliesAreDetermined, TranscriptsAreDetermined, OutputsAreDetermined};
 
 use cls_engine::laws::certificates_decide;
@@ -59,6 +59,11 @@ pub fn sizes_exist()
 /// Law: a type that the engine can work on has each page that asks for at least one term, if each component costs at least 1.
 pub fn pages_exist()
     ensures { PagesExist }
+{}
+
+/// Law: it has each such page of the terms that an automaton accepts, if the filtered closure isn't too large.
+pub fn filtered_pages_exist()
+    ensures { FilteredPagesExist }
 {}
 
 /// Law: after the lines of a repository each line has a reply, and so has the end of the lines.

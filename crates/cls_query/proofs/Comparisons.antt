@@ -68,7 +68,7 @@ module _ (line : List ℕ) (s t : TypeText) (spells : words_of line ≡ name (co
         all_silent tables line (text_silent line text)
         (form_silent line (compares s t) (subst (λ (ws : List Word). most_open 0 0 ws ≤ max_type_depth) (sym spells) (flat s t flat_lower flat_upper)) says)
         (types_silent line (compares s t) says (λ i. short_is_small s short_lower i || (short_is_small t short_upper i || false)) (place_none is_dollar (words_of line) (closed closed_lower closed_upper)))
-        (values_silent line (compares s t) says tables.components (comparison_inside s t) (comparison_known tables.components s t) (comparison_in_term tables.components s t))
+        (values_silent line (compares s t) says tables.components tables.filters (comparison_inside s t) (comparison_known tables.components tables.filters s t) (comparison_in_term tables.components s t))
 
 -- the table and the query, where both types are built
 module _ (old : List (List ℕ)) (ls ks : List Token) (new : List (List ℕ)) (lower upper : ClosedType)

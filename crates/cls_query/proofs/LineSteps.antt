@@ -9,7 +9,7 @@ use Rattle.cls_base.specs.Limits.{max_line_bytes, max_type_depth}
 use Rattle.cls_lexer.specs.Skipped.{IsText}
 use Rattle.cls_lexer.specs.Tokens.{byte_at, tokens_of}
 use Rattle.cls_lexer.specs.Words.{Word, words_of}
-use Rattle.cls_syntax.specs.declared.role.Role.TheVariants.{Component}
+use Rattle.cls_syntax.specs.declared.role.Role.{Role}
 use Rattle.cls_syntax.specs.Depths.{most_open}
 use Rattle.cls_syntax.specs.Faults.{Says, stop}
 use Rattle.cls_syntax.specs.Forms.{naming}
@@ -20,7 +20,7 @@ use Rattle.cls_syntax.proofs.TypeFaults.{stops_at}
 use Rattle.std.specs.Prelude.{Err}
 use Rattle.cls_query.specs.QueryReading.{query_read}
 use Rattle.cls_query.specs.Queries.{QueryText, Tables, query_words, query_parts, QueryStands}
-use Rattle.cls_query.specs.QueryErrors.{query_types, is_large, is_outside, is_unknown, is_unknown_in_term, place_words, too_deep, too_many_nodes, has_variable, out_of_range, unknown_component, unknown_in_term, line_errors}
+use Rattle.cls_query.specs.QueryErrors.{query_types, is_large, is_outside, is_unknown, is_unknown_in_term, place_words, too_deep, too_many_nodes, has_variable, out_of_range, unknown_name, unknown_in_term, line_errors}
 use Rattle.cls_query.specs.Steps.{text_errors, spelling_errors, type_errors, value_errors}
 use Rattle.cls_query.proofs.FirstErrors.{first_front, first_later, silent_both}
 use Rattle.cls_query.proofs.Searches.{nothing_found}
@@ -29,7 +29,7 @@ use Rattle.cls_query.proofs.QueryLines.{holds_of, stays_silent, stop_leaves}
 -- THE STEPS
 module _ (tables : Tables) (line : List ℕ) where
   abbrev of_values : List (Cause (List ℕ))
-  of_values = value_errors line tables.components
+  of_values = value_errors line tables.components tables.filters
 
   abbrev of_types : List (Cause (List ℕ))
   of_types = type_errors line ++ of_values
@@ -45,11 +45,11 @@ module _ (tables : Tables) (line : List ℕ) where
   by_types n m None h = h
   by_types n m (Some w) h = first_later (text_errors line) of_spelling w n (first_later (spelling_errors line) of_types w m (first_front (type_errors line) of_values w h))
 
-  pub by_values : IsSilent (First (text_errors line)) → IsSilent (First (spelling_errors line)) → IsSilent (First (type_errors line)) → (o : Option (List ℕ)) → IfSome o (λ w. First (value_errors line tables.components) w) → IfSome o (λ w. First (line_errors tables line) w)
+  pub by_values : IsSilent (First (text_errors line)) → IsSilent (First (spelling_errors line)) → IsSilent (First (type_errors line)) → (o : Option (List ℕ)) → IfSome o (λ w. First (value_errors line tables.components tables.filters) w) → IfSome o (λ w. First (line_errors tables line) w)
   by_values n m k None h = h
   by_values n m k (Some w) h = first_later (text_errors line) of_spelling w n (first_later (spelling_errors line) of_types w m (first_later (type_errors line) of_values w k h))
 
-  pub all_silent : IsSilent (First (text_errors line)) → IsSilent (First (spelling_errors line)) → IsSilent (First (type_errors line)) → IsSilent (First (value_errors line tables.components)) → IsSilent (First (line_errors tables line))
+  pub all_silent : IsSilent (First (text_errors line)) → IsSilent (First (spelling_errors line)) → IsSilent (First (type_errors line)) → IsSilent (First (value_errors line tables.components tables.filters)) → IsSilent (First (line_errors tables line))
   all_silent n m k v = silent_both (text_errors line) of_spelling n (silent_both (spelling_errors line) of_types m (silent_both (type_errors line) of_values k v))
 
 -- THE TEXT
@@ -105,23 +105,23 @@ module _ (line : List ℕ) (said : QueryText) (says : Says query_words QueryStan
     | inr a ↦ elim a.1 [ inl b ↦ no_variable p t b | inr b ↦ b.1 ]
   ]
 
-  module _ (components : List (List ℕ)) where
-    pub range_said : list_any is_outside (query_parts said) ≡ true → First (value_errors line components) (codes "number")
+  module _ (components filters : List (List ℕ)) where
+    pub range_said : list_any is_outside (query_parts said) ≡ true → First (value_errors line components filters) (codes "number")
     range_said e = inl ((said, says, e), refl)
 
     in_range : list_any is_outside (query_parts said) ≡ false → IsSilent (out_of_range line)
     in_range e t h = true≢false (sym (holds_of line said says (λ v. list_any is_outside (query_parts v) ≡ true) h.0) ∙ e)
 
-    pub unknown_said : list_any is_outside (query_parts said) ≡ false → (x : List ℕ) → find (is_unknown components) (query_parts said) ≡ Some (naming Component x) → First (value_errors line components) (codes "unknown " ++ x)
-    unknown_said e x f = inr (in_range e, inl (said, says, (x, f, refl)))
+    pub unknown_said : list_any is_outside (query_parts said) ≡ false → (role : Role) (x : List ℕ) → find (is_unknown components filters) (query_parts said) ≡ Some (naming role x) → First (value_errors line components filters) (codes "unknown " ++ x)
+    unknown_said e role x f = inr (in_range e, inl (said, says, (role, x, f, refl)))
 
-    known : find (is_unknown components) (query_parts said) ≡ None → IsSilent (unknown_component line components)
+    known : find (is_unknown components filters) (query_parts said) ≡ None → IsSilent (unknown_name line components filters)
     known f t h =
-        let q = holds_of line said says (λ v. (x : List ℕ) × (find (is_unknown components) (query_parts v) ≡ Some (naming Component x)) × (t ≡ codes "unknown " ++ x)) h in
-        nothing_found (naming Component q.0) (sym f ∙ q.1)
+        let q = holds_of line said says (λ v. (role : Role) × (x : List ℕ) × (find (is_unknown components filters) (query_parts v) ≡ Some (naming role x)) × (t ≡ codes "unknown " ++ x)) h in
+        nothing_found (naming q.0 q.1) (sym f ∙ q.2)
 
-    pub term_said : list_any is_outside (query_parts said) ≡ false → find (is_unknown components) (query_parts said) ≡ None → (place : ℕ)
-        → position (is_unknown_in_term components) (query_parts said) ≡ Some place → First (value_errors line components) (codes "token " ++ decimal (byte_at line place))
+    pub term_said : list_any is_outside (query_parts said) ≡ false → find (is_unknown components filters) (query_parts said) ≡ None → (place : ℕ)
+        → position (is_unknown_in_term components) (query_parts said) ≡ Some place → First (value_errors line components filters) (codes "token " ++ decimal (byte_at line place))
     term_said e f place p = inr (in_range e, inr (known f, inl (said, says, (place, p, refl))))
 
     known_in_term : position (is_unknown_in_term components) (query_parts said) ≡ None → IsSilent (unknown_in_term line components)
@@ -129,8 +129,8 @@ module _ (line : List ℕ) (said : QueryText) (says : Says query_words QueryStan
         let q = holds_of line said says (λ v. (place : ℕ) × (position (is_unknown_in_term components) (query_parts v) ≡ Some place) × (t ≡ codes "token " ++ decimal (byte_at line place))) h in
         nothing_found q.0 (sym p ∙ q.1)
 
-    pub values_silent : list_any is_outside (query_parts said) ≡ false → find (is_unknown components) (query_parts said) ≡ None
-        → position (is_unknown_in_term components) (query_parts said) ≡ None → IsSilent (First (value_errors line components))
+    pub values_silent : list_any is_outside (query_parts said) ≡ false → find (is_unknown components filters) (query_parts said) ≡ None
+        → position (is_unknown_in_term components) (query_parts said) ≡ None → IsSilent (First (value_errors line components filters))
     values_silent e f p t h = elim h [
       | inl a ↦ in_range e t a
       | inr a ↦ elim a.1 [ inl b ↦ known f t b | inr b ↦ elim b.1 [ inl d ↦ known_in_term p t d | inr d ↦ d.1 ] ]

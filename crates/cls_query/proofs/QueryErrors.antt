@@ -11,7 +11,8 @@ use Rattle.cls_base.specs.Limits.{max_line_bytes, max_type_depth}
 use Rattle.cls_base.proofs.Firsts.{first-determined, first-decided}
 use Rattle.cls_lexer.specs.Tokens.{byte_at, tokens_of}
 use Rattle.cls_lexer.specs.Words.{words_of}
-use Rattle.cls_syntax.specs.declared.role.Role.TheVariants.{Component}
+use Rattle.cls_syntax.specs.declared.role.Role.{Role}
+use Rattle.cls_syntax.specs.declared.role.Role.TheVariants.{Component, Filter}
 use Rattle.cls_syntax.specs.Depths.{most_open}
 use Rattle.cls_syntax.specs.Faults.{stop, Says}
 use Rattle.cls_syntax.specs.Forms.{Part, fixed, naming, numeral}
@@ -22,7 +23,7 @@ use Rattle.cls_syntax.proofs.TypeFaults.{stops_at}
 use Rattle.cls_syntax.proofs.OnePlace.{one_byte}
 use Rattle.cls_query.specs.QueryReading.{query_read}
 use Rattle.cls_query.specs.Queries.{Tables, Query, QueryText, query_words, query_parts, QueryStands, with_query, query_of}
-use Rattle.cls_query.specs.QueryErrors.{query_types, is_large, is_outside, is_unknown, is_unknown_in_term, place_words, IsQuery, too_long, not_utf8, too_deep, leaves_table, too_many_nodes, has_variable, out_of_range, unknown_component, unknown_in_term, line_errors}
+use Rattle.cls_query.specs.QueryErrors.{query_types, is_large, is_outside, is_unknown, is_unknown_in_term, place_words, IsQuery, too_long, not_utf8, too_deep, leaves_table, too_many_nodes, has_variable, out_of_range, unknown_name, unknown_in_term, line_errors}
 use Rattle.cls_query.specs.ReadQueries.{ReadsQuery}
 use Rattle.cls_query.specs.Laws.{ErrorsAreDetermined, LinesAreReadOnce, LinesAreDecided}
 use Rattle.cls_query.proofs.FirstErrors.{fourth_silent}
@@ -50,10 +51,10 @@ module _ (tables : Tables) (line : List ℕ) where
   variable_one : IsDetermined (has_variable line)
   variable_one t u p q = p.2 ∙ (ap (λ n. codes "variable " ++ decimal (byte_at line n)) (ap (some_or 0) (sym p.1 ∙ q.1)) ∙ sym q.2)
 
-  unknown_one : IsDetermined (unknown_component line tables.components)
+  unknown_one : IsDetermined (unknown_name line tables.components tables.filters)
   unknown_one t u p q =
-      let r = holds_of line p.0 p.1 (λ v. (x : List ℕ) × (find (is_unknown tables.components) (query_parts v) ≡ Some (naming Component x)) × (u ≡ codes "unknown " ++ x)) q in
-      p.2.2 ∙ (ap (λ (x : List ℕ). codes "unknown " ++ x) (ap text_in (sym p.2.1 ∙ r.1)) ∙ sym r.2)
+      let r = holds_of line p.0 p.1 (λ v. (role : Role) × (x : List ℕ) × (find (is_unknown tables.components tables.filters) (query_parts v) ≡ Some (naming role x)) × (u ≡ codes "unknown " ++ x)) q in
+      p.2.3 ∙ (ap (λ (x : List ℕ). codes "unknown " ++ x) (ap text_in (sym p.2.2 ∙ r.2)) ∙ sym r.3)
 
   term_one : IsDetermined (unknown_in_term line tables.components)
   term_one t u p q =
@@ -169,20 +170,21 @@ module _ (tables : Tables) (line : List ℕ) where
   ]) refl
 
   abbrev says_unknown : QueryText → Cause (List ℕ)
-  says_unknown v t = (x : List ℕ) × (find (is_unknown tables.components) (query_parts v) ≡ Some (naming Component x)) × (t ≡ codes "unknown " ++ x)
+  says_unknown v t = (role : Role) × (x : List ℕ) × (find (is_unknown tables.components tables.filters) (query_parts v) ≡ Some (naming role x)) × (t ≡ codes "unknown " ++ x)
 
-  named : (p : Part) → is_unknown tables.components p ≡ true → (x : List ℕ) × (p ≡ naming Component x)
+  named : (p : Part) → is_unknown tables.components tables.filters p ≡ true → (role : Role) × (x : List ℕ) × (p ≡ naming role x)
   named (fixed w) h = absurd (true≢false (sym h))
-  named (naming Component x) h = (x, refl)
+  named (naming Component x) h = (Component, x, refl)
+  named (naming Filter x) h = (Filter, x, refl)
   named (naming _ x) h = absurd (true≢false (sym h))
   named (numeral l g d) h = absurd (true≢false (sym h))
 
   unknown_of : (v : QueryText) → IsDecided (says_unknown v)
-  unknown_of v = (elim (find (is_unknown tables.components) (query_parts v)) as (λ o. find (is_unknown tables.components) (query_parts v) ≡ o → IsDecided (says_unknown v)) [
-    | None ↦ λ e. inr (λ t h. nothing_found (naming Component h.0) (sym e ∙ h.1))
+  unknown_of v = (elim (find (is_unknown tables.components tables.filters) (query_parts v)) as (λ o. find (is_unknown tables.components tables.filters) (query_parts v) ≡ o → IsDecided (says_unknown v)) [
+    | None ↦ λ e. inr (λ t h. nothing_found (naming h.0 h.1) (sym e ∙ h.2))
     | Some p ↦ λ e.
-        let is = named p (find_passes (is_unknown tables.components) (query_parts v) p e) in
-        inl (codes "unknown " ++ is.0, (is.0, e ∙ ap (λ (q : Part). Some q) is.1, refl))
+        let is = named p (find_passes (is_unknown tables.components tables.filters) (query_parts v) p e) in
+        inl (codes "unknown " ++ is.1, (is.0, is.1, e ∙ ap (λ (q : Part). Some q) is.2, refl))
   ]) refl
 
   abbrev says_in_term : QueryText → Cause (List ℕ)
@@ -227,7 +229,7 @@ module _ (tables : Tables) (line : List ℕ) where
   -- nothing is said of where the line leaves the table
   place_silent : IsSilent (First (line_errors tables line)) → IsSilent (leaves_table line)
   place_silent n = fourth_silent (too_long line) (not_utf8 line) (too_deep line) (leaves_table line)
-      (too_many_nodes line ∷ has_variable line ∷ out_of_range line ∷ unknown_component line tables.components ∷ unknown_in_term line tables.components ∷ []) n
+      (too_many_nodes line ∷ has_variable line ∷ out_of_range line ∷ unknown_name line tables.components tables.filters ∷ unknown_in_term line tables.components ∷ []) n
 
   -- a line of which nothing is said is a query
   silent_query : IsSilent (First (line_errors tables line)) → IsSomeQuery line

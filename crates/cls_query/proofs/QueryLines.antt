@@ -13,7 +13,7 @@ use Rattle.cls_syntax.specs.TermTexts.{TermText}
 use Rattle.cls_syntax.proofs.ItemFronts.{item_ok}
 use Rattle.cls_syntax.proofs.LineParts.{line_exactly, line_reads}
 use Rattle.cls_syntax.proofs.OnePlace.{line_stays}
-use Rattle.cls_query.specs.declared.query.Query.TheVariants.{Sub, Paths, Typed, About, Page}
+use Rattle.cls_query.specs.declared.query.Query.TheVariants.{Sub, Paths, Typed, About, Page, Filtered}
 use Rattle.cls_query.specs.declared.word.GoalWord.{GoalWord}
 use Rattle.cls_query.specs.declared.word.GoalWord.TheVariants.{Inhabit}
 use Rattle.cls_query.specs.declared.word.ListingWord.{ListingWord}
@@ -32,6 +32,7 @@ again : (w : QueryWord) (ws : List Word) → query_front (name (word_text w) ∷
 again word.Sub ws = refl
 again word.Paths ws = refl
 again word.Typed ws = refl
+again word.Filtered ws = refl
 again (word.About Inhabit) ws = refl
 again (word.About w) ws = refl
 again (word.Page listing.List) ws = refl
@@ -60,8 +61,11 @@ module _ {W : Type 0} (text : W → List ℕ) where
   found [] ws p h = absurd (nothing_found p h)
   found (w ∷ all) ws p h = step w ws (front_in text all ws) p (λ k. found all ws p k) h
 
+abbrev behind_filtered : List Word → Option (QueryWord × List Word)
+behind_filtered ws = either_front (goal_front ws) (listing_front ws)
+
 abbrev behind_typed : List Word → Option (QueryWord × List Word)
-behind_typed ws = either_front (goal_front ws) (listing_front ws)
+behind_typed ws = or_later word.Filtered (item_front (the_word (word_text word.Filtered)) ws) (behind_filtered ws)
 
 abbrev behind_paths : List Word → Option (QueryWord × List Word)
 behind_paths ws = or_later word.Typed (item_front (the_word (word_text word.Typed)) ws) (behind_typed ws)
@@ -80,7 +84,8 @@ front_is ws p h =
     step word_text word.Sub ws (behind_sub ws) p (λ k.
     step word_text word.Paths ws (behind_paths ws) p (λ m.
     step word_text word.Typed ws (behind_typed ws) p (λ n.
-    either ws (goal_front ws) (listing_front ws) p refl refl n) m) k) h
+    step word_text word.Filtered ws (behind_filtered ws) p (λ j.
+    either ws (goal_front ws) (listing_front ws) p refl refl j) n) m) k) h
 
 -- no word is in front of which one of a query would be found
 another : (w : QueryWord) (ws : List Word) → query_front (name (word_text w) ∷ ws) ≡ None → ⊥
@@ -96,6 +101,7 @@ form_good : (w : QueryWord) → IsGood (form_of w)
 form_good word.Sub = search rules
 form_good word.Paths = search rules
 form_good word.Typed = search rules
+form_good word.Filtered = search rules
 form_good (word.About w) = search rules
 form_good (word.Page w) = search rules
 
@@ -112,6 +118,7 @@ words_at : (w : QueryWord) (v : Values (form_of w)) → query_words (query_at w 
 words_at word.Sub v = refl
 words_at word.Paths v = refl
 words_at word.Typed v = refl
+words_at word.Filtered v = ap (λ (o : Option (TermText × Unit {0})). name (codes "filtered") ∷ name v.0 ∷ line_words listing_form (v.1.0, (v.1.1.0, (v.1.1.1.0, o)))) (with_end v.1.1.1.1)
 words_at (word.About w) v = refl
 words_at (word.Page w) v = ap (λ (o : Option (TermText × Unit {0})). name (listing_word_text w) ∷ line_words listing_form (v.0, (v.1.0, (v.1.1.0, o)))) (with_end v.1.1.1)
 
@@ -119,6 +126,7 @@ stands_at : (w : QueryWord) (v : Values (form_of w)) → LineStands (form_of w) 
 stands_at word.Sub v s = s
 stands_at word.Paths v s = s
 stands_at word.Typed v s = s
+stands_at word.Filtered v s = (s.0, subst (λ (o : Option (TermText × Unit {0})). LineStands listing_form (v.1.0, (v.1.1.0, (v.1.1.1.0, o)))) (sym (with_end v.1.1.1.1)) s.1)
 stands_at (word.About w) v s = s
 stands_at (word.Page w) v s = subst (λ (o : Option (TermText × Unit {0})). LineStands listing_form (v.0, (v.1.0, (v.1.1.0, o)))) (sym (with_end v.1.1.1)) s
 
@@ -129,6 +137,9 @@ said_again (Typed e t) = refl
 said_again (About w t) = refl
 said_again (Page w l) =
     let after : Option TermText → QueryText = λ o. Page w (record { goal = l.goal; max = l.max; take = l.take; after = o }) in
+    ap after (without_end l.after)
+said_again (Filtered x l) =
+    let after : Option TermText → QueryText = λ o. Filtered x (record { goal = l.goal; max = l.max; take = l.take; after = o }) in
     ap after (without_end l.after)
 
 -- THE LINE

@@ -16,6 +16,7 @@ use Rattle.cls_lexer.specs.Names.{number_of}
 use Rattle.cls_lexer.specs.Tokens.{token_at, located_at, tokens_from, tokens_of}
 use Rattle.cls_lexer.specs.Words.{Word, said, words_of, sign}
 use Rattle.cls_lexer.specs.declared.token.TokenKind.TheVariants.{Close, Comma}
+use Rattle.cls_syntax.specs.declared.role.Role.TheVariants.{Component, Filter}
 use Rattle.cls_syntax.specs.Faults.{Says}
 use Rattle.cls_syntax.specs.Forms.{part_word}
 use Rattle.cls_syntax.specs.TermTexts.{TermText, TermList, named, applied, last, more, term_words, terms_words}
@@ -24,10 +25,11 @@ use Rattle.cls_term.specs.TermReadings.{term_of, terms_of}
 use Rattle.cls_term.specs.TokenFaults as faults
 use Rattle.cls_term.specs.Weights.{length_of-spine}
 use Rattle.cls_term.proofs.TermFaults.{all_known}
-use Rattle.cls_query.specs.declared.query.Query.TheVariants.{Sub, Paths, Typed, About, Page}
+use Rattle.cls_query.specs.declared.query.Query.TheVariants.{Sub, Paths, Typed, About, Page, Filtered}
 use Rattle.cls_query.specs.declared.word.GoalWord.TheVariants.{Verify}
 use Rattle.cls_query.specs.declared.word.ListingWord.{ListingWord}
 use Rattle.cls_query.specs.declared.word.ListingWord.TheVariants as listing
+use Rattle.cls_query.specs.FormAnswers.{AreInRange}
 use Rattle.cls_query.specs.Queries.{ListingText, Tables, Query, QueryText, query_words, query_parts, QueryStands, tables_of, listing_of, query_of, with_query, term_in}
 use Rattle.cls_query.specs.QueryErrors.{is_outside, is_absent, is_unknown_in_term, line_errors}
 use Rattle.cls_query.specs.Readable.{IsPageAsked, IsReadable, IsVerify, begins_with}
@@ -35,7 +37,7 @@ use Rattle.cls_query.specs.ReadQueries.{ReadsQuery}
 use Rattle.cls_query.specs.Steps.{value_errors}
 use Rattle.cls_query.proofs.CodeForms.{both_within}
 use Rattle.cls_query.proofs.FirstErrors.{each_silent}
-use Rattle.cls_query.proofs.FormParts.{page_outside, paths_unknown, typing_in_term, cursor_in_term, cursor_within}
+use Rattle.cls_query.proofs.FormParts.{page_outside, paths_unknown, typing_in_term, cursor_in_term, cursor_within, filtered_outside, filtered_unknown, filtered_in_term, filtered_within}
 use Rattle.cls_query.proofs.RowParts.{words_of_parts}
 use Rattle.cls_query.proofs.Searches.{neither, behind}
 
@@ -131,7 +133,7 @@ module _ (tables : Tables) (line : List ℕ) (silent : IsSilent (First (line_err
   each = each_silent (line_errors tables line) silent
 
   -- no error of the values is said, each of which comes after six others
-  of_values : EachCause IsSilent (value_errors line tables.components)
+  of_values : EachCause IsSilent (value_errors line tables.components tables.filters)
   of_values = each.1.1.1.1.1.1
 
   short : length line ≤ max_line_bytes
@@ -144,7 +146,10 @@ module _ (tables : Tables) (line : List ℕ) (silent : IsSilent (First (line_err
   in_range q says = false_from_ne_true _ (λ e. of_values.0 (codes "number") ((q, says, e), refl))
 
   named_known : (x : List ℕ) → IsLine (Paths x) → is_absent tables.components x ≡ false
-  named_known x says = false_from_ne_true _ (λ e. of_values.1.0 _ (Paths x, says, (x, paths_unknown tables.components x e, refl)))
+  named_known x says = false_from_ne_true _ (λ e. of_values.1.0 _ (Paths x, says, (Component, x, paths_unknown tables.components tables.filters x e, refl)))
+
+  filter_known : (x : List ℕ) (l : ListingText) → IsLine (Filtered x l) → is_absent tables.filters x ≡ false
+  filter_known x l says = false_from_ne_true _ (λ e. of_values.1.0 _ (Filtered x l, says, (Filter, x, filtered_unknown tables.components tables.filters x l e, refl)))
 
   none_stray : (q : QueryText) → IsLine q → (place : ℕ) → position (is_unknown_in_term tables.components) (query_parts q) ≡ Some place → ⊥
   none_stray q says place e = of_values.1.1.0 _ (q, says, (place, e, refl))
@@ -166,34 +171,46 @@ module _ (tables : Tables) (line : List ℕ) (silent : IsSilent (First (line_err
   typed_readable : (e : TermText) (t : TypeText) → IsLine (Typed e t) → IsTermOver n (term_in tables.components e)
   typed_readable e t says = term_readable e (unplaced 1 _ _ (typing_in_term tables.components e t) (none_stray (Typed e t) says))
 
-  module _ (word : ListingWord) (l : ListingText) (says : IsLine (Page word l)) where
+  -- a listing, by the parts of its line
+  module _ (q : QueryText) (l : ListingText) (says : IsLine q)
+      (placed : (e : TermText) → l.after ≡ Some e → position (is_unknown_in_term tables.components) (query_parts q) ≡ behind (length (query_parts q) - length (term_words e)) (position (faults.is_unknown tables.components) (term_words e)))
+      (within : (e : TermText) → l.after ≡ Some e → length (term_words e) ≤ length (query_parts q))
+      (range : AreInRange l.max l.take) where
     cursor_readable : (e : TermText) → l.after ≡ Some e → IsTermOver n (term_in tables.components e) × (length_of (term_in tables.components e) < 2 ^ 32)
     cursor_readable e is =
-        let placed = cursor_in_term tables.components word l e is (length (query_parts (Page word l))) refl in
-        let within = cursor_within tables.components word l e is (length (query_parts (Page word l))) refl in
-        let parts = few_parts (Page word l) says in
+        let fits = within e is in
+        let parts = few_parts q says in
         let long = term_short (number_of tables.components) e in
-        (term_readable e (unplaced _ _ _ placed (none_stray (Page word l) says)), omega (arith, within, parts, long, short))
+        (term_readable e (unplaced _ _ _ (placed e is) (none_stray q says)), omega (arith, fits, parts, long, short))
 
     after_readable : (o : Option TermText) → l.after ≡ o → IfSome (option_map (term_in tables.components) o) (λ e. IsTermOver n e × (length_of e < 2 ^ 32))
     after_readable None is = tt
     after_readable (Some e) is = cursor_readable e is
 
-    page_readable : (constructors variables filters : List (List ℕ)) → IsPageAsked n (listing_of (tables_of constructors variables tables.components filters) l)
-    page_readable constructors variables filters =
-        let range = both_within l.max l.take (sym (page_outside word l) ∙ in_range (Page word l) says) in
-        record {
-          max = range.0.1;
-          some = range.1.0;
-          cursor = after_readable l.after refl;
-        }
+    listing_readable : (constructors variables filters : List (List ℕ)) → IsPageAsked n (listing_of (tables_of constructors variables tables.components filters) l)
+    listing_readable constructors variables filters = record {
+      max = range.0.1;
+      some = range.1.0;
+      cursor = after_readable l.after refl;
+    }
 
-  query_readable_in : (constructors variables filters : List (List ℕ)) (q : QueryText) → IsLine q → IsReadable n (query_of (tables_of constructors variables tables.components filters) q)
-  query_readable_in constructors variables filters (Sub s t) says = tt
-  query_readable_in constructors variables filters (Paths x) says = held_below tables.components x (named_known x says)
-  query_readable_in constructors variables filters (Typed e t) says = typed_readable e t says
-  query_readable_in constructors variables filters (About word t) says = tt
-  query_readable_in constructors variables filters (Page word l) says = page_readable word l says constructors variables filters
+  page_readable : (word : ListingWord) (l : ListingText) → IsLine (Page word l) → (constructors variables filters : List (List ℕ)) → IsPageAsked n (listing_of (tables_of constructors variables tables.components filters) l)
+  page_readable word l says =
+      listing_readable (Page word l) l says (λ e is. cursor_in_term tables.components word l e is (length (query_parts (Page word l))) refl) (λ e is. cursor_within tables.components word l e is (length (query_parts (Page word l))) refl)
+      (both_within l.max l.take (sym (page_outside word l) ∙ in_range (Page word l) says))
+
+  filtered_readable : (x : List ℕ) (l : ListingText) → IsLine (Filtered x l) → (constructors variables filters : List (List ℕ)) → IsPageAsked n (listing_of (tables_of constructors variables tables.components filters) l)
+  filtered_readable x l says =
+      listing_readable (Filtered x l) l says (λ e is. filtered_in_term tables.components x l e is (length (query_parts (Filtered x l))) refl) (λ e is. filtered_within tables.components x l e is (length (query_parts (Filtered x l))) refl)
+      (both_within l.max l.take (sym (filtered_outside x l) ∙ in_range (Filtered x l) says))
+
+  query_readable_in : (constructors variables : List (List ℕ)) (q : QueryText) → IsLine q → IsReadable n (length tables.filters) (query_of (tables_of constructors variables tables.components tables.filters) q)
+  query_readable_in constructors variables (Sub s t) says = tt
+  query_readable_in constructors variables (Paths x) says = held_below tables.components x (named_known x says)
+  query_readable_in constructors variables (Typed e t) says = typed_readable e t says
+  query_readable_in constructors variables (About word t) says = tt
+  query_readable_in constructors variables (Page word l) says = page_readable word l says constructors variables tables.filters
+  query_readable_in constructors variables (Filtered x l) says = (held_below tables.filters x (filter_known x l says), filtered_readable x l says constructors variables tables.filters)
 
 never : {A : Type 0} → (A → ⊥) → A ↔ (false ≡ true)
 never none = ((λ a. absurd (none a)), (λ h. absurd (true≢false (sym h))))
@@ -207,13 +224,14 @@ verify_begins tables (About Verify t) = ((λ a. refl), (λ h. tt))
 verify_begins tables (About word t) = never (λ a. a)
 verify_begins tables (Page listing.List l) = never (λ a. a)
 verify_begins tables (Page word l) = never (λ a. a)
+verify_begins tables (Filtered x l) = never (λ a. a)
 
 -- THE QUERY
 module _ {tables : Tables} {line : List ℕ} {query : Query} {after : Tables} (r : ReadsQuery tables line query after) where
-  pub query_readable : IsReadable (length tables.components) query
+  pub query_readable : IsReadable (length tables.components) (length tables.filters) query
   query_readable =
       let new = with_query tables r.said in
-      subst (IsReadable (length tables.components)) (sym r.asked) (query_readable_in tables line r.faultless new.constructors new.variables new.filters r.said r.spelled)
+      subst (IsReadable (length tables.components) (length tables.filters)) (sym r.asked) (query_readable_in tables line r.faultless new.constructors new.variables r.said r.spelled)
 
   pub query_verify : IsVerify query ↔ (begins_with (codes "verify") (words_of line) ≡ true)
   query_verify =

@@ -1,6 +1,6 @@
 -- Searches along lists.
 use Rattle.std.proofs.Common.{suc, ◌≡◌, ℕ, ◌+◌, ◌<◌, ◌≤◌, Bool, true, false, cond, not, List, [], ◌∷◌, ◌++◌, length, refl, ap, sym, ◌∙◌, arith, inl, inr}
-use Rattle.std.specs.Prelude.{Option, Some, None, is_some, nat_lt, find, position, ◌||◌}
+use Rattle.std.specs.Prelude.{Option, Some, None, MatchOption, is_some, nat_lt, find, position, ◌||◌}
 use Rattle.std.specs.List.{list_any, position_or_len, AllByRecursion}
 use Rattle.std.specs.Option.{option_map}
 use Rattle.std.proofs.lemmas.Bool.{cases_lt, lt-ltb, le-ltb, ltb-true, true≢false}
@@ -124,6 +124,15 @@ module _ {X : Type 0} (P : X → Type 0) where
   pub all_last : (xs ys : List X) → AllByRecursion P (xs ++ ys) → AllByRecursion P ys
   all_last [] ys a = a
   all_last (x ∷ xs) ys a = all_last xs ys a.1
+
+-- of what is never something the first fact holds
+pub match_none : {X : Type 0} (A : Type 0) (P : X → Type 0) (o : Option X) → ((x : X) → o ≡ Some x → ⊥) → MatchOption o A P → A
+match_none A P None n h = h
+match_none A P (Some x) n h = absurd (n x refl)
+
+pub match_weaker : {X A B : Type 0} {P Q : X → Type 0} (o : Option X) → (A → B) → ((x : X) → P x → Q x) → MatchOption o A P → MatchOption o B Q
+match_weaker None f g h = f h
+match_weaker (Some x) f g h = g x h
 
 -- what is never something is nothing
 pub never_some : {A B : Type 0} (f : A → B) (o : Option A) → ((x : A) → o ≡ Some x → ⊥) → option_map f o ≡ None

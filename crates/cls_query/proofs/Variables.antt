@@ -20,13 +20,13 @@ use Rattle.cls_syntax.specs.TypeSchemas.{is_dollar, name_text, variables_in}
 use Rattle.cls_syntax.specs.TypeTexts.{TypeText, type_words}
 use Rattle.cls_syntax.proofs.Dollars.{no_dollar}
 use Rattle.cls_syntax.proofs.PartNames.{type_variables}
-use Rattle.cls_query.specs.declared.query.Query.TheVariants.{Sub, Paths, Typed, About, Page}
+use Rattle.cls_query.specs.declared.query.Query.TheVariants.{Sub, Paths, Typed, About, Page, Filtered}
 use Rattle.cls_query.specs.Queries.{Query, QueryText, Tables, tables_of, with_names, with_variables, with_query, query_of, query_words, query_parts, QueryStands}
 use Rattle.cls_query.specs.QueryErrors.{query_types, line_errors}
 use Rattle.cls_query.specs.ReadQueries.{ReadsQuery}
 use Rattle.cls_query.proofs.ClosedTypes.{closed_query}
 use Rattle.cls_query.proofs.FirstErrors.{each_silent}
-use Rattle.cls_query.proofs.FormParts.{cursor_parts, split_page}
+use Rattle.cls_query.proofs.FormParts.{cursor_parts, split_page, split_filtered}
 use Rattle.cls_query.proofs.RowParts.{number_parts}
 
 -- words without a `$` name no variable
@@ -84,6 +84,10 @@ query_unnamed (Typed e t) closed = none_joined (term_parts e) (sign Colon) (type
 query_unnamed (About asks t) closed = last_unnamed t closed.0
 query_unnamed (Page asks l) closed =
     ap variables_named (split_page asks l)
+    ∙ (variables_join (type_parts l.goal) (number_parts l.max l.take ++ cursor_parts l.after)
+    ∙ (λ i. type_unnamed l.goal closed.0 i ++ cursor_unnamed l.after i))
+query_unnamed (Filtered x l) closed =
+    ap variables_named (split_filtered x l)
     ∙ (variables_join (type_parts l.goal) (number_parts l.max l.take ++ cursor_parts l.after)
     ∙ (λ i. type_unnamed l.goal closed.0 i ++ cursor_unnamed l.after i))
 

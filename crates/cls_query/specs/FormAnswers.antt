@@ -14,7 +14,7 @@ use Rattle.cls_syntax.specs.TermTexts.{term_words}
 use Rattle.cls_term.specs.TokenFaults as faults
 use Rattle.cls_query.specs.declared.query.Listing as listings
 use Rattle.cls_query.specs.declared.query.Query as queries
-use Rattle.cls_query.specs.declared.query.Query.TheVariants.{Typed, Page}
+use Rattle.cls_query.specs.declared.query.Query.TheVariants.{Typed, Page, Filtered}
 use Rattle.cls_query.specs.Queries.{ListingText, QueryText, map_query, term_in}
 
 abbrev pub SpelledListing : Type 0
@@ -32,7 +32,8 @@ listing_text l = record {
 }
 
 abbrev pub query_text : SpelledQuery → QueryText
-query_text q = map_query type_text (λ (x : Bor (List ℕ)). x.now) term_text type_text listing_text q
+query_text q =
+    map_query type_text (λ (x : Bor (List ℕ)). x.now) (λ (x : Bor (List ℕ)). x.now) term_text type_text listing_text q
 
 -- The number is within the range of a form that allows it up to the greatest one.
 abbrev pub IsWithin : (greatest : ℕ) → (digits : List ℕ) → Type 0
@@ -45,6 +46,7 @@ AreInRange max take = IsWithin max_term_size max × IsWithin max_page_terms take
 abbrev pub term_spelled : SpelledQuery → Option SpelledTerm
 term_spelled (Typed e t) = Some e
 term_spelled (Page word l) = l.after
+term_spelled (Filtered f l) = l.after
 term_spelled _ = None
 
 abbrev pub spelled_in : List (List ℕ) → SpelledTerm → Applicative

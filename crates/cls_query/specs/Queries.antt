@@ -14,19 +14,19 @@ use Rattle.cls_syntax.specs.TypeTexts.{TypeText}
 use Rattle.cls_term.specs.TermReadings.{term_of}
 use Rattle.cls_query.specs.declared.query.Listing as listings
 use Rattle.cls_query.specs.declared.query.Query as queries
-use Rattle.cls_query.specs.declared.query.Query.TheVariants.{Sub, Paths, Typed, About, Page}
+use Rattle.cls_query.specs.declared.query.Query.TheVariants.{Sub, Paths, Typed, About, Page, Filtered}
 use Rattle.cls_query.specs.declared.word.GoalWord.TheVariants.{Inhabit, Grammar, Audit, Certify, Verify, Finite}
 use Rattle.cls_query.specs.declared.word.ListingWord.TheVariants as listing
 use Rattle.cls_query.specs.declared.word.QueryWord.{QueryWord}
 use Rattle.cls_query.specs.declared.word.QueryWord.TheVariants as word
-use Rattle.cls_query.specs.QueryForms.{word_text, form_of}
+use Rattle.cls_query.specs.QueryForms.{word_text, listing_form, form_of}
 
 -- A page that is asked for: terms of the type and of at most the size `max`, the first `take` of them after the cursor,
 -- if there is one.
 abbrev pub Listing : Type 0
 Listing = listings.Listing ClosedType ℕ Applicative
 
--- A query with its types, terms and numbers. A component is its number.
+-- A query with its types, terms and numbers. A component is its number, and so is a filter.
 abbrev pub Query : Type 0
 Query = queries.Query ClosedType ℕ Applicative ClosedType Listing
 
@@ -37,15 +37,16 @@ ListingText = listings.Listing TypeText (List ℕ) TermText
 abbrev pub QueryText : Type 0
 QueryText = queries.Query TypeText (List ℕ) TermText TypeText ListingText
 
--- The query with other parts, each in place of its own.
+-- The query with other parts, each in place of its own: a component by n, and a filter by f.
 abbrev pub map_query :
-    {C N E T L C' N' E' T' L' : Type 0} → (C → C') → (N → N') → (E → E') → (T → T') → (L → L')
+    {C N E T L C' N' E' T' L' : Type 0} → (C → C') → (n f : N → N') → (E → E') → (T → T') → (L → L')
     → queries.Query C N E T L → queries.Query C' N' E' T' L'
-map_query c n e t l (Sub lower upper) = Sub (c lower) (c upper)
-map_query c n e t l (Paths component) = Paths (n component)
-map_query c n e t l (Typed term type) = Typed (e term) (t type)
-map_query c n e t l (About asks goal) = About asks (t goal)
-map_query c n e t l (Page asks page) = Page asks (l page)
+map_query c n f e t l (Sub lower upper) = Sub (c lower) (c upper)
+map_query c n f e t l (Paths component) = Paths (n component)
+map_query c n f e t l (Typed term type) = Typed (e term) (t type)
+map_query c n f e t l (About asks goal) = About asks (t goal)
+map_query c n f e t l (Page asks page) = Page asks (l page)
+map_query c n f e t l (Filtered filter page) = Filtered (f filter) (l page)
 
 -- A LINE
 -- The word that it begins with, and what the form of the word says.
@@ -55,13 +56,18 @@ word_of (Paths component) = word.Paths
 word_of (Typed term type) = word.Typed
 word_of (About asks goal) = word.About asks
 word_of (Page asks page) = word.Page asks
+word_of (Filtered filter page) = word.Filtered
+
+abbrev pub listing_values : ListingText → Values listing_form
+listing_values page = (page.goal, (page.max, (page.take, option_map (λ e. (e, tt)) page.after)))
 
 abbrev pub values_of : (q : QueryText) → Values (form_of (word_of q))
 values_of (Sub lower upper) = (lower, (upper, tt))
 values_of (Paths component) = (component, tt)
 values_of (Typed term type) = (term, (type, tt))
 values_of (About asks goal) = (goal, tt)
-values_of (Page asks page) = (page.goal, (page.max, (page.take, option_map (λ e. (e, tt)) page.after)))
+values_of (Page asks page) = listing_values page
+values_of (Filtered filter page) = (filter, listing_values page)
 
 -- Its words, and its parts: the words, each with what it is for.
 abbrev pub query_words : QueryText → List Word
@@ -118,8 +124,8 @@ module _ (tables : Tables) where
 
   abbrev pub query_of : QueryText → Query
   query_of said =
-      map_query (type_in tables.constructors) (number_of tables.components) (term_in tables.components)
-      (type_in tables.constructors) listing_of said
+      map_query (type_in tables.constructors) (number_of tables.components) (number_of tables.filters)
+      (term_in tables.components) (type_in tables.constructors) listing_of said
 
 -- THE QUERIES BY THEIR WORDS
 abbrev pub sub : (lower upper : ClosedType) → Query
@@ -154,3 +160,6 @@ list page = Page listing.List page
 
 abbrev pub texts : Listing → Query
 texts page = Page listing.Texts page
+
+abbrev pub filtered : (filter : ℕ) → Listing → Query
+filtered filter page = Filtered filter page

@@ -8,7 +8,8 @@ use Rattle.cls_base.specs.Limits.{max_line_bytes, max_type_nodes}
 use Rattle.cls_lexer.specs.Numerals.{number_value}
 use Rattle.cls_lexer.specs.Tokens.{byte_at}
 use Rattle.cls_lexer.specs.Words.{words_of}
-use Rattle.cls_syntax.specs.declared.role.Role.TheVariants.{Component, TermComponent}
+use Rattle.cls_syntax.specs.declared.role.Role.{Role}
+use Rattle.cls_syntax.specs.declared.role.Role.TheVariants.{Component, Filter, TermComponent}
 use Rattle.cls_syntax.specs.Faults.{Says}
 use Rattle.cls_syntax.specs.Forms.{Form, nothing, ◌⨾◌, perhaps, names, numbers, types, anything, the_word, the_sign, a_name, a_number, a_type, a_term, Values, Part, naming, numeral}
 use Rattle.cls_syntax.specs.SyntaxFaults.{IsTooDeep, LeavesAt}
@@ -55,10 +56,11 @@ is_outside _ = false
 abbrev pub is_absent : List (List ℕ) → List ℕ → Bool
 is_absent table x = not (list_any (bytes_eq x) table)
 
--- The part is to name a component, outside of a term, and names none.
-abbrev pub is_unknown : List (List ℕ) → Part → Bool
-is_unknown table (naming Component x) = is_absent table x
-is_unknown table _ = false
+-- The part is to name a component, outside of a term, or a filter, and names none.
+abbrev pub is_unknown : (components filters : List (List ℕ)) → Part → Bool
+is_unknown components filters (naming Component x) = is_absent components x
+is_unknown components filters (naming Filter x) = is_absent filters x
+is_unknown components filters _ = false
 
 -- The part is to name a component in a term, and names none.
 abbrev pub is_unknown_in_term : List (List ℕ) → Part → Bool
@@ -103,11 +105,11 @@ module _ (line : List ℕ) where
   out_of_range t = IsQuery (λ said. list_any is_outside (query_parts said) ≡ true) × (t ≡ codes "number")
 
   module _ (components : List (List ℕ)) where
-    -- The first name of that kind is this one.
-    abbrev pub unknown_component : Cause (List ℕ)
-    unknown_component t =
-        IsQuery (λ said. (x : List ℕ)
-        × (find (is_unknown components) (query_parts said) ≡ Some (naming Component x))
+    -- The first name of that kind is this one, with this role.
+    abbrev pub unknown_name : (filters : List (List ℕ)) → Cause (List ℕ)
+    unknown_name filters t =
+        IsQuery (λ said. (role : Role) × (x : List ℕ)
+        × (find (is_unknown components filters) (query_parts said) ≡ Some (naming role x))
         × (t ≡ codes "unknown " ++ x))
 
     -- The first name of that kind stands at the place.
@@ -127,6 +129,6 @@ line_errors tables line =
     ∷ too_many_nodes line
     ∷ has_variable line
     ∷ out_of_range line
-    ∷ unknown_component line tables.components
+    ∷ unknown_name line tables.components tables.filters
     ∷ unknown_in_term line tables.components
     ∷ []

@@ -2,14 +2,14 @@
 use Rattle.std.specs.Prelude.{ℕ, List, [], ◌∷◌, codes}
 use Rattle.cls_base.specs.Limits.{max_term_size, max_page_terms}
 use Rattle.cls_lexer.specs.declared.token.TokenKind.TheVariants.{Colon, AtMost}
-use Rattle.cls_syntax.specs.declared.role.Role.TheVariants.{Component}
+use Rattle.cls_syntax.specs.declared.role.Role.TheVariants.{Component, Filter}
 use Rattle.cls_syntax.specs.Forms.{Form, nothing, ◌⨾◌, perhaps, the_word, the_sign, a_name, a_number, a_type, a_term}
 use Rattle.cls_query.specs.declared.word.GoalWord.{GoalWord}
 use Rattle.cls_query.specs.declared.word.GoalWord.TheVariants.{Inhabit, Grammar, Audit, Certify, Verify, Finite}
 use Rattle.cls_query.specs.declared.word.ListingWord.{ListingWord}
 use Rattle.cls_query.specs.declared.word.ListingWord.TheVariants as listing
 use Rattle.cls_query.specs.declared.word.QueryWord.{QueryWord}
-use Rattle.cls_query.specs.declared.word.QueryWord.TheVariants.{Sub, Paths, Typed, About, Page}
+use Rattle.cls_query.specs.declared.word.QueryWord.TheVariants.{Sub, Paths, Typed, Filtered, About, Page}
 
 -- THE WORDS
 abbrev pub goal_word_text : GoalWord → List ℕ
@@ -28,6 +28,7 @@ abbrev pub word_text : QueryWord → List ℕ
 word_text Sub = codes "sub"
 word_text Paths = codes "paths"
 word_text Typed = codes "typed"
+word_text Filtered = codes "filtered"
 word_text (About word) = goal_word_text word
 word_text (Page word) = listing_word_text word
 
@@ -67,10 +68,15 @@ listing_form =
     ⨾ the_word (codes "take") ⨾ a_number 1 max_page_terms
     ⨾ perhaps cursor_form
 
+-- NAME TYPE max N take K, with `after TERM` at will
+abbrev pub filtered_form : Form
+filtered_form = a_name Filter ⨾ listing_form
+
 -- what follows the word
 abbrev pub form_of : QueryWord → Form
 form_of Sub = comparison_form
 form_of Paths = component_form
 form_of Typed = typing_form
+form_of Filtered = filtered_form
 form_of (About word) = goal_form
 form_of (Page word) = listing_form

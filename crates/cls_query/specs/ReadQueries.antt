@@ -27,7 +27,7 @@ fault_words (faults.ReservedName byte) = Some (codes "reserved " ++ decimal byte
 fault_words faults.TooManyNodes = Some (codes "nodes")
 fault_words (faults.Variable byte) = Some (codes "variable " ++ decimal byte)
 fault_words faults.OutOfRange = Some (codes "number")
-fault_words (faults.UnknownComponent text) = Some (codes "unknown " ++ text.now)
+fault_words (faults.UnknownName text) = Some (codes "unknown " ++ text.now)
 fault_words (faults.UnknownInTerm byte) = Some (codes "token " ++ decimal byte)
 fault_words faults.OutOfMemory = None
 
@@ -42,7 +42,7 @@ abbrev pub listing_of : BuiltListing → Listing
 listing_of l = record { goal = type_of l.goal; max = l.max; take = l.take; after = l.after }
 
 abbrev pub asked_of : BuiltQuery → Query
-asked_of q = map_query measured_type (λ (x : Name). x.0) (λ (e : Applicative). e) type_of listing_of q
+asked_of q = map_query measured_type (λ (x : Name). x.0) (λ (x : Name). x.0) (λ (e : Applicative). e) type_of listing_of q
 
 -- No error is said of the line, it asks this query, and these are the tables with its names.
 pub record ReadsQuery (tables : Tables) (line : List ℕ) (query : Query) (after : Tables) : Type 0 where

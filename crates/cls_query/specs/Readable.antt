@@ -4,7 +4,7 @@ use Rattle.cls_base.specs.Limits.{max_term_size}
 use Rattle.cls_base.specs.Terms.{IsTermOver, length_of}
 use Rattle.cls_lexer.specs.Words.{Word}
 use Rattle.cls_syntax.specs.Fronts.{is_word}
-use Rattle.cls_query.specs.declared.query.Query.TheVariants.{Paths, Typed, About, Page}
+use Rattle.cls_query.specs.declared.query.Query.TheVariants.{Paths, Typed, About, Page, Filtered}
 use Rattle.cls_query.specs.declared.word.GoalWord.TheVariants.{Verify}
 use Rattle.cls_query.specs.Queries.{Listing, Query}
 
@@ -15,12 +15,14 @@ pub record IsPageAsked (n : ℕ) (q : Listing) : Type 0 where
   pub some : 1 ≤ q.take
   pub cursor : IfSome q.after (λ e. IsTermOver n e × (length_of e < 2 ^ 32))
 
--- Each component that the query names is one of the n, and the page that it asks for can be listed.
-abbrev pub IsReadable : (n : ℕ) → Query → Type 0
-IsReadable n (Paths x) = x < n
-IsReadable n (Typed e t) = IsTermOver n e
-IsReadable n (Page word q) = IsPageAsked n q
-IsReadable n _ = Unit {0}
+-- Each component that the query names is one of the n, each filter is one of the m, and the page that it asks for can be
+-- listed.
+abbrev pub IsReadable : (n m : ℕ) → Query → Type 0
+IsReadable n m (Paths x) = x < n
+IsReadable n m (Typed e t) = IsTermOver n e
+IsReadable n m (Page word q) = IsPageAsked n q
+IsReadable n m (Filtered f q) = (f < m) × IsPageAsked n q
+IsReadable n m _ = Unit {0}
 
 -- The query asks whether a certificate is one for its type.
 abbrev pub IsVerify : Query → Type 0

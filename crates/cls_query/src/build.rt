@@ -29,13 +29,14 @@ pub(crate) fn build(
     query: &SpelledQuery,
     constructors: &mut Names,
     components: &Names,
+    filters: &Names,
     term: Option<CodedTerm>,
 ) -> Result<BuiltQuery, OutOfMemory>
     requires closed { AllByRecursion (λ t. HasNoDollar (type_words t)) (query_types (query_text query.now)) }
     requires in_range { list_any is_outside (query_parts (query_text query.now)) ≡ false }
     requires term { term ≡ option_map (spelled_in components.now) (term_spelled query.now) }
     ensures query { IfOk result (λ built. asked_of built
-        ≡ query_of (tables_of constructors.new [] components.now []) (query_text query.now)) }
+        ≡ query_of (tables_of constructors.new [] components.now filters.now) (query_text query.now)) }
     ensures constructors { OnOk result (constructors.new
         ≡ with_names constructors.old (query_parts (query_text query.now))) }
     ensures stay { OnErr result (constructors.new ≡ constructors.old) }
@@ -58,6 +59,10 @@ pub(crate) fn build(
         Query::Page(asks, spelled) => {
             let page = page(alloc, constructors, spelled, term)?;
             Ok(Query::Page(*asks, page))
+        }
+        Query::Filtered(name, spelled) => {
+            let page = page(alloc, constructors, spelled, term)?;
+            Ok(Query::Filtered(filters.number(name), page))
         }
     }
 }

@@ -1,10 +1,10 @@
 //! The errors of a line that is a query: what its types, its numbers and the names of components decide.
-ghost use Rattle.std.specs.Prelude.{◌≡◌, false, ◌+◌, ◌<◌, ◌≤◌, ◌^◌, length, find, position, IfOk, IfSome, OnOk};
+ghost use Rattle.std.specs.Prelude.{◌≡◌, true, false, ◌+◌, ◌<◌, ◌≤◌, ◌^◌, None, Some, length, find, position, IfOk, IfSome, MatchOption, OnOk};
 ghost use Rattle.std.specs.List.{list_any};
 ghost use Rattle.std.specs.Option.{option_map, SomeIff};
 ghost use Rattle.cls_lexer.specs.Numerals.{number_value};
 ghost use Rattle.cls_lexer.specs.Words.{words_of};
-ghost use Rattle.cls_syntax.specs.declared.role.Role.TheVariants.{Component};
+ghost use Rattle.cls_syntax.specs.declared.role.Role.{Role};
 ghost use Rattle.cls_syntax.specs.ClosedTypes.{HasNoDollar};
 ghost use Rattle.cls_syntax.specs.Faults.{Says};
 ghost use Rattle.cls_syntax.specs.Forms.{naming};
@@ -14,7 +14,7 @@ ghost use Rattle.cls_syntax.specs.TermTexts.{term_words};
 ghost use Rattle.cls_term.specs.TokenFaults as faults;
 ghost use Rattle.cls_query.specs.FormAnswers.{IsWithin, AreInRange, query_text, term_spelled, spelled_in, place_behind};
 ghost use Rattle.cls_query.specs.Queries.{query_words, query_parts, QueryStands};
-ghost use Rattle.cls_query.specs.QueryErrors.{query_types, is_large, is_outside, is_unknown, is_unknown_in_term};
+ghost use Rattle.cls_query.specs.QueryErrors.{query_types, is_large, is_outside, is_absent, is_unknown, is_unknown_in_term};
 ghost use Rattle.cls_query.specs.Steps.{type_errors, value_errors, Tests};
 
 use crate::fault::LineFault;
@@ -45,24 +45,25 @@ pub(crate) fn check_types<'t, 'a>(
     }
 }
 
-/// Whether the numbers of the query are in their ranges and its components known, and then its term, if it has one. Each
+/// Whether the numbers of the query are in their ranges and its names known, and then its term, if it has one. Each
 /// name of the term is looked up once, or once more where one is unknown, to find the first of these.
 pub(crate) fn check_values<'t, 'a>(
     alloc: Global,
     query: &SpelledQuery<'t, 'a>,
     components: &Names,
+    filters: &Names,
     line: &CutLine<'t, 'a>,
 ) -> Result<Option<CodedTerm>, LineFault<'a>>
     requires { Says query_words QueryStands (query_text query.now) (words_of line.now.text.now) }
-    ensures tested { Tests (value_errors line.now.text.now components.now) result }
+    ensures tested { Tests (value_errors line.now.text.now components.now filters.now) result }
     ensures in_range { OnOk result (list_any is_outside (query_parts (query_text query.now)) ≡ false) }
     ensures term { IfOk result (λ term. term ≡ option_map (spelled_in components.now) (term_spelled query.now)) }
 {
     if is_outside(query) {
         return Err(LineFault::OutOfRange);
     }
-    if let Some(name) = unknown(query, components) {
-        return Err(LineFault::UnknownComponent(name));
+    if let Some(name) = unknown(query, components, filters) {
+        return Err(LineFault::UnknownName(name));
     }
     let Some(spelled) = term(query) else {
         return Ok(None);
@@ -85,6 +86,7 @@ fn term<'t, 'a>(query: &SpelledQuery<'t, 'a>) -> Option<SpelledTerm<'t, 'a>>
     match query {
         Query::Typed(term, _) => Some(*term),
         Query::Page(_, listing) => listing.after,
+        Query::Filtered(_, listing) => listing.after,
         _ => None,
     }
 }
@@ -99,6 +101,7 @@ fn has_large_type(query: &SpelledQuery) -> bool
         Query::Typed(_, ty) => is_large(ty),
         Query::About(_, goal) => is_large(goal),
         Query::Page(_, listing) => has_large_goal(listing),
+        Query::Filtered(_, listing) => has_large_goal(listing),
     }
 }
 
@@ -119,23 +122,33 @@ fn is_outside(query: &SpelledQuery) -> bool
         Query::Typed(..) => false,
         Query::About(..) => false,
         Query::Page(_, listing) => numbers(listing).is_none(),
+        Query::Filtered(_, listing) => numbers(listing).is_none(),
     }
 }
 
-/// The component whose paths are asked for, if there is none of its name.
-fn unknown<'a>(query: &SpelledQuery<'_, 'a>, components: &Names) -> Option<&'a str>
-    ensures { find (is_unknown components.now) (query_parts (query_text query.now))
-        ≡ option_map (λ name. naming Component name.now) result }
+/// The name outside of terms that the query has of a component or a filter, if there is none of this name.
+fn unknown<'a>(query: &SpelledQuery<'_, 'a>, components: &Names, filters: &Names) -> Option<&'a str>
+    ensures { let found = find (is_unknown components.now filters.now) (query_parts (query_text query.now)) in
+        MatchOption result (found ≡ None) (λ name. (role : Role) × (found ≡ Some (naming role name.now))) }
 {
     match query {
         Query::Sub(..) => None,
-        Query::Paths(name) => match components.find(name) {
-            Some(_) => None,
-            None => Some(name),
-        },
+        Query::Paths(name) => absent(components, name),
         Query::Typed(..) => None,
         Query::About(..) => None,
         Query::Page(..) => None,
+        Query::Filtered(name, _) => absent(filters, name),
+    }
+}
+
+/// The name, if it isn't in the table.
+fn absent<'a>(table: &Names, name: &'a str) -> Option<&'a str>
+    ensures { MatchOption result (is_absent table.now name.now ≡ false)
+        (λ absent. (is_absent table.now name.now ≡ true) × (absent.now ≡ name.now)) }
+{
+    match table.find(name) {
+        Some(_) => None,
+        None => Some(name),
     }
 }
 
@@ -150,6 +163,7 @@ fn unknown_in_term(query: &SpelledQuery, components: &Names, count: usize) -> Op
         Query::Typed(term, _) => unknown_behind(components, term, 1),
         Query::About(..) => None,
         Query::Page(_, listing) => unknown_in_cursor(components, &listing.after, count),
+        Query::Filtered(_, listing) => unknown_in_cursor(components, &listing.after, count),
     }
 }
 

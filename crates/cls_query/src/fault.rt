@@ -26,8 +26,8 @@ pub enum LineFault<'a> {
     /// A number of a listing is 0, or greater than [`MAX_TERM_SIZE`](cls_base::limits::MAX_TERM_SIZE) behind `max` or
     /// [`MAX_PAGE_TERMS`](cls_base::limits::MAX_PAGE_TERMS) behind `take`.
     OutOfRange,
-    /// There is no component of this name, whose paths are asked for.
-    UnknownComponent(&'a str),
+    /// There is no component of this name, whose paths are asked for, or no filter of this name.
+    UnknownName(&'a str),
     /// The name at this byte is the first one in a term that is no component.
     UnknownInTerm(u32),
     /// No memory was found.
@@ -59,7 +59,7 @@ impl LineFault<'_> {
             LineFault::TooManyNodes => text.push_str("nodes")?,
             LineFault::Variable(byte) => write_numbered(text, "variable ", *byte)?,
             LineFault::OutOfRange => text.push_str("number")?,
-            LineFault::UnknownComponent(name) => {
+            LineFault::UnknownName(name) => {
                 text.push_str("unknown ")?;
                 text.push_str(name)?;
             }

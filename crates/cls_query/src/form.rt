@@ -5,7 +5,7 @@ ghost use Rattle.cls_syntax.specs.Forms.{perhaps};
 ghost use Rattle.cls_syntax.specs.Readings.{Reads};
 ghost use Rattle.cls_syntax.specs.SpelledTerms.{term_text};
 ghost use Rattle.cls_syntax.specs.SpelledTypes.{type_text};
-ghost use Rattle.cls_query.specs.QueryForms.{comparison_form, component_form, typing_form, goal_form, cursor_form, listing_form};
+ghost use Rattle.cls_query.specs.QueryForms.{comparison_form, component_form, typing_form, goal_form, cursor_form, listing_form, filtered_form};
 ghost use Rattle.cls_query.specs.QueryReading.{query_after, query_read, Gives};
 
 use crate::query::{Listing, Query, SpelledListing, SpelledQuery};
@@ -50,6 +50,10 @@ fn query_after<'t, 'a>(
         QueryWord::Typed => {
             let (term, ty) = typing(tokens)?;
             Ok(Query::Typed(term, ty))
+        }
+        QueryWord::Filtered => {
+            let (filter, page) = filtered(tokens)?;
+            Ok(Query::Filtered(filter, page))
         }
         QueryWord::About(asks) => {
             let goal = goal(tokens)?;
@@ -100,6 +104,22 @@ fn goal<'t, 'a>(tokens: &'t [Token<'a>]) -> Result<SpelledType<'t, 'a>, Stop<'t,
     let (goal, rest) = type_at(tokens)?;
     end_at(rest)?;
     Ok(goal)
+}
+
+fn filtered<'t, 'a>(
+    tokens: &'t [Token<'a>],
+) -> Result<(&'a str, SpelledListing<'t, 'a>), Stop<'t, 'a>>
+    ensures { Reads filtered_form tokens.now result (λ x. (
+      x.0.now,
+      (
+        type_text x.1.goal,
+        (x.1.max.text.now, (x.1.take.text.now, option_map (λ e. (term_text e, tt)) x.1.after)),
+      ),
+    )) }
+{
+    let (filter, rest) = name_at(tokens, Role::Filter)?;
+    let listing = page(rest)?;
+    Ok((filter, listing))
 }
 
 fn page<'t, 'a>(tokens: &'t [Token<'a>]) -> Result<SpelledListing<'t, 'a>, Stop<'t, 'a>>

@@ -32,6 +32,8 @@ pub enum Query<C, N, E, T, L> {
     About(GoalWord, T),
     /// `WORD TYPE max N take K`, with `after TERM` at will: the page, as the word shows it.
     Page(ListingWord, L),
+    /// `filtered NAME TYPE max N take K`, with `after TERM` at will: the page of the terms that the filter accepts.
+    Filtered(N, L),
 }
 
 /// A listing as it is spelled. Its numbers are any numerals.

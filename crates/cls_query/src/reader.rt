@@ -18,9 +18,9 @@ use cls_lexer::{Line, Names, TextFault, Token};
 use std::alloc::Global;
 
 /// The query that the line is. Its types and terms have the numbers that the tables give their names. New names of
-/// constructors are numbered in the order of the line's tokens. No query has a variable or names a filter: the tables of
-/// these aren't read, and stay. After any error the tables are as before. The buffer `room` may be reused for the
-/// tokens; its content is ignored.
+/// constructors are numbered in the order of the line's tokens. No query has a variable: their table isn't read, and
+/// stays. After any error the tables are as before. The buffer `room` may be reused for the tokens; its content is
+/// ignored.
 ///
 /// The error is the first that applies, in the order of [`LineFault`].
 pub fn read_query<'a, 'p>(
@@ -39,7 +39,8 @@ pub fn read_query<'a, 'p>(
         (First (line_errors (tables_of constructors.old variables.old components.now filters.now) line.now))) }
     ensures stay { OnErr result (constructors.new ≡ constructors.old) }
     ensures variables_stay { OnErr result (variables.new ≡ variables.old) }
-    ensures readable { IfOk result (λ query. IsReadable (length components.now) (asked_of query)) }
+    ensures readable { IfOk result (λ query.
+        IsReadable (length components.now) (length filters.now) (asked_of query)) }
     ensures verify { IfOk result (λ query.
         IsVerify (asked_of query) ↔ (begins_with (codes "verify") (words_of line.now) ≡ true)) }
     ensures text { OnOk result (IsText line.now) }
@@ -53,7 +54,7 @@ pub fn read_query<'a, 'p>(
     if let Some(comparison) = cut.comparison(alloc, constructors)? {
         return Ok(comparison);
     }
-    by_form(alloc, constructors, components, &cut)
+    by_form(alloc, constructors, components, filters, &cut)
 }
 
 /// The query that the line is, or its first error, by one reading after another. After any error the table is as before.
@@ -63,20 +64,21 @@ fn by_form<'a>(
     alloc: Global,
     constructors: &mut Names,
     components: &Names,
+    filters: &Names,
     line: &CutLine<'_, 'a>,
 ) -> Result<BuiltQuery, LineFault<'a>>
     requires { IsText line.now.text.now }
-    ensures query { IfOk result (λ query. (variables filters : _)
-        → ReadsQuery (tables_of constructors.old variables components.now filters) line.now.text.now (asked_of query)
-        (tables_of constructors.new variables components.now filters)) }
+    ensures query { IfOk result (λ query. (variables : _)
+        → ReadsQuery (tables_of constructors.old variables components.now filters.now) line.now.text.now
+        (asked_of query) (tables_of constructors.new variables components.now filters.now)) }
     ensures fault { IfErr result (λ fault. IfSome (fault_words fault)
-        (First (line_errors (tables_of constructors.old [] components.now []) line.now.text.now))) }
+        (First (line_errors (tables_of constructors.old [] components.now filters.now) line.now.text.now))) }
     ensures stay { OnErr result (constructors.new ≡ constructors.old) }
 {
     let spelled = line.spelled()?;
     check_types(&spelled, line)?;
-    let term = check_values(alloc, &spelled, components, line)?;
-    Ok(build(alloc, &spelled, constructors, components, term)?)
+    let term = check_values(alloc, &spelled, components, filters, line)?;
+    Ok(build(alloc, &spelled, constructors, components, filters, term)?)
 }
 
 /// The line as a text.

@@ -41,6 +41,8 @@ pub enum QueryWord {
     Paths,
     /// A term and a type follow, with `:` between them.
     Typed,
+    /// The name of a filter and a listing follow.
+    Filtered,
     /// A type follows.
     About(GoalWord),
     /// A listing follows.
@@ -60,6 +62,9 @@ pub(crate) fn query_word<'t, 'a>(tokens: &'t [Token<'a>]) -> Option<(QueryWord, 
     }
     if let Ok(rest) = word_at(tokens, "typed") {
         return Some((QueryWord::Typed, rest));
+    }
+    if let Ok(rest) = word_at(tokens, "filtered") {
+        return Some((QueryWord::Filtered, rest));
     }
     match goal_word(tokens) {
         Some((word, rest)) => Some((QueryWord::About(word), rest)),

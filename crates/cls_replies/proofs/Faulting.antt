@@ -7,7 +7,7 @@ use Rattle.cls_base.specs.Types.{ClosedType}
 use Rattle.cls_proof.specs.Certificates.{Certificate}
 use Rattle.cls_query.specs.Queries.{Query, verify}
 use Rattle.cls_engine.specs.declared.fault.EngineFault.{EngineFault}
-use Rattle.cls_engine.specs.declared.fault.EngineFault.TheVariants.{Size, TooLarge, Wide, TooManyTerms, OutOfMemory}
+use Rattle.cls_engine.specs.declared.fault.EngineFault.TheVariants.{Size, TooLarge, Wide, FilterTooLarge, TooManyTerms, OutOfMemory}
 use Rattle.cls_engine.specs.Faults.{IsFaultOf}
 use Rattle.cls_replies.specs.Responder.{Responder}
 use Rattle.cls_replies.specs.Texts.{reply_line}
@@ -22,6 +22,7 @@ pub fails : (s : Responder) (q : Query) (f : EngineFault) (text : List ℕ) → 
 fails s q Size text h l = answering.Answers.failed Size h l refl
 fails s q TooLarge text h l = answering.Answers.failed TooLarge h l refl
 fails s q (Wide g) text h l = answering.Answers.failed (Wide g) h l refl
+fails s q FilterTooLarge text h l = answering.Answers.failed FilterTooLarge h l refl
 fails s q TooManyTerms text h l = answering.Answers.failed TooManyTerms h l refl
 fails s q OutOfMemory text h l = absurd l
 
@@ -29,6 +30,7 @@ pub judge_fails : (s : Responder) (t : ClosedType) (c : Certificate) (f : Engine
 judge_fails s t c Size text h l = answering.Judges.failed Size h l
 judge_fails s t c TooLarge text h l = answering.Judges.failed TooLarge h l
 judge_fails s t c (Wide g) text h l = answering.Judges.failed (Wide g) h l
+judge_fails s t c FilterTooLarge text h l = answering.Judges.failed FilterTooLarge h l
 judge_fails s t c TooManyTerms text h l = answering.Judges.failed TooManyTerms h l
 judge_fails s t c OutOfMemory text h l = absurd l
 

@@ -2,6 +2,7 @@ pub mod Asking
 pub mod Counting
 pub mod Faulting
 pub mod Holding
+pub mod Keeping
 pub mod LastLines
 pub mod Portions
 pub mod Telling

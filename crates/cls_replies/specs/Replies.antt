@@ -8,6 +8,7 @@ use Rattle.cls_base.specs.Limits.{max_finite_size}
 use Rattle.cls_core.specs.declared.entry.Entry.{Entry}
 use Rattle.cls_core.specs.Rows.{Row}
 use Rattle.cls_enum.specs.Requests.{request}
+use Rattle.cls_filter.specs.Automata.{Accepts}
 use Rattle.cls_finite.specs.declared.answer.FiniteAnswer.{FiniteAnswer}
 use Rattle.cls_finite.specs.declared.answer.FiniteAnswer.TheVariants.{Finite, Over, Infinite}
 use Rattle.cls_grammar.specs.GrammarTexts.{IsGrammarText}
@@ -15,7 +16,7 @@ use Rattle.cls_library.specs.Libraries.{Library, below_in, variances_in, paths_a
 use Rattle.cls_library.specs.Typing.{HasTypeIn}
 use Rattle.cls_proof.specs.Certificates.{Certificate}
 use Rattle.cls_proof.specs.Texts.{certificate_text}
-use Rattle.cls_query.specs.declared.query.Query.TheVariants.{Sub, Paths, Typed, About, Page}
+use Rattle.cls_query.specs.declared.query.Query.TheVariants.{Sub, Paths, Typed, About, Page, Filtered}
 use Rattle.cls_query.specs.declared.word.GoalWord.TheVariants as word
 use Rattle.cls_query.specs.declared.word.ListingWord.TheVariants as listing
 use Rattle.cls_query.specs.Queries.{Listing, Query}
@@ -26,7 +27,7 @@ use Rattle.cls_engine.specs.Certified.{IsCertified}
 use Rattle.cls_engine.specs.Goals.{Goal, IsClosed}
 use Rattle.cls_engine.specs.Histories.{IsHistoryOf}
 use Rattle.cls_engine.specs.Sizes.{IsGreatest, IsGreatestOver, IsUnbounded, IsWalk}
-use Rattle.cls_replies.specs.Responder.{Responder}
+use Rattle.cls_replies.specs.Responder.{Responder, filter_in}
 use Rattle.cls_replies.specs.Texts.{reply_line, paths_text, history_text, sizes_text, term_line, term_lines, page_text}
 
 -- One of two lines, by whether the fact holds.
@@ -55,6 +56,12 @@ module _ (s : Responder) where
   Lists q shown text =
       ListsPage (λ e. HasTypeIn s.engine.library e q.goal) (request s.engine.costs q.after q.max q.take) shown text
 
+  -- the page of the terms that the filter of the number accepts
+  abbrev pub ListsFiltered : ℕ → Listing → (Applicative → List ℕ) → List ℕ → Type 0
+  ListsFiltered f q shown text =
+      ListsPage (λ e. HasTypeIn s.engine.library e q.goal × Accepts (filter_in s f) e)
+      (request s.engine.costs q.after q.max q.take) shown text
+
   -- A query for a certificate isn't answered by its line alone.
   abbrev pub Reply : Query → List ℕ → Type 0
   Reply (Sub a b) text =
@@ -77,3 +84,4 @@ module _ (s : Responder) where
       (sizes : FiniteAnswer) × TellsSizes s.engine.library (cost_of s.engine.costs) t sizes × (text ≡ sizes_text sizes)
   Reply (Page listing.List q) text = Lists q (term_line (name_at s.components)) text
   Reply (Page listing.Texts q) text = Lists q (term_lines (name_at s.components) s.templates) text
+  Reply (Filtered f q) text = ListsFiltered f q (term_line (name_at s.components)) text

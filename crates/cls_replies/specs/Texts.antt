@@ -18,7 +18,7 @@ use Rattle.cls_path.specs.Paths.{Paths, type_of_path, type_of_paths, listed}
 use Rattle.cls_syntax.specs.TypePrinting.{printed, name_in}
 use Rattle.cls_term.specs.Texts.{text_of}
 use Rattle.cls_engine.specs.declared.fault.EngineFault.{EngineFault}
-use Rattle.cls_engine.specs.declared.fault.EngineFault.TheVariants.{Size, TooLarge, Wide, TooManyTerms, OutOfMemory}
+use Rattle.cls_engine.specs.declared.fault.EngineFault.TheVariants.{Size, TooLarge, Wide, FilterTooLarge, TooManyTerms, OutOfMemory}
 use Rattle.cls_engine.specs.declared.verdict.Verdict.{Verdict}
 use Rattle.cls_engine.specs.declared.verdict.Verdict.TheVariants.{Accepted, Refused}
 
@@ -35,6 +35,7 @@ abbrev pub fault_words : (names : List (List ℕ)) → EngineFault → List ℕ
 fault_words names Size = codes "size"
 fault_words names TooLarge = codes "too-large"
 fault_words names (Wide goal) = codes "wide " ++ printed (name_in names) 0 (type_of_paths (listed goal))
+fault_words names FilterTooLarge = codes "filter-large"
 fault_words names TooManyTerms = codes "too-many-terms"
 fault_words names OutOfMemory = []
 

@@ -57,6 +57,7 @@ fn fault_line(alloc: Global, names: &Names, fault: &EngineFault) -> Result<Strin
         EngineFault::Size => Ok(String::from_str(alloc, "error size\n")?),
         EngineFault::TooLarge => Ok(String::from_str(alloc, "error too-large\n")?),
         EngineFault::Wide(goal) => wide(alloc, names, goal),
+        EngineFault::FilterTooLarge => Ok(String::from_str(alloc, "error filter-large\n")?),
         EngineFault::TooManyTerms => Ok(String::from_str(alloc, "error too-many-terms\n")?),
         EngineFault::OutOfMemory => Err(OutOfMemory),
     }

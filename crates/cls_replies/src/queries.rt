@@ -1,5 +1,5 @@
 //! The replies to queries: what the engine answers, in lines.
-ghost use Rattle.std.specs.Prelude.{◌≡◌, ◌<◌, ◌^◌, All, length, IfOk, IfErr, OnOk, string_bytes};
+ghost use Rattle.std.specs.Prelude.{◌≡◌, ◌<◌, ◌^◌, All, length, IfOk, IfErr, OnOk, OnErr, string_bytes};
 ghost use Rattle.cls_base.specs.Firsts.{First, IsSilent};
 ghost use Rattle.cls_base.specs.Terms.{IsTermOver};
 ghost use Rattle.cls_base.specs.Ty.{type_of};
@@ -7,14 +7,14 @@ ghost use Rattle.cls_syntax.specs.MeasuredTypes.{measured_type};
 ghost use Rattle.cls_proof.specs.Seen.{certificate_of};
 ghost use Rattle.cls_check.specs.Verdicts.{rows_in};
 ghost use Rattle.cls_query.specs.declared.query.Query.TheVariants as queries;
-ghost use Rattle.cls_query.specs.Queries.{sub, typed, inhabit, grammar, audit, certify, finite, list, texts};
-ghost use Rattle.cls_query.specs.Readable.{IsPageAsked, IsReadable, IsVerify};
+ghost use Rattle.cls_query.specs.Queries.{sub, typed, inhabit, grammar, audit, certify, finite, list, texts, filtered};
+ghost use Rattle.cls_query.specs.Readable.{IsPageAsked, IsVerify};
 ghost use Rattle.cls_query.specs.ReadQueries.{listing_of, asked_of};
 ghost use Rattle.cls_engine.specs.Faults.{IsFaultOf};
 ghost use Rattle.cls_replies.specs.Answering.{Answers, Judges};
 ghost use Rattle.cls_replies.specs.Errors.{faults_of};
 ghost use Rattle.cls_replies.specs.Printing.{IsPrintable, left_of};
-ghost use Rattle.cls_replies.specs.Steps.{IsPageOf};
+ghost use Rattle.cls_replies.specs.Steps.{IsAnswerTo, IsPageOf, IsFilteredPageOf, IsReadableBy};
 
 use crate::faults::engine_fault;
 use crate::printing::{
@@ -23,7 +23,7 @@ use crate::printing::{
 };
 use crate::responder::Responder;
 use crate::words::{says, verdict_line};
-use cls_base::{Gate, OutOfMemory, Ty};
+use cls_base::{Gate, Name, OutOfMemory, Ty};
 use cls_engine::{EngineFault, Host};
 use cls_enum::Page;
 use cls_proof::Certificate;
@@ -41,11 +41,12 @@ impl Responder {
         host: &Host<R, G>,
         query: &BuiltQuery,
     ) -> Result<Printing, OutOfMemory>
-        requires readable { IsReadable (length self.old.components) (asked_of query.now) }
+        requires readable { IsReadableBy self.old (asked_of query.now) }
         requires not_verify { IsVerify (asked_of query.now) → ⊥ }
         ensures answers { IfOk result (λ p. Answers self.old (asked_of query.now) (left_of self.new p) self.new) }
         ensures printable { IfOk result (IsPrintable self.new) }
         ensures same_held { OnOk result (self.new.held ≡ self.old.held) }
+        ensures unchanged { OnErr result (self.new ≡ self.old) }
     {
         match query {
             Query::Sub(lower, upper) => text_printing(self.sub(host.alloc, lower, upper)),
@@ -53,6 +54,7 @@ impl Responder {
             Query::Typed(term, ty) => text_printing(self.typed(host.alloc, term, ty)),
             Query::About(asks, ty) => self.about(host, *asks, ty),
             Query::Page(asks, listing) => self.show(host, *asks, listing),
+            Query::Filtered(filter, listing) => self.filtered(host, *filter, listing),
         }
     }
 
@@ -64,8 +66,7 @@ impl Responder {
         ty: &Ty,
     ) -> Result<Printing, OutOfMemory>
         requires { IsVerify (queries.About asks (type_of ty.now)) → ⊥ }
-        ensures answers { IfOk result (λ p.
-            Answers self.old (queries.About asks (type_of ty.now)) (left_of self.old p) self.old) }
+        ensures answers { IfOk result (IsAnswerTo self.old (queries.About asks (type_of ty.now))) }
         ensures printable { IfOk result (IsPrintable self.old) }
         ensures same { self.new ≡ self.old }
     {
@@ -87,8 +88,7 @@ impl Responder {
         listing: &BuiltListing,
     ) -> Result<Printing, OutOfMemory>
         requires { IsPageAsked (length self.old.components) (listing_of listing.now) }
-        ensures answers { IfOk result (λ p.
-            Answers self.old (queries.Page asks (listing_of listing.now)) (left_of self.old p) self.old) }
+        ensures answers { IfOk result (IsAnswerTo self.old (queries.Page asks (listing_of listing.now))) }
         ensures printable { IfOk result (IsPrintable self.old) }
         ensures same { self.new ≡ self.old }
     {
@@ -146,7 +146,7 @@ impl Responder {
         host: &Host<R, G>,
         ty: &Ty,
     ) -> Result<Printing, OutOfMemory>
-        ensures answers { IfOk result (λ p. Answers self.old (grammar (type_of ty.now)) (left_of self.old p) self.old) }
+        ensures answers { IfOk result (IsAnswerTo self.old (grammar (type_of ty.now))) }
         ensures printable { IfOk result (IsPrintable self.old) }
         ensures same { self.new ≡ self.old }
     {
@@ -161,7 +161,7 @@ impl Responder {
         host: &Host<R, G>,
         ty: &Ty,
     ) -> Result<Printing, OutOfMemory>
-        ensures answers { IfOk result (λ p. Answers self.old (audit (type_of ty.now)) (left_of self.old p) self.old) }
+        ensures answers { IfOk result (IsAnswerTo self.old (audit (type_of ty.now))) }
         ensures printable { IfOk result (IsPrintable self.old) }
         ensures same { self.new ≡ self.old }
     {
@@ -176,7 +176,7 @@ impl Responder {
         host: &Host<R, G>,
         ty: &Ty,
     ) -> Result<Printing, OutOfMemory>
-        ensures answers { IfOk result (λ p. Answers self.old (certify (type_of ty.now)) (left_of self.old p) self.old) }
+        ensures answers { IfOk result (IsAnswerTo self.old (certify (type_of ty.now))) }
         ensures printable { IfOk result (IsPrintable self.old) }
         ensures same { self.new ≡ self.old }
     {
@@ -196,7 +196,7 @@ impl Responder {
         host: &Host<R, G>,
         ty: &Ty,
     ) -> Result<Printing, OutOfMemory>
-        ensures answers { IfOk result (λ p. Answers self.old (finite (type_of ty.now)) (left_of self.old p) self.old) }
+        ensures answers { IfOk result (IsAnswerTo self.old (finite (type_of ty.now))) }
         ensures printable { IfOk result (IsPrintable self.old) }
         ensures same { self.new ≡ self.old }
     {
@@ -212,8 +212,7 @@ impl Responder {
         listing: &BuiltListing,
     ) -> Result<Printing, OutOfMemory>
         requires { IsPageAsked (length self.old.components) (listing_of listing.now) }
-        ensures answers { IfOk result (λ p.
-            Answers self.old (list (listing_of listing.now)) (left_of self.old p) self.old) }
+        ensures answers { IfOk result (IsAnswerTo self.old (list (listing_of listing.now))) }
         ensures printable { IfOk result (IsPrintable self.old) }
         ensures same { self.new ≡ self.old }
     {
@@ -229,8 +228,7 @@ impl Responder {
         listing: &BuiltListing,
     ) -> Result<Printing, OutOfMemory>
         requires { IsPageAsked (length self.old.components) (listing_of listing.now) }
-        ensures answers { IfOk result (λ p.
-            Answers self.old (texts (listing_of listing.now)) (left_of self.old p) self.old) }
+        ensures answers { IfOk result (IsAnswerTo self.old (texts (listing_of listing.now))) }
         ensures printable { IfOk result (IsPrintable self.old) }
         ensures same { self.new ≡ self.old }
     {
@@ -260,6 +258,50 @@ impl Responder {
             after,
         } = listing;
         self.engine.list(host, goal, after.as_ref(), *max, *take)
+    }
+
+    fn filtered<R: Threads + Wait + Sync, G: Gate + Sync>(
+        &mut self,
+        host: &Host<R, G>,
+        filter: Name,
+        listing: &BuiltListing,
+    ) -> Result<Printing, OutOfMemory>
+        requires there { filter.0 < length self.old.filter_names }
+        requires asked { IsPageAsked (length self.old.components) (listing_of listing.now) }
+        ensures answers { IfOk result (IsAnswerTo self.old (filtered filter.0 (listing_of listing.now))) }
+        ensures printable { IfOk result (IsPrintable self.old) }
+        ensures same { self.new ≡ self.old }
+    {
+        match self.filtered_page(host, filter, listing) {
+            Ok(page) => Ok(terms_printing(page)),
+            Err(fault) => fault_printing(host.alloc, &self.names, fault),
+        }
+    }
+
+    /// The page that is asked for, of the terms that the filter accepts.
+    fn filtered_page<R: Threads + Wait + Sync, G: Gate + Sync>(
+        &mut self,
+        host: &Host<R, G>,
+        filter: Name,
+        listing: &BuiltListing,
+    ) -> Result<Page, EngineFault>
+        requires there { filter.0 < length self.old.filter_names }
+        requires asked { IsPageAsked (length self.old.components) (listing_of listing.now) }
+        ensures page { IfOk result (IsFilteredPageOf self.old filter.0 (listing_of listing.now)) }
+        ensures silent { OnOk result
+            (IsSilent (First (faults_of self.old (filtered filter.0 (listing_of listing.now))))) }
+        ensures fault { IfErr result (IsFaultOf (faults_of self.old (filtered filter.0 (listing_of listing.now)))) }
+        ensures same { self.new ≡ self.old }
+    {
+        let Listing {
+            goal,
+            max,
+            take,
+            after,
+        } = listing;
+        let by = self.filters.filter(filter.0);
+        self.engine
+            .filtered(host, goal, by, after.as_ref(), *max, *take)
     }
 
     /// What is written for a certificate of the goal.

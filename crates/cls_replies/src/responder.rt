@@ -16,6 +16,7 @@ use crate::printing::{Printing, text_printing};
 use cls_assemble::Templates;
 use cls_base::{Gate, OutOfMemory};
 use cls_engine::{Engine, Host, Options};
+use cls_filter::Filters;
 use cls_kind::Kinds;
 use cls_lexer::{Line, Names, Token};
 use cls_proof::HeldLines;
@@ -39,7 +40,7 @@ struct Held {
 
 /// Answers the lines after a repository. It is seen as what it keeps. That is what the repository is: the names of
 /// constructors and of variables so far, the names of components, the kinds of variables, the templates of components,
-/// the names of filters, and the engine. And it is the lines of a query whose certificate hasn't ended.
+/// the names of filters, the filters, and the engine. And it is the lines of a query whose certificate hasn't ended.
 pub struct Responder {
     pub(crate) names: Names,
     pub(crate) variables: Names,
@@ -47,6 +48,7 @@ pub struct Responder {
     kinds: Kinds,
     pub(crate) templates: Templates,
     pub(crate) filter_names: Names,
+    pub(crate) filters: Filters,
     pub(crate) engine: Engine,
     held: Option<Held>,
     // Room for the text of a reply: that of an earlier text.
@@ -63,6 +65,7 @@ impl Drop for Responder {
             kinds: _,
             templates: _,
             filter_names: _,
+            filters: _,
             engine: _,
             held: _,
             room: _,
@@ -83,22 +86,24 @@ impl Model for Responder {
     ghost coded = { Prim.hlevel (codes, coded_type, coded_library) };
 
     ghost view = { λ s. responder_of s.names s.variables s.components s.kinds s.templates
-        s.filter_names s.engine (held_lines s.held) };
+        s.filter_names s.filters s.engine (held_lines s.held) };
 
     ghost invariant = { λ s. IsResponder (responder_of s.names s.variables s.components s.kinds s.templates
-        s.filter_names s.engine (held_lines s.held)) };
+        s.filter_names s.filters s.engine (held_lines s.held)) };
 }
 
 impl Responder {
-    /// Answers by the repository, each of whose components has a name and a template and costs at least 1. It takes no
-    /// memory.
+    /// Answers by the repository, each of whose components has a name and a template and costs at least 1, and each of
+    /// whose filters has a name. It takes no memory.
     pub fn new(alloc: Global, repository: Repository, options: Options) -> Responder
         requires in_range { AreInRange options }
         requires costs { (x : ℕ) → 0 < cost_of repository.costs x }
         requires named { length repository.components ≡ length repository.library.components }
         requires written { length repository.templates ≡ length repository.library.components }
+        requires filtered { length repository.filter_names ≡ length repository.filters }
         ensures { result ≡ responder_of repository.names repository.variables repository.components repository.kinds
-            repository.templates [] (seen_as repository.library repository.costs options) [] }
+            repository.templates repository.filter_names repository.filters
+            (seen_as repository.library repository.costs options) [] }
     {
         Responder {
             names: repository.names,
@@ -106,7 +111,8 @@ impl Responder {
             components: repository.components,
             kinds: repository.kinds,
             templates: repository.templates,
-            filter_names: Names::new(alloc),
+            filter_names: repository.filter_names,
+            filters: repository.filters,
             engine: Engine::new(alloc, repository.library, repository.costs, options),
             held: None,
             room: String::new(alloc),

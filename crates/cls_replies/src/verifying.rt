@@ -60,5 +60,6 @@ fn verified(query: BuiltQuery) -> Ty
         Query::Paths(_) => unreachable!(),
         Query::Typed(..) => unreachable!(),
         Query::Page(..) => unreachable!(),
+        Query::Filtered(..) => unreachable!(),
     }
 }

@@ -8,7 +8,7 @@ use Rattle.cls_base.specs.Firsts.{First, IsSilent}
 use Rattle.cls_base.proofs.Lists.{Contains-head, Contains-later}
 use Rattle.cls_query.proofs.FirstErrors.{each_silent}
 use Rattle.cls_repo.specs.Declarations.{Declares}
-use Rattle.cls_repo.specs.Directives.{Directive, sub, kind, comp, text, end, cost, variance}
+use Rattle.cls_repo.specs.Directives.{Directive, sub, kind, comp, text, end, cost, variance, filter, leaf, app, other}
 use Rattle.cls_repo.specs.Drafts.{Draft}
 use Rattle.cls_repo.specs.LineFaults.{directive_faults, line_faults}
 use Rattle.cls_repo.specs.Readings.{Reading, Takes, skipped, declares, TakesAll}
@@ -38,6 +38,10 @@ declared_apart d n line (text x ws) new f (pieces, template, e) h = subst AreNam
 declared_apart d n line end new f e h = subst AreNamedApart (sym e) h
 declared_apart d n line (cost x digits) new f e h = subst AreNamedApart (sym e) h
 declared_apart d n line (variance c word) new f e h = subst AreNamedApart (sym e) h
+declared_apart d n line (filter g q qs) new f e h = subst AreNamedApart (sym e) h
+declared_apart d n line (leaf g x q) new f e h = subst AreNamedApart (sym e) h
+declared_apart d n line (app g p q r) new f e h = subst AreNamedApart (sym e) h
+declared_apart d n line (other g q) new f e h = subst AreNamedApart (sym e) h
 
 pub taken_apart : (old : Reading) (line : List ℕ) (new : Reading) → Takes old line new → AreNamedApart old.draft → AreNamedApart new.draft
 taken_apart old line new (skipped s e) h = subst (λ (r : Reading). AreNamedApart r.draft) (sym e) h

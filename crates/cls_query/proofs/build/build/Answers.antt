@@ -7,7 +7,7 @@ use Rattle.cls_syntax.specs.TypeTexts.{type_words}
 use Rattle.cls_query.specs.FormAnswers.{SpelledQuery, query_text, term_spelled, spelled_in}
 use Rattle.cls_query.specs.QueryErrors.{query_types}
 use Rattle.cls_query.specs.ReadQueries.{listing_of}
-use Rattle.cls_query.proofs.CodeForms.{page_outside_is, both_within, sub_named, typed_named, about_named, page_named, typed_means, about_means, page_means}
+use Rattle.cls_query.proofs.CodeForms.{page_outside_is, both_within, sub_named, typed_named, about_named, page_named, filtered_outside_is, filtered_named, typed_means, about_means, page_means, filtered_means}
 use Rattle.cls_query.proofs.Searches.{some_or}
 use Rattle.cls_query.proofs.build.build.Goals as goal
 
@@ -36,14 +36,14 @@ pub returns-in_ok-ty-in-Typed-clause-query : goal.returns-in_ok-ty-in-Typed-clau
 returns-in_ok-ty-in-Typed-clause-query c =
     let asked = c.requires.term ∙ ap (λ (q : SpelledQuery). option_map (spelled_in c.args.components.now) (term_spelled q)) c.in-Typed.is in
     let term_is = ap (some_or c.in-Some.term) (sym c.in-Some.is ∙ asked) in
-    typed_means _ c.args.components.now c.in-Typed.is c.in-Some.term (type_of c.in_ok-ty-in-Typed.ty) term_is c.in_ok-ty-in-Typed.ensures.ty
+    typed_means _ c.args.components.now c.args.filters.now c.in-Typed.is c.in-Some.term (type_of c.in_ok-ty-in-Typed.ty) term_is c.in_ok-ty-in-Typed.ensures.ty
 
 pub returns-in_ok-ty-in-Typed-clause-constructors : goal.returns-in_ok-ty-in-Typed-clause-constructors
 returns-in_ok-ty-in-Typed-clause-constructors c = c.in_ok-ty-in-Typed.ensures.constructors ∙ typed_named c.args.constructors.now c.in-Typed.is
 
 pub returns-in_ok-goal-in-About-clause-query : goal.returns-in_ok-goal-in-About-clause-query
 returns-in_ok-goal-in-About-clause-query c =
-    about_means _ c.args.components.now c.in-About.is (type_of c.in_ok-goal-in-About.goal) c.in_ok-goal-in-About.ensures.ty
+    about_means _ c.args.components.now c.args.filters.now c.in-About.is (type_of c.in_ok-goal-in-About.goal) c.in_ok-goal-in-About.ensures.ty
 
 pub returns-in_ok-goal-in-About-clause-constructors : goal.returns-in_ok-goal-in-About-clause-constructors
 returns-in_ok-goal-in-About-clause-constructors c = c.in_ok-goal-in-About.ensures.constructors ∙ about_named c.args.constructors.now c.in-About.is
@@ -55,7 +55,23 @@ page-requires-clause-in_range c =
 pub returns-in_ok-page-in-Page-clause-query : goal.returns-in_ok-page-in-Page-clause-query
 returns-in_ok-page-in-Page-clause-query c =
     let given = c.requires.term ∙ ap (λ (q : SpelledQuery). option_map (spelled_in c.args.components.now) (term_spelled q)) c.in-Page.is in
-    page_means _ c.args.components.now c.in-Page.is (listing_of c.in_ok-page-in-Page.page) (c.in_ok-page-in-Page.ensures.page c.args.components.now given)
+    page_means _ c.args.components.now c.args.filters.now c.in-Page.is (listing_of c.in_ok-page-in-Page.page) (c.in_ok-page-in-Page.ensures.page c.args.components.now given)
 
 pub returns-in_ok-page-in-Page-clause-constructors : goal.returns-in_ok-page-in-Page-clause-constructors
 returns-in_ok-page-in-Page-clause-constructors c = c.in_ok-page-in-Page.ensures.constructors ∙ page_named c.args.constructors.now c.in-Page.is
+
+pub page-requires-in-Filtered-clause-closed : goal.page-requires-in-Filtered-clause-closed
+page-requires-in-Filtered-clause-closed c = (subst AreClosed c.in-Filtered.is c.requires.closed).0
+
+pub page-requires-in-Filtered-clause-in_range : goal.page-requires-in-Filtered-clause-in_range
+page-requires-in-Filtered-clause-in_range c =
+    both_within c.in-Filtered.spelled.max.text.now c.in-Filtered.spelled.take.text.now (sym (filtered_outside_is c.in-Filtered.is) ∙ c.requires.in_range)
+
+pub returns-in_ok-page-in-Filtered-clause-query : goal.returns-in_ok-page-in-Filtered-clause-query
+returns-in_ok-page-in-Filtered-clause-query c =
+    let given = c.requires.term ∙ ap (λ (q : SpelledQuery). option_map (spelled_in c.args.components.now) (term_spelled q)) c.in-Filtered.is in
+    filtered_means _ c.args.components.now c.args.filters.now c.in-Filtered.is c.number-in-Filtered.result.0 (listing_of c.in_ok-page-in-Filtered.page) c.number-in-Filtered.ensures
+    (c.in_ok-page-in-Filtered.ensures.page c.args.components.now given)
+
+pub returns-in_ok-page-in-Filtered-clause-constructors : goal.returns-in_ok-page-in-Filtered-clause-constructors
+returns-in_ok-page-in-Filtered-clause-constructors c = c.in_ok-page-in-Filtered.ensures.constructors ∙ filtered_named c.args.constructors.now c.in-Filtered.is

@@ -1,13 +1,12 @@
-use Rattle.std.proofs.Common.{Bor, ℕ, ◌<◌, ◌++◌, List, sym, ap, ◌∙◌, subst, length, arith}
+use Rattle.std.proofs.Common.{ℕ, ◌<◌, ◌++◌, sym, ap, ◌∙◌, subst, length, arith}
 use Rattle.std.specs.Prelude.{codes, Some, None}
 use Rattle.std.specs.Fmt.{decimal}
 use Rattle.std.proofs.lemmas.List.{length-map}
 use Rattle.cls_base.specs.Firsts.{First}
 use Rattle.cls_lexer.specs.Words.{word_of}
-use Rattle.cls_syntax.specs.declared.role.Role.TheVariants.{Component}
-use Rattle.cls_syntax.specs.Forms.{part_word, naming}
+use Rattle.cls_syntax.specs.Forms.{part_word}
 use Rattle.cls_term.specs.Components.{greatest_of}
-use Rattle.cls_query.proofs.Searches.{never_some}
+use Rattle.cls_query.proofs.Searches.{match_none}
 use Rattle.cls_query.specs.FormAnswers.{query_text, spelled_in}
 use Rattle.cls_query.specs.Queries.{query_parts}
 use Rattle.cls_query.specs.Steps.{value_errors}
@@ -19,7 +18,7 @@ use Rattle.cls_query.proofs.checks.check_values.Goals as goal
 pub returns-in-Some-clause-tested : goal.returns-in-Some-clause-tested
 returns-in-Some-clause-tested c =
     let inside = sym c.is_outside.ensures ∙ c.if-is_outside.false in
-    unknown_said c.args.line.now.text.now (query_text c.args.query.now) c.requires c.args.components.now inside _ c.in-Some.ensures
+    unknown_said c.args.line.now.text.now (query_text c.args.query.now) c.requires c.args.components.now c.args.filters.now inside _ _ c.in-Some.ensures.1
 
 pub unknown_in_term-requires : goal.unknown_in_term-requires
 unknown_in_term-requires c =
@@ -30,27 +29,27 @@ pub returns-in-Some-unknown_in_term-clause-tested : goal.returns-in-Some-unknown
 returns-in-Some-unknown_in_term-clause-tested c =
     let line = c.args.line.now.text.now in
     let inside = sym c.is_outside.ensures ∙ c.if-is_outside.false in
-    let none = c.unknown.ensures ∙ never_some (λ (name : Bor (List ℕ)). naming Component name.now) c.unknown.result c.in_default.not-Some in
-    subst (λ (b : ℕ). First (value_errors line c.args.components.now) (codes "token " ++ decimal b)) (sym c.byte.ensures)
-    (term_said line (query_text c.args.query.now) c.requires c.args.components.now inside none c.in-Some-unknown_in_term.place (sym c.unknown_in_term.ensures ∙ c.in-Some-unknown_in_term.is))
+    let none = match_none _ _ c.unknown.result c.in_default.not-Some c.unknown.ensures in
+    subst (λ (b : ℕ). First (value_errors line c.args.components.now c.args.filters.now) (codes "token " ++ decimal b)) (sym c.byte.ensures)
+    (term_said line (query_text c.args.query.now) c.requires c.args.components.now c.args.filters.now inside none c.in-Some-unknown_in_term.place (sym c.unknown_in_term.ensures ∙ c.in-Some-unknown_in_term.is))
 
 pub returns-in_default-term-clause-tested : goal.returns-in_default-term-clause-tested
 returns-in_default-term-clause-tested c =
     let placed = form_held c.args.components.now c.args.query.now None (sym c.term.ensures ∙ c.in_default-term.is) tt in
     let inside = sym c.is_outside.ensures ∙ c.if-is_outside.false in
-    let none = c.unknown.ensures ∙ never_some (λ (name : Bor (List ℕ)). naming Component name.now) c.unknown.result c.in_default.not-Some in
-    values_silent c.args.line.now.text.now (query_text c.args.query.now) c.requires c.args.components.now inside none placed
+    let none = match_none _ _ c.unknown.result c.in_default.not-Some c.unknown.ensures in
+    values_silent c.args.line.now.text.now (query_text c.args.query.now) c.requires c.args.components.now c.args.filters.now inside none placed
 
 pub returns-then-greatest-len-clause-tested : goal.returns-then-greatest-len-clause-tested
 returns-then-greatest-len-clause-tested c =
     let below : greatest_of (spelled_in c.args.components.now c.in-Some-term.spelled) < length c.args.components.now = omega (arith, c.if-greatest-len.true, c.greatest.ensures, c.len.ensures.count, ap greatest_of c.in_ok-term.ensures) in
     let placed = form_held c.args.components.now c.args.query.now (Some c.in-Some-term.spelled) (sym c.term.ensures ∙ c.in-Some-term.is) below in
     let inside = sym c.is_outside.ensures ∙ c.if-is_outside.false in
-    let none = c.unknown.ensures ∙ never_some (λ (name : Bor (List ℕ)). naming Component name.now) c.unknown.result c.in_default.not-Some in
-    values_silent c.args.line.now.text.now (query_text c.args.query.now) c.requires c.args.components.now inside none placed
+    let none = match_none _ _ c.unknown.result c.in_default.not-Some c.unknown.ensures in
+    values_silent c.args.line.now.text.now (query_text c.args.query.now) c.requires c.args.components.now c.args.filters.now inside none placed
 
 pub returns-clause-tested : goal.returns-clause-tested
 returns-clause-tested c =
     let inside = sym c.is_outside.ensures ∙ c.if-is_outside.false in
-    let none = c.unknown.ensures ∙ never_some (λ (name : Bor (List ℕ)). naming Component name.now) c.unknown.result c.in_default.not-Some in
-    values_silent c.args.line.now.text.now (query_text c.args.query.now) c.requires c.args.components.now inside none (sym c.unknown_in_term.ensures ∙ c.in-None.is)
+    let none = match_none _ _ c.unknown.result c.in_default.not-Some c.unknown.ensures in
+    values_silent c.args.line.now.text.now (query_text c.args.query.now) c.requires c.args.components.now c.args.filters.now inside none (sym c.unknown_in_term.ensures ∙ c.in-None.is)

@@ -2,7 +2,7 @@ use Rattle.std.proofs.Common.{Bool, sym, ap, ◌∙◌}
 use Rattle.std.specs.Prelude.{◌||◌}
 use Rattle.cls_syntax.specs.SpelledTypes.{type_text}
 use Rattle.cls_query.specs.QueryErrors.{is_large}
-use Rattle.cls_query.proofs.CodeForms.{sub_large, typed_large, about_large, page_large}
+use Rattle.cls_query.proofs.CodeForms.{sub_large, typed_large, about_large, page_large, filtered_large}
 use Rattle.cls_query.proofs.checks.has_large_type.Goals as goal
 
 pub returns-then-is_large : goal.returns-then-is_large
@@ -23,3 +23,6 @@ returns-in-About c = c.is_large-in-About.ensures ∙ sym (about_large c.in-About
 
 pub returns-in-Page : goal.returns-in-Page
 returns-in-Page c = c.has_large_goal.ensures ∙ sym (page_large c.in-Page.is)
+
+pub returns-in-Filtered : goal.returns-in-Filtered
+returns-in-Filtered c = c.has_large_goal-in-Filtered.ensures ∙ sym (filtered_large c.in-Filtered.is)

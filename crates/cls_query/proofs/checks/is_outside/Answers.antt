@@ -1,5 +1,5 @@
 use Rattle.std.proofs.Common.{sym, ◌∙◌}
-use Rattle.cls_query.proofs.CodeForms.{sub_inside, typed_inside, about_inside, page_outside_is, none_is, numbers_none}
+use Rattle.cls_query.proofs.CodeForms.{sub_inside, typed_inside, about_inside, page_outside_is, filtered_outside_is, none_is, numbers_none}
 use Rattle.cls_query.proofs.checks.is_outside.Goals as goal
 
 pub returns-in-Sub : goal.returns-in-Sub
@@ -16,3 +16,9 @@ returns-in-Page c =
     none_is c.numbers.result c.is_none.result c.is_none.ensures
     ∙ (numbers_none c.numbers.result _ c.in-Page.listing.max.text.now c.in-Page.listing.take.text.now c.numbers.ensures
     ∙ sym (page_outside_is c.in-Page.is))
+
+pub returns-in-Filtered : goal.returns-in-Filtered
+returns-in-Filtered c =
+    none_is c.numbers-in-Filtered.result c.is_none-in-Filtered.result c.is_none-in-Filtered.ensures
+    ∙ (numbers_none c.numbers-in-Filtered.result _ c.in-Filtered.listing.max.text.now c.in-Filtered.listing.take.text.now c.numbers-in-Filtered.ensures
+    ∙ sym (filtered_outside_is c.in-Filtered.is))

@@ -1,5 +1,5 @@
 use Rattle.std.proofs.Common.{sym, ◌∙◌, arith}
-use Rattle.cls_query.proofs.CodeForms.{sub_placed, typed_placed, about_placed, page_placed, typed_fits, page_fits}
+use Rattle.cls_query.proofs.CodeForms.{sub_placed, typed_placed, about_placed, page_placed, filtered_placed, typed_fits, page_fits, filtered_fits}
 use Rattle.cls_query.proofs.checks.unknown_in_term.Goals as goal
 
 pub unknown_behind-requires : goal.unknown_behind-requires
@@ -7,6 +7,9 @@ unknown_behind-requires c = let fits = typed_fits c.in-Typed.is c.args.count c.r
 
 pub unknown_in_cursor-requires : goal.unknown_in_cursor-requires
 unknown_in_cursor-requires c = page_fits c.args.components.now c.in-Page.is c.args.count c.requires
+
+pub unknown_in_cursor-requires-in-Filtered : goal.unknown_in_cursor-requires-in-Filtered
+unknown_in_cursor-requires-in-Filtered c = filtered_fits c.args.components.now c.in-Filtered.is c.args.count c.requires
 
 pub returns-in-Sub : goal.returns-in-Sub
 returns-in-Sub c = sub_placed c.args.components.now c.in-Sub.is
@@ -19,3 +22,6 @@ returns-in-About c = about_placed c.args.components.now c.in-About.is
 
 pub returns-in-Page : goal.returns-in-Page
 returns-in-Page c = c.unknown_in_cursor.ensures ∙ page_placed c.args.components.now c.in-Page.is c.args.count c.requires
+
+pub returns-in-Filtered : goal.returns-in-Filtered
+returns-in-Filtered c = c.unknown_in_cursor-in-Filtered.ensures ∙ filtered_placed c.args.components.now c.in-Filtered.is c.args.count c.requires

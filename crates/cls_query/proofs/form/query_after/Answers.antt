@@ -7,7 +7,7 @@ use Rattle.cls_syntax.specs.LineReading.{line_read}
 use Rattle.cls_query.specs.declared.word.QueryWord.{QueryWord}
 use Rattle.cls_query.specs.QueryForms.{form_of}
 use Rattle.cls_query.specs.QueryReading.{said_of, query_after, Gives}
-use Rattle.cls_query.proofs.CodeForms.{page_read}
+use Rattle.cls_query.proofs.CodeForms.{page_read, filtered_read}
 use Rattle.cls_query.proofs.form.query_after.Goals as goal
 
 -- what follows this word is read by its form
@@ -26,6 +26,10 @@ pub returns-in_err-term-in-Typed : goal.returns-in_err-term-in-Typed
 returns-in_err-term-in-Typed c =
     subst (λ (w : QueryWord). Gives (query_after w (words c.args.tokens.now)) c.from_residual-in_err-term-in-Typed.result) (sym c.in-Typed.is) (search rules)
 
+pub returns-in_err-filter-in-Filtered : goal.returns-in_err-filter-in-Filtered
+returns-in_err-filter-in-Filtered c =
+    subst (λ (w : QueryWord). Gives (query_after w (words c.args.tokens.now)) c.from_residual-in_err-filter-in-Filtered.result) (sym c.in-Filtered.is) (search rules)
+
 pub returns-in_err-goal-in-About : goal.returns-in_err-goal-in-About
 returns-in_err-goal-in-About c =
     subst (λ (w : QueryWord). Gives (query_after w (words c.args.tokens.now)) c.from_residual-in_err-goal-in-About.result) (sym c.in-About.is) (search rules)
@@ -42,6 +46,11 @@ returns-in_ok-name-in-Paths c = by_form c.args.word (words c.args.tokens.now) c.
 
 pub returns-in_ok-term-in-Typed : goal.returns-in_ok-term-in-Typed
 returns-in_ok-term-in-Typed c = by_form c.args.word (words c.args.tokens.now) c.in-Typed.is c.in_ok-term-in-Typed.ensures
+
+pub returns-in_ok-filter-in-Filtered : goal.returns-in_ok-filter-in-Filtered
+returns-in_ok-filter-in-Filtered c =
+    let ws = words c.args.tokens.now in
+    ap (λ (w : QueryWord). query_after w ws) c.in-Filtered.is ∙ filtered_read c.in_ok-filter-in-Filtered.filter c.in_ok-filter-in-Filtered.page ws c.in_ok-filter-in-Filtered.ensures
 
 pub returns-in_ok-goal-in-About : goal.returns-in_ok-goal-in-About
 returns-in_ok-goal-in-About c = by_form c.args.word (words c.args.tokens.now) c.in-About.is c.in_ok-goal-in-About.ensures

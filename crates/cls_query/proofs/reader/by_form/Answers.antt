@@ -11,21 +11,21 @@ use Rattle.cls_query.proofs.reader.by_form.Goals as goal
 
 pub returns-in_err-spelled-clause-fault : goal.returns-in_err-spelled-clause-fault
 returns-in_err-spelled-clause-fault c =
-    let tables = tables_of c.args.constructors.now [] c.args.components.now [] in
+    let tables = tables_of c.args.constructors.now [] c.args.components.now c.args.filters.now in
     let line = c.args.line.now.text.now in
     let failed = by_spelling tables line (text_silent line c.requires) (fault_words c.in_err-spelled.field-0.0) c.in_err-spelled.ensures.tested in
     search (rules, failed)
 
 pub returns-in_err-check_types-clause-fault : goal.returns-in_err-check_types-clause-fault
 returns-in_err-check_types-clause-fault c =
-    let tables = tables_of c.args.constructors.now [] c.args.components.now [] in
+    let tables = tables_of c.args.constructors.now [] c.args.components.now c.args.filters.now in
     let line = c.args.line.now.text.now in
     let failed = by_types tables line (text_silent line c.requires) c.in_ok-spelled.ensures.tested (fault_words c.in_err-check_types.field-0.0) c.in_err-check_types.ensures.tested in
     search (rules, failed)
 
 pub returns-in_err-term-clause-fault : goal.returns-in_err-term-clause-fault
 returns-in_err-term-clause-fault c =
-    let tables = tables_of c.args.constructors.now [] c.args.components.now [] in
+    let tables = tables_of c.args.constructors.now [] c.args.components.now c.args.filters.now in
     let line = c.args.line.now.text.now in
     let failed = by_values tables line (text_silent line c.requires) c.in_ok-spelled.ensures.tested c.in_ok-check_types.ensures.tested (fault_words c.in_err-term.field-0.0) c.in_err-term.ensures.tested in
     search (rules, failed)
@@ -36,14 +36,15 @@ build-requires-clause-closed c =
     (subst (λ (ws : List Word). HasNoDollar ws) (sym c.in_ok-spelled.ensures.says.spelled) c.in_ok-check_types.ensures.closed)
 
 pub returns-clause-query : goal.returns-clause-query
-returns-clause-query c variables filters =
+returns-clause-query c variables =
     let old = c.args.constructors.now in
     let components = c.args.components.now in
+    let filters = c.args.filters.now in
     let tables = tables_of old variables components filters in
     let line = c.args.line.now.text.now in
     let said = query_text c.in_ok-spelled.spelled in
     reads_by old variables components filters _ line _ said
     (all_silent tables line (text_silent line c.requires) c.in_ok-spelled.ensures.tested c.in_ok-check_types.ensures.tested c.in_ok-term.ensures.tested)
     c.in_ok-spelled.ensures.says
-    (c.in_ok-build.ensures.query ∙ ap (λ (names : List (List ℕ)). query_of (tables_of names [] components []) said) c.in_ok-build.ensures.constructors)
+    (c.in_ok-build.ensures.query ∙ ap (λ (names : List (List ℕ)). query_of (tables_of names [] components filters) said) c.in_ok-build.ensures.constructors)
     c.in_ok-build.ensures.constructors

@@ -29,10 +29,10 @@ absent : {A P : Type 0} (o : Option A) → ((x : A) → o ≡ Some x → ⊥) �
 absent None n h = h
 absent (Some x) n h = absurd (n x refl)
 
--- what is read by forms, whatever variables and filters there are
-abbrev IsReadByForm : (old new components : List (List ℕ)) → (line : List ℕ) → BuiltQuery → Type 0
-IsReadByForm old new components line q =
-    (variables filters : List (List ℕ)) → ReadsQuery (tables_of old variables components filters) line (asked_of q) (tables_of new variables components filters)
+-- what is read by forms, whatever variables there are
+abbrev IsReadByForm : (old new components filters : List (List ℕ)) → (line : List ℕ) → BuiltQuery → Type 0
+IsReadByForm old new components filters line q =
+    (variables : List (List ℕ)) → ReadsQuery (tables_of old variables components filters) line (asked_of q) (tables_of new variables components filters)
 
 pub returns-clause-query : goal.returns-clause-query
 returns-clause-query c =
@@ -41,8 +41,8 @@ returns-clause-query c =
     let new = tables_of c.by_form.new.constructors c.args.variables.now c.args.components.now c.args.filters.now in
     subst (λ (l : List ℕ). IfOk c.by_form.result (λ (q : BuiltQuery). ReadsQuery old l (asked_of q) new)) c.in_ok-text.ensures.same
     (subst (λ (names : List (List ℕ)). IfOk c.by_form.result (λ (q : BuiltQuery). ReadsQuery (tables_of names c.args.variables.now c.args.components.now c.args.filters.now) c.in_ok-text.text.now (asked_of q) new)) same
-    (IfOk-weaker c.by_form.result (IsReadByForm c.comparison.new.constructors c.by_form.new.constructors c.args.components.now c.in_ok-text.text.now) _
-    (λ q r. r c.args.variables.now c.args.filters.now) c.by_form.ensures.query))
+    (IfOk-weaker c.by_form.result (IsReadByForm c.comparison.new.constructors c.by_form.new.constructors c.args.components.now c.args.filters.now c.in_ok-text.text.now) _
+    (λ q r. r c.args.variables.now) c.by_form.ensures.query))
 
 pub returns-clause-fault : goal.returns-clause-fault
 returns-clause-fault c =
@@ -51,11 +51,11 @@ returns-clause-fault c =
 
 pub returns-clause-readable : goal.returns-clause-readable
 returns-clause-readable c =
-    IfOk-weaker c.by_form.result (IsReadByForm c.comparison.new.constructors c.by_form.new.constructors c.args.components.now c.in_ok-text.text.now)
-    (λ (q : BuiltQuery). IsReadable (length c.args.components.now) (asked_of q)) (λ q r. query_readable (r [] [])) c.by_form.ensures.query
+    IfOk-weaker c.by_form.result (IsReadByForm c.comparison.new.constructors c.by_form.new.constructors c.args.components.now c.args.filters.now c.in_ok-text.text.now)
+    (λ (q : BuiltQuery). IsReadable (length c.args.components.now) (length c.args.filters.now) (asked_of q)) (λ q r. query_readable (r [])) c.by_form.ensures.query
 
 pub returns-clause-verify : goal.returns-clause-verify
 returns-clause-verify c =
     subst (λ (l : List ℕ). IfOk c.by_form.result (λ (q : BuiltQuery). IsVerify (asked_of q) ↔ (begins_with (codes "verify") (words_of l) ≡ true))) c.in_ok-text.ensures.same
-    (IfOk-weaker c.by_form.result (IsReadByForm c.comparison.new.constructors c.by_form.new.constructors c.args.components.now c.in_ok-text.text.now) _
-    (λ q r. query_verify (r [] [])) c.by_form.ensures.query)
+    (IfOk-weaker c.by_form.result (IsReadByForm c.comparison.new.constructors c.by_form.new.constructors c.args.components.now c.args.filters.now c.in_ok-text.text.now) _
+    (λ q r. query_verify (r [])) c.by_form.ensures.query)

@@ -10,10 +10,10 @@ use Rattle.cls_replies.proofs.responder.Responder.answer_held.Goals as goal
 pub returns-in-Some-clause-concludes : goal.returns-in-Some-clause-concludes
 returns-in-Some-clause-concludes c =
     let i = c.self.inside in
-    let s = responder_of i.names i.variables i.components i.kinds i.templates i.filter_names i.engine (held_lines i.held) in
-    let v = responder_of i.names i.variables i.components i.kinds i.templates i.filter_names i.engine (held_lines c.take.new.self) in
+    let s = responder_of i.names i.variables i.components i.kinds i.templates i.filter_names i.filters i.engine (held_lines i.held) in
+    let v = responder_of i.names i.variables i.components i.kinds i.templates i.filter_names i.filters i.engine (held_lines c.take.new.self) in
     let h = c.in-Some.field-0 in
     subst (λ (z : Responder). IfOk c.verify.result (λ text. Concludes z z.held (string_bytes text) c.verify.new.self)) c.self.view_is
     (IfOk-weaker c.verify.result (λ text. Verified v h.line h.inside (string_bytes text) c.verify.new.self) (λ text. Concludes s s.held (string_bytes text) c.verify.new.self)
     (λ text k. concludes_held s v c.verify.new.self h.line h.inside (string_bytes text) (ap held_lines (sym c.in-Some.ensures.value))
-    (λ j. responder_of i.names i.variables i.components i.kinds i.templates i.filter_names i.engine (held_lines (c.take.ensures.after j))) k) c.verify.ensures.verified)
+    (λ j. responder_of i.names i.variables i.components i.kinds i.templates i.filter_names i.filters i.engine (held_lines (c.take.ensures.after j))) k) c.verify.ensures.verified)

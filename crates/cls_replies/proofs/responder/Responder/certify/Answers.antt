@@ -27,7 +27,7 @@ certificate_printing-requires g c =
 pub returns-clause-answers : goal.returns-clause-answers
 returns-clause-answers g c =
     let i = c.self.inside in
-    let s = responder_of i.names i.variables i.components i.kinds i.templates i.filter_names i.engine (held_lines i.held) in
+    let s = responder_of i.names i.variables i.components i.kinds i.templates i.filter_names i.filters i.engine (held_lines i.held) in
     let q = certify (type_of c.args.ty.now) in
     elim c.match-grammar.branch [
       | in-Ok w ↦
@@ -47,7 +47,7 @@ returns-clause-printable g c =
     elim c.match-grammar.branch [
       | in-Ok w ↦
           let i = c.self.inside in
-          let s = responder_of i.names i.variables i.components i.kinds i.templates i.filter_names i.engine (held_lines i.held) in
+          let s = responder_of i.names i.variables i.components i.kinds i.templates i.filter_names i.filters i.engine (held_lines i.held) in
           let lib : w.library-lib.result.now ≡ i.engine.library = w.library-lib.ensures ∙ ap (λ (e : EngineSeen). e.library) c.grammar.ensures.same in
           rw w.result-is (subst (λ (z : Responder). IfOk w.certificate_printing.result (IsPrintable z)) c.self.view_is
           (w.certificate_printing.ensures.printable s (sym lib) (type_of c.args.ty.now, w.in-Ok.ensures.closed, w.in-Ok.ensures.silent)))

@@ -13,7 +13,7 @@ use Rattle.cls_replies.proofs.responder.Responder.feed.Goals as goal
 pub returns-then-ends-clause-goes : goal.returns-then-ends-clause-goes
 returns-then-ends-clause-goes g c =
     let i = c.self.inside in
-    let s = responder_of i.names i.variables i.components i.kinds i.templates i.filter_names i.engine (held_lines i.held) in
+    let s = responder_of i.names i.variables i.components i.kinds i.templates i.filter_names i.filters i.engine (held_lines i.held) in
     let h = c.in-Some.held in
     let m = holding s (h.line ∷ c.push.new.self) in
     let n = c.answer_held.new.self in
@@ -37,7 +37,7 @@ false_true e = cc
 pub returns-clause-goes : goal.returns-clause-goes
 returns-clause-goes g c =
     let i = c.self.inside in
-    let s = responder_of i.names i.variables i.components i.kinds i.templates i.filter_names i.engine (held_lines i.held) in
+    let s = responder_of i.names i.variables i.components i.kinds i.templates i.filter_names i.filters i.engine (held_lines i.held) in
     let h = c.in-Some.held in
     let m = holding s (h.line ∷ c.push.new.self) in
     subst (λ (z : Responder). Goes z c.args.line (left_of m c.nothing.result) m) c.self.view_is
@@ -47,5 +47,5 @@ returns-clause-goes g c =
 pub returns-clause-printable : goal.returns-clause-printable
 returns-clause-printable g c =
     let i = c.self.inside in
-    let s = responder_of i.names i.variables i.components i.kinds i.templates i.filter_names i.engine (held_lines i.held) in
+    let s = responder_of i.names i.variables i.components i.kinds i.templates i.filter_names i.filters i.engine (held_lines i.held) in
     c.nothing.ensures.printable (holding s (c.in-Some.held.line ∷ c.push.new.self))

@@ -22,7 +22,7 @@ pub returns-in_ok-into_owned-in-Opening-clause-printable : goal.returns-in_ok-in
 returns-in_ok-into_owned-in-Opening-clause-printable g c =
     let i = c.self.inside in
     let held = Some (record { line = c.in_ok-into_owned-in-Opening.field-0; inside = c.new.result }) in
-    c.nothing-in-Opening.ensures.printable (responder_of i.names i.variables i.components i.kinds i.templates i.filter_names i.engine (held_lines held))
+    c.nothing-in-Opening.ensures.printable (responder_of i.names i.variables i.components i.kinds i.templates i.filter_names i.filters i.engine (held_lines held))
 
 pub returns-in-Single-clause-goes : goal.returns-in-Single-clause-goes
 returns-in-Single-clause-goes g c =

@@ -17,7 +17,7 @@ use Rattle.cls_replies.proofs.responder.Responder.grammar.Goals.{in-Ok, in-Err}
 pub returns-clause-answers : goal.returns-clause-answers
 returns-clause-answers g c =
     let i = c.self.inside in
-    let s = responder_of i.names i.variables i.components i.kinds i.templates i.filter_names i.engine (held_lines i.held) in
+    let s = responder_of i.names i.variables i.components i.kinds i.templates i.filter_names i.filters i.engine (held_lines i.held) in
     let q = grammar (type_of c.args.ty.now) in
     elim c.match-grammar.branch [
       | in-Ok w ↦

@@ -14,7 +14,7 @@ use Rattle.cls_replies.proofs.responder.Responder.inhabit.Goals as goal
 pub returns-in-Ok-clause-answers : goal.returns-in-Ok-clause-answers
 returns-in-Ok-clause-answers g c =
     let i = c.self.inside in
-    let s = responder_of i.names i.variables i.components i.kinds i.templates i.filter_names i.engine (held_lines i.held) in
+    let s = responder_of i.names i.variables i.components i.kinds i.templates i.filter_names i.filters i.engine (held_lines i.held) in
     let q = inhabit (type_of c.args.ty.now) in
     subst (λ (z : Responder). IfOk c.says.result (λ text. Answers z q (string_bytes text) z)) c.self.view_is
     (reply_answers string_bytes c.says.result s q c.in-Ok.ensures.silent
@@ -25,4 +25,4 @@ returns-in-Err-clause-answers g c =
     let i = c.self.inside in
     let q = inhabit (type_of c.args.ty.now) in
     subst (λ (z : Responder). IfOk c.engine_fault.result (λ text. Answers z q (string_bytes text) z)) c.self.view_is
-    (fault_answers string_bytes c.engine_fault.result (responder_of i.names i.variables i.components i.kinds i.templates i.filter_names i.engine (held_lines i.held)) q c.in-Err.fault c.in-Err.ensures.fault c.engine_fault.ensures)
+    (fault_answers string_bytes c.engine_fault.result (responder_of i.names i.variables i.components i.kinds i.templates i.filter_names i.filters i.engine (held_lines i.held)) q c.in-Err.fault c.in-Err.ensures.fault c.engine_fault.ensures)

@@ -14,7 +14,7 @@ use Rattle.cls_replies.proofs.responder.Responder.judge.Goals as goal
 pub returns-in-Ok : goal.returns-in-Ok
 returns-in-Ok c =
     let i = c.self.inside in
-    let s = responder_of i.names i.variables i.components i.kinds i.templates i.filter_names i.engine (held_lines i.held) in
+    let s = responder_of i.names i.variables i.components i.kinds i.templates i.filter_names i.filters i.engine (held_lines i.held) in
     let t = type_of c.args.goal.now in
     let p = certificate_of c.args.certificate.now in
     subst (λ (s : Responder). IfOk c.verdict_line.result (λ text. Judges s t p (string_bytes text))) c.self.view_is
@@ -24,7 +24,7 @@ returns-in-Ok c =
 pub returns-in-Err : goal.returns-in-Err
 returns-in-Err c =
     let i = c.self.inside in
-    let s = responder_of i.names i.variables i.components i.kinds i.templates i.filter_names i.engine (held_lines i.held) in
+    let s = responder_of i.names i.variables i.components i.kinds i.templates i.filter_names i.filters i.engine (held_lines i.held) in
     let t = type_of c.args.goal.now in
     let p = certificate_of c.args.certificate.now in
     subst (λ (s : Responder). IfOk c.engine_fault.result (λ text. Judges s t p (string_bytes text))) c.self.view_is

@@ -19,7 +19,7 @@ returns-clause-answers g c =
       | in-Err w ↦
           let i = c.self.inside in
           let q = list (listing_of c.args.listing.now) in
-          let same : responder_of i.names i.variables i.components i.kinds i.templates i.filter_names i.engine (held_lines i.held) ≡ s = c.self.view_is ∙ c.page.ensures.same in
+          let same : responder_of i.names i.variables i.components i.kinds i.templates i.filter_names i.filters i.engine (held_lines i.held) ≡ s = c.self.view_is ∙ c.page.ensures.same in
           rw w.result-is (fault_answers (left_of s) w.fault_printing.result s q w.in-Err.fault w.in-Err.ensures.fault
           (subst (λ (z : Responder). IfOk w.fault_printing.result (λ p. IsFaultLine z.names w.in-Err.fault (left_of s p))) same (w.fault_printing.ensures.text s)))
     ]

@@ -21,12 +21,12 @@ use Rattle.cls_replies.proofs.responder.Responder.verify.Goals as goal
 pub returns-in-Err-clause-verified : goal.returns-in-Err-clause-verified
 returns-in-Err-clause-verified c =
     let i = c.self.inside in
-    let s = responder_of i.names i.variables i.components i.kinds i.templates i.filter_names i.engine (held_lines i.held) in
-    let m = responder_of c.read_query.new.constructors c.read_query.new.variables i.components i.kinds i.templates i.filter_names i.engine (held_lines i.held) in
+    let s = responder_of i.names i.variables i.components i.kinds i.templates i.filter_names i.filters i.engine (held_lines i.held) in
+    let m = responder_of c.read_query.new.constructors c.read_query.new.variables i.components i.kinds i.templates i.filter_names i.filters i.engine (held_lines i.held) in
     subst (λ (z : Responder). IfOk c.line_fault.result (λ text. Verified z c.args.line.now c.args.certificate (string_bytes text) m)) c.self.view_is
     (IfOk-weaker c.line_fault.result (λ text. option_map error_line (queries.fault_words c.in-Err.fault) ≡ Some (string_bytes text)) (λ text. Verified s c.args.line.now c.args.certificate (string_bytes text) m)
     (λ text e. answering.Verified.misread (misreads s m c.args.line.now (string_bytes text) (queries.fault_words c.in-Err.fault) c.in-Err.ensures.fault e
-    (λ k. responder_of (c.in-Err.ensures.stay k) (c.in-Err.ensures.variables_stay k) i.components i.kinds i.templates i.filter_names i.engine (held_lines i.held)))) c.line_fault.ensures)
+    (λ k. responder_of (c.in-Err.ensures.stay k) (c.in-Err.ensures.variables_stay k) i.components i.kinds i.templates i.filter_names i.filters i.engine (held_lines i.held)))) c.line_fault.ensures)
 
 pub verified-goal-requires : goal.verified-goal-requires
 verified-goal-requires c = c.in-Ok.ensures.verify.1 c.requires.opens.begins
@@ -39,9 +39,9 @@ judge-requires c =
 pub returns-in-Ok-read_certificate-clause-verified : goal.returns-in-Ok-read_certificate-clause-verified
 returns-in-Ok-read_certificate-clause-verified c =
     let i = c.self.inside in
-    let s = responder_of i.names i.variables i.components i.kinds i.templates i.filter_names i.engine (held_lines i.held) in
-    let m = responder_of c.read_query.new.constructors c.read_query.new.variables i.components i.kinds i.templates i.filter_names i.engine (held_lines i.held) in
-    let n = responder_of c.read_certificate.new.names c.read_query.new.variables i.components i.kinds i.templates i.filter_names i.engine (held_lines i.held) in
+    let s = responder_of i.names i.variables i.components i.kinds i.templates i.filter_names i.filters i.engine (held_lines i.held) in
+    let m = responder_of c.read_query.new.constructors c.read_query.new.variables i.components i.kinds i.templates i.filter_names i.filters i.engine (held_lines i.held) in
+    let n = responder_of c.read_certificate.new.names c.read_query.new.variables i.components i.kinds i.templates i.filter_names i.filters i.engine (held_lines i.held) in
     let t = type_of c.verified-goal.result in
     let p = certificate_of c.in-Ok-read_certificate.read in
     let reads : ReadsQuery (tables_in s) c.args.line.now (verify t) (tables_in m) = subst (λ (q : Query). ReadsQuery (tables_in s) c.args.line.now q (tables_in m)) c.verified-goal.ensures c.in-Ok.ensures.query in
@@ -52,12 +52,12 @@ returns-in-Ok-read_certificate-clause-verified c =
 pub returns-clause-verified : goal.returns-clause-verified
 returns-clause-verified c =
     let i = c.self.inside in
-    let s = responder_of i.names i.variables i.components i.kinds i.templates i.filter_names i.engine (held_lines i.held) in
-    let m = responder_of c.read_query.new.constructors c.read_query.new.variables i.components i.kinds i.templates i.filter_names i.engine (held_lines i.held) in
-    let n = responder_of c.read_certificate.new.names c.read_query.new.variables i.components i.kinds i.templates i.filter_names i.engine (held_lines i.held) in
+    let s = responder_of i.names i.variables i.components i.kinds i.templates i.filter_names i.filters i.engine (held_lines i.held) in
+    let m = responder_of c.read_query.new.constructors c.read_query.new.variables i.components i.kinds i.templates i.filter_names i.filters i.engine (held_lines i.held) in
+    let n = responder_of c.read_certificate.new.names c.read_query.new.variables i.components i.kinds i.templates i.filter_names i.filters i.engine (held_lines i.held) in
     let t = type_of c.verified-goal.result in
     let reads : ReadsQuery (tables_in s) c.args.line.now (verify t) (tables_in m) = subst (λ (q : Query). ReadsQuery (tables_in s) c.args.line.now q (tables_in m)) c.verified-goal.ensures c.in-Ok.ensures.query in
     subst (λ (z : Responder). IfOk c.proof_fault.result (λ text. Verified z c.args.line.now c.args.certificate (string_bytes text) n)) c.self.view_is
     (IfOk-weaker c.proof_fault.result (λ text. option_map error_line (proof_words c.in-Err-read_certificate.fault) ≡ Some (string_bytes text)) (λ text. Verified s c.args.line.now c.args.certificate (string_bytes text) n)
     (λ text e. answering.Verified.asked t m (reads, refl) (bads m n t c.args.certificate (string_bytes text) c.in-Err-read_certificate.fault (proof_words c.in-Err-read_certificate.fault) refl c.in-Err-read_certificate.ensures.exact e
-    (λ k. responder_of (c.in-Err-read_certificate.ensures.names_stay k) c.read_query.new.variables i.components i.kinds i.templates i.filter_names i.engine (held_lines i.held)))) c.proof_fault.ensures)
+    (λ k. responder_of (c.in-Err-read_certificate.ensures.names_stay k) c.read_query.new.variables i.components i.kinds i.templates i.filter_names i.filters i.engine (held_lines i.held)))) c.proof_fault.ensures)

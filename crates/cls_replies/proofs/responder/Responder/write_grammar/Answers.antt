@@ -13,7 +13,7 @@ use Rattle.cls_replies.proofs.responder.Responder.write_grammar.Goals as goal
 pub returns-in-Some-clause-rest : goal.returns-in-Some-clause-rest
 returns-in-Some-clause-rest c =
     let i = c.self.inside in
-    let s = responder_of i.names i.variables i.components i.kinds i.templates i.filter_names i.engine (held_lines i.held) in
+    let s = responder_of i.names i.variables i.components i.kinds i.templates i.filter_names i.filters i.engine (held_lines i.held) in
     let new = string_bytes c.write_lines.new.text in
     let on = rw c.in-Some.is at c.in_ok-next.ensures.lines in
     let within = rw c.in-Some.is at c.in_ok-next.ensures.within in
@@ -28,7 +28,7 @@ take_back-requires c = subst (λ (z : Responder). IsOfGoal z c.args.grammar) (sy
 pub returns-in-None-clause-rest : goal.returns-in-None-clause-rest
 returns-in-None-clause-rest c =
     let i = c.self.inside in
-    let s = responder_of i.names i.variables i.components i.kinds i.templates i.filter_names i.engine (held_lines i.held) in
+    let s = responder_of i.names i.variables i.components i.kinds i.templates i.filter_names i.filters i.engine (held_lines i.held) in
     let new = string_bytes c.write_lines.new.text in
     let on = rw c.in-None.is at c.in_ok-next.ensures.lines in
     subst (λ (z : Responder). IsRest z (lines_from (name_in z.names) (name_in z.components) c.args.grammar c.args.ranks c.args.place) (string_bytes c.args.text.now) new left.Nothing) c.self.view_is

@@ -20,7 +20,7 @@ write_lines-requires c =
 pub returns-then-more-clause-rest : goal.returns-then-more-clause-rest
 returns-then-more-clause-rest c =
     let i = c.self.inside in
-    let s = responder_of i.names i.variables i.components i.kinds i.templates i.filter_names i.engine (held_lines i.held) in
+    let s = responder_of i.names i.variables i.components i.kinds i.templates i.filter_names i.filters i.engine (held_lines i.held) in
     let lib = i.engine.library in
     let old = string_bytes c.args.text.now in
     let new = string_bytes c.write_lines.new.text in

@@ -13,7 +13,7 @@ use Rattle.cls_replies.proofs.responder.Responder.write_terms.Goals as goal
 pub returns-in-Some : goal.returns-in-Some
 returns-in-Some c =
     let i = c.self.inside in
-    let s = responder_of i.names i.variables i.components i.kinds i.templates i.filter_names i.engine (held_lines i.held) in
+    let s = responder_of i.names i.variables i.components i.kinds i.templates i.filter_names i.filters i.engine (held_lines i.held) in
     let new = string_bytes c.print_terms.new.text in
     let on = rw c.in-Some.is at c.in_ok-next.ensures.lines in
     let full = rw c.in-Some.is at c.in_ok-next.ensures.full in
@@ -23,7 +23,7 @@ returns-in-Some c =
 pub returns-in-None : goal.returns-in-None
 returns-in-None c =
     let i = c.self.inside in
-    let s = responder_of i.names i.variables i.components i.kinds i.templates i.filter_names i.engine (held_lines i.held) in
+    let s = responder_of i.names i.variables i.components i.kinds i.templates i.filter_names i.filters i.engine (held_lines i.held) in
     let new = string_bytes c.print_terms.new.text in
     let on = rw c.in-None.is at c.in_ok-next.ensures.lines in
     subst (λ (z : Responder). IsRest z (page_left (term_line (name_at z.components)) c.args.page c.args.place) (string_bytes c.args.text.now) new left.Nothing) c.self.view_is
