@@ -201,6 +201,18 @@ def dense(names: int = 60, components: int = 68) -> str:
     return kinds + "".join(f"comp {name} : $a -> $b\n" for name in numbered("f", components)) + "comp x : n0 & n1\nend\n"
 
 
+# Pages
+
+
+def binary(nodes: int = 200) -> str:
+    """Each node has a component alone and two over two nodes."""
+    lines = []
+    for node in range(nodes):
+        arrow = f"T{(node * 7 + 1) % nodes} -> T{(node * 13 + 5) % nodes} -> T{node}"
+        lines += [f"comp x{node} : T{node}", f"comp f{node} : {arrow}", f"comp g{node} : {arrow}"]
+    return "\n".join(lines) + "\n"
+
+
 # Libraries, terms and templates
 
 

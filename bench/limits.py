@@ -18,6 +18,7 @@ from dataclasses import dataclass
 from functools import partial
 from pathlib import Path
 
+import filter_inputs as filters
 import hostile_inputs as make
 from measured import Bounds, Run, measure
 
@@ -201,12 +202,40 @@ def of_pages() -> Iterator[Input]:
     yield Input("`generate 300`", "", lambda: "", "generate 300")
 
 
+# Filters
+
+
+def filtered(repository: str, type: str) -> str:
+    """A page of the terms that a filter of 16 states accepts."""
+    return f"{repository}{filters.filter_over(repository)}end\nfiltered F {type} max 1024 take 10000\n"
+
+
+def filtered_tree(goals: int) -> str:
+    return filtered(filters.tree(goals), "C0")
+
+
+def filtered_dense(names: int) -> str:
+    return filtered(make.dense(names).removesuffix("end\n"), "n0")
+
+
+def of_filters() -> Iterator[Input]:
+    most = "--max-goals 20000 --max-rules 1000000 --pool 1000000"
+    yield Input("16 states", "36 components, `omega`", lambda: filtered(filters.LIBRARY, "omega"), most)
+    yield Input("16 states", "5,001 goals with rules of two arguments", partial(filtered_tree, 5_001), most)
+    yield Input("16 states", "19,999 goals with rules of two arguments", partial(filtered_tree, 19_999), most)
+    yield Input("1,000,000 rules", "57,188 rules of one argument, 974,170 with states", partial(filtered_dense, 29), most)
+    yield Input("1,000,000 rules", "244,800 rules of one argument, `error filter-large`", partial(filtered_dense, 60), most)
+    yield Input("1 MiB of input", "45,176 filters", partial(filters.many_filters, leaf=False))
+    yield Input("1 MiB of input", "23,714 filters, each with a line of component 999", partial(filters.many_filters, leaf=True))
+
+
 TABLES = {
     "Lines": of_lines,
     "Repositories": of_repositories,
     "Goals": of_goals,
     "Rules": of_rules,
     "Pages, terms and certificates": of_pages,
+    "Filters": of_filters,
 }
 
 

@@ -49,9 +49,22 @@ fn curried(alloc: Global, number: u32) -> Result<Ty, OutOfMemory> {
     arrow(alloc, bare(number / 256), inner)
 }
 
+/// A name over one of 16 names over a name.
+fn nested(alloc: Global, number: u32) -> Result<Ty, OutOfMemory> {
+    let inner = Ty::Con(Name(8_000_001 + number % 16), Box::new(alloc, bare(number))?);
+    Ok(Ty::Con(Name(8_000_000), Box::new(alloc, inner)?))
+}
+
+/// The names, and in place of the first one the name that the declared pairs lead to.
+fn topped(number: u32) -> Ty {
+    if number == 0 { bare(5_000_000) } else { bare(number) }
+}
+
 fn shaped(alloc: Global, shape: &str, number: u32) -> Result<Ty, OutOfMemory> {
     match shape {
         "names" => Ok(bare(number)),
+        "topped" => Ok(topped(number)),
+        "nested" => nested(alloc, number),
         "sources" => arrow(alloc, bare(number), bare(9_999_999)),
         "targets" => arrow(alloc, bare(9_999_999), bare(number)),
         "curried" => curried(alloc, number),
@@ -114,13 +127,15 @@ fn main(rt: HostRuntime) -> io::Result<()> {
 
 SHAPES = [
     ("names", "4,096 names"),
+    ("topped", "4,095 names, and the one that pairs lead to"),
+    ("nested", "4,096 names under two names"),
     ("sources", "4,096 arrows to one name"),
     ("targets", "4,096 arrows from one name"),
     ("curried", "4,096 paths with two arrows, over 16 names each"),
     ("first", "4,096 paths with 32 arrows that differ in the first source"),
     ("last", "4,096 paths with 32 arrows that differ in the last source"),
 ]
-ORDERS = [("flat", "no order of names"), ("0", "a taxonomy without pairs"), ("20", "20 pairs")]
+ORDERS = [("flat", "no order of names"), ("0", "a taxonomy without pairs"), ("20", "20 pairs"), ("4096", "4,096 names below one")]
 
 
 def run(program, shape, order):

@@ -14,6 +14,8 @@ import subprocess
 import tempfile
 import time
 
+from hostile_inputs import binary
+
 TOP = os.path.dirname(os.path.dirname(os.path.abspath(__file__)))
 PAGE = "list %s max 1024 take 10000\n"
 
@@ -21,15 +23,6 @@ PAGE = "list %s max 1024 take 10000\n"
 def omega():
     """Ten components that may be applied to one another."""
     return "".join("comp c%d : A\n" % i for i in range(10)) + "end\n" + PAGE % "omega"
-
-
-def binary():
-    """200 nodes, each with a component alone and two over two nodes."""
-    lines = []
-    for i in range(200):
-        arrow = "T%d -> T%d -> T%d" % ((i * 7 + 1) % 200, (i * 13 + 5) % 200, i)
-        lines += ["comp x%d : T%d" % (i, i), "comp f%d : %s" % (i, arrow), "comp g%d : %s" % (i, arrow)]
-    return "\n".join(lines) + "\nend\n" + PAGE % "T0"
 
 
 def wide(argument):
@@ -40,7 +33,7 @@ def wide(argument):
 
 CASES = [
     (omega(), 1_000_000, "omega over 10 components"),
-    (binary(), 1_000_000, "200 nodes with rules of two arguments"),
+    (binary() + "end\n" + PAGE % "T0", 1_000_000, "200 nodes with rules of two arguments"),
     (wide("B -> B"), 1_000_000, "a rule with 32 arguments"),
     (wide("B"), 1_000_000, "a rule with 32 arguments that gives too many terms"),
     (wide("B"), 500_000, "the same with 500,000 terms"),

@@ -21,7 +21,7 @@ _cls_files() {
 # Whether the word before takes a value that can't be completed.
 _cls_wants_value() {
     case ${COMP_WORDS[COMP_CWORD - 1]} in
-        --workers | --max-goals | --max-rules | --pool | --max | --after | -n | generate) return 0 ;;
+        --workers | --max-goals | --max-rules | --pool | --max | --after | --filter | -n | generate) return 0 ;;
     esac
     return 1
 }
@@ -37,7 +37,7 @@ _cls() {
     case $command in
         run) options="--json --strict $_cls_program_options" ;;
         explain | why | missing) options=$_cls_program_options ;;
-        list) options="-n --text --after --max $_cls_program_options" ;;
+        list) options="-n --text --filter --after --max $_cls_program_options" ;;
         view) options="-o $_cls_program_options" ;;
         check) options= ;;
         *) return ;;

@@ -21,6 +21,10 @@ comp f : $a -> List($a)
 comp g : List(Int) -> Nat
 text f = [{1}]
 cost g 2
+filter plain accepts Q
+leaf plain g -> none
+app plain Q _ -> Q
+other plain Q
 end
 """
 
@@ -42,6 +46,8 @@ SESSION = [
     Asked(b"list Nat max 4 take 2\n", b"term x\nterm g(f(x))\ndone\n"),
     Asked(b"list Nat max 4 take 1 after x\n", b"term g(f(x))\ndone\n"),
     Asked(b"texts List(Nat) max 2 take 1\n", b"term f(x)\ntext 3\n[x]\ndone\n"),
+    Asked(b"filtered plain Nat max 4 take 2\n", b"term x\ndone\n"),
+    Asked(b"filtered plain List(Nat) max 2 take 1 after x\n", b"term f(x)\ndone\n"),
     Asked(b"grammar List(Int)\n", b"grammar 2 3\ngoal 0 rank 2 List(Int)\nrule f 1\ngoal 1 rank 1 Nat\nrule x\nrule g 0\ndone\n"),
     Asked(b"audit Str\n", b"claim W 0\nfile W 0\ndone\n"),
     Asked(b"certify List(Nat)\n", b"inhabited\nrow Nat by x 0 : 0\nrow List(Nat) by f 1 : 0\nqed\n"),
@@ -55,6 +61,7 @@ SESSION = [
     Asked(b"list omega max 2 take 9\n", b"error too-many-terms\n"),
     Asked(b"inhabit\n", b"error syntax 7\n"),
     Asked(b"typed h(x) : Nat\n", b"error token 6\n"),
+    Asked(b"filtered g Nat max 4 take 2\n", b"error unknown g\n"),
 ]
 
 INPUT = REPOSITORY + b"".join(asked.lines for asked in SESSION)

@@ -46,6 +46,22 @@ DIRECTIVES = [
         "w    n D",
     ),
     (
+        "filter F accepts p q",
+        "w      n w       N N",
+    ),
+    (
+        "leaf F x -> none",
+        "w    n n w  N",
+    ),
+    (
+        "app F p _ -> q",
+        "w   n n n w  N",
+    ),
+    (
+        "other F p",
+        "w     n N",
+    ),
+    (
         "end",
         "W",
     ),
@@ -95,6 +111,10 @@ QUERIES = [
     (
         "texts ( a ) max 2 take 3 after f ( x )",
         "w     c a w w   d w    D w     N w n W",
+    ),
+    (
+        "filtered F a * b max 2 take 3 after x",
+        "w        n a w a w   d w    D w     N",
     ),
 ]
 

@@ -30,6 +30,11 @@ text sort = sorted({1})
 text rev = {1}\\n  .reversed()
 """
 CHAIN = "comp x : A\ncomp f : A -> A\n"
+# The filter accepts the terms in which no `f` is applied to a term that begins with `f`.
+ONCE = (
+    "comp x : A\ncomp f : A -> A\ncomp g : A -> A\nfilter once accepts N V\nleaf once f -> R\napp once R V -> none\n"
+    "app once R _ -> V\nother once N\n"
+)
 
 
 def session(repository: str | clsynth.Repository, **options: Any) -> clsynth.Session:

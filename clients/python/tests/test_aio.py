@@ -5,7 +5,7 @@ from __future__ import annotations
 import asyncio
 import unittest
 
-from support import CHAIN, LISTS, PROGRAM, fake, freeze, session, terms
+from support import CHAIN, LISTS, ONCE, PROGRAM, fake, freeze, session, terms
 
 import clsynth
 from clsynth import AsyncSession, Repository
@@ -29,6 +29,12 @@ class Answers(unittest.IsolatedAsyncioTestCase):
                 self.assertEqual(len(await lists.history("Int")), 2)
                 self.assertEqual([term async for term in lists.terms("Asc", max_size=5, page_size=2)], list(other.terms("Asc", max_size=5)))
                 self.assertEqual([entry async for entry in lists.texts("Asc", max_size=5, page_size=2)], list(other.texts("Asc", max_size=5)))
+
+    async def test_terms_that_a_filter_accepts(self) -> None:
+        async with AsyncSession(ONCE, program=PROGRAM) as trees:
+            wanted = terms("x", "f(x)", "g(x)", "f(g(x))", "g(f(x))", "g(g(x))")
+            self.assertEqual(await trees.filtered_page("once", "A", 2), clsynth.Page(wanted[:2], True))
+            self.assertEqual([term async for term in trees.filtered("once", "A", max_size=3, page_size=2)], wanted)
 
     async def test_values(self) -> None:
         numbers = Repository()

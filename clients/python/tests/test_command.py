@@ -15,7 +15,7 @@ from pathlib import Path
 from typing import Any
 
 from documents import TOP
-from support import PROGRAM, SOURCES, fake, take_interrupts
+from support import ONCE, PROGRAM, SOURCES, fake, take_interrupts
 
 import clsynth
 
@@ -200,7 +200,7 @@ class Json(Command):
         given = self.file("t.cls", CHAIN + "end\npaths ff\n")
         (found,) = self.objects(given)
         self.assertEqual((found["error"]["word"], found["error"]["detail"], found["error"]["byte"]), ("unknown", "ff", 6))
-        self.assertIn("no component has the name `ff`", found["error"]["explanation"])
+        self.assertIn("nothing that may stand here has the name `ff`", found["error"]["explanation"])
         self.assertNotIn("answer", found)
         (refused,) = self.objects(self.file("bad.cls", "comp x : A\ncost x 0\n"))
         self.assertEqual((refused["line"], refused["refused"]["word"], refused["refused"]["detail"]), (2, "cost", "x"))
@@ -246,6 +246,10 @@ class Ask(Command):
 
     def test_more_terms_than_a_page_has(self) -> None:
         tree = self.file("tree.cls", "comp x : A\ncomp f : A -> A -> A\n")
+        once = self.file("once.cls", ONCE)
+        words = ("--filter", "once", "--max", "3")
+        self.assertEqual(self.cls("list", once, "A", *words).stdout, "x\nf(x)\ng(x)\nf(g(x))\ng(f(x))\ng(g(x))\n")
+        self.assertEqual(self.cls("list", once, "A", "--text", *words).returncode, 1)
         listed = self.cls("list", tree, "A", "-n", "1200").stdout.splitlines()
         with clsynth.Session((self.folder / tree).read_text(), program=PROGRAM) as session:
             self.assertEqual(listed, [str(term) for term in session.page("A", 1_200).entries])

@@ -45,6 +45,8 @@ class Bash(unittest.TestCase):
     def test_options(self) -> None:
         self.assertEqual(self.offered("_cls", "cls", "run", "--"), sorted("--help --json --strict --workers --max-goals --max-rules --pool".split()))
         self.assertEqual(self.offered("_cls", "cls", "list", "first.cls", "--ma"), ["--max", "--max-goals", "--max-rules"])
+        self.assertEqual(self.offered("_cls", "cls", "list", "first.cls", "A", "--fi"), ["--filter"])
+        self.assertEqual(self.offered("_cls", "cls", "list", "first.cls", "A", "--filter", ""), [])
         options = "--help -o --workers --max-goals --max-rules --pool".split()
         self.assertEqual(self.offered("_cls", "cls", "view", "first.cls", "A", "-"), sorted(options))
         self.assertEqual(self.offered("_cls", "cls", "run", "--pool", ""), [])

@@ -24,7 +24,12 @@ kind a = String | Integer
 comp text : (Stream($a) -> omega) & Sorted * B
 text first = {1}.map({{ x }}) { \n
 cost text 30
+filter once accepts N V
+leaf once first -> R
+app once R _ -> none
+other once N
 end
+filtered once String max 6 take 2 after first(text)
 texts String & Joined max 6 take 2 after first(text, text)
 typed first(text) : String
 sub A <= B(C)
@@ -43,12 +48,18 @@ PIECES = [
     (5, "text", "component"), (5, "Stream", "constructor"), (5, "$a", "variable"), (5, "->", "operator"), (5, "omega", "constant"),
     (5, "&", "operator"), (5, "*", "operator"), (5, "B", "constructor"), (6, "first", "component"), (6, "{1}", "placeholder"), (6, ".map(", "string"),
     (6, "{{", "escape"), (6, "}}", "escape"), (6, r"{ \n", "error"), (6, r"\n", "escape"), (7, "cost", "declaration"), (7, "text", "component"),
-    (7, "30", "number"), (8, "end", "end"), (9, "texts", "query"), (9, "String", "constructor"), (9, "max", "query"), (9, "6", "number"),
-    (9, "take", "query"), (9, "after", "query"), (9, "first", "component"), (9, "text)", "component"), (10, "typed", "query"),
-    (10, "first", "component"), (10, "String", "constructor"), (11, "<=", "operator"), (11, "C", "constructor"), (12, "paths", "query"),
-    (12, "text", "component"), (13, "certify", "query"), (13, "A", "constructor"), (14, "row", "certificate"), (14, "B", "constructor"),
-    (14, "by", "certificate"), (14, "first", "component"), (14, "1", "number"), (14, "4", "number"), (15, "block", "certificate"),
-    (15, "first", "component"), (16, "set", "certificate"), (16, "0", "number"), (17, "qed", "certificate"), (18, "helo", "error"),
+    (7, "30", "number"), (8, "filter", "declaration"), (8, "once", "variable"), (8, "accepts", "declaration"), (8, "N", "state"),
+    (8, "V", "state"), (9, "leaf", "declaration"), (9, "once", "variable"), (9, "first", "component"), (9, "->", "operator"),
+    (9, "R", "state"), (10, "app", "declaration"), (10, "once", "variable"), (10, "R", "state"), (10, "_", "constant"),
+    (10, "none", "constant"), (11, "other", "declaration"), (11, "once", "variable"), (11, "N", "state"), (12, "end", "end"),
+    (13, "filtered", "query"), (13, "once", "variable"), (13, "String", "constructor"), (13, "max", "query"), (13, "2", "number"),
+    (13, "after", "query"), (13, "first", "component"), (14, "texts", "query"), (14, "String", "constructor"), (14, "max", "query"),
+    (14, "6", "number"), (14, "take", "query"), (14, "after", "query"), (14, "first", "component"), (14, "text)", "component"),
+    (15, "typed", "query"), (15, "first", "component"), (15, "String", "constructor"), (16, "<=", "operator"), (16, "C", "constructor"),
+    (17, "paths", "query"), (17, "text", "component"), (18, "certify", "query"), (18, "A", "constructor"), (19, "row", "certificate"),
+    (19, "B", "constructor"), (19, "by", "certificate"), (19, "first", "component"), (19, "1", "number"), (19, "4", "number"),
+    (20, "block", "certificate"), (20, "first", "component"), (21, "set", "certificate"), (21, "0", "number"), (22, "qed", "certificate"),
+    (23, "helo", "error"),
 ]
 TEXTMATE = {
     "comment": "comment.line.number-sign", "declaration": "keyword.other.declaration", "constructor": "entity.name.type",
@@ -56,11 +67,12 @@ TEXTMATE = {
     "component": "entity.name.function", "operator": "keyword.operator", "constant": "constant.language", "placeholder": "constant.other.placeholder",
     "string": "string.unquoted.template", "escape": "constant.character.escape", "error": "invalid.illegal", "number": "constant.numeric",
     "end": "keyword.control.end", "query": "keyword.other.query", "certificate": "keyword.other.certificate", "variable": "variable.",
+    "state": "entity.name.label",
 }
 VIM = {
     "comment": "Comment", "declaration": "Statement", "constructor": "Type", "modifier": "StorageClass", "component": "Function",
     "operator": "Operator", "constant": "Constant", "placeholder": "Special", "string": "String", "escape": "SpecialChar", "error": "Error",
-    "number": "Number", "end": "Statement", "query": "Keyword", "certificate": "PreProc", "variable": "Identifier",
+    "number": "Number", "end": "Statement", "query": "Keyword", "certificate": "PreProc", "variable": "Identifier", "state": "Label",
 }
 
 

@@ -7,7 +7,7 @@ import subprocess
 import unittest
 
 from documents import LANGUAGE, tables, words
-from support import PROGRAM, session
+from support import ONCE, PROGRAM, session
 
 from clsynth.errors import QueryError, RepositoryRefused
 from clsynth.explain import explain, explain_error
@@ -95,6 +95,11 @@ class Remedies(unittest.TestCase):
             f"comp x : {'A' * 49}\nend\n": "at most 48 bytes, and this one has 49",
             "comp x : A | B\nend\n": "`kind` line alone",
             "comp x : $b\nend\n": "`kind b = A | B`",
+            "comp x : A\nfilter once accepts N\nleaf onc x -> N\nend\n": "Did you mean `once`?",
+            "other once N\nfilter once accepts N\nend\n": "declared later, in line 2",
+            "filter once accepts N\nfilter once accepts M\nend\n": "Line 1 says it first.",
+            "filter f accepts none\nend\n": "Here may stand a name of a state.",
+            f"filter f accepts {' '.join(f'Q{number}' for number in range(17))}\nend\n": "Take one state for what may stand in the same places.",
         }
         for text, wanted in cases.items():
             with self.subTest(text):
@@ -108,6 +113,7 @@ class Remedies(unittest.TestCase):
             "list A max 5 take 0": "`take` takes 1 to 10,000",
             "list A & max 5 take 1": "The type before `max` isn't complete",
             "inhabit $a": "Write the type that is meant.",
+            "filtered A max 3 take 1": "`filtered F TYPE max N take K [after TERM]`",
             "verify A\nempty": "Put the line `qed`",
             "verify A\nempty\ninhabit A\nqed": "`inhabit` begins a query. Put the line `qed` before it",
             "verify A\nempty\nmember A\nqed": "Add the member or the set",
@@ -125,12 +131,14 @@ class Remedies(unittest.TestCase):
     def test_names_that_are_meant(self) -> None:
         text = "comp names : A\nend\npaths nmaes\ntyped nams : A\n"
         self.assertEqual(told(text).count("Did you mean `names`?"), 2)
+        self.assertIn("Did you mean `once`?", told(ONCE + "end\nfiltered oncee A max 3 take 1\n"))
 
     def test_bounds(self) -> None:
         text = CHAIN + "list A max 64 take 60\n"
         output = "error too-many-terms\n"
         self.assertIn("`--pool N` allows more, up to 1,000,000.", explain(text, output))
         self.assertIn("`--max-goals`", explain(CHAIN + "inhabit A\n", "error too-large\n"))
+        self.assertIn("`--max-rules` (up to 1,000,000)", explain(ONCE + "end\nfiltered once A max 3 take 9\n", "error filter-large\n"))
         wide = explain(CHAIN + "inhabit A\n", "error wide St(A * B)\n")
         self.assertIn("`St(A * B)` can be met in more than 1,024 ways", wide)
         self.assertIn("`variance St inv`", wide)
@@ -141,7 +149,7 @@ class Exceptions(unittest.TestCase):
         with session(CHAIN) as chain:
             with self.assertRaises(QueryError) as query:
                 chain.paths("ff")
-            self.assertIn("1:7: error: unknown: no component has the name `ff`", explain_error(query.exception, CHAIN, "query"))
+            self.assertIn("1:7: error: unknown: nothing that may stand here has the name `ff`", explain_error(query.exception, CHAIN, "query"))
         with self.assertRaises(RepositoryRefused) as refused:
             session("comp x A")
         self.assertIn("input:1:8: error: syntax", explain_error(refused.exception, "comp x A"))

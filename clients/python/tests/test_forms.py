@@ -27,7 +27,7 @@ def documented(head: str) -> list[str]:
 
 
 class Documents(unittest.TestCase):
-    """Behind `list` and `texts` the document says in a sentence that `after TERM` may stand."""
+    """Behind `list`, `texts` and `filtered` the document says in a sentence that `after TERM` may stand."""
 
     def test_all_forms_of_the_document(self) -> None:
         self.assertEqual(list(REPOSITORY), documented("| Line | Meaning |"))
@@ -52,7 +52,10 @@ class Misfits(unittest.TestCase):
         cases = {
             "sub A <= B": "syntax 6", "variance A co": "syntax 11", "kind a = A |": "syntax 12", "kind a =": "", "comp omega : A": "reserved 5",
             "text x": "syntax 6", "text x = } $ (": "", "cost x y": "syntax 7", "end x": "syntax 4", "comp x : Map(A, B)": "syntax 14",
-            "comp x : " + "A" * 49: "syntax 9", "comp x : " + "A" * 48: "",
+            "comp x : " + "A" * 49: "syntax 9", "comp x : " + "A" * 48: "", "filter f": "syntax 8", "filter f accepts": "syntax 16",
+            "filter f accepts P Q": "", "filter f accepts P none": "syntax 19", "filter f accepts P omega": "reserved 19",
+            "filter omega accepts P": "reserved 7", "leaf f x -> none": "", "leaf f x -> _": "syntax 12", "leaf f x P": "syntax 9",
+            "app f _ _ -> none": "", "app f none _ -> Q": "syntax 6", "app f P -> Q": "syntax 8", "other f Q": "", "other f _": "syntax 8",
         }
         for line, wanted in cases.items():
             with self.subTest(line):
@@ -71,8 +74,17 @@ class Misfits(unittest.TestCase):
             with self.subTest(line):
                 found = misfit(line, forms_of(line, QUERIES))
                 self.assertEqual(found and found.wanted, wanted)
-        found = misfit("variance A", forms_of("variance A", REPOSITORY))
-        self.assertEqual(found and found.wanted, ("`contra`", "`inv`"))
+        places = {
+            "variance A": ("`contra`", "`inv`"),
+            "filter omega": ("a name of a filter",),
+            "filter f accepts P 3": ("a name of a state", "the end of the line"),
+            "app f P none": ("a name of a state", "`_`"),
+            "leaf f x -> _": ("a name of a state", "`none`"),
+        }
+        for line, wanted in places.items():
+            with self.subTest(line):
+                found = misfit(line, forms_of(line, REPOSITORY))
+                self.assertEqual(found and found.wanted, wanted)
 
     def test_the_program_finds_the_same_places(self) -> None:
         lines = list(altered_lines(random.Random(4), 1_500))

@@ -8,7 +8,7 @@ from collections.abc import Callable
 from functools import reduce
 from pathlib import Path
 
-from support import CHAIN, session, terms
+from support import CHAIN, ONCE, session, terms
 
 import clsynth
 from clsynth import Repository, constructor, intersection, numbers, pairs, steps, var
@@ -53,9 +53,25 @@ class Declarations(unittest.TestCase):
         self.assertEqual((made.pairs_below, dict(made.variances)), ((("A", "B"),), {"C": "inv"}))
         self.assertEqual((made.costs, made.functions), ({"f": 2, "g": 1}, {"f": abs}))
 
+    def test_filters(self) -> None:
+        made = Repository()
+        for name, type in (("x", A), ("f", A >> A), ("g", A >> A)):
+            made.component(name, type)
+        once = made.filter("once", ["N", "V"])
+        once.leaf("f", "R")
+        once.app("R", "V", None)
+        once.app("R", clsynth.EVERY, "V")
+        once.other("N")
+        self.assertEqual(str(made), ONCE + "end\n")
+        self.assertEqual(str(Repository.parse(ONCE)), ONCE + "end\n")
+        self.assertEqual((once.name, once.accepts, once.states), ("once", ("N", "V"), ("N", "V", "R")))
+        self.assertEqual(dict(made.filters), {"once": once})
+        with session(made) as asked:
+            self.assertEqual(list(asked.filtered(once, A, max_size=2)), terms("x", "f(x)", "g(x)"))
+
     def test_what_is_refused_and_changes_nothing(self) -> None:
         def refused(fault: type[Exception], declare: Callable[[Repository], object]) -> None:
-            made = Repository.parse(CHAIN + "kind a = A\nvariance V inv\n")
+            made = Repository.parse(CHAIN + "kind a = A\nvariance V inv\nfilter all accepts Q\n")
             before = str(made)
             with self.assertRaises(fault):
                 declare(made)
@@ -68,6 +84,16 @@ class Declarations(unittest.TestCase):
         refused(clsynth.DuplicateName, lambda it: it.component("x", A))
         refused(clsynth.DuplicateName, lambda it: it.kind("a", [B]))
         refused(clsynth.DuplicateName, lambda it: it.variance("V", "contra"))
+        refused(clsynth.DuplicateName, lambda it: it.filter("all", ["P"]))
+        refused(clsynth.BadName, lambda it: it.filter("omega", ["P"]))
+        refused(clsynth.BadName, lambda it: it.filter("any", ["P", "_"]))
+        refused(clsynth.BadName, lambda it: it.filter("any", ["none"]))
+        refused(clsynth.BadName, lambda it: it.filters["all"].leaf("x", "_"))
+        refused(clsynth.BadName, lambda it: it.filters["all"].app("none", "_", "Q"))
+        refused(clsynth.BadName, lambda it: it.filters["all"].other("none"))
+        refused(clsynth.RepositoryFault, lambda it: it.filter("any", []))
+        refused(clsynth.RepositoryFault, lambda it: it.filters["all"].leaf("y", "Q"))
+        refused(clsynth.TooManyStates, lambda it: it.filter("any", [f"Q{number}" for number in range(17)]))
         refused(clsynth.RepositoryFault, lambda it: it.variance("W", "co"))  # type: ignore[arg-type]
         refused(clsynth.EmptyKind, lambda it: it.kind("b", []))
         refused(clsynth.EmptyKind, lambda it: it.component("y", []))

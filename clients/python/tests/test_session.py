@@ -9,7 +9,7 @@ from collections.abc import Callable
 from pathlib import Path
 from typing import Any
 
-from support import CHAIN, LISTS, PROGRAM, fake, session, terms, wait_until
+from support import CHAIN, LISTS, ONCE, PROGRAM, fake, session, terms, wait_until
 
 import clsynth
 from clsynth import Goal, Grammar, Rule, Session, Step, Term, TermText, Verdict
@@ -61,6 +61,18 @@ class Answers(unittest.TestCase):
                     listed.append(term)
             self.assertEqual(len(listed), 62)
             self.assertEqual(len(list(trees.terms("A", page_size=200, max_size=6))), 63)
+
+    def test_terms_that_a_filter_accepts(self) -> None:
+        wanted = terms("x", "f(x)", "g(x)", "f(g(x))", "g(f(x))", "g(g(x))")
+        with session(ONCE) as trees:
+            self.assertEqual(trees.filtered_page("once", "A", 9, max_size=3), clsynth.Page(wanted, False))
+            self.assertEqual(trees.filtered_page("once", "A", 2, max_size=3, after="f(f(x))"), clsynth.Page(wanted[3:5], True))
+            for size in (1, 2, 6, 7):
+                self.assertEqual(list(trees.filtered("once", "A", max_size=3, page_size=size)), wanted)
+            self.assertEqual(list(trees.filtered(clsynth.Repository.parse(ONCE).filters["once"], "A", max_size=3)), wanted)
+            with self.assertRaises(clsynth.UnknownComponent) as unknown:
+                trees.filtered_page("twice", "A", 1)
+            self.assertEqual(unknown.exception.detail, "twice")
 
     def test_iterators_go_side_by_side(self) -> None:
         with session(CHAIN) as chain:
@@ -181,12 +193,14 @@ class Errors(unittest.TestCase):
             "size": lambda it: it.is_subtype(tower(8), "omega"),
             "too-large": lambda it: it.inhabited("omega & A & B"),
             "wide": lambda it: it.inhabited(" & ".join(f"C{path}" for path in range(1, 12))),
+            # The closure has three rules: `p` of D, `x`, and `f` of A. Filtered, it has six: two of A and two of the start, and the parts.
+            "filter-large": lambda it: it.filtered_page("all", "A", 1),
             "too-many-terms": lambda it: it.page("A", 1000),
         }
+        options = {"too-large": {"max_goals": 1}, "filter-large": {"max_rules": 3}, "too-many-terms": {"pool": 5}}
         for word, ask in queries.items():
-            options = {"max_goals": 1} if word == "too-large" else {"pool": 5} if word == "too-many-terms" else {}
-            repository = "comp p : D -> A & B\n" + (WIDE if word == "wide" else CHAIN)
-            with self.subTest(word), session(repository, **options) as chain:
+            repository = "comp p : D -> A & B\n" + (WIDE if word == "wide" else CHAIN) + "filter all accepts Q\nother all Q\n"
+            with self.subTest(word), session(repository, **options.get(word, {})) as chain:
                 with self.assertRaises(clsynth.ERRORS[word]):
                     ask(chain)
                 self.assertTrue(chain.is_subtype("A & B", "B"), "the session goes on")
@@ -199,6 +213,7 @@ class Errors(unittest.TestCase):
                 lambda: chain.inhabited(wrong), lambda: chain.page(wrong, 1), lambda: chain.verify(wrong, "empty\nqed"),
                 lambda: chain.paths(wrong), lambda: chain.has_type(wrong, "A"), lambda: chain.has_type("x", wrong),
                 lambda: chain.is_subtype("A", wrong), lambda: chain.page("A", 1, after=3),  # type: ignore[arg-type]
+                lambda: chain.filtered_page(wrong, "A", 1),
                 lambda: session(wrong), lambda: session(b"comp x : A\n"),  # type: ignore[arg-type]
             ]
             for ask in asked:

@@ -38,12 +38,26 @@ syntax match clsynthDeclaration "^\s*variance\>" nextgroup=clsynthVarianceName s
 syntax match clsynthVarianceName "\<\h\w*" contained nextgroup=clsynthVariance skipwhite
 syntax match clsynthVariance "\<\%(contra\|inv\)\>" contained
 syntax match clsynthDeclaration "^\s*sub\>" nextgroup=clsynthType
+syntax match clsynthDeclaration "^\s*filter\>" nextgroup=clsynthFilter skipwhite
+syntax match clsynthFilter "\<\h\w*" contained nextgroup=clsynthAccepts skipwhite
+syntax match clsynthAccepts "\<accepts\>" contained nextgroup=clsynthStates
+syntax match clsynthDeclaration "^\s*leaf\>" nextgroup=clsynthLeafFilter skipwhite
+syntax match clsynthLeafFilter "\<\h\w*" contained nextgroup=clsynthLeafName skipwhite
+syntax match clsynthLeafName "\<\h\w*" contained nextgroup=clsynthStates
+syntax match clsynthDeclaration "^\s*\%(app\|other\)\>" nextgroup=clsynthOwnFilter skipwhite
+syntax match clsynthOwnFilter "\<\h\w*" contained nextgroup=clsynthStates
+syntax match clsynthStates ".*$" contained contains=clsynthArrow,clsynthState,clsynthSetAside
+syntax match clsynthArrow "->" contained
+syntax match clsynthState "\<\h\w*" contained
+syntax match clsynthSetAside "\<\%(none\|_\)\>" contained
 syntax match clsynthEnd "^\s*end\s*$"
 
 " Queries.
 syntax match clsynthQuery "^\s*\%(inhabit\|grammar\|audit\|certify\|verify\|finite\)\>" nextgroup=clsynthType
 syntax match clsynthQuery "^\s*paths\>" nextgroup=clsynthTerm
 syntax match clsynthQuery "^\s*\%(list\|texts\)\>" nextgroup=clsynthListing
+syntax match clsynthQuery "^\s*filtered\>" nextgroup=clsynthAskedFilter skipwhite
+syntax match clsynthAskedFilter "\<\h\w*" contained nextgroup=clsynthListing
 syntax match clsynthListing ".*$" contained contains=@clsynthTypeParts,clsynthPage,clsynthAfter
 syntax match clsynthPage "\<max\s\+\d\+\s\+take\s\+\d\+" contained contains=clsynthPageWord,clsynthNumber
 syntax match clsynthPageWord "\<\%(max\|take\)\>" contained
@@ -80,6 +94,15 @@ highlight default link clsynthComponent Function
 highlight default link clsynthTextName Function
 highlight default link clsynthCostName Function
 highlight default link clsynthName Function
+highlight default link clsynthLeafName Function
+highlight default link clsynthFilter Identifier
+highlight default link clsynthLeafFilter Identifier
+highlight default link clsynthOwnFilter Identifier
+highlight default link clsynthAskedFilter Identifier
+highlight default link clsynthAccepts Statement
+highlight default link clsynthState Label
+highlight default link clsynthSetAside Constant
+highlight default link clsynthArrow Operator
 highlight default link clsynthByName Function
 highlight default link clsynthTemplate String
 highlight default link clsynthHole Special

@@ -19,13 +19,14 @@ from clsynth.certificates import Block, Certificate, Empty, Inhabited, Member, R
 from clsynth.cluster import map_queries
 from clsynth.errors import (
     ERRORS, AmbiguousType, BadCertificate, BadCost, BadName, BadReply, BadTemplate, ClosureTooLarge, ClsynthError, DuplicateName, EmptyKind,
-    InputFull, KindTooLarge, LimitExceeded, LineTooLong, MissingFunction, NoQed, NotUtf8, NumberOutOfRange, ParseFault, PlacedError,
-    ProcessFault, ProgramNotFound, QueryCancelled, QueryError, QueryStopped, QueryTimeout, RepositoryFault, RepositoryLineTooLong,
-    RepositoryRefused, RepositoryTooLong, ReservedName, SessionClosed, Status, SyntaxFault, TooDeep, TooManyComponents, TooManyNodes,
-    TooManyTerms, TypeTooDeep, TypeTooLarge, TypeTooLong, UnknownComponent, UnknownInTerm, UsageFault, VariableInKind, VariableInQuery,
-    WideGoal,
+    FilteredTooLarge, InputFull, KindTooLarge, LimitExceeded, LineTooLong, MissingFunction, NoQed, NotUtf8, NumberOutOfRange, ParseFault,
+    PlacedError, ProcessFault, ProgramNotFound, QueryCancelled, QueryError, QueryStopped, QueryTimeout, RepositoryFault,
+    RepositoryLineTooLong, RepositoryRefused, RepositoryTooLong, ReservedName, SessionClosed, Status, SyntaxFault, TooDeep, TooManyComponents,
+    TooManyNodes, TooManyStates, TooManyTerms, TypeTooDeep, TypeTooLarge, TypeTooLong, UnknownComponent, UnknownInTerm, UsageFault,
+    VariableInKind, VariableInQuery, WideGoal,
 )
 from clsynth.evaluation import Curried, curry, evaluate
+from clsynth.filters import EVERY, Filter
 from clsynth.grammars import Goal, Grammar, Rule, parse_grammar
 from clsynth.kinds import numbers, pairs, steps
 from clsynth.limits import MAX_INPUT_BYTES, MAX_LINE_BYTES, MAX_SIZE
@@ -42,15 +43,16 @@ from clsynth.types import (
 )
 
 __all__ = [
-    "ERRORS", "MAX_INPUT_BYTES", "MAX_LINE_BYTES", "MAX_SIZE", "AmbiguousType", "Arrow", "AsyncSession", "BadCertificate", "BadCost",
-    "BadName", "BadReply", "BadTemplate", "Block", "Certificate", "ClosureTooLarge", "ClsynthError", "Component", "Constructor", "Curried",
-    "DuplicateName", "Empty", "EmptyKind", "Event", "Goal", "Grammar", "Inhabited", "InputFull", "Intersection", "KindTooLarge",
-    "LimitExceeded", "LineTooLong", "Member", "MissingFunction", "Names", "NoQed", "NotUtf8", "NumberOutOfRange", "Omega", "Page",
-    "ParseFault", "PlacedError", "ProcessFault", "Product", "ProgramNotFound", "Query", "QueryCancelled", "QueryError", "QueryStopped",
-    "QueryTimeout", "Repository", "RepositoryFault", "RepositoryLineTooLong", "RepositoryRefused", "RepositoryTooLong", "ReservedName",
-    "Row", "Rule", "Session", "SessionClosed", "SessionPool", "Sizes", "Status", "Step", "SyntaxFault", "Term", "TermLike", "TermText",
-    "TooDeep", "TooManyComponents", "TooManyNodes", "TooManyTerms", "Type", "TypeLike", "TypeTooDeep", "TypeTooLarge", "TypeTooLong",
-    "UnknownComponent", "UnknownInTerm", "UsageFault", "Variable", "VariableInKind", "VariableInQuery", "Verdict", "WideGoal",
-    "__version__", "aio", "arrow", "as_term", "as_type", "check_name", "constructor", "curry", "evaluate", "find_program", "intersection",
-    "map_queries", "numbers", "omega", "pairs", "parse_certificate", "parse_grammar", "product", "queries", "steps", "var",
+    "ERRORS", "EVERY", "MAX_INPUT_BYTES", "MAX_LINE_BYTES", "MAX_SIZE", "AmbiguousType", "Arrow", "AsyncSession", "BadCertificate",
+    "BadCost", "BadName", "BadReply", "BadTemplate", "Block", "Certificate", "ClosureTooLarge", "ClsynthError", "Component", "Constructor",
+    "Curried", "DuplicateName", "Empty", "EmptyKind", "Event", "Filter", "FilteredTooLarge", "Goal", "Grammar", "Inhabited", "InputFull",
+    "Intersection", "KindTooLarge", "LimitExceeded", "LineTooLong", "Member", "MissingFunction", "Names", "NoQed", "NotUtf8",
+    "NumberOutOfRange", "Omega", "Page", "ParseFault", "PlacedError", "ProcessFault", "Product", "ProgramNotFound", "Query",
+    "QueryCancelled", "QueryError", "QueryStopped", "QueryTimeout", "Repository", "RepositoryFault", "RepositoryLineTooLong",
+    "RepositoryRefused", "RepositoryTooLong", "ReservedName", "Row", "Rule", "Session", "SessionClosed", "SessionPool", "Sizes", "Status",
+    "Step", "SyntaxFault", "Term", "TermLike", "TermText", "TooDeep", "TooManyComponents", "TooManyNodes", "TooManyStates", "TooManyTerms",
+    "Type", "TypeLike", "TypeTooDeep", "TypeTooLarge", "TypeTooLong", "UnknownComponent", "UnknownInTerm", "UsageFault", "Variable",
+    "VariableInKind", "VariableInQuery", "Verdict", "WideGoal", "__version__", "aio", "arrow", "as_term", "as_type", "check_name",
+    "constructor", "curry", "evaluate", "find_program", "intersection", "map_queries", "numbers", "omega", "pairs", "parse_certificate",
+    "parse_grammar", "product", "queries", "steps", "var",
 ]

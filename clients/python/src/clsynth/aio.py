@@ -22,10 +22,11 @@ from clsynth import queries
 from clsynth.certificates import Certificate
 from clsynth.errors import SessionClosed, TooManyTerms
 from clsynth.evaluation import Functions
+from clsynth.filters import Filter
 from clsynth.grammars import Grammar
 from clsynth.limits import MAX_SIZE
 from clsynth.lint import issue, warnings_of
-from clsynth.paging import Paging, term_paging, text_paging
+from clsynth.paging import Paging, filtered_paging, term_paging, text_paging
 from clsynth.queries import Query
 from clsynth.replies import Event, Page, Sizes, TermText, Verdict
 from clsynth.repository import Repository
@@ -117,6 +118,13 @@ class AsyncSession:
         """The same, with the text of each term."""
         return await self.ask(queries.text_page(goal, take, max_size=max_size, after=after), timeout=timeout)
 
+    async def filtered_page(
+        self, filter: Filter | str, goal: TypeLike, take: int, *, max_size: int = MAX_SIZE, after: TermLike | None = None,
+        timeout: float | None = None,
+    ) -> Page[Term]:
+        """The same as `page`, of the terms alone that the filter of the repository accepts."""
+        return await self.ask(queries.filtered_page(filter, goal, take, max_size=max_size, after=after), timeout=timeout)
+
     async def terms(
         self, goal: TypeLike, *, max_size: int = MAX_SIZE, page_size: int = 100, after: TermLike | None = None, timeout: float | None = None,
     ) -> AsyncIterator[Term]:
@@ -131,6 +139,14 @@ class AsyncSession:
         """The same, with the text of each term."""
         async for entry in self._entries(text_paging(goal, page_size, max_size, after), timeout):
             yield entry
+
+    async def filtered(
+        self, filter: Filter | str, goal: TypeLike, *, max_size: int = MAX_SIZE, page_size: int = 100, after: TermLike | None = None,
+        timeout: float | None = None,
+    ) -> AsyncIterator[Term]:
+        """The same as `terms`, of the terms alone that the filter of the repository accepts."""
+        async for term in self._entries(filtered_paging(filter, goal, page_size, max_size, after), timeout):
+            yield term
 
     async def values(
         self, goal: TypeLike, functions: Mapping[str, object] | None = None, *, max_size: int = MAX_SIZE, page_size: int = 100,

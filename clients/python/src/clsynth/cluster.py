@@ -65,19 +65,20 @@ def map_queries(
 def _names(repository: Repository | str, asked: Iterable[Query[object]]) -> tuple[str, ...]:
     """The names that the queries bring, in the order in which one session would come upon them."""
     names = Numbering()
-    components = _components(repository)
+    components, filters = _declared(repository)
     for query in asked:
-        if is_read(query, components):
+        if is_read(query, components, filters):
             names.add(query)
     return tuple(names)
 
 
-def _components(repository: Repository | str) -> Collection[str]:
-    """The names of the components. Of a text that the program refuses they are of no use."""
+def _declared(repository: Repository | str) -> tuple[Collection[str], Collection[str]]:
+    """The names of the components and of the filters. Of a text that the program refuses they are of no use."""
     try:
-        return (Repository.parse(repository) if isinstance(repository, str) else repository).components
+        parsed = Repository.parse(repository) if isinstance(repository, str) else repository
     except (ParseFault, RepositoryFault):
-        return ()
+        return (), ()
+    return parsed.components, parsed.filters
 
 
 def _submitted(executor: Executor, opened: _Open, batch: Sequence[Query[Answer]]) -> Future[_Answers[Answer]] | None:

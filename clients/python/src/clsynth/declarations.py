@@ -15,6 +15,7 @@ class Declared:
     def __init__(self, lines: Iterable[bytes]) -> None:
         self.components: dict[str, int] = {}
         self.kinds: dict[str, int] = {}
+        self.filters: dict[str, int] = {}
         self.variances: dict[str, tuple[int, str]] = {}
         """With the word of the variance."""
         self.below: list[tuple[str, str, int]] = []
@@ -29,6 +30,8 @@ class Declared:
                 self.components.setdefault(name, number)
             case ["kind", name, *_]:
                 self.kinds.setdefault(name, number)
+            case ["filter", name, *_]:
+                self.filters.setdefault(name, number)
             case ["variance", name, word]:
                 self.variances.setdefault(name, (number, word))
             case ["sub", lower, upper]:

@@ -18,11 +18,12 @@ from clsynth.limits import MAX_INPUT_BYTES, MAX_POOL
 
 __all__ = [
     "ERRORS", "AmbiguousType", "BadCertificate", "BadCost", "BadName", "BadReply", "BadTemplate", "ClosureTooLarge", "ClsynthError",
-    "DuplicateName", "EmptyKind", "InputFull", "KindTooLarge", "LimitExceeded", "LineTooLong", "MissingFunction", "NoQed", "NotUtf8",
-    "NumberOutOfRange", "ParseFault", "PlacedError", "ProcessFault", "ProgramNotFound", "QueryCancelled", "QueryError", "QueryStopped",
-    "QueryTimeout", "RepositoryFault", "RepositoryLineTooLong", "RepositoryRefused", "RepositoryTooLong", "ReservedName", "SessionClosed",
-    "Status", "SyntaxFault", "TooDeep", "TooManyComponents", "TooManyNodes", "TooManyTerms", "TypeTooDeep", "TypeTooLarge", "TypeTooLong",
-    "UnknownComponent", "UnknownInTerm", "UsageFault", "VariableInKind", "VariableInQuery", "WideGoal",
+    "DuplicateName", "EmptyKind", "FilteredTooLarge", "InputFull", "KindTooLarge", "LimitExceeded", "LineTooLong", "MissingFunction",
+    "NoQed", "NotUtf8", "NumberOutOfRange", "ParseFault", "PlacedError", "ProcessFault", "ProgramNotFound", "QueryCancelled", "QueryError",
+    "QueryStopped", "QueryTimeout", "RepositoryFault", "RepositoryLineTooLong", "RepositoryRefused", "RepositoryTooLong", "ReservedName",
+    "SessionClosed", "Status", "SyntaxFault", "TooDeep", "TooManyComponents", "TooManyNodes", "TooManyStates", "TooManyTerms",
+    "TypeTooDeep", "TypeTooLarge", "TypeTooLong", "UnknownComponent", "UnknownInTerm", "UsageFault", "VariableInKind", "VariableInQuery",
+    "WideGoal",
 ]
 
 
@@ -107,6 +108,11 @@ class LimitExceeded(RepositoryFault):
 class TooManyComponents(LimitExceeded):
     """A repository has more than 1,000 components."""
     unit = "components"
+
+
+class TooManyStates(LimitExceeded):
+    """A filter has more than 16 states."""
+    unit = "states"
 
 
 class RepositoryTooLong(LimitExceeded):
@@ -316,7 +322,7 @@ class NumberOutOfRange(QueryError):
 
 
 class UnknownComponent(QueryError):
-    """No component has the name `detail`."""
+    """No component has the name `detail`, or no filter where the query is `filtered`."""
     word = "unknown"
 
 
@@ -354,6 +360,12 @@ class ClosureTooLarge(QueryError):
 class WideGoal(QueryError):
     """The goal `detail` of the closure can be met in too many ways."""
     word = "wide"
+
+
+class FilteredTooLarge(QueryError):
+    """The closure, filtered, has more rules than the session allows."""
+    word = "filter-large"
+    advice = "A session with a greater max_rules (at most 1,000,000) allows more. A filter with fewer states needs less."
 
 
 class TooManyTerms(QueryError):

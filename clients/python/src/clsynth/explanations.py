@@ -87,6 +87,21 @@ REFUSALS: dict[str, Explanation] = {
         Detail.NAME,
     ),
     "duplicate-variance": Explanation("the constructor `{}` has a `variance` line already", "Keep one of the two lines.", Detail.NAME),
+    "unknown-filter": Explanation(
+        "no filter `{}` was declared before this line",
+        "Put this line behind the `filter` line.",
+        Detail.NAME,
+    ),
+    "duplicate-filter": Explanation(
+        "the filter `{}` was declared before",
+        "Put all its accepting states into one line: `filter f accepts P Q`.",
+        Detail.NAME,
+    ),
+    "states": Explanation(
+        "the filter `{}` has more than 16 states",
+        "Take one state for what may stand in the same places. What need not be told apart needs no state of its own.",
+        Detail.NAME,
+    ),
     "cycle": Explanation(
         "the constructor `{}` is below another one that is below it",
         "Drop one of these lines, or use one name for both constructors.",
@@ -141,7 +156,7 @@ ERRORS: dict[str, Explanation] = {
         "a number is out of range",
         "`max` takes 1 to 1,024, and `take` takes 1 to 10,000. Longer listings go on with `after` and the last term.",
     ),
-    "unknown": Explanation("no component has the name `{}`", "", Detail.NAME),
+    "unknown": Explanation("nothing that may stand here has the name `{}`", "", Detail.NAME),
     "token": Explanation("this name in the term is none of a component", "", Detail.BYTE),
     "certificate": Explanation(
         "line {} behind the `verify` line is no line that can stand there",
@@ -163,6 +178,10 @@ ERRORS: dict[str, Explanation] = {
         "If it comes from states that are products or arguments of a constructor, such as `St(A * B)`, add `variance St inv`, or "
         "take a name for each state: then no term has two states at once.",
         Detail.TYPE,
+    ),
+    "filter-large": Explanation(
+        "the rules that the filter leaves are more than the bound allows",
+        "`--max-rules` (up to 1,000,000) allows more. A filter with fewer states needs less.",
     ),
     "too-many-terms": Explanation(
         "more terms count for this page than the bound allows",

@@ -1,7 +1,8 @@
 """The forms of lines, and where a line fits none of them.
 
 A form is written as in docs/LANGUAGE.md. Words in capitals stand for something: NAME, N and K (numbers), TYPE, TERM, `TYPE | TYPE ..` (any number of
-types), `I J ..` (any number of numbers) and REST (anything). What stands in brackets, at the end of a form, may be left out.
+types), `I J ..` (any number of numbers), F (the name of a filter), Q (a state), `Q Q ..` (states, at least one), P (a state or `_`), S (a state or
+`none`) and REST (anything). What stands in brackets, at the end of a form, may be left out.
 """
 
 from __future__ import annotations
@@ -14,13 +15,14 @@ __all__ = ["CERTIFICATE", "QUERIES", "REPOSITORY", "Misfit", "first_words", "for
 
 REPOSITORY = (
     "sub NAME NAME", "variance NAME contra", "variance NAME inv", "kind NAME = TYPE | TYPE ..", "comp NAME : TYPE", "text NAME = REST",
-    "cost NAME N", "end",
+    "cost NAME N", "filter F accepts Q Q ..", "leaf F NAME -> S", "app F P P -> S", "other F Q", "end",
 )
 """The lines of a repository."""
 
 QUERIES = (
     "sub TYPE <= TYPE", "paths NAME", "typed TERM : TYPE", "inhabit TYPE", "list TYPE max N take K [after TERM]",
-    "texts TYPE max N take K [after TERM]", "grammar TYPE", "audit TYPE", "certify TYPE", "verify TYPE", "finite TYPE",
+    "texts TYPE max N take K [after TERM]", "filtered F TYPE max N take K [after TERM]", "grammar TYPE", "audit TYPE", "certify TYPE",
+    "verify TYPE", "finite TYPE",
 )
 """The lines behind a repository, but for those of a certificate."""
 
@@ -30,6 +32,8 @@ CERTIFICATE = (
 """The lines of a certificate."""
 
 _END = "the end of the line"
+_SET_ASIDE = frozenset({"none", "_"})
+"""Names that no state has."""
 
 
 @dataclass(frozen=True)
@@ -78,7 +82,7 @@ def misfit(line: str, forms: tuple[str, ...]) -> Misfit | None:
 
 def _words(form: str) -> list[str]:
     """The words of a form, with one word for what may stand any number of times, and brackets as words of their own."""
-    for many, word in (("TYPE | TYPE ..", "TYPES"), ("I J ..", "NUMBERS"), ("[", "[ "), ("]", " ]")):
+    for many, word in (("TYPE | TYPE ..", "TYPES"), ("I J ..", "NUMBERS"), ("Q Q ..", "STATES"), ("[", "[ "), ("]", " ]")):
         form = form.replace(many, word)
     return form.split()
 
@@ -110,6 +114,16 @@ class _Reader:
         match word:
             case "NAME":
                 return self._name("a name")
+            case "F":
+                return self._name("a name of a filter")
+            case "Q":
+                return self._state()
+            case "P":
+                return self._state("_")
+            case "S":
+                return self._state("none")
+            case "STATES":
+                return self._states()
             case "N" | "K":
                 return self._number()
             case "TYPE":
@@ -161,6 +175,23 @@ class _Reader:
                 depth -= 1
             if not (depth and self._takes(",")):
                 return depth == 0
+        return False
+
+    def _states(self) -> bool:
+        if not self._state():
+            return False
+        while self._state():
+            pass
+        return True
+
+    def _state(self, also: str = "") -> bool:
+        """A name of a state, or the word that may stand in its place."""
+        token = self._token()
+        refused = _SET_ASIDE - {also} | {"omega"}
+        if self._advance(token is not None and token.kind == "name" and token.text not in refused, "a name of a state"):
+            return True
+        if also:
+            self.wanted.append(f"`{also}`")
         return False
 
     def _variable(self) -> bool:

@@ -4,7 +4,7 @@ from __future__ import annotations
 
 __all__ = [
     "MAX_CHOICES", "MAX_COMPONENTS", "MAX_COST", "MAX_INPUT_BYTES", "MAX_INSTANCE_NODES", "MAX_LENGTH", "MAX_LINE_BYTES", "MAX_NAME_BYTES",
-    "MAX_NODES", "MAX_PARENTHESES", "MAX_POOL", "MAX_SIZE", "MAX_SPREADS", "MAX_TAKE",
+    "MAX_NODES", "MAX_PARENTHESES", "MAX_POOL", "MAX_SIZE", "MAX_SPREADS", "MAX_STATES", "MAX_TAKE",
 ]
 
 MAX_INPUT_BYTES = 1_048_576
@@ -36,6 +36,9 @@ MAX_INSTANCE_NODES = 4_096
 
 MAX_SPREADS = 1_000_000
 """The sum over all instances of all components of their spread and 1."""
+
+MAX_STATES = 16
+"""States of a filter."""
 
 MAX_SIZE = 1_024
 """The greatest size that a page may be bounded by."""

@@ -12,7 +12,7 @@ from collections.abc import Container, Iterable, Iterator
 from itertools import islice
 
 from clsynth.errors import (
-    BadCertificate, BadName, ClosureTooLarge, NoQed, ParseFault, QueryError, TooManyTerms, TypeTooDeep, TypeTooLarge, WideGoal,
+    BadCertificate, BadName, ClosureTooLarge, FilteredTooLarge, NoQed, ParseFault, QueryError, TooManyTerms, TypeTooDeep, TypeTooLarge, WideGoal,
 )
 from clsynth.limits import MAX_NAME_BYTES, MAX_NODES, MAX_PARENTHESES
 from clsynth.queries import Query
@@ -25,7 +25,7 @@ __all__ = ["Numbering", "is_read"]
 _NAME = re.compile(r"[A-Za-z_][A-Za-z0-9_]*", re.ASCII)
 _NAMES_OF_A_LINE = 100
 # The errors of a query that was read, with its certificate if it has one: all its names have numbers.
-_LATE = (ClosureTooLarge, TooManyTerms, TypeTooLarge, WideGoal)
+_LATE = (ClosureTooLarge, FilteredTooLarge, TooManyTerms, TypeTooLarge, WideGoal)
 # The errors of a query of which the first line was read.
 _OF_A_CERTIFICATE = (BadCertificate, NoQed)
 
@@ -63,9 +63,9 @@ class Numbering:
                     self._names.setdefault(name)
 
 
-def is_read(query: Query[object], components: Container[str]) -> bool:
+def is_read(query: Query[object], components: Container[str], filters: Container[str] = ()) -> bool:
     """Whether the program reads the first line of the query, so that its names get numbers. It is told without the program, by the names
-    of the components."""
+    of the components and of the filters."""
     line = query.lines[0]
     if not can_be_read(bytes_of(line)) or open_parentheses(line) > MAX_PARENTHESES:
         return False
@@ -76,4 +76,4 @@ def is_read(query: Query[object], components: Container[str]) -> bool:
         return False
     if any(type.nodes > MAX_NODES or any(type.variables()) for type in types):
         return False
-    return all(component in components for term in terms for component, _ in term.spine())
+    return all(name in filters for name in query.filters) and all(component in components for term in terms for component, _ in term.spine())

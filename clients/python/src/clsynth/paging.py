@@ -6,12 +6,13 @@ from collections.abc import Callable
 from typing import Generic, TypeVar
 
 from clsynth import queries
+from clsynth.filters import Filter
 from clsynth.queries import Query
 from clsynth.replies import Page, TermText
 from clsynth.terms import Term, TermLike
 from clsynth.types import TypeLike
 
-__all__ = ["Paging", "term_paging", "text_paging"]
+__all__ = ["Paging", "filtered_paging", "term_paging", "text_paging"]
 
 Entry = TypeVar("Entry")
 _FEWER = 10
@@ -54,6 +55,13 @@ class Paging(Generic[Entry]):
 def term_paging(goal: TypeLike, size: int, max_size: int, after: TermLike | None) -> Paging[Term]:
     """Pages of so many terms."""
     return Paging(lambda take, after: queries.page(goal, take, max_size=max_size, after=after), lambda term: term, size, after)
+
+
+def filtered_paging(filter: Filter | str, goal: TypeLike, size: int, max_size: int, after: TermLike | None) -> Paging[Term]:
+    """Pages of so many terms that the filter accepts."""
+    return Paging(
+        lambda take, after: queries.filtered_page(filter, goal, take, max_size=max_size, after=after), lambda term: term, size, after,
+    )
 
 
 def text_paging(goal: TypeLike, size: int, max_size: int, after: TermLike | None) -> Paging[TermText]:

@@ -9,11 +9,12 @@ Each function makes the query of the session's method with its name. A query has
 from __future__ import annotations
 
 from collections.abc import Callable, Iterator
-from dataclasses import dataclass
+from dataclasses import dataclass, replace
 from typing import Generic, Protocol, TypeVar
 
 from clsynth.certificates import Certificate, parse_certificate
 from clsynth.errors import LineTooLong, NoQed, NotUtf8
+from clsynth.filters import Filter
 from clsynth.grammars import Grammar, parse_grammar
 from clsynth.limits import MAX_LINE_BYTES, MAX_SIZE, MAX_TAKE
 from clsynth.replies import Event, Page, Sizes, Step, TermText, Verdict
@@ -22,7 +23,8 @@ from clsynth.tokens import bytes_of, can_be_read
 from clsynth.types import Type, TypeLike
 
 __all__ = [
-    "Query", "Reader", "certify", "grammar", "has_type", "history", "inhabited", "is_subtype", "page", "paths", "sizes", "text_page", "verify",
+    "Query", "Reader", "certify", "filtered_page", "grammar", "has_type", "history", "inhabited", "is_subtype", "page", "paths", "sizes",
+    "text_page", "verify",
 ]
 
 Answer = TypeVar("Answer", covariant=True)
@@ -53,6 +55,8 @@ class Query(Generic[Answer]):
     """The same of the lines behind it."""
     terms: tuple[str, ...] = ()
     """The terms in its first line."""
+    filters: tuple[str, ...] = ()
+    """The filters in its first line."""
 
     def __post_init__(self) -> None:
         if any("\n" in line for line in self.lines):
@@ -93,6 +97,16 @@ def page(goal: TypeLike, take: int, *, max_size: int = MAX_SIZE, after: TermLike
 def text_page(goal: TypeLike, take: int, *, max_size: int = MAX_SIZE, after: TermLike | None = None) -> Query[Page[TermText]]:
     """The same, with the text of each term."""
     return _listing("texts", goal, take, max_size, after, _text_page)
+
+
+def filtered_page(
+    filter: Filter | str, goal: TypeLike, take: int, *, max_size: int = MAX_SIZE, after: TermLike | None = None,
+) -> Query[Page[Term]]:
+    """The same as `page`, of the terms alone that the filter accepts. It is given by its name, or as it was declared."""
+    if not isinstance(filter, Filter | str):
+        raise TypeError(f"{filter!r} is no filter and no name of one")
+    name = str(filter)
+    return replace(_listing(f"filtered {name}", goal, take, max_size, after, _page), filters=(name,))
 
 
 def grammar(goal: TypeLike) -> Query[Grammar]:

@@ -14,6 +14,7 @@ __all__ = ["Directive", "read_directives"]
 
 _BLANK = r"[ \t\r]*"
 _NAME = r"([A-Za-z_][A-Za-z0-9_]*)"
+_STATE = r"[A-Za-z_][A-Za-z0-9_]*"
 _FORMS = {
     "sub": ("`sub NAME NAME`", rf"{_NAME}[ \t\r]+{_NAME}{_BLANK}"),
     "variance": ("`variance NAME contra` or `variance NAME inv`", rf"{_NAME}[ \t\r]+(contra|inv){_BLANK}"),
@@ -21,6 +22,10 @@ _FORMS = {
     "comp": ("`comp NAME : TYPE`", rf"{_NAME}{_BLANK}:(.*)"),
     "text": ("`text NAME = ..`", rf"{_NAME}{_BLANK}=[ \t]?(.*)"),
     "cost": ("`cost NAME N`", rf"{_NAME}[ \t\r]+([0-9]+){_BLANK}"),
+    "filter": ("`filter F accepts Q Q ..`", rf"{_NAME}[ \t\r]+accepts((?:[ \t\r]+{_STATE})+){_BLANK}"),
+    "leaf": ("`leaf F NAME -> S`", rf"{_NAME}[ \t\r]+{_NAME}{_BLANK}->{_BLANK}{_NAME}{_BLANK}"),
+    "app": ("`app F P P -> S`", rf"{_NAME}[ \t\r]+{_NAME}[ \t\r]+{_NAME}{_BLANK}->{_BLANK}{_NAME}{_BLANK}"),
+    "other": ("`other F Q`", rf"{_NAME}[ \t\r]+{_NAME}{_BLANK}"),
     "end": ("`end`", ""),
 }
 _WORD = re.compile(rf"{_BLANK}(\w*){_BLANK}", re.ASCII)

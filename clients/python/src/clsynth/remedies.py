@@ -142,11 +142,18 @@ def _meant(name: str, names: Collection[str]) -> str:
 def _unknown(case: Case) -> Iterator[str]:
     place = case.place
     name = next((token.text for token in case.tokens if token.place == place), case.fault.detail)
-    later = case.declared.components.get(name)
+    names = case.declared.filters if _is_of_filter(case) else case.declared.components
+    later = names.get(name)
     if later is not None:
         yield f"It is declared later, in line {later}."
     else:
-        yield _meant(name, case.declared.components)
+        yield _meant(name, names)
+
+
+def _is_of_filter(case: Case) -> bool:
+    """Whether the name that nothing has is to name a filter."""
+    first = case.tokens[0].text if case.tokens else ""
+    return case.fault.word == "unknown-filter" or (case.fault.word == "unknown" and first == "filtered")
 
 
 def _first_declared(names: Callable[[Declared], dict[str, int]]) -> Callable[[Case], Iterator[str]]:
@@ -219,8 +226,10 @@ _NOTES: dict[str, Callable[[Case], Iterator[str]]] = {
     "unknown": _unknown,
     "token": _unknown,
     "unknown-component": _unknown,
+    "unknown-filter": _unknown,
     "duplicate-component": _first_declared(lambda declared: declared.components),
     "duplicate-kind": _first_declared(lambda declared: declared.kinds),
+    "duplicate-filter": _first_declared(lambda declared: declared.filters),
     "duplicate-variance": _first_declared(lambda declared: {name: line for name, (line, _) in declared.variances.items()}),
     "cycle": _cycle,
     "variance-mix": _variance_mix,

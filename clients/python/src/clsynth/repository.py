@@ -21,6 +21,7 @@ from clsynth.errors import (
     TypeTooLong, VariableInKind,
 )
 from clsynth.families import choices_of_kinds
+from clsynth.filters import Filter
 from clsynth.limits import MAX_CHOICES, MAX_COMPONENTS, MAX_COST, MAX_INPUT_BYTES, MAX_LINE_BYTES, MAX_NODES, MAX_PARENTHESES
 from clsynth.names import check_name
 from clsynth.reading import Directive, read_directives
@@ -56,6 +57,7 @@ class Repository:
         self._kinds: dict[str, tuple[Type, ...]] = {}
         self._below: list[tuple[str, str]] = []
         self._variances: dict[str, VarianceWord] = {}
+        self._filters: dict[str, Filter] = {}
 
     @staticmethod
     def parse(text: str) -> Repository:
@@ -130,6 +132,14 @@ class Repository:
         self._declare([f"variance {name} {variance}"])
         self._variances[name] = variance
 
+    def filter(self, name: str, accepts: Iterable[str]) -> Filter:
+        """Declares a filter with its accepting states, of which there is at least one. What is returned takes its other lines."""
+        check_name(name)
+        if name in self._filters:
+            raise DuplicateName(f"the filter {name!r} is declared already")
+        self._filters[name] = Filter(name, accepts, self._components, self._declare)
+        return self._filters[name]
+
     @property
     def components(self) -> Mapping[str, Component]:
         """The components by their names, in the order of their declarations."""
@@ -139,6 +149,11 @@ class Repository:
     def kinds(self) -> Mapping[str, tuple[Type, ...]]:
         """The kinds of the variables, by their names."""
         return MappingProxyType(self._kinds)
+
+    @property
+    def filters(self) -> Mapping[str, Filter]:
+        """The filters by their names, in the order of their declarations."""
+        return MappingProxyType(self._filters)
 
     @property
     def pairs_below(self) -> tuple[tuple[str, str], ...]:
@@ -179,8 +194,24 @@ class Repository:
                 self.below(name, rest[0])
             case "variance":
                 self.variance(name, "contra" if rest[0] == "contra" else "inv")
+            case "filter":
+                self.filter(name, rest[0].split())
+            case "leaf" | "app" | "other":
+                self._take_line(directive.word, name, rest)
             case _ if name not in self._components:
                 raise RepositoryFault(f"no component {name!r} is declared before its `{directive.word}` line")
+
+    def _take_line(self, word: str, name: str, rest: list[str]) -> None:
+        """Declares what a line says of a filter."""
+        if name not in self._filters:
+            raise RepositoryFault(f"no filter {name!r} is declared before its `{word}` line")
+        match word:
+            case "leaf":
+                self._filters[name].leaf(rest[0], rest[1])
+            case "app":
+                self._filters[name].app(rest[0], rest[1], rest[2])
+            case _:
+                self._filters[name].other(rest[0])
 
     def _declare(self, lines: list[str]) -> None:
         """Takes lines that are right for themselves, all or none."""

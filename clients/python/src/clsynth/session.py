@@ -28,12 +28,13 @@ from clsynth.errors import (
 )
 from clsynth.evaluation import Functions
 from clsynth.explain import explain_error
+from clsynth.filters import Filter
 from clsynth.grammars import Grammar
 from clsynth.limits import MAX_INPUT_BYTES, MAX_SIZE
 from clsynth.lint import issue, warnings_of
 from clsynth.names import check_name
 from clsynth.numbering import Numbering
-from clsynth.paging import Paging, term_paging, text_paging
+from clsynth.paging import Paging, filtered_paging, term_paging, text_paging
 from clsynth.program import Options, Program, find_program
 from clsynth.queries import Query
 from clsynth.replies import Event, Page, Sizes, TermText, Verdict
@@ -168,6 +169,13 @@ class Session:
         """The same, with the text of each term."""
         return self.ask(queries.text_page(goal, take, max_size=max_size, after=after), timeout=timeout)
 
+    def filtered_page(
+        self, filter: Filter | str, goal: TypeLike, take: int, *, max_size: int = MAX_SIZE, after: TermLike | None = None,
+        timeout: float | None = None,
+    ) -> Page[Term]:
+        """The same as `page`, of the terms alone that the filter of the repository accepts. It is given by its name, or as it was declared."""
+        return self.ask(queries.filtered_page(filter, goal, take, max_size=max_size, after=after), timeout=timeout)
+
     def terms(
         self, goal: TypeLike, *, max_size: int = MAX_SIZE, page_size: int = 100, after: TermLike | None = None, timeout: float | None = None,
     ) -> Iterator[Term]:
@@ -181,6 +189,13 @@ class Session:
     ) -> Iterator[TermText]:
         """The same, with the text of each term."""
         return self._entries(text_paging(goal, page_size, max_size, after), timeout)
+
+    def filtered(
+        self, filter: Filter | str, goal: TypeLike, *, max_size: int = MAX_SIZE, page_size: int = 100, after: TermLike | None = None,
+        timeout: float | None = None,
+    ) -> Iterator[Term]:
+        """The same as `terms`, of the terms alone that the filter of the repository accepts."""
+        return self._entries(filtered_paging(filter, goal, page_size, max_size, after), timeout)
 
     def pages(self, paging: Paging[Entry], *, timeout: float | None = None) -> Iterator[Page[Entry]]:
         """The pages of a listing in turn, as the module `paging` makes it, each when it is asked for."""

@@ -95,6 +95,26 @@ class Survey:
             case "cost":
                 reader.name()
                 reader.number()
+            case "filter":
+                reader.name()
+                reader.wants("accepts")
+                _pass_state(reader)
+                while words[reader.next]:
+                    _pass_state(reader)
+            case "leaf":
+                reader.name()
+                reader.name()
+                reader.wants("->")
+                _pass_state(reader, "none")
+            case "app":
+                reader.name()
+                _pass_state(reader, "_")
+                _pass_state(reader, "_")
+                reader.wants("->")
+                _pass_state(reader, "none")
+            case "other":
+                reader.name()
+                _pass_state(reader)
             case "end":
                 pass
             case _:
@@ -117,6 +137,8 @@ class Survey:
         word = words[0]
         if word in _GOALS:
             self.goals.append(TypedLine(word, "", number, self._type(words, TypeReader(words, 1))))
+        elif word == "filtered":
+            self.goals.append(TypedLine(word, "", number, self._type(words, TypeReader(words, 2))))
         elif word == "typed":
             self.goals.append(TypedLine(word, "", number, self._type(words, TypeReader(words, words.index(":") + 1))))
         elif word == "sub":
@@ -130,6 +152,13 @@ class Survey:
         made = reader.type()
         self.counts.update(words[start : reader.next])
         return made
+
+
+def _pass_state(reader: TypeReader, also: str = "") -> None:
+    """Passes the name of a state, or the word that may stand in its place."""
+    name = reader.name()
+    if name in ("none", "_") and name != also:
+        raise Unreadable
 
 
 def _fault(line: bytes, text: str, forms: tuple[str, ...]) -> Fault:

@@ -36,7 +36,7 @@ def answer_of(exchange: Exchange) -> Any:
     assert exchange.asked
     lines = [piece.decode() for piece in exchange.pieces]
     match exchange.asked.word:
-        case "list":
+        case "list" | "filtered":
             return {"terms": [line.removeprefix("term ") for line in lines[:-1]], "more": lines[-1] == "more"}
         case "texts":
             return {"terms": _texts(lines[:-1]), "more": lines[-1] == "more"}

@@ -9,7 +9,7 @@ from typing import Any
 from clsynth.command.asking import session_of
 from clsynth.command.progress import Progress
 from clsynth.command.sources import repository_in
-from clsynth.paging import Paging, term_paging, text_paging
+from clsynth.paging import Paging, filtered_paging, term_paging, text_paging
 from clsynth.replies import TermText
 from clsynth.terms import Term
 
@@ -39,6 +39,8 @@ def list_terms(given: Namespace) -> int:
 
 def _paging(given: Namespace) -> Paging[Any]:
     words = given.type, min(given.count, _PAGE), given.max, given.after
+    if given.filter:
+        return filtered_paging(given.filter, *words)
     if given.text:
         return text_paging(*words)
     return term_paging(*words)
