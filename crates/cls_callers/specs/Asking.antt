@@ -7,7 +7,9 @@ use Rattle.cls_core.specs.declared.answer.Answer.TheVariants.{Rules}
 use Rattle.cls_core.specs.Arguments.{map_answer}
 use Rattle.cls_core.specs.Canonical.{IsCanonical}
 use Rattle.cls_core.specs.Rows.{Row}
+use Rattle.cls_core.specs.declared.entry.Entry.{Entry}
 use Rattle.cls_table.specs.declared.tag.Tag.{Tag}
+use Rattle.cls_table.specs.Lawful.{claims_in}
 use Rattle.cls_table.specs.Seen.{SeatSeen}
 use Rattle.cls_callers.specs.declared.goal.AskGoal.{AskGoal}
 use Rattle.cls_callers.specs.declared.goal.AskGoal.TheVariants.{Root, Of}
@@ -56,6 +58,10 @@ module _ {B G : Type 0} where
 -- the seat is one of a table whose expanders mean this
 abbrev pub HasMeaning : {B G : Type 0} → SeatSeen B G → B → Type 0
 HasMeaning {B} {G} seat by = (t : Tag B G) × (seat.tag ≡ Some t) × (t.by ≡ by)
+
+-- If the seat has every part of the ledger, so many as there are in all, the history has as many claims as its share counts.
+abbrev pub CountsAllClaims : {B G : Type 0} → ℕ → SeatSeen B G → List Entry → Type 0
+CountsAllClaims parts seat history = seat.parts ≡ parts → claims_in history ≡ seat.amount
 
 -- the seat afterwards is that before, with no fewer claims made
 pub record IsAfterAsking {B G : Type 0} (before after : SeatSeen B G) : Type 0 where

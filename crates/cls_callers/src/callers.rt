@@ -24,11 +24,11 @@ impl<'e, E: Expand, L: Ledger> Callers<'e, E, L> {
     ghost use Rattle.cls_turn.specs.Seats.{id_of};
     ghost use Rattle.cls_core.specs.Machine.{AllFiled};
     ghost use Rattle.cls_table.specs.Completing.{IsCompleteFor};
-    ghost use Rattle.cls_table.specs.Lawful.{IsLarge, IsLawfulTable, claims_in};
+    ghost use Rattle.cls_table.specs.Lawful.{IsLarge, IsLawfulTable};
     ghost use Rattle.cls_table.specs.Tags.{tag_for};
     ghost use Rattle.cls_callers.specs.declared.goal.AskGoal.TheVariants.{Root};
     ghost use Rattle.cls_callers.specs.AskGoals.{ask_eq};
-    ghost use Rattle.cls_callers.specs.Asking.{IsAfterAsking, IsAskAnswer, IsAskedClosure, IsCaller};
+    ghost use Rattle.cls_callers.specs.Asking.{CountsAllClaims, IsAfterAsking, IsAskAnswer, IsAskedClosure, IsCaller};
 
     /// A table with one free row, the root of the asked goals, and a seat with every part of the ledger. Callers are
     /// numbered from 1 to their number, and the first seat is that of the number 0. The limits count the root and its
@@ -122,11 +122,10 @@ impl<'e, E: Expand, L: Ledger> Callers<'e, E, L> {
     ) -> Result<Finished<AskGoal<E::Goal>>, Unfinished<Asked<'e, E>, L>>
         requires seat_of_this { seat.turn ≡ id_of self.table.turn }
         ensures complete { IfOk result (IsCompleteFor (ask_eq E.Goal.eq) (IsAskAnswer E.answers) seat.entry) }
-        ensures claims { IfOk result (λ f. seat.entry.parts ≡ L.parts → claims_in f.history ≡ seat.entry.amount) }
+        ensures claims { IfOk result (λ f. CountsAllClaims L.parts seat.entry f.history) }
         ensures tag { IfErr result (λ u. seat.entry.tag ≡ Some u.table.tag) }
         ensures unfinished { IfErr result (λ u. AllFiled u.table.rows → ⊥) }
-        ensures unfinished_claims { IfErr result
-            (λ u. seat.entry.parts ≡ L.parts → claims_in u.table.history ≡ seat.entry.amount) }
+        ensures unfinished_claims { IfErr result (λ u. CountsAllClaims L.parts seat.entry u.table.history) }
         ensures lawful { IfErr result (λ u. IsLawfulTable (ask_eq E.Goal.eq) (IsAskAnswer E.answers) u.table) }
     {
         let Callers { table } = self;
