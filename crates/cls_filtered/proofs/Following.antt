@@ -194,6 +194,12 @@ module _ (a : Automaton) where
       sound = λ steps sound. k.sound steps (h.sound steps sound);
     }
 
+    -- one step of a node is followed
+    pub step-turns : (i : ℕ) (steps : List Step) (n : ℕ) (x : Step) (s t : Known) → n < length steps → x ≡ get_or steps n x → map step_rule steps ≡ rules_at book i → Follows a i (step_rule x) s t → Turns a book s t
+    step-turns i steps n x s t l e is h =
+        (let rule : NodeRule book i (step_rule x) = subst (λ (y : Step). NodeRule book i (step_rule y)) (sym e) (step-rule i steps n x l is) in
+        record { onward = h.onward; sound = λ areSteps sound. h.sound book areSteps rule sound })
+
     pub follows-turns : (i : ℕ) (s t : Known) → FollowsAll a book i s t → Turns a book s t
     follows-turns i s t h = record { onward = h.onward; sound = h.sound }
 

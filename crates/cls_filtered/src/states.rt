@@ -1,7 +1,7 @@
 //! Which states the terms of each node have, found from those that are known.
 //!
-//! A node whose states become more has its turn: the steps of the nodes that use it are followed again. Then each step is
-//! followed once more, and if none adds anything, all states are known. So no proof hangs on which nodes use which.
+//! A node whose states become more has its turn: the steps that use it are followed again. Then each step is followed once
+//! more, and if none adds anything, all states are known. So no proof hangs on which steps use which nodes.
 ghost use Rattle.std.specs.Prelude.{◌≡◌, ◌+◌, ◌*◌, ◌<◌, ◌≤◌, true, false, [], IfOk, IfSome, OnOk, length, replicate};
 ghost use Rattle.cls_base.specs.Limits.{max_states};
 ghost use Rattle.cls_base.specs.declared.rule.Rule.TheVariants.{Any, Head};
@@ -14,7 +14,7 @@ ghost use Rattle.cls_filtered.specs.Stepwise.{AreSteps};
 use crate::flags::{is_up, pair_of};
 use crate::step::Step;
 use crate::step_book::StepBook;
-use crate::users::{Users, users_at, users_of};
+use crate::users::{Use, Uses, uses_at, uses_of};
 use cls_base::OutOfMemory;
 use cls_base::limits::MAX_STATES;
 use cls_filter::Filter;
@@ -54,11 +54,11 @@ pub(crate) fn states_of(
     requires automaton { IsAutomaton filter.now }
     ensures { IfOk result (λ flags. AreStatesOf book.now filter.now flags.items) }
 {
-    let users = users_of(alloc, book)?;
+    let uses = uses_of(alloc, book)?;
     let mut states = States::none(alloc, book.count())?;
     let mut more = true;
     while more {
-        more = states.pass(book, filter, users.as_slice())?;
+        more = states.pass(book, filter, uses.as_slice())?;
     }
     Ok(states.into_flags())
 }
@@ -222,35 +222,49 @@ impl States {
         Ok(())
     }
 
-    // The node has its turn, if there is one with this number.
-    fn follow_user(
+    // The step at the place is followed, if the node has so many.
+    fn follow_step(
         &mut self,
         book: &StepBook,
         filter: &Filter,
         node: u32,
+        place: usize,
     ) -> Result<(), OutOfMemory>
+        requires node { node < length book.now }
+        requires sized { length self.old.flags ≡ length book.now * max_states }
+        ensures { OnOk result (Turns filter.now book.now self.old self.new) }
+    {
+        let steps = book.steps(node);
+        match steps.get(place) {
+            Some(step) => self.follow(filter, node, *step),
+            None => Ok(()),
+        }
+    }
+
+    // The step is followed, if there is one of this number.
+    fn follow_use(&mut self, book: &StepBook, filter: &Filter, step: Use) -> Result<(), OutOfMemory>
         requires { length self.old.flags ≡ length book.now * max_states }
         ensures { OnOk result (Turns filter.now book.now self.old self.new) }
     {
         let count = book.count();
-        if node >= count {
+        if step.node >= count {
             return Ok(());
         }
-        self.follow_node(book, filter, node)
+        self.follow_step(book, filter, step.node, step.place)
     }
 
-    // These nodes have their turn.
-    fn follow_users(
+    // These steps are followed.
+    fn follow_uses(
         &mut self,
         book: &StepBook,
         filter: &Filter,
-        users: &[u32],
+        uses: &[Use],
     ) -> Result<(), OutOfMemory>
         requires { length self.old.flags ≡ length book.now * max_states }
         ensures { OnOk result (Turns filter.now book.now self.old self.new) }
     {
-        for user in users {
-            self.follow_user(book, filter, *user)?;
+        for step in uses {
+            self.follow_use(book, filter, *step)?;
         }
         Ok(())
     }
@@ -263,29 +277,19 @@ impl States {
         self.changed.pop()
     }
 
-    // The nodes that use one that changed have their turn, until none is left.
-    fn drain(
-        &mut self,
-        book: &StepBook,
-        filter: &Filter,
-        users: &[Users],
-    ) -> Result<(), OutOfMemory>
+    // The steps that use a node that changed are followed, until none is left.
+    fn drain(&mut self, book: &StepBook, filter: &Filter, uses: &[Uses]) -> Result<(), OutOfMemory>
         requires { length self.old.flags ≡ length book.now * max_states }
         ensures { OnOk result (Keeps filter.now book.now self.old self.new) }
     {
         while let Some(node) = self.take_changed() {
-            self.follow_users(book, filter, users_at(users, node))?;
+            self.follow_uses(book, filter, uses_at(uses, node))?;
         }
         Ok(())
     }
 
     // Each step of each node is followed once, and then those by which there is more. Whether there is more.
-    fn pass(
-        &mut self,
-        book: &StepBook,
-        filter: &Filter,
-        users: &[Users],
-    ) -> Result<bool, OutOfMemory>
+    fn pass(&mut self, book: &StepBook, filter: &Filter, uses: &[Uses]) -> Result<bool, OutOfMemory>
         requires { length self.old.flags ≡ length book.now * max_states }
         ensures keeps { OnOk result (Keeps filter.now book.now self.old self.new) }
         ensures closed { IfOk result (λ more. more ≡ false → IsClosed filter.now book.now self.new.flags) }
@@ -299,7 +303,7 @@ impl States {
         if after <= before {
             return Ok(false);
         }
-        self.drain(book, filter, users)?;
+        self.drain(book, filter, uses)?;
         Ok(true)
     }
 

@@ -1,4 +1,4 @@
-//! Which nodes use which in their steps. No proof hangs on it: it is what decides which steps are followed again.
+//! Which steps use which nodes. No proof hangs on it: it is what decides which steps are followed again.
 ghost use Rattle.std.specs.Prelude.{◌≡◌, ◌∷◌, ◌++◌, [], OnOk};
 
 use crate::step::Step;
@@ -7,79 +7,87 @@ use cls_base::OutOfMemory;
 use std::alloc::Global;
 use std::marker::Model;
 
-/// Numbers of nodes, seen as the list of them.
+/// A step of a node, by its place among them.
+#[derive(Clone, Copy)]
+pub(crate) struct Use {
+    pub(crate) node: u32,
+    pub(crate) place: usize,
+}
+
+/// Steps that use a node, seen as the list of them.
 #[derive(Drop)]
-pub(crate) struct Users {
-    nodes: Vec<u32>,
+pub(crate) struct Uses {
+    steps: Vec<Use>,
 }
 
-impl Model for Users {
-    ghost use Rattle.std.specs.Prelude.{ℕ, List};
+impl Model for Uses {
+    ghost use Rattle.std.specs.Prelude.{List};
+    ghost use Rattle.cls_filtered.specs.declared.users.Use.{Use};
 
-    ghost Value = { List ℕ };
+    ghost Value = { List Use };
 
-    ghost view = { λ u. u.nodes.items };
+    ghost view = { λ u. u.steps.items };
 }
 
-impl Users {
-    fn new(alloc: Global) -> Users
+impl Uses {
+    fn new(alloc: Global) -> Uses
         ensures { result ≡ [] }
     {
-        Users {
-            nodes: Vec::new(alloc),
+        Uses {
+            steps: Vec::new(alloc),
         }
     }
 
-    fn push(&mut self, node: u32) -> Result<(), OutOfMemory>
-        ensures { OnOk result (self.new ≡ self.old ++ node ∷ []) }
+    fn push(&mut self, step: Use) -> Result<(), OutOfMemory>
+        ensures { OnOk result (self.new ≡ self.old ++ step ∷ []) }
     {
-        self.nodes.push(node)?;
+        self.steps.push(step)?;
         Ok(())
     }
 
-    fn as_slice(&self) -> &[u32]
+    fn as_slice(&self) -> &[Use]
         ensures { result.now ≡ self.now }
     {
-        self.nodes.as_slice()
+        self.steps.as_slice()
     }
 }
 
-/// For each node those that use it in a step. The only error is out of memory.
-pub(crate) fn users_of(alloc: Global, book: &StepBook) -> Result<Vec<Users>, OutOfMemory> {
-    let mut users = Vec::with_capacity(alloc, book.count() as usize)?;
+/// For each node the steps that use it. The only error is out of memory.
+pub(crate) fn uses_of(alloc: Global, book: &StepBook) -> Result<Vec<Uses>, OutOfMemory> {
+    let mut uses = Vec::with_capacity(alloc, book.count() as usize)?;
     for _ in 0..book.count() {
-        users.push(Users::new(alloc))?;
+        uses.push(Uses::new(alloc))?;
     }
     for node in 0..book.count() {
-        put_uses(&mut users, node, book.steps(node))?;
+        put_uses(&mut uses, node, book.steps(node))?;
     }
-    Ok(users)
+    Ok(uses)
 }
 
-// The node uses those that its steps apply.
-fn put_uses(users: &mut Vec<Users>, node: u32, steps: &[Step]) -> Result<(), OutOfMemory> {
-    for step in steps {
+// The steps of the node use those nodes that they apply.
+fn put_uses(uses: &mut Vec<Uses>, node: u32, steps: &[Step]) -> Result<(), OutOfMemory> {
+    for (place, step) in steps.iter().enumerate() {
         if let Step::Application { left, right } = *step {
-            put_use(users, node, left)?;
-            put_use(users, node, right)?;
+            put_use(uses, left, Use { node, place })?;
+            put_use(uses, right, Use { node, place })?;
         }
     }
     Ok(())
 }
 
-// The node uses this one, if there is one with this number.
-fn put_use(users: &mut Vec<Users>, node: u32, used: u32) -> Result<(), OutOfMemory> {
-    if used as usize >= users.len() {
+// The step uses the node, if there is one with this number.
+fn put_use(uses: &mut Vec<Uses>, used: u32, step: Use) -> Result<(), OutOfMemory> {
+    if used as usize >= uses.len() {
         return Ok(());
     }
-    users[used as usize].push(node)?;
+    uses[used as usize].push(step)?;
     Ok(())
 }
 
-/// Those that use the node.
-pub(crate) fn users_at(users: &[Users], node: u32) -> &[u32] {
-    match users.get(node as usize) {
-        Some(users) => users.as_slice(),
+/// The steps that use the node.
+pub(crate) fn uses_at(uses: &[Uses], node: u32) -> &[Use] {
+    match uses.get(node as usize) {
+        Some(uses) => uses.as_slice(),
         None => &[],
     }
 }
