@@ -1,5 +1,5 @@
 -- Lengths of templates, segment by segment.
-use Rattle.std.proofs.Common.{◌≡◌, ℕ, ◌+◌, ◌-◌, ◌<◌, List, [], ◌∷◌, ◌++◌, length, map, get_or, drop, refl, sym, ap, ◌∙◌, arith, add-one, suc, string_bytes}
+use Rattle.std.proofs.Common.{◌≡◌, ℕ, ◌+◌, ◌<◌, List, [], ◌∷◌, ◌++◌, length, map, get_or, drop, refl, sym, ap, ◌∙◌, arith, add-one, suc, string_bytes}
 use Rattle.std.specs.List.{AllByRecursion}
 use Rattle.std.proofs.Math.Seq.{drop-cons}
 use Rattle.cls_assemble.specs.declared.piece.Piece.{Piece}
@@ -51,8 +51,3 @@ greatest_hole-tail [] tail = greatest_hole-all_bytes tail
 greatest_hole-tail (s ∷ ss) tail =
     let rest = greatest_hole-tail ss tail in
     omega (arith, rest, greatest_hole-bytes (string_bytes s.text) (Hole s.number ∷ pieces_in ss tail), greatest_hole-bytes (string_bytes s.text) (Hole s.number ∷ pieces_in ss []))
-
--- one segment of those that are left
-pub pieces_length-segment : (lengths : List ℕ) (ss : List Segment) (tail : List ℕ) (i : ℕ) (s : Segment) → s ≡ get_or ss i s → i < length ss → pieces_length lengths (pieces_in (drop i ss) tail) ≡ length (string_bytes s.text) + (get_or lengths (s.number - 1) 1 + pieces_length lengths (pieces_in (drop (i + 1) ss) tail))
-pieces_length-segment lengths ss tail i s h l =
-    ap (λ (rest : List Segment). pieces_length lengths (pieces_in rest tail)) (drop-segment ss i s h l) ∙ pieces_length-bytes lengths (string_bytes s.text) (Hole s.number ∷ pieces_in (drop (i + 1) ss) tail)

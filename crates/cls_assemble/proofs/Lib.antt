@@ -1,5 +1,6 @@
 pub mod Counting
 pub mod Fronts
+pub mod HoleCounts
 pub mod Lengths
 pub mod Numerals
 pub mod Reading

@@ -1,21 +1,19 @@
 //! How long a text is, known before it is made.
-ghost use Rattle.std.specs.Prelude.{◌≡◌, ◌+◌, ◌<◌, length, slice_set};
+ghost use Rattle.std.specs.Prelude.{◌≡◌, ◌<◌, length, slice_set};
 ghost use Rattle.std.specs.List.{AllByRecursion};
 ghost use Rattle.cls_term.specs.Components.{greatest_of};
 ghost use Rattle.cls_assemble.specs.Spelling.{IsNumbered};
 ghost use Rattle.cls_assemble.specs.Texts.{text_by, greatest_hole};
 ghost use Rattle.cls_assemble.specs.Lengths.{pieces_length, capped_length};
 
+use crate::capped::add_capped;
 use crate::template::Template;
 use crate::templates::Templates;
-use cls_base::limits::{MAX_HOLE, MAX_TEXT_BYTES};
+use cls_base::limits::MAX_HOLE;
 use cls_term::Term;
 
-/// What a length over the limit counts as.
-const TOO_LONG: usize = MAX_TEXT_BYTES + 1;
-
 /// The number of bytes of the term's text, and one more than the limit if it is over the limit. It takes no memory, and
-/// goes to each part of the term once.
+/// goes to each part of the term once, whatever the length of its template.
 #[tactic(auto, using(crate::proofs::Texts::parts))]
 pub(crate) fn text_length(templates: &Templates, term: &Term) -> usize
     requires { greatest_of term.now < length templates.now }
@@ -37,15 +35,10 @@ pub(crate) fn text_length(templates: &Templates, term: &Term) -> usize
 
 impl Template {
     /// The greatest number of a hole, and 0 if there is none.
-    #[tactic(auto, using(crate::proofs::Lengths::segments))]
     pub(crate) fn greatest(&self) -> usize
         ensures { result ≡ greatest_hole self.now }
     {
-        let mut greatest = 0;
-        for segment in &self.segments {
-            greatest = greatest.max(usize::from(segment.number));
-        }
-        greatest
+        self.counts.greatest
     }
 
     /// The number of bytes that the pieces make if the holes get texts of these lengths.
@@ -54,19 +47,9 @@ impl Template {
         ensures length { result ≡ capped_length (pieces_length lengths.now self.now) }
         ensures numbered { AllByRecursion IsNumbered self.now }
     {
-        let mut total = 0;
-        for segment in &self.segments {
-            total = add_capped(total, segment.text.as_str().len());
-            total = add_capped(total, lengths[usize::from(segment.number) - 1]);
-        }
-        add_capped(total, self.tail.as_str().len())
+        let bytes = self.tail.as_str().len();
+        add_capped(self.counts.length(lengths), bytes)
     }
-}
-
-fn add_capped(a: usize, b: usize) -> usize
-    ensures { result ≡ capped_length (a + b) }
-{
-    a.saturating_add(b).min(TOO_LONG)
 }
 
 fn put_length(lengths: &mut [usize; 16], index: usize, length: usize)

@@ -8,10 +8,13 @@
 //!
 //! A term is gone down by calls that nest as deep as the term.
 //!
-//! Inside, `scan` finds the piece that a text begins with, and `template` reads a text piece by piece. `length` tells
-//! how long the text of a term is, and `text` writes it, each argument once: where a hole has it again it is copied.
+//! Inside, `scan` finds the piece that a text begins with, and `template` reads a text piece by piece. `counts` has how
+//! often each hole stands in a template, by which `length` tells how long the text of a term is, with the sums of
+//! `capped`. `text` writes it, each argument once: where a hole has it again it is copied.
 #![tactic(auto)]
 
+mod capped;
+mod counts;
 mod fault;
 pub mod laws;
 mod length;

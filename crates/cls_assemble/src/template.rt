@@ -6,6 +6,7 @@ ghost use Rattle.cls_assemble.specs.Spelling.{IsTemplate};
 ghost use Rattle.cls_assemble.specs.Faults.{IsFaultOf};
 ghost use Rattle.cls_assemble.specs.Steps.{IsReadUpTo};
 
+use crate::counts::Counts;
 use crate::fault::TemplateFault;
 use crate::piece::Piece;
 use crate::scan::{first_piece, plain_count};
@@ -30,16 +31,20 @@ pub(crate) struct Segment {
 pub struct Template {
     pub(crate) segments: Vec<Segment>,
     pub(crate) tail: String,
+    pub(crate) counts: Counts,
 }
 
 impl Model for Template {
     ghost use Rattle.std.specs.Prelude.{List, string_bytes};
     ghost use Rattle.cls_assemble.specs.declared.piece.Piece.{Piece};
     ghost use Rattle.cls_assemble.specs.Segments.{pieces_in};
+    ghost use Rattle.cls_assemble.specs.Counts.{AreCounted};
 
     ghost Value = { List Piece };
 
     ghost view = { λ t. pieces_in t.segments.items (string_bytes t.tail) };
+
+    ghost invariant = { λ t. AreCounted t.counts t.segments.items };
 }
 
 impl Template {
@@ -77,6 +82,7 @@ impl Template {
         Template {
             segments: Vec::new(alloc),
             tail: String::new(alloc),
+            counts: Counts::new(),
         }
     }
 
@@ -136,7 +142,9 @@ impl Template {
         ensures { OnOk result (self.new ≡ self.old ++ Hole number ∷ []) }
     {
         let text = mem::replace(&mut self.tail, String::new(alloc));
+        let bytes = text.as_str().len();
         self.segments.push(Segment { text, number })?;
+        self.counts.add(bytes, number);
         Ok(())
     }
 }
