@@ -42,7 +42,7 @@ inside : {G : Type 0} (g h : G) → Of g ≡ Of h → g ≡ h
 inside g h e = ap (goal_or g) e
 
 module _ {G : Type 0} where
-  distinct-of : (gs : List G) → AreDistinct gs → AreDistinct (map Of gs)
+  pub distinct-of : (gs : List G) → AreDistinct gs → AreDistinct (map Of gs)
   distinct-of [] d = tt
   distinct-of (g ∷ gs) d = (
     (λ m. let x = Contains-from_map Of gs (Of g) m in d.0 (subst (Contains gs) (sym (inside g x.0 x.2)) x.1)),

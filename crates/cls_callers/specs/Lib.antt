@@ -4,3 +4,4 @@ pub mod AskLaws
 pub mod Asking
 pub mod Known
 pub mod Laws
+pub mod Unions
