@@ -1,5 +1,5 @@
-ghost use Rattle.std.specs.Prelude.{◌≡◌, ◌<◌, length, slice_index_or};
-ghost use Rattle.cls_filter.specs.Lines.{no_lines};
+ghost use Rattle.std.specs.Prelude.{◌≡◌, ◌<◌, length, map, slice_index_or, slice_set};
+ghost use Rattle.cls_filter.specs.Lines.{no_lines, without_leaf};
 
 use crate::filter::Filter;
 use std::marker::Model;
@@ -34,4 +34,29 @@ impl Filters {
     {
         &self.items[number as usize]
     }
+
+    /// Takes a component out of each filter: its lines go, and greater numbers are one less. It takes no memory.
+    pub fn remove(&mut self, component: u32)
+        ensures { self.new ≡ map (λ a. without_leaf a component) self.old }
+    {
+        remove_from_each(&mut self.items, component);
+    }
+}
+
+/// Takes the component out of each filter.
+fn remove_from_each(filters: &mut Vec<Filter>, component: u32)
+    ensures { filters.new.items ≡ map (λ a. without_leaf a component) filters.old.items }
+{
+    for number in 0..filters.len() {
+        remove_from(filters, number, component);
+    }
+}
+
+/// Takes the component out of the filter of the number.
+fn remove_from(filters: &mut Vec<Filter>, number: usize, component: u32)
+    requires { number < length filters.old.items }
+    ensures { filters.new.items ≡ slice_set filters.old.items number
+        (without_leaf (slice_index_or filters.old.items number no_lines) component) }
+{
+    filters[number].remove(component);
 }

@@ -89,7 +89,7 @@ module _ (d : Declared) (kinds : List (ℕ × List ClosedType)) (variables : Lis
   ]
 
   -- what is wrong with a component behind so many others of this weight
-  abbrev component_faults : (x : List ℕ) → (number weight : ℕ) → OpenType → List (Cause (List ℕ))
+  abbrev pub component_faults : (x : List ℕ) → (number weight : ℕ) → OpenType → List (Cause (List ℕ))
   component_faults x number weight s =
       (λ u. (number ≡ max_components) × (u ≡ codes "components"))
       ∷ (λ u. (v : ℕ) × IsFirstUnknown kinds s v × (u ≡ codes "variable " ++ name_at variables v))
@@ -97,7 +97,7 @@ module _ (d : Declared) (kinds : List (ℕ × List ClosedType)) (variables : Lis
       ∷ Instance x weight (instances_of kinds s)
       ∷ []
 
-  component_one : (x : List ℕ) (number weight : ℕ) (s : OpenType) → IsDetermined (First (component_faults x number weight s))
+  pub component_one : (x : List ℕ) (number weight : ℕ) (s : OpenType) → IsDetermined (First (component_faults x number weight s))
   component_one x number weight s =
       first-determined (component_faults x number weight s)
       (said_alone (number ≡ max_components) (codes "components"), (variable_one, (said_alone (max_instances < count_of (ranges_of kinds s)) (codes "instances " ++ x), (instances_one x weight (instances_of kinds s), tt))))
@@ -112,7 +112,7 @@ module _ (d : Declared) (kinds : List (ℕ × List ClosedType)) (variables : Lis
   many n l g = omega arith
 
   -- a component that is accepted
-  accepted_sound : (x : List ℕ) (number weight : ℕ) (s : OpenType) → IsAccepted d kinds number weight s → (u : List ℕ) → First (component_faults x number weight s) u → ⊥
+  pub accepted_sound : (x : List ℕ) (number weight : ℕ) (s : OpenType) → IsAccepted d kinds number weight s → (u : List ℕ) → First (component_faults x number weight s) u → ⊥
   accepted_sound x number weight s a u (inl h) = full number a.room h.0
   accepted_sound x number weight s a u (inr (p, inl h)) = all_known s h.0 a.has_instances.known h.1
   accepted_sound x number weight s a u (inr (p, inr (q, inl h))) = many (count_of (ranges_of kinds s)) a.has_instances.few_choices h.0
@@ -126,7 +126,7 @@ module _ (d : Declared) (kinds : List (ℕ × List ClosedType)) (variables : Lis
       (subst (λ w. IsAccepted d kinds (number + 1 + length before) w s) (omega arith) (accepted_there (number + 1) (weight + weight_of (instances_of kinds r)) before after s h.1))
 
   -- the words of a refusal are those of its first cause
-  refusal_first : (x : List ℕ) (number weight : ℕ) (s : OpenType) (kind : LibraryKind) (u : List ℕ) → IsRefused d kinds number weight s kind → library_words variables x kind ≡ Some u → First (component_faults x number weight s) u
+  pub refusal_first : (x : List ℕ) (number weight : ℕ) (s : OpenType) (kind : LibraryKind) (u : List ℕ) → IsRefused d kinds number weight s kind → library_words variables x kind ≡ Some u → First (component_faults x number weight s) u
   refusal_first x number weight s TooManyComponents u r e = inl (r, sym (some_one e))
   refusal_first x number weight s (Kind (kind_faults.UnknownVariable v)) u r e = inr ((λ t h. full number r.0 h.0), inl (v.0, r.1, sym (some_one e)))
   refusal_first x number weight s (Kind kind_faults.TooManyInstances) u r e =

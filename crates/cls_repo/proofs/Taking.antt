@@ -9,7 +9,7 @@ use Rattle.cls_repo.specs.declared.fault.FaultKind.{FaultKind}
 use Rattle.cls_repo.specs.declared.fault.FaultKind.TheVariants.{OutOfMemory}
 use Rattle.cls_repo.specs.Directives.{Directive, WordsSay, LineSays, is_end}
 use Rattle.cls_repo.specs.Drafts.{Draft}
-use Rattle.cls_repo.specs.FaultWords.{fault_words, OnWords, IsFirst, IsSaid}
+use Rattle.cls_repo.specs.FaultWords.{fault_words, OnWords, IsFirst, IsSaid, is_out_of_memory}
 use Rattle.cls_repo.specs.LineFaults.{too_long, not_utf8, wrong_directive, directive_faults, line_faults}
 use Rattle.cls_repo.specs.Readings.{Reading, Takes, Refuses, closing_faults}
 use Rattle.cls_repo.specs.Readings as reading
@@ -34,6 +34,10 @@ told h s = let e = h s in absurd (cc)
 pub on_said : (P : List ℕ → Type 0) (kind : FaultKind) → P (fault_words kind) → OnWords P kind
 on_said P OutOfMemory h = tt
 on_said P _ h = h
+
+pub words_of_fault : (P : List ℕ → Type 0) (kind : FaultKind) → is_out_of_memory kind ≡ false → OnWords P kind → P (fault_words kind)
+words_of_fault P OutOfMemory e h = let k : true ≡ false = e in absurd (cc)
+words_of_fault P _ e h = h
 
 module _ (d : Draft) (line : List ℕ) where
   pub long_first : max_line_bytes < length line → First (line_faults d line) (codes "long")

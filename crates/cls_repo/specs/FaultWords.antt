@@ -1,5 +1,5 @@
 -- The words of the code's faults, and when a fault is the first of several causes.
-use Rattle.std.specs.Prelude.{ℕ, ◌≡◌, ◌++◌, List, [], Some, codes, string_bytes}
+use Rattle.std.specs.Prelude.{ℕ, ◌≡◌, ◌++◌, Bool, true, false, List, [], Some, codes, string_bytes}
 use Rattle.std.specs.Fmt.{decimal}
 use Rattle.cls_base.specs.Firsts.{Cause, First}
 use Rattle.cls_repo.specs.declared.fault.FaultKind.{FaultKind}
@@ -40,6 +40,10 @@ fault_words (TooManyInstances name) = codes "instances " ++ string_bytes name
 fault_words (InstanceTooLarge name) = codes "instance " ++ string_bytes name
 fault_words (ArityTooLarge name) = codes "arity " ++ string_bytes name
 fault_words OutOfMemory = []
+
+abbrev pub is_out_of_memory : FaultKind → Bool
+is_out_of_memory OutOfMemory = true
+is_out_of_memory _ = false
 
 -- The property holds of the fault's words. Out of memory has none, and says nothing.
 abbrev pub OnWords : (List ℕ → Type 0) → FaultKind → Type 0

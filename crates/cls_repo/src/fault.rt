@@ -1,6 +1,6 @@
 //! Why lines are no repository.
 ghost use Rattle.std.specs.Prelude.{◌≡◌, IfOk, string_bytes};
-ghost use Rattle.cls_repo.specs.FaultWords.{fault_words};
+ghost use Rattle.cls_repo.specs.FaultWords.{fault_words, is_out_of_memory};
 ghost use Rattle.cls_repo.specs.declared.fault.FaultKind.TheVariants as kinds;
 
 use cls_base::OutOfMemory;
@@ -116,6 +116,15 @@ pub enum FaultKind {
     OutOfMemory,
 }
 
+impl FaultKind {
+    /// Whether no memory was found.
+    pub(crate) fn is_out_of_memory(&self) -> bool
+        ensures { result ≡ is_out_of_memory self.now }
+    {
+        matches!(self, FaultKind::OutOfMemory)
+    }
+}
+
 impl RepoFault {
     /// The words that are said of the fault, none of out of memory.
     pub fn words(&self, alloc: Global) -> Result<String, OutOfMemory>
@@ -125,7 +134,8 @@ impl RepoFault {
     }
 }
 
-fn words(alloc: Global, kind: &FaultKind) -> Result<String, OutOfMemory>
+/// The words that are said of the fault, none of out of memory.
+pub(crate) fn words(alloc: Global, kind: &FaultKind) -> Result<String, OutOfMemory>
     ensures { IfOk result (λ words. string_bytes words ≡ fault_words kind.now) }
 {
     match kind {

@@ -22,10 +22,12 @@ mod fault;
 pub mod laws;
 mod numbering;
 mod reader;
+mod refusal;
 mod repository;
 mod spelling;
 mod states;
 
 pub use fault::{FaultKind, RepoFault};
 pub use reader::RepoReader;
+pub use refusal::refusal_words;
 pub use repository::Repository;

@@ -179,7 +179,12 @@ fn order_fault(alloc: Global, names: &Names, fault: TaxonFault) -> FaultKind
 }
 
 /// The fault of a component that is refused.
-fn library_fault(alloc: Global, variables: &Names, component: &str, kind: LibraryKind) -> FaultKind
+pub(crate) fn library_fault(
+    alloc: Global,
+    variables: &Names,
+    component: &str,
+    kind: LibraryKind,
+) -> FaultKind
     ensures { OnWords (λ words. library_words variables.now component.now kind ≡ Some words) result }
 {
     let variable = match kind {
