@@ -1,5 +1,9 @@
+pub mod AskTypings
+pub mod AskedRows
+pub mod BatchFaults
 pub mod Causes
 pub mod Certifying
+pub mod Changed
 pub mod Completions
 pub mod Deciding
 pub mod Faulting
@@ -9,6 +13,8 @@ pub mod Goals
 pub mod Keeping
 pub mod Languages
 pub mod Pages
+pub mod RowsBooks
 pub mod RuleBooks
+pub mod Sizing
 pub mod Verdicts
 pub mod Widths

@@ -25,7 +25,7 @@ rule_below : (n : ℕ) (r : Rule ℕ) → ((m : ℕ) → Contains (arguments_of_
 rule_below n (Head x ns) f = all_below n ns f
 rule_below n (Any l m) f = (f l (Contains-here l (m ∷ [])), f m (Contains-later m l (m ∷ []) (Contains-here m [])))
 
-rules_below : (n : ℕ) (rs : List (Rule ℕ)) → ((r : Rule ℕ) → Contains rs r → (m : ℕ) → Contains (arguments_of_rule r) m → m < n) → HaveNodesBelow n rs
+pub rules_below : (n : ℕ) (rs : List (Rule ℕ)) → ((r : Rule ℕ) → Contains rs r → (m : ℕ) → Contains (arguments_of_rule r) m → m < n) → HaveNodesBelow n rs
 rules_below n [] f = tt
 rules_below n (r ∷ rs) f = (rule_below n r (f r (Contains-here r rs)), rules_below n rs (λ q c. f q (Contains-later q r rs c)))
 

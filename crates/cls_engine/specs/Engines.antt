@@ -18,11 +18,11 @@ pub record EngineSeen : Type 0 where
 abbrev pub seen_as : Library → List ℕ → Options → EngineSeen
 seen_as lib costs o = record { library = lib; costs = costs; options = o }
 
--- What holds of each engine. The answers that it keeps are those of its library, each grammar that it keeps is that of
--- a goal, within the options, and what it keeps to have come of a goal is so.
+-- What holds of each engine. What it keeps of goals is by its library, each grammar that it keeps is that of a goal,
+-- within the options, and what it keeps to have come of a goal is so.
 pub record IsEngine (e : EngineSeen) (kept_by : Library) (recents : List Kept) (outcomes : List Decided) : Type 0 where
   pub in_range : AreInRange e.options
   pub costly : (x : ℕ) → 0 < cost_of e.costs x
   pub kept : kept_by ≡ e.library
   pub known : AreKnown e.library e.options recents
-  pub decided : AreOutcomes e.library e.options outcomes
+  pub decided : AreOutcomes e.library e.options (cost_of e.costs) outcomes

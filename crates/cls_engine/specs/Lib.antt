@@ -1,3 +1,5 @@
+pub mod Batches
+pub mod Batching
 pub mod Certified
 pub mod Closing
 pub mod Conversions

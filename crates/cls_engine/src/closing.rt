@@ -12,12 +12,11 @@ ghost use Rattle.cls_engine.specs.Histories.{IsHistoryFrom};
 use crate::engine::Engine;
 use crate::fault::EngineFault;
 use crate::host::Host;
-use crate::library_expander::LibraryExpander;
 use crate::outcomes::Outcome;
 use cls_base::{Gate, OutOfMemory};
 use cls_core::laws::{complete_histories_make_grammars, renumbered_rows_are_canonical};
 use cls_core::{Finished, History, Rows};
-use cls_expand::Stored;
+use cls_expand::{Expander, Stored};
 use cls_grammar::Grammar;
 use cls_path::Nf;
 use cls_table::{ExpandFault, Limits};
@@ -36,7 +35,7 @@ pub(crate) struct Closed {
 }
 
 impl Engine {
-    /// Has the workers find the closure of the goal. They look each goal up among the answers that are kept first.
+    /// Has the workers find the closure of the goal. What is kept of a goal is looked up first.
     fn expand<R: Threads + Wait + Sync, T: Gate + Sync>(
         &self,
         host: &Host<R, T>,
@@ -46,7 +45,8 @@ impl Engine {
         ensures complete { IfOk result (IsComplete same IsAnswer (tag_of self.now.library self.now.options goal)) }
         ensures large { IfErr result (λ e. e ≡ TooLarge → IsLargeFrom self.now.library self.now.options goal) }
     {
-        let by = Stored::new(&self.expander, &self.store);
+        let expander = Expander::new(&self.library);
+        let by = Stored::new(&expander, &self.parts);
         let limits = Limits {
             goals: self.options.goals,
             rules: self.options.rules,
@@ -62,20 +62,25 @@ impl Engine {
         )
     }
 
-    /// Has the library keep its arrows by what their targets end in, for the workers.
-    fn index(&mut self, alloc: Global) -> Result<(), OutOfMemory>
+    /// Has the library keep its arrows by what their targets end in, for the workers. For the first closure after a
+    /// change they do without: between two changes there is often one query, and most of the goals are known.
+    pub(crate) fn index(&mut self, alloc: Global) -> Result<(), OutOfMemory>
         ensures { self.new ≡ self.old }
     {
-        self.expander.library.index(alloc)
+        if self.changed {
+            self.changed = false;
+            return Ok(());
+        }
+        self.library.index(alloc)
     }
 
-    /// Keeps the answers of the rows for later queries.
-    fn keep(&mut self, alloc: Global, rows: Rows<Nf>) -> Result<(), OutOfMemory>
-        requires complete { AreComplete same (IsAnswer self.old.library) rows }
-        requires fit { FitMemo rows }
+    /// Keeps what the components make for the goals of the rows, for later queries.
+    fn keep(&mut self, alloc: Global, rows: &Rows<Nf>) -> Result<(), OutOfMemory>
+        requires complete { AreComplete same (IsAnswer self.old.library) rows.now }
+        requires fit { FitMemo rows.now }
         ensures { self.new ≡ self.old }
     {
-        self.store.keep(alloc, rows)
+        self.parts.keep(alloc, rows)
     }
 
     /// Works out the closure of the goal, and keeps its answers for later queries.
@@ -91,14 +96,14 @@ impl Engine {
         ensures fault { IfErr result (IsClosingFault self.old.library self.old.options goal) }
     {
         // For the prover: what the rows of a complete history are, and what holds of each engine.
-        complete_histories_make_grammars::<LibraryExpander>();
-        renumbered_rows_are_canonical::<LibraryExpander>();
+        complete_histories_make_grammars::<Expander>();
+        renumbered_rows_are_canonical::<Expander>();
         self.facts();
         self.index(host.alloc)?;
         let finished = self.expand(host, goal)?;
         let Finished { rows, history } = finished;
         let made = Grammar::of(host.alloc, &rows);
-        self.keep(host.alloc, rows)?;
+        self.keep(host.alloc, &rows)?;
         let grammar = made?;
         Ok(Closed { grammar, history })
     }

@@ -7,18 +7,18 @@ ghost use Rattle.cls_engine.specs.Engines.{seen_as};
 ghost use Rattle.cls_engine.specs.Faults.{IsOversizedOr};
 ghost use Rattle.cls_engine.specs.Goals.{Goal, IsGoalOf, IsSpread};
 ghost use Rattle.cls_engine.specs.Options.{AreInRange};
-ghost use Rattle.cls_engine.specs.Outcomes.{IsOutcome, IsVerdictOn};
+ghost use Rattle.cls_engine.specs.Outcomes.{AreSizesOf, IsOutcome, IsVerdictOn};
 
 use crate::fault::EngineFault;
-use crate::library_expander::LibraryExpander;
 use crate::options::Options;
 use crate::outcomes::{Outcome, Outcomes};
 use crate::recents::Recents;
 use cls_base::limits::MAX_TYPE_SPREAD;
 use cls_base::{Numbers, OutOfMemory, Ty};
-use cls_expand::Store;
+use cls_finite::FiniteAnswer;
 use cls_grammar::Grammar;
 use cls_library::Library;
+use cls_live::Parts;
 use cls_norm::{fit, normal};
 use cls_path::Nf;
 use std::alloc::Global;
@@ -27,18 +27,21 @@ use std::marker::Model;
 /// Answers queries by a library that it owns, with workers and within bounds. It is seen as the library, the costs of
 /// the components and the options.
 ///
-/// It keeps the answers of the goals of earlier queries, the grammars of the goals that it was asked for last, and what
-/// came of the last goals that it worked on: if a query has such a goal again, nothing is worked out anew.
+/// It keeps what the components make for the goals of earlier queries, the grammars of the goals that it was asked for
+/// last, and what came of the last goals that it worked on: if a query has such a goal again, nothing is worked out
+/// anew.
 pub struct Engine {
-    pub(crate) expander: LibraryExpander,
+    pub(crate) library: Library,
     pub(crate) costs: Numbers,
     pub(crate) options: Options,
-    // The answers of the goals of earlier queries.
-    pub(crate) store: Store<LibraryExpander>,
+    // What the components make for the goals of earlier queries.
+    pub(crate) parts: Parts,
     // The grammars of the goals of the last queries.
     pub(crate) recents: Recents,
     // What came of the last goals that were worked on.
     pub(crate) outcomes: Outcomes,
+    // A component came or went, and no closure was worked out since.
+    pub(crate) changed: bool,
 }
 
 // Not derived, for the prover: so a caller's proof has one step where a value is dropped, and not one for each part of
@@ -46,12 +49,13 @@ pub struct Engine {
 impl Drop for Engine {
     fn drop(self) {
         let Engine {
-            expander: _,
+            library: _,
             costs: _,
             options: _,
-            store: _,
+            parts: _,
             recents: _,
             outcomes: _,
+            changed: _,
         } = self;
     }
 }
@@ -65,10 +69,10 @@ impl Model for Engine {
 
     ghost coded = { Prim.hlevel (codes, coded_library) };
 
-    ghost view = { λ e. seen_as e.expander.library e.costs e.options };
+    ghost view = { λ e. seen_as e.library e.costs e.options };
 
-    ghost invariant = { λ e. IsEngine (seen_as e.expander.library e.costs e.options)
-        e.store.tag e.recents.kept.items e.outcomes.kept.items };
+    ghost invariant = { λ e. IsEngine (seen_as e.library e.costs e.options)
+        e.parts.library e.recents.kept.items e.outcomes.kept.items };
 }
 
 impl Engine {
@@ -79,15 +83,15 @@ impl Engine {
         requires costs { (x : ℕ) → 0 < cost_of costs x }
         ensures { result ≡ seen_as library costs options }
     {
-        let expander = LibraryExpander { library };
-        let store = Store::new(alloc, &expander);
+        let parts = Parts::new(alloc, &library);
         Engine {
-            expander,
+            library,
             costs,
             options,
-            store,
+            parts,
             recents: Recents::new(alloc),
             outcomes: Outcomes::new(alloc),
+            changed: false,
         }
     }
 
@@ -95,7 +99,7 @@ impl Engine {
     pub fn library(&self) -> &Library
         ensures { result.now ≡ self.now.library }
     {
-        &self.expander.library
+        &self.library
     }
 
     /// Does nothing, and says what holds of each engine: its options are in their ranges, and each component costs at
@@ -150,11 +154,18 @@ impl Engine {
         self.recents.put(grammar);
     }
 
-    /// Whether the start of the goal's grammar is productive, if that is kept.
+    /// Whether the start of the goal's grammar is productive, if what is kept of the goal tells.
     pub(crate) fn recent_verdict(&self, goal: &Nf) -> Option<bool>
         ensures { IfSome result (IsVerdictOn self.now.library self.now.options goal.now) }
     {
         self.outcomes.verdict(goal)
+    }
+
+    /// How large the terms of the goal are, if that is kept. None comes too if memory runs out.
+    pub(crate) fn recent_sizes(&self, alloc: Global, goal: &Nf) -> Option<FiniteAnswer>
+        ensures { IfSome result (AreSizesOf self.now.library self.now.options (cost_of self.now.costs) goal.now) }
+    {
+        self.outcomes.sizes(alloc, goal)
     }
 
     /// Fails with the fault of the goal's closure, if that is kept.
@@ -166,7 +177,7 @@ impl Engine {
 
     /// Keeps what came of a goal for later queries, if there is memory for it.
     pub(crate) fn keep_outcome(&mut self, alloc: Global, goal: &Nf, outcome: Outcome)
-        requires { IsOutcome self.old.library self.old.options goal.now outcome }
+        requires { IsOutcome self.old.library self.old.options (cost_of self.old.costs) goal.now outcome }
         ensures same { self.new ≡ self.old }
     {
         self.outcomes.put(alloc, goal, outcome);

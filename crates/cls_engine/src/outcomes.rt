@@ -1,24 +1,49 @@
-//! What came of the last goals that were worked on: whether terms have them, or why their closures aren't made.
-ghost use Rattle.std.specs.Prelude.{◌≡◌, ◌⊎◌, [], Some, Contains, IfSome, IfErr, IsTrue};
+//! What came of the last goals that were worked on: whether terms have them, how large these are, or why their closures
+//! aren't made.
+ghost use Rattle.std.specs.Prelude.{◌≡◌, ◌↔◌, ◌⊎◌, [], Some, Contains, IfSome, IfErr, IsTrue};
 ghost use Rattle.cls_engine.specs.declared.fault.EngineFault.TheVariants.{OutOfMemory};
 ghost use Rattle.cls_engine.specs.declared.outcomes.Decided.{Decided as DecidedSeen};
-ghost use Rattle.cls_engine.specs.declared.outcomes.Outcome.TheVariants.{Inhabited};
-ghost use Rattle.cls_engine.specs.Outcomes.{fault_in, IsDecidedAt, HasOutcome, HasFault};
+ghost use Rattle.cls_engine.specs.declared.outcomes.Outcome.TheVariants.{Sizes};
+ghost use Rattle.cls_finite.specs.declared.answer.FiniteAnswer.TheVariants.{Finite};
+ghost use Rattle.cls_engine.specs.Outcomes.{fault_in, sizes_in, TellsVerdict};
+ghost use Rattle.cls_engine.specs.Outcomes.{IsDecidedAt, HasVerdict, HasSizes, HasFault};
 
+use crate::copying::copy_of;
 use crate::fault::EngineFault;
 use cls_base::limits::MAX_KEPT_OUTCOMES;
+use cls_finite::FiniteAnswer;
 use cls_path::Nf;
 use std::alloc::Global;
+
+/// The most steps of a walk that is kept. So 64 walks take at most 6 MiB.
+const MAX_KEPT_STEPS: usize = 4_096;
 
 /// What came of a goal. Out of memory is none, since a later query may have more.
 #[derive(Drop)]
 pub(crate) enum Outcome {
     /// Whether the start of its grammar is productive.
     Inhabited(bool),
+    /// How large the terms of the start of its grammar are.
+    Sizes(FiniteAnswer),
     /// Its closure has more goals or more rules than the options allow.
     TooLarge,
     /// This goal of its closure is wide, the first one.
     Wide(Nf),
+}
+
+/// The number of steps of the walk that is answered.
+fn steps_of(answer: &FiniteAnswer) -> usize {
+    match answer {
+        FiniteAnswer::Finite(_) | FiniteAnswer::Over => 0,
+        FiniteAnswer::Infinite(walk) => walk.as_slice().len(),
+    }
+}
+
+/// Whether there is a term, by how large the terms are.
+fn has_terms(answer: &FiniteAnswer) -> bool
+    ensures { IsTrue result ↔ (answer.now ≡ Finite 0 → ⊥) }
+{
+    !matches!(answer, FiniteAnswer::Finite(0))
 }
 
 impl Outcome {
@@ -39,13 +64,40 @@ impl Outcome {
         }
     }
 
-    /// Whether the start is productive, if that came of the goal.
+    /// How large the terms of a goal are. None comes of a walk of more than 4,096 steps, and if memory runs out here.
+    pub(crate) fn of_sizes(alloc: Global, answer: &FiniteAnswer) -> Option<Outcome>
+        ensures { IfSome result (λ outcome. outcome ≡ Sizes answer.now) }
+    {
+        if steps_of(answer) > MAX_KEPT_STEPS {
+            return None;
+        }
+        let Ok(copy) = copy_of(alloc, answer) else {
+            return None;
+        };
+        Some(Outcome::Sizes(copy))
+    }
+
+    /// Whether the start is productive, if what came of the goal tells.
     fn verdict(&self) -> Option<bool>
-        ensures { IfSome result (λ yes. self.now ≡ Inhabited yes) }
+        ensures { IfSome result (TellsVerdict self.now) }
     {
         match self {
             Outcome::Inhabited(yes) => Some(*yes),
+            Outcome::Sizes(answer) => Some(has_terms(answer)),
             Outcome::TooLarge | Outcome::Wide(_) => None,
+        }
+    }
+
+    /// How large the terms are, if that came of the goal. None comes too if memory runs out.
+    fn sizes(&self, alloc: Global) -> Option<FiniteAnswer>
+        ensures { IfSome result (λ answer. sizes_in self.now ≡ Some answer) }
+    {
+        let Outcome::Sizes(answer) = self else {
+            return None;
+        };
+        match copy_of(alloc, answer) {
+            Ok(copy) => Some(copy),
+            Err(_) => None,
         }
     }
 
@@ -54,7 +106,7 @@ impl Outcome {
         ensures { IfErr result (λ fault. (fault ≡ OutOfMemory) ⊎ (fault_in self.now ≡ Some fault)) }
     {
         match self {
-            Outcome::Inhabited(_) => Ok(()),
+            Outcome::Inhabited(_) | Outcome::Sizes(_) => Ok(()),
             Outcome::TooLarge => Err(EngineFault::TooLarge),
             Outcome::Wide(goal) => Err(EngineFault::Wide(goal.copy(alloc)?)),
         }
@@ -94,6 +146,13 @@ impl Outcomes {
         }
     }
 
+    /// Lets all go. It takes no memory.
+    pub(crate) fn forget(&mut self)
+        ensures { self.new.kept.items ≡ [] }
+    {
+        self.kept.clear();
+    }
+
     /// The place of the goal, if it is kept what came of it.
     fn place_of(&self, goal: &Nf) -> Option<usize>
         ensures { IfSome result (λ place. IsDecidedAt self.now.kept.items place goal.now) }
@@ -106,12 +165,20 @@ impl Outcomes {
         None
     }
 
-    /// Whether the start of the goal's grammar is productive, if that is kept.
+    /// Whether the start of the goal's grammar is productive, if what is kept of the goal tells.
     pub(crate) fn verdict(&self, goal: &Nf) -> Option<bool>
-        ensures { IfSome result (λ yes. HasOutcome self.now.kept.items goal.now (Inhabited yes)) }
+        ensures { IfSome result (HasVerdict self.now.kept.items goal.now) }
     {
         let place = self.place_of(goal)?;
         self.kept[place].outcome.verdict()
+    }
+
+    /// How large the terms of the goal are, if that is kept. None comes too if memory runs out.
+    pub(crate) fn sizes(&self, alloc: Global, goal: &Nf) -> Option<FiniteAnswer>
+        ensures { IfSome result (HasSizes self.now.kept.items goal.now) }
+    {
+        let place = self.place_of(goal)?;
+        self.kept[place].outcome.sizes(alloc)
     }
 
     /// Fails with the fault of the goal's closure, if that is kept.
@@ -124,6 +191,16 @@ impl Outcomes {
         self.kept[place].outcome.fail(alloc)
     }
 
+    /// Drops what came of the goal before.
+    fn forget_goal(&mut self, goal: &Nf)
+        ensures { (d : DecidedSeen) → Contains self.new.kept.items d → Contains self.old.kept.items d }
+    {
+        let Some(place) = self.place_of(goal) else {
+            return;
+        };
+        drop(self.kept.remove(place));
+    }
+
     /// Drops the oldest outcome if there are as many as may be kept.
     fn make_room(&mut self)
         ensures { (d : DecidedSeen) → Contains self.new.kept.items d → Contains self.old.kept.items d }
@@ -134,8 +211,8 @@ impl Outcomes {
         drop(self.kept.remove(0));
     }
 
-    /// Keeps what came of the goal, and drops the oldest outcome if there are too many. If memory runs out it isn't
-    /// kept.
+    /// Keeps what came of the goal in place of what came of it before, and drops the oldest outcome if there are too
+    /// many. If memory runs out it isn't kept.
     pub(crate) fn put(&mut self, alloc: Global, goal: &Nf, outcome: Outcome)
         ensures { (d : DecidedSeen) → Contains self.new.kept.items d
             → Contains self.old.kept.items d ⊎ ((d.goal ≡ goal.now) × (d.outcome ≡ outcome)) }
@@ -143,6 +220,7 @@ impl Outcomes {
         let Ok(copy) = goal.copy(alloc) else {
             return;
         };
+        self.forget_goal(goal);
         self.make_room();
         let decided = Decided {
             goal: copy,

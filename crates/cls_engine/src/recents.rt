@@ -77,6 +77,13 @@ impl Recents {
         }
     }
 
+    /// Lets all go. It takes no memory.
+    pub(crate) fn forget(&mut self)
+        ensures { self.new.kept.items ≡ [] }
+    {
+        self.kept.clear();
+    }
+
     /// The place of the goal's grammar, if it is kept.
     fn place_of(&self, goal: &Nf) -> Option<usize>
         ensures { IfSome result (λ place. IsOneOf self.now.kept.items place goal.now) }

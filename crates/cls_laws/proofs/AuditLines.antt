@@ -3,7 +3,7 @@ use Rattle.std.proofs.Common.{◌≡◌, Bool, true, false, List, refl, sym, ◌
 use Rattle.std.proofs.lemmas.Bool.{true≢false}
 use Rattle.cls_base.specs.Types.{ClosedType}
 use Rattle.cls_lexer.specs.Words.{Word}
-use Rattle.cls_query.specs.declared.query.Query.TheVariants.{Sub, Paths, Typed, About, Page, Filtered}
+use Rattle.cls_query.specs.declared.query.Query.TheVariants.{Sub, Paths, Typed, About, Page, Filtered, Batch}
 use Rattle.cls_query.specs.declared.word.GoalWord.TheVariants.{Audit}
 use Rattle.cls_query.specs.Queries.{Tables, Query, QueryText, query_words, audit, with_query, query_of}
 use Rattle.cls_query.specs.Readable.{begins_with}
@@ -28,6 +28,7 @@ module _ (tables : Tables) (goal : ClosedType) where
   begins_so (About word t) e = absurd (true≢false (asked_audit (About word t) e))
   begins_so (Page word l) e = absurd (true≢false (asked_audit (Page word l) e))
   begins_so (Filtered x l) e = absurd (true≢false (asked_audit (Filtered x l) e))
+  begins_so (Batch ts) e = absurd (true≢false (asked_audit (Batch ts) e))
 
 pub audits_named : AuditsAreNamed
 audits_named line other tables after goal read =

@@ -3,7 +3,7 @@ use Rattle.std.proofs.Common.{ℕ, ◌≡◌, ◌⊎◌, inl, inr, refl, sym, ap
 use Rattle.cls_base.specs.Firsts.{Cause, First, IsSilent}
 use Rattle.cls_base.specs.Types.{ClosedType}
 use Rattle.cls_proof.specs.Certificates.{Certificate}
-use Rattle.cls_query.specs.declared.query.Query.TheVariants.{Sub, Paths, Typed, About, Page, Filtered}
+use Rattle.cls_query.specs.declared.query.Query.TheVariants.{Sub, Paths, Typed, About, Page, Filtered, Batch}
 use Rattle.cls_query.specs.declared.word.GoalWord.TheVariants.{Audit, Verify}
 use Rattle.cls_query.specs.declared.word.ListingWord.TheVariants as listing
 use Rattle.cls_query.specs.Queries.{Query, audit, verify}
@@ -24,6 +24,7 @@ audit_or_not (About Audit t) = inl (t, refl)
 audit_or_not (About word s) = inr (λ t e. cc)
 audit_or_not (Page word q) = inr (λ t e. cc)
 audit_or_not (Filtered f q) = inr (λ t e. cc)
+audit_or_not (Batch ts) = inr (λ t e. cc)
 
 module _ (n : ℕ) where
   -- nothing that the engine can't do hangs on the number of workers
@@ -35,6 +36,7 @@ module _ (n : ℕ) where
   faults_by s (About word t) = refl
   faults_by s (Page word q) = refl
   faults_by s (Filtered f q) = refl
+  faults_by s (Batch ts) = refl
 
   pub fault_by : (s : Responder) (q : Query) (f : EngineFault) → First (faults_of s q) f → First (faults_of (served_by n s) q) f
   fault_by s q f h = subst (λ (causes : List (Cause EngineFault)). First causes f) (sym (faults_by s q)) h
@@ -51,6 +53,7 @@ module _ (n : ℕ) where
   reply_by s (Page listing.List q) text free h = h
   reply_by s (Page word q) text free h = h
   reply_by s (Filtered f q) text free h = h
+  reply_by s (Batch ts) text free h = h
 
   pub answers_by : (s : Responder) (q : Query) (text : List ℕ) (m : Responder) → ((t : ClosedType) → q ≡ audit t → ⊥) → Answers s q text m → Answers (served_by n s) q text (served_by n m)
   answers_by s q text m free (answering.Answers.failed f h e same) = answering.Answers.failed f (fault_by s q f h) e (ap (served_by n) same)

@@ -87,7 +87,7 @@ module _ (K L : ℕ → Type 0) (to : (c : ℕ) → K c → L c) where
   types_to [] h = tt
   types_to (t ∷ ts) h = (type_to t h.0, types_to ts h.1)
 
-  kinds_to : (ks : List (ℕ × List ClosedType)) → KindsHave K ks → KindsHave L ks
+  pub kinds_to : (ks : List (ℕ × List ClosedType)) → KindsHave K ks → KindsHave L ks
   kinds_to [] h = tt
   kinds_to (k ∷ ks) h = (types_to k.1 h.0, kinds_to ks h.1)
 

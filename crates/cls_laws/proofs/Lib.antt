@@ -3,10 +3,14 @@ pub mod Answering
 pub mod Answers
 pub mod AskedNames
 pub mod AuditLines
+pub mod BatchReplies
 pub mod Beginnings
 pub mod BookSizes
 pub mod ByWorkers
 pub mod CertificateNames
+pub mod ChangeReplies
+pub mod ChangedLibraries
+pub mod ChangedNames
 pub mod Classical
 pub mod Closures
 pub mod DraftNames
@@ -19,8 +23,10 @@ pub mod HeldLines
 pub mod Histories
 pub mod Known
 pub mod Libraries
+pub mod Live
 pub mod LibraryNames
 pub mod Making
+pub mod OneChange
 pub mod OneLine
 pub mod OneOutput
 pub mod OnePage

@@ -29,7 +29,7 @@ up_to_or_over : (n m : ℕ) → (n ≤ m) ⊎ (m < n)
 up_to_or_over n m = grind arith
 
 -- there is room for one more, or none
-room_or : (n : ℕ) → n ≤ max_components → (n < max_components) ⊎ (n ≡ max_components)
+pub room_or : (n : ℕ) → n ≤ max_components → (n < max_components) ⊎ (n ≡ max_components)
 room_or n l = grind arith
 
 -- THE COMPONENTS
@@ -44,10 +44,10 @@ module _ (d : Declared) (kinds : List (ℕ × List ClosedType)) where
 
   -- WHETHER A SCHEMA IS ACCEPTED
   -- a refusal that has words
-  abbrev HasWords : LibraryKind → Type 0
+  abbrev pub HasWords : LibraryKind → Type 0
   HasWords kind = (variables : List (List ℕ)) (x : List ℕ) → (words : List ℕ) × (library_words variables x kind ≡ Some words)
 
-  abbrev HasRefusal : ℕ → OpenType → Type 0
+  abbrev pub HasRefusal : ℕ → OpenType → Type 0
   HasRefusal weight s = (kind : LibraryKind) × RefusesSchema d kinds weight s kind × HasWords kind × ((number : ℕ) → number < max_components → IsRefused d kinds number weight s kind)
 
   module _ (weight : ℕ) (s : OpenType) where
@@ -115,7 +115,7 @@ module _ (d : Declared) (kinds : List (ℕ × List ClosedType)) where
     schema_or number room (inl known) = choices_or number room known (up_to_or_over (count_of (ranges_of kinds s)) max_instances)
     schema_or number room (inr (v, unknown)) = surely (inr (Kind (kind_faults.UnknownVariable (record { 0 = v })), unknown, (λ vs x. (_, refl)), (λ n l. (l, unknown))))
 
-    accepted_or_refused : (number : ℕ) → number < max_components → IsPossible (AcceptedOr number)
+    pub accepted_or_refused : (number : ℕ) → number < max_components → IsPossible (AcceptedOr number)
     accepted_or_refused number room = schema_or number room (known_or [] (variables_of s) refl (λ k e h. absurd (omega arith)))
 
   -- SCHEMA AFTER SCHEMA

@@ -76,7 +76,7 @@ module _ (K : ℕ → Type 0) where
   meet_has (t ∷ ts) h = (h.0, meet_has ts h.1)
 
   module _ (d : Declared) (kinds : List (ℕ × List ClosedType)) (known : KindsHave kinds) where
-    component_has : (s : OpenType) (c : Component) → IsComponentOf d kinds s c → SchemaHas s → PathsHave K c.paths
+    pub component_has : (s : OpenType) (c : Component) → IsComponentOf d kinds s c → SchemaHas s → PathsHave K c.paths
     component_has s c is h =
         let each = by_choices s h (choices_from (ranges_of kinds s)) (choices_have (ranges_of kinds s) (ranges_have kinds known (variables_of s))) in
         let t = all_of (instances_of kinds s) in

@@ -12,15 +12,14 @@ use Rattle.cls_cert.proofs.Ranking.{rank_same}
 use Rattle.cls_cert.proofs.Unique.{one_made}
 use Rattle.cls_core.specs.Rows.{Row}
 use Rattle.cls_filter.specs.Automata.{Automaton, Accepts}
-use Rattle.cls_grammar.specs.Grammars.{book_of, first_wide}
+use Rattle.cls_grammar.specs.Grammars.{book_of}
 use Rattle.cls_grammar.specs.GrammarTexts.{grammar_text}
 use Rattle.cls_grammar.specs.Ranks.{IsRankIn, AreRanks}
-use Rattle.cls_library.specs.Libraries.{Library}
 use Rattle.cls_library.specs.Typing.{HasTypeIn}
 use Rattle.cls_enum.specs.Requests.{request}
 use Rattle.cls_proof.specs.Certificates.{Certificate}
 use Rattle.cls_proof.specs.Texts.{certificate_text}
-use Rattle.cls_query.specs.declared.query.Query.TheVariants.{Sub, Paths, Typed, About, Page, Filtered}
+use Rattle.cls_query.specs.declared.query.Query.TheVariants.{Sub, Paths, Typed, About, Page, Filtered, Batch}
 use Rattle.cls_query.specs.declared.word.GoalWord.TheVariants as word
 use Rattle.cls_query.specs.declared.word.ListingWord.TheVariants as listing
 use Rattle.cls_query.specs.Queries.{Listing, Query, grammar, audit, certify, finite}
@@ -29,9 +28,8 @@ use Rattle.cls_term.specs.Costs.{cost_of}
 use Rattle.cls_term.specs.Texts.{name_at}
 use Rattle.cls_term.proofs.Orders.{Before-strict_total}
 use Rattle.cls_engine.specs.declared.fault.EngineFault.{EngineFault}
-use Rattle.cls_engine.specs.declared.fault.EngineFault.TheVariants.{Wide}
 use Rattle.cls_engine.specs.Faults.{compare_faults, closure_faults, list_faults, filter_faults}
-use Rattle.cls_engine.specs.Goals.{Goal, IsFirstWide}
+use Rattle.cls_engine.specs.Goals.{Goal}
 use Rattle.cls_engine.proofs.Goals.{closed_unique}
 use Rattle.cls_replies.specs.Responder.{Responder, filter_in}
 use Rattle.cls_replies.specs.Texts.{page_text, sizes_text, term_line, term_lines, error_line, fault_words}
@@ -39,11 +37,9 @@ use Rattle.cls_replies.specs.Errors.{faults_of}
 use Rattle.cls_replies.specs.Replies.{Says, Lists, ListsPage, Reply}
 use Rattle.cls_replies.specs.Answering.{Answers}
 use Rattle.cls_replies.specs.Answering as answering
+use Rattle.cls_laws.proofs.BatchReplies.{wide_one, batch_one, batch_reply_one}
 use Rattle.cls_laws.proofs.OnePage.{page_one, more_one}
 use Rattle.cls_laws.proofs.OneSize.{sizes_one}
-
-some_is : {A : Type 0} (o : Option A) (a b : A) → o ≡ Some a → o ≡ Some b → a ≡ b
-some_is o a b e f = cc
 
 says_one : (Fact : Type 0) (so not_so : List ℕ) → IsDetermined (Says Fact so not_so)
 says_one Fact so not_so t u (inl p) (inl q) = p.1 ∙ sym q.1
@@ -52,13 +48,6 @@ says_one Fact so not_so t u (inr p) (inl q) = absurd (p.0 q.0)
 says_one Fact so not_so t u (inr p) (inr q) = p.1 ∙ sym q.1
 
 -- WHAT THE ENGINE CAN'T DO
-module _ (lib : Library) (t : ClosedType) where
-  wide_one : IsDetermined (λ f. (g : Goal) × IsFirstWide lib t g × (f ≡ Wide g))
-  wide_one f f' p q =
-      let rows : p.1.0 ≡ q.1.0 = closed_unique lib t p.1.0 q.1.0 p.1.1 q.1.1 in
-      let goal : p.0 ≡ q.0 = some_is (first_wide q.1.0) p.0 q.0 (subst (λ (rs : List (Row Goal)). first_wide rs ≡ Some p.0) rows p.1.2) q.1.2 in
-      p.2 ∙ (ap (λ (g : Goal). Wide g) goal ∙ sym q.2)
-
 module _ (s : Responder) where
   compare_one : (ts : List ClosedType) → IsDetermined (First (compare_faults ts))
   compare_one ts = first-determined (compare_faults ts) ((λ f g p q. p.1 ∙ sym q.1), tt)
@@ -81,6 +70,7 @@ module _ (s : Responder) where
   fault_one (About word.Verify t) = compare_one (t ∷ [])
   fault_one (About asks t) = closure_one t
   fault_one (Page asks q) = list_one q.goal (request s.engine.costs q.after q.max q.take)
+  fault_one (Batch ts) = batch_one s.engine.library s.engine.options ts
   fault_one (Filtered x q) = filter_one q.goal (filter_in s x) (request s.engine.costs q.after q.max q.take)
 
 -- THE REPLIES
@@ -140,6 +130,7 @@ module _ (s : Responder) where
   reply_one (About word.Finite t) n = finite_one t
   reply_one (Page listing.List q) n = page_reply q (term_line (name_at s.components))
   reply_one (Page listing.Texts q) n = page_reply q (term_lines (name_at s.components) s.templates)
+  reply_one (Batch ts) n = batch_reply_one s.engine.library ts
   reply_one (Filtered x q) n =
       lists_one (λ e. HasTypeIn s.engine.library e q.goal × Accepts (filter_in s x) e) (request s.engine.costs q.after q.max q.take) (term_line (name_at s.components))
 

@@ -22,10 +22,11 @@ use Rattle.cls_laws.specs.Uniqueness.{AsksAudit, AsksNoAudit, HaveNoAudit, Trans
 use Rattle.cls_session.specs.Repositories.{AreTaken}
 use Rattle.cls_session.specs.Transcripts.{IsAnswered, Transcript, refusal, IsRefused, Ending}
 use Rattle.cls_session.specs.Transcripts as transcripts
+use Rattle.cls_laws.proofs.ChangedNames.{changed_apart}
 use Rattle.cls_laws.proofs.SameLine.{one_unless_audit, goes_same, ends_same}
 use Rattle.cls_session.proofs.OneRepository.{IsReadUp, read_up, one_read, read_apart, one_taking, taken_or_read, one_fault, fault_or_read, fault_or_taken}
 
--- COMPONENTS KEEP THEIR NAMES
+-- COMPONENTS KEEP THEIR NAMES, UNLESS ONE COMES OR GOES
 abbrev Keeps : Responder → Responder → Type 0
 Keeps s m = m.components ≡ s.components
 
@@ -48,22 +49,24 @@ verifies_keeps s line text certificate m (answering.Verified.asked goal x h v) =
     by (answering.Verifies.bad f w k e d same) = same_keeps x m same
     by (answering.Verifies.read c k same j) = ap (λ (y : Responder). y.components) same
 
-goes_keeps : (s : Responder) (line text : List ℕ) (m : Responder) → Goes s line text m → Keeps s m
-goes_keeps s line text m (lines.Goes.skips e a p same) = same_keeps s m same
-goes_keeps s line text m (lines.Goes.asks e a v) = answered_keeps s line text m v
-goes_keeps s line text m (lines.Goes.opens e a p same) = ap (λ (x : Responder). x.components) same
-goes_keeps s line text m (lines.Goes.holds x xs e a p same) = ap (λ (y : Responder). y.components) same
-goes_keeps s line text m (lines.Goes.ends x xs e a v) = verifies_keeps (holding s []) x text (xs ++ line ∷ []) m v
-
 abbrev Apart : Responder → Type 0
 Apart s = IsDistinct bytes_eq s.components
 
 stays_apart : (s m : Responder) → Keeps s m → Apart s → Apart m
 stays_apart s m e h = subst (λ (x : List (List ℕ)). IsDistinct bytes_eq x) (sym e) h
 
+-- where one comes or goes, they stay apart
+goes_apart : (s : Responder) (line text : List ℕ) (m : Responder) → Goes s line text m → Apart s → Apart m
+goes_apart s line text m (lines.Goes.skips e a p same) h = stays_apart s m (same_keeps s m same) h
+goes_apart s line text m (lines.Goes.asks e a v) h = stays_apart s m (answered_keeps s line text m v) h
+goes_apart s line text m (lines.Goes.changes e a v) h = changed_apart s line text m v h
+goes_apart s line text m (lines.Goes.opens e a p same) h = stays_apart s m (ap (λ (x : Responder). x.components) same) h
+goes_apart s line text m (lines.Goes.holds x xs e a p same) h = stays_apart s m (ap (λ (y : Responder). y.components) same) h
+goes_apart s line text m (lines.Goes.ends x xs e a v) h = stays_apart s m (verifies_keeps (holding s []) x text (xs ++ line ∷ []) m v) h
+
 replies_apart : (s : Responder) (queries : List (List ℕ)) (text : List ℕ) (m : Responder) → Replies s queries text m → Apart s → Apart m
 replies_apart s [] text m (p, e) h = stays_apart s m (same_keeps s m e) h
-replies_apart s (line ∷ queries) text m (x, first, rest, g, gs, e) h = replies_apart x queries rest m gs (stays_apart s x (goes_keeps s line first x g) h)
+replies_apart s (line ∷ queries) text m (x, first, rest, g, gs, e) h = replies_apart x queries rest m gs (goes_apart s line first x g h)
 
 -- LINES AFTER A REPOSITORY
 asks_none : (s : Responder) (line : List ℕ) → AsksNoAudit line → AsksAudit s line → ⊥
@@ -74,7 +77,7 @@ module _ (n : ℕ) where
   replies_same s apart [] t u m k (p, e) (q, f) = ((p, q), f ∙ sym (ap (served_by n) e))
   replies_same s apart (line ∷ queries) t u m k (x, first, rest, g, gs, e) (y, first', rest', h, hs, f) =
       let one = goes_same n s apart line first first' x y g h in
-      let on = replies_same x (stays_apart s x (goes_keeps s line first x g) apart) queries rest rest' m k gs (subst (λ (z : Responder). Replies z queries rest' k) one.1 hs) in
+      let on = replies_same x (goes_apart s line first x g apart) queries rest rest' m k gs (subst (λ (z : Responder). Replies z queries rest' k) one.1 hs) in
       ((first, first', rest, rest', x, g, one.0, on.0, e, f), on.1)
 
   replies_free : (s : Responder) (queries : List (List ℕ)) → ((line : List ℕ) → Contains queries line → AsksNoAudit line) → (t u : List ℕ) → AreSameReplies s n queries t u → t ≡ u
@@ -86,7 +89,7 @@ module _ (n : ℕ) where
 
 -- HOW A REPOSITORY IS OPENED
 module _ (o : Options) (d : Draft) where
-  serves_one : (s m : Responder) → Serves o d s → Serves o d m → s ≡ m
+  pub serves_one : (s m : Responder) → Serves o d s → Serves o d m → s ≡ m
   serves_one s m h k =
       let names = h.same_names ∙ sym k.same_names in
       let variables = h.same_variables ∙ sym k.same_variables in

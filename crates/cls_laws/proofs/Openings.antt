@@ -5,14 +5,14 @@ use Rattle.std.specs.List.{AllByRecursion}
 use Rattle.std.proofs.lemmas.List.Elements.{All-cons}
 use Rattle.cls_base.specs.Limits.{max_components, max_library_weight}
 use Rattle.cls_base.specs.Schemas.{OpenType}
-use Rattle.cls_base.specs.Types.{ClosedType, spread}
+use Rattle.cls_base.specs.Types.{ClosedType}
 use Rattle.cls_filter.specs.Automata.{Automaton}
 use Rattle.cls_filter.specs.Lines.{no_lines}
 use Rattle.cls_filter.specs.States.{IsAutomaton}
 use Rattle.cls_kind.specs.Kinds.{instances_of}
 use Rattle.cls_taxon.specs.Orders.{Declared}
 use Rattle.cls_library.specs.Libraries.{Library, Component, IsLibrary, IsWithinLimits, AreComponentsOf, no_components, one_component, below_in, variances_in, all_of, weight_of, total_of}
-use Rattle.cls_library.specs.Refusals.{AreAcceptable, AreAccepted, IsLibraryOf}
+use Rattle.cls_library.specs.Refusals.{AreAccepted, IsLibraryOf}
 use Rattle.cls_library.proofs.Gathering.{acceptable-arity}
 use Rattle.cls_library.proofs.Splitting.{arity-form}
 use Rattle.cls_engine.specs.declared.options.Options.{Options}
@@ -26,6 +26,7 @@ use Rattle.cls_term.specs.Costs.{cost_of}
 use Rattle.cls_replies.specs.Responder.{Responder, Serves, AreHeld}
 use Rattle.cls_session.specs.Repositories.{IsRepository}
 use Rattle.cls_session.specs.Transcripts.{IsAnswered}
+use Rattle.cls_laws.proofs.ChangedLibraries.{light_instances}
 use Rattle.cls_laws.proofs.Replies.{CanAnswer, replies_can}
 
 -- THE LIBRARY
@@ -45,15 +46,11 @@ module _ (d : Declared) (kinds : List (ℕ × List ClosedType)) where
       let rest = few_components (number + 1) (weight + weight_of (instances_of kinds s)) (omega arith) a.1 hs in
       omega arith
 
-  light_instances : (weight : ℕ) (ts : List ClosedType) → weight ≤ max_library_weight → AreAcceptable (variances_in d) weight ts → weight + weight_of ts ≤ max_library_weight
-  light_instances weight [] light a = omega arith
-  light_instances weight (t ∷ ts) light a = let rest = light_instances (weight + (spread t + 1)) ts a.0.light a.1 in omega arith
-
   light_components : (number weight : ℕ) {ss : List OpenType} {cs : List Component} → weight ≤ max_library_weight → AreAccepted d kinds number weight ss → AreComponentsOf d kinds ss cs → weight + total_of cs ≤ max_library_weight
   light_components number weight light a no_components = omega arith
   light_components number weight light a (one_component {s = s} {c = c} {cs = cs} h hs) =
       let ts = instances_of kinds s in
-      let now = light_instances weight ts light a.0.acceptable in
+      let now = light_instances d weight ts light a.0.acceptable in
       let is = h.weight in
       let rest = light_components (number + 1) (weight + weight_of ts) now a.1 hs in
       omega arith

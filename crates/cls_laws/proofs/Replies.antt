@@ -1,5 +1,5 @@
 -- Each line has a reply, by whatever answers the lines after a repository.
-use Rattle.std.proofs.Common.{ℕ, ◌≡◌, ◌≤◌, ◌<◌, ◌⊎◌, inl, inr, refl, sym, ◌∙◌, ap, subst, arith, List, [], ◌∷◌, ◌++◌, length}
+use Rattle.std.proofs.Common.{ℕ, ◌≡◌, ◌≤◌, ◌<◌, ◌⊎◌, inl, inr, refl, sym, ◌∙◌, ap, subst, arith, Bool, List, [], ◌∷◌, ◌++◌, length}
 use Rattle.std.specs.Prelude.{codes}
 use Rattle.std.specs.Fmt.{decimal}
 use Rattle.cls_base.specs.Firsts.{Cause, First, IsSilent}
@@ -20,10 +20,11 @@ use Rattle.cls_proof.specs.declared.proof_fault.ProofFault.TheVariants.{BadLine,
 use Rattle.cls_proof.specs.Certificates.{Certificate}
 use Rattle.cls_proof.specs.Reading.{SaysCertificate}
 use Rattle.cls_proof.specs.Texts.{certificate_text}
-use Rattle.cls_query.specs.declared.query.Query.TheVariants.{Sub, Paths, Typed, About, Page, Filtered}
+use Rattle.cls_query.specs.declared.query.Query.TheVariants.{Sub, Paths, Typed, About, Page, Filtered, Batch}
 use Rattle.cls_query.specs.declared.word.GoalWord.TheVariants as word
 use Rattle.cls_query.specs.declared.word.ListingWord.TheVariants as listing
-use Rattle.cls_query.specs.Queries.{Listing, Query, Tables, tables_of, grammar, audit, certify, verify, finite, filtered}
+use Rattle.cls_query.specs.Changes.{Change}
+use Rattle.cls_query.specs.Queries.{Listing, Query, Tables, tables_of, grammar, audit, certify, verify, finite, filtered, batch}
 use Rattle.cls_query.specs.QueryErrors.{line_errors}
 use Rattle.cls_query.specs.Readable.{IsReadable, IsVerify}
 use Rattle.cls_query.specs.ReadQueries.{ReadsQuery}
@@ -35,6 +36,7 @@ use Rattle.cls_term.specs.Texts.{name_at}
 use Rattle.cls_engine.specs.declared.fault.EngineFault.{EngineFault}
 use Rattle.cls_engine.specs.declared.fault.EngineFault.TheVariants.{TooManyTerms}
 use Rattle.cls_engine.specs.declared.verdict.Verdict.TheVariants.{Accepted, Refused}
+use Rattle.cls_engine.specs.Batches.{AreVerdicts}
 use Rattle.cls_engine.specs.Certified.{IsCertified}
 use Rattle.cls_engine.specs.Faults.{closure_faults, AreSilent}
 use Rattle.cls_engine.specs.Goals.{Goal, IsClosed, HasLargePool}
@@ -42,14 +44,18 @@ use Rattle.cls_engine.specs.Histories.{IsHistoryOf}
 use Rattle.cls_replies.specs.Answering.{Asks, Answers, Answered, Judges, Verifies, Verified, IsMisread}
 use Rattle.cls_replies.specs.Answering as answering
 use Rattle.cls_replies.specs.Errors.{faults_of}
-use Rattle.cls_replies.specs.LineKinds.{Opens, IsQed}
+use Rattle.cls_replies.specs.Changing.{Changed, Makes}
+use Rattle.cls_replies.specs.Changing as changing
+use Rattle.cls_replies.specs.LineKinds.{Opens, IsQed, Changes}
 use Rattle.cls_replies.specs.Lines.{Goes, Ends, Replies}
 use Rattle.cls_replies.specs.Lines as lines
 use Rattle.cls_replies.specs.Replies.{Says, Lists, ListsFiltered, Reply, TellsSizes}
 use Rattle.cls_replies.specs.Responder.{Responder, tables_in, with_tables, with_names, holding, AreHeld, filter_in}
-use Rattle.cls_replies.specs.Texts.{reply_line, error_line, fault_words, verdict_text, paths_text, history_text, sizes_text, term_line, term_lines, page_text}
+use Rattle.cls_replies.specs.Texts.{reply_line, error_line, fault_words, verdict_text, paths_text, history_text, sizes_text, batch_text, term_line, term_lines, page_text}
 use Rattle.cls_laws.specs.Existence.{HasReading, HasVerdict}
 use Rattle.cls_laws.specs.Possible.{IsPossible}
+use Rattle.cls_laws.proofs.BatchReplies.{verdicts_exist_in_turn}
+use Rattle.cls_laws.proofs.ChangeReplies.{change_exists, makes_library, makes_costly, makes_small, makes_held}
 use Rattle.cls_laws.proofs.Classical.{surely, then, after, either_way, first_decided}
 use Rattle.cls_laws.proofs.FilteredBooks.{filtered_pages_exist}
 use Rattle.cls_laws.proofs.Grammars.{grammar_texts_exist}
@@ -99,6 +105,9 @@ module _ (s : Responder) (can : CanAnswer s) where
   sizes_reply : (t : ClosedType) → (h : (sizes : FiniteAnswer) × TellsSizes s.engine.library (cost_of s.engine.costs) t sizes) → HasReply (finite t)
   sizes_reply t (sizes, tells) = (sizes_text sizes, (sizes, tells, refl))
 
+  batch_reply : (ts : List ClosedType) → (h : (says : List Bool) × AreVerdicts s.engine.library ts says) → HasReply (batch ts)
+  batch_reply ts (says, are) = (batch_text says, (says, are, refl))
+
   abbrev pool_faults : Listing → List (Cause EngineFault)
   pool_faults q = (λ f. HasLargePool s.engine.library s.engine.options.pool q.goal (request s.engine.costs q.after q.max q.take) × (f ≡ TooManyTerms)) ∷ []
 
@@ -119,6 +128,7 @@ module _ (s : Responder) (can : CanAnswer s) where
   reply_exists (Page listing.Texts q) silent readable asks =
       lists_exist q (term_lines (name_at s.components) s.templates) (front_silent (closure_faults s.engine.library s.engine.options q.goal) (pool_faults q) silent) readable.some
   reply_exists (Filtered f q) silent readable asks = filtered_exist f q silent readable.1.some
+  reply_exists (Batch ts) silent readable asks = after (verdicts_exist_in_turn s.engine.library ts) (batch_reply ts)
 
   abbrev HasAnswer : Query → Type 0
   HasAnswer q = (text : List ℕ) × (s' : Responder) × Answers s q text s'
@@ -184,6 +194,7 @@ goal_of (About word.Verify t) h = (t, refl)
 goal_of (About asks t) h = absurd h
 goal_of (Page asks q) h = absurd h
 goal_of (Filtered f q) h = absurd h
+goal_of (Batch ts) h = absurd h
 
 module _ (s : Responder) (can : CanAnswer s) where
   abbrev IsDecided : List ℕ → Type 0
@@ -244,12 +255,19 @@ module _ (s : Responder) (can : CanAnswer s) where
   abbrev HasNext : List ℕ → Type 0
   HasNext line = (text : List ℕ) × (s' : Responder) × Goes s line text s'
 
-  asked : (line : List ℕ) → s.held ≡ [] → (IsSkipped line → ⊥) → (Opens line → ⊥) → IsAnsweredLine line → HasNext line
-  asked line e unskipped closed (text, s', a) = (text, s', lines.Goes.asks e (record { unskipped = unskipped; closed = closed }) a)
+  asked : (line : List ℕ) → s.held ≡ [] → (IsSkipped line → ⊥) → (Opens line → ⊥) → (Changes line → ⊥) → IsAnsweredLine line → HasNext line
+  asked line e unskipped closed unchanging (text, s', a) = (text, s', lines.Goes.asks e (record { unskipped = unskipped; closed = closed; unchanging = unchanging }) a)
+
+  changed : (line : List ℕ) → s.held ≡ [] → Changes line → (h : (text : List ℕ) × (s' : Responder) × Changed s line text s') → HasNext line
+  changed line e changes (text, s', a) = (text, s', lines.Goes.changes e changes a)
+
+  unopened_next : (line : List ℕ) → s.held ≡ [] → (IsSkipped line → ⊥) → (Opens line → ⊥) → Changes line ⊎ (Changes line → ⊥) → IsPossible (HasNext line)
+  unopened_next line e unskipped closed (inl changes) = after (change_exists s can.library line) (changed line e changes)
+  unopened_next line e unskipped closed (inr unchanging) = after (answered_by line closed (lines_decided (tables_in s) line)) (asked line e unskipped closed unchanging)
 
   closed_next : (line : List ℕ) → s.held ≡ [] → (IsSkipped line → ⊥) → Opens line ⊎ (Opens line → ⊥) → IsPossible (HasNext line)
   closed_next line e unskipped (inl opens) = surely ([], holding s (line ∷ []), lines.Goes.opens e opens refl refl)
-  closed_next line e unskipped (inr closed) = after (answered_by line closed (lines_decided (tables_in s) line)) (asked line e unskipped closed)
+  closed_next line e unskipped (inr closed) = then (either_way (Changes line)) (unopened_next line e unskipped closed)
 
   free_next : (line : List ℕ) → s.held ≡ [] → IsSkipped line ⊎ (IsSkipped line → ⊥) → IsPossible (HasNext line)
   free_next line e (inl skipped) = surely ([], s, lines.Goes.skips e skipped refl refl)
@@ -308,9 +326,23 @@ answered_can : (s : Responder) (line text : List ℕ) (s' : Responder) → Answe
 answered_can s line text s' (answering.Answered.misread m) can = same_can s s' m.same can
 answered_can s line text s' (answering.Answered.asked q m asks a) can = answers_can m q text s' a (same_can (with_tables s (tables_in m)) m asks.1 (tabled_can s (tables_in m) can))
 
+makes_can : (s : Responder) (c : Change) (text : List ℕ) (s' : Responder) → Makes s c text s' → CanAnswer s → CanAnswer s'
+makes_can s c text s' a can = record {
+  library = makes_library s c text s' a can.library;
+  costly = makes_costly s c text s' a can.costly;
+  small = makes_small s c text s' a can.small;
+  opened = subst AreHeld (sym (makes_held s c text s' a)) can.opened;
+}
+
+changed_can : (s : Responder) (line text : List ℕ) (s' : Responder) → Changed s line text s' → CanAnswer s → CanAnswer s'
+changed_can s line text s' (changing.Changed.misread m) can = same_can s s' m.same can
+changed_can s line text s' (changing.Changed.makes c m says a) can =
+    makes_can m c text s' a (same_can (with_tables s (tables_in m)) m says.1 (tabled_can s (tables_in m) can))
+
 goes_can : (s : Responder) (line text : List ℕ) (s' : Responder) → Goes s line text s' → CanAnswer s → CanAnswer s'
 goes_can s line text s' (lines.Goes.skips e skipped t same) can = same_can s s' same can
 goes_can s line text s' (lines.Goes.asks e single a) can = answered_can s line text s' a can
+goes_can s line text s' (lines.Goes.changes e changes a) can = changed_can s line text s' a can
 goes_can s line text s' (lines.Goes.opens e opens t same) can = same_can (holding s (line ∷ [])) s' same (holding_can s (line ∷ []) opens can)
 goes_can s line text s' (lines.Goes.holds first inside e n t same) can =
     same_can (holding s (first ∷ (inside ++ line ∷ []))) s' same (holding_can s (first ∷ (inside ++ line ∷ [])) (subst AreHeld e can.opened) can)

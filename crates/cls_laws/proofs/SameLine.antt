@@ -18,7 +18,8 @@ use Rattle.cls_laws.specs.Uniqueness.{AsksAudit}
 use Rattle.cls_laws.proofs.ByWorkers.{audit_or_not, fault_by, answers_by, misread_by, asks_by, verified_by}
 use Rattle.cls_laws.proofs.OneReply.{fault_one, answer_one}
 use Rattle.cls_laws.proofs.OneLine.{misread_one, asks_one, read_or_not, nil_cons, held_one, holds_one}
-use Rattle.cls_laws.proofs.SkippedLines.{skipped_opens}
+use Rattle.cls_laws.proofs.OneChange.{changed_same}
+use Rattle.cls_laws.proofs.SkippedLines.{skipped_opens, skipped_changes, opens_changes}
 
 -- where no audit is asked for, replies that are the same are one text
 pub one_unless_audit : (s : Responder) (n : ℕ) (line text other : List ℕ) → (AsksAudit s line → ⊥) → AreSame s n line text other → text ≡ other
@@ -73,27 +74,38 @@ module _ (n : ℕ) where
     pub goes_same : (line t u : List ℕ) (m k : Responder) → Goes s line t m → Goes (served_by n s) line u k → Same line t u m k
     goes_same line t u m k (lines.Goes.skips e a p c) (lines.Goes.skips f b q d) = plain line t u m k (p ∙ sym q, d ∙ sym (ap (served_by n) c))
     goes_same line t u m k (lines.Goes.skips e a p c) (lines.Goes.asks f b w) = absurd (b.unskipped a)
+    goes_same line t u m k (lines.Goes.skips e a p c) (lines.Goes.changes f b w) = absurd (skipped_changes line a b)
     goes_same line t u m k (lines.Goes.skips e a p c) (lines.Goes.opens f b q d) = absurd (skipped_opens line a b)
     goes_same line t u m k (lines.Goes.skips e a p c) (lines.Goes.holds y ys f b q d) = absurd (nil_cons s.held y ys e f)
     goes_same line t u m k (lines.Goes.skips e a p c) (lines.Goes.ends y ys f b w) = absurd (nil_cons s.held y ys e f)
     goes_same line t u m k (lines.Goes.asks e a v) (lines.Goes.skips f b q d) = absurd (a.unskipped b)
     goes_same line t u m k (lines.Goes.asks e a v) (lines.Goes.asks f b w) = answered_same s line e t u m k v w
+    goes_same line t u m k (lines.Goes.asks e a v) (lines.Goes.changes f b w) = absurd (a.unchanging b)
     goes_same line t u m k (lines.Goes.asks e a v) (lines.Goes.opens f b q d) = absurd (a.closed b)
     goes_same line t u m k (lines.Goes.asks e a v) (lines.Goes.holds y ys f b q d) = absurd (nil_cons s.held y ys e f)
     goes_same line t u m k (lines.Goes.asks e a v) (lines.Goes.ends y ys f b w) = absurd (nil_cons s.held y ys e f)
+    goes_same line t u m k (lines.Goes.changes e a v) (lines.Goes.skips f b q d) = absurd (skipped_changes line b a)
+    goes_same line t u m k (lines.Goes.changes e a v) (lines.Goes.asks f b w) = absurd (b.unchanging a)
+    goes_same line t u m k (lines.Goes.changes e a v) (lines.Goes.changes f b w) = plain line t u m k (changed_same n s line t u m k v w)
+    goes_same line t u m k (lines.Goes.changes e a v) (lines.Goes.opens f b q d) = absurd (opens_changes line b a)
+    goes_same line t u m k (lines.Goes.changes e a v) (lines.Goes.holds y ys f b q d) = absurd (nil_cons s.held y ys e f)
+    goes_same line t u m k (lines.Goes.changes e a v) (lines.Goes.ends y ys f b w) = absurd (nil_cons s.held y ys e f)
     goes_same line t u m k (lines.Goes.opens e a p c) (lines.Goes.skips f b q d) = absurd (skipped_opens line b a)
     goes_same line t u m k (lines.Goes.opens e a p c) (lines.Goes.asks f b w) = absurd (b.closed a)
+    goes_same line t u m k (lines.Goes.opens e a p c) (lines.Goes.changes f b w) = absurd (opens_changes line a b)
     goes_same line t u m k (lines.Goes.opens e a p c) (lines.Goes.opens f b q d) = plain line t u m k (p ∙ sym q, d ∙ sym (ap (served_by n) c))
     goes_same line t u m k (lines.Goes.opens e a p c) (lines.Goes.holds y ys f b q d) = absurd (nil_cons s.held y ys e f)
     goes_same line t u m k (lines.Goes.opens e a p c) (lines.Goes.ends y ys f b w) = absurd (nil_cons s.held y ys e f)
     goes_same line t u m k (lines.Goes.holds x xs e a p c) (lines.Goes.skips f b q d) = absurd (nil_cons s.held x xs f e)
     goes_same line t u m k (lines.Goes.holds x xs e a p c) (lines.Goes.asks f b w) = absurd (nil_cons s.held x xs f e)
+    goes_same line t u m k (lines.Goes.holds x xs e a p c) (lines.Goes.changes f b w) = absurd (nil_cons s.held x xs f e)
     goes_same line t u m k (lines.Goes.holds x xs e a p c) (lines.Goes.opens f b q d) = absurd (nil_cons s.held x xs f e)
     goes_same line t u m k (lines.Goes.holds x xs e a p c) (lines.Goes.holds y ys f b q d) =
         plain line t u m k (p ∙ sym q, d ∙ (sym (holds_one (served_by n s) distinct line x y xs ys e f) ∙ sym (ap (served_by n) c)))
     goes_same line t u m k (lines.Goes.holds x xs e a p c) (lines.Goes.ends y ys f b w) = absurd (a b)
     goes_same line t u m k (lines.Goes.ends x xs e a v) (lines.Goes.skips f b q d) = absurd (nil_cons s.held x xs f e)
     goes_same line t u m k (lines.Goes.ends x xs e a v) (lines.Goes.asks f b w) = absurd (nil_cons s.held x xs f e)
+    goes_same line t u m k (lines.Goes.ends x xs e a v) (lines.Goes.changes f b w) = absurd (nil_cons s.held x xs f e)
     goes_same line t u m k (lines.Goes.ends x xs e a v) (lines.Goes.opens f b q d) = absurd (nil_cons s.held x xs f e)
     goes_same line t u m k (lines.Goes.ends x xs e a v) (lines.Goes.holds y ys f b q d) = absurd (b a)
     goes_same line t u m k (lines.Goes.ends x xs e a v) (lines.Goes.ends y ys f b w) = plain line t u m k (held_same x y xs ys (line ∷ []) t u m k e f v w)

@@ -23,8 +23,8 @@ use Rattle.cls_syntax.proofs.ReadTypes.{AllHeld, held_by}
 use Rattle.cls_syntax.proofs.TypeBytes.{words_from, words_are}
 use Rattle.cls_proof.proofs.PlainBytes.{plain_append, plain_name, plain_utf8}
 use Rattle.cls_proof.proofs.WordCuts.{words_cut}
-use Rattle.cls_query.specs.QueryErrors.{query_types, is_large, is_outside, is_unknown, is_unknown_in_term, IsQuery, too_long, too_deep, too_many_nodes, has_variable, out_of_range, unknown_name, unknown_in_term, line_errors}
-use Rattle.cls_query.specs.declared.query.Query.TheVariants.{Sub, Paths, Typed, About, Page, Filtered}
+use Rattle.cls_query.specs.QueryErrors.{query_types, is_large, is_excessive, is_unknown, is_unknown_in_term, IsQuery, too_long, too_deep, too_many_nodes, has_variable, out_of_range, unknown_name, unknown_in_term, line_errors}
+use Rattle.cls_query.specs.declared.query.Query.TheVariants.{Sub, Paths, Typed, About, Page, Filtered, Batch}
 use Rattle.cls_query.specs.declared.word.GoalWord.TheVariants.{Certify, Verify}
 use Rattle.cls_query.specs.QueryForms.{goal_form}
 use Rattle.cls_query.specs.Queries.{Tables, Query, QueryText, certify, verify, query_words, query_parts, QueryStands, with_query, query_of, type_in}
@@ -146,6 +146,7 @@ module _ (tables : Tables) where
   one_of_two (About word t) = inr (inr (refl, refl))
   one_of_two (Page word l) = inr (inr (refl, refl))
   one_of_two (Filtered x l) = inr (inr (refl, refl))
+  one_of_two (Batch ts) = inr (inr (refl, refl))
 
   certify_said : (goal : ClosedType) (said : QueryText) → certify goal ≡ query_of tables said → OneOfTwo said → (v : TypeText) × (said ≡ as_certify v)
   certify_said goal said e (inl p) = p
@@ -205,7 +206,7 @@ module _ (type : List ℕ) (v : TypeText) where
     dollar t h = each.1.1.1.1.1.0 (codes "variable " ++ decimal (byte_at (certifying type) h.0)) (h.0, of_words (λ (ws : List Word). position is_dollar ws ≡ Some h.0) (λ k. k) h.1, refl)
 
     outside : IsSilent (out_of_range (verifying type))
-    outside t h = each.1.1.1.1.1.1.0 (codes "number") ((as_certify v, says, of_second (λ said. list_any is_outside (query_parts said) ≡ true) h.0), refl)
+    outside t h = each.1.1.1.1.1.1.0 (codes "number") ((as_certify v, says, of_second (λ said. is_excessive said ≡ true) h.0), refl)
 
     unknown : IsSilent (unknown_name (verifying type) old.components old.filters)
     unknown t h =

@@ -1,15 +1,17 @@
--- A line that says nothing begins with no name, so it opens no certificate.
-use Rattle.std.proofs.Common.{ℕ, ◌≡◌, ◌+◌, Bool, true, false, List, [], ◌∷◌, refl, sym, ◌∙◌, ap, map, codes, arith}
-use Rattle.std.specs.Prelude.{◌==◌}
+-- A line that says nothing begins with no name, so it opens no certificate and changes nothing.
+use Rattle.std.proofs.Common.{ℕ, ◌≡◌, ◌+◌, ◌⊎◌, inl, inr, Bool, true, false, List, [], ◌∷◌, length, refl, sym, ◌∙◌, ap, map, codes, arith}
+use Rattle.std.specs.Prelude.{◌==◌, ◌||◌}
 use Rattle.std.proofs.lemmas.Bool.{true≢false}
 use Rattle.std.proofs.lemmas.Bool.Decides.{nat_tests}
+use Rattle.std.proofs.lemmas.Slice.Eq.{bytes_eq-Decides}
 use Rattle.cls_lexer.specs.Characters.{is_blank}
 use Rattle.cls_lexer.specs.Skipped.{says_nothing, IsSkipped}
 use Rattle.cls_lexer.specs.Tokens.{token_at, tokens_from, located_at}
-use Rattle.cls_lexer.specs.Words.{said, words_of}
+use Rattle.cls_lexer.specs.Words as word
+use Rattle.cls_lexer.specs.Words.{Word, name, number, sign, said, words_of}
 use Rattle.cls_syntax.specs.Fronts.{is_word}
 use Rattle.cls_query.specs.Readable.{begins_with}
-use Rattle.cls_replies.specs.LineKinds.{Opens}
+use Rattle.cls_replies.specs.LineKinds.{Opens, Changes}
 
 hash : (x : List ℕ) (at : ℕ) (bs : List ℕ) → is_word x (said (located_at at 35 bs)) ≡ false
 unfolding token_at
@@ -41,3 +43,29 @@ skipped_nameless x line h k = no_name x 0 line h.1 k
 
 pub skipped_opens : (line : List ℕ) → IsSkipped line → Opens line → ⊥
 skipped_opens line h k = skipped_nameless (codes "verify") line h k.begins
+
+-- nor does it change anything
+or_true : (a b : Bool) → (a || b) ≡ true → (a ≡ true) ⊎ (b ≡ true)
+or_true true b e = inl refl
+or_true false b e = inr e
+
+pub skipped_changes : (line : List ℕ) → IsSkipped line → Changes line → ⊥
+skipped_changes line h k = elim (or_true (begins_with (codes "add") (words_of line)) (begins_with (codes "drop") (words_of line)) k.begins) [
+  | inl a ↦ skipped_nameless (codes "add") line h a
+  | inr a ↦ skipped_nameless (codes "drop") line h a
+]
+
+-- no line begins with two words
+two_words : (x y : List ℕ) → (x ≡ y → ⊥) → (ws : List Word) → begins_with x ws ≡ true → begins_with y ws ≡ true → ⊥
+two_words x y n [] h k = true≢false (sym h)
+two_words x y n (word.omega ∷ ws) h k = true≢false (sym h)
+two_words x y n (name z ∷ ws) h k = n ((bytes_eq-Decides x z).0 h ∙ sym ((bytes_eq-Decides y z).0 k))
+two_words x y n (number d ∷ ws) h k = true≢false (sym h)
+two_words x y n (sign s ∷ ws) h k = true≢false (sym h)
+
+-- a line that opens a certificate changes nothing
+pub opens_changes : (line : List ℕ) → Opens line → Changes line → ⊥
+opens_changes line h k = elim (or_true (begins_with (codes "add") (words_of line)) (begins_with (codes "drop") (words_of line)) k.begins) [
+  | inl a ↦ two_words (codes "verify") (codes "add") (λ e. let n = ap length e in absurd (omega (arith, n))) (words_of line) h.begins a
+  | inr a ↦ two_words (codes "verify") (codes "drop") (λ e. let n = ap length e in absurd (omega (arith, n))) (words_of line) h.begins a
+]

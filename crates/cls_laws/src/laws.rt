@@ -2,6 +2,7 @@
 //! the law.
 ghost use Rattle.cls_laws.specs.FedBack.{CertificatesAreAccepted};
 ghost use Rattle.cls_laws.specs.Existence.{AnswersExist, HistoriesExist, ClosuresExist, GrammarTextsExist, VerdictsExist, ReadingsExist, TypesHaveClosures, AuditsExist, CertificatesExist, SizesExist, PagesExist, FilteredPagesExist, LinesHaveReplies, TranscriptsGoOn, OutputsExist, WhatMayStandBegins, RoomForOutputsIsEnough};
+ghost use Rattle.cls_laws.specs.Live.{RepliesAreFromScratch};
 ghost use Rattle.cls_laws.specs.Uniqueness.{AuditsAreNamed, RepliesAreDetermined, TranscriptsAreDetermined, OutputsAreDetermined};
 
 use cls_engine::laws::certificates_decide;
@@ -114,6 +115,13 @@ pub fn transcripts_are_determined()
 /// workers, and so is what is written, reply by reply but for those to audits. If no line asks for one, it is one text.
 pub fn outputs_are_determined()
     ensures { OutputsAreDetermined }
+{}
+
+/// Law: after any lines, what answers the next one is what a session over the repository as it then stands would open
+/// with, but for the numbering of names: with each component that was added, as if its line were the last one before
+/// `end`, and without each that was dropped, as if no line spoke of it. So each reply is the one from scratch.
+pub fn replies_are_from_scratch()
+    ensures { RepliesAreFromScratch }
 {}
 
 /// Law: a certificate that `certify` prints of a type is accepted for it: if its lines are fed back behind one that asks for

@@ -2,11 +2,12 @@
 //! for one text alone, but for the replies to audits.
 //!
 //! - [`laws`] holds the laws. Those on existence say of what exists that it isn't impossible, and name no way of finding it.
-//!   One says which reply there is: that to a certificate which was printed and is fed back.
+//!   Two say which replies there are: that to a certificate which was printed and is fed back, and those after lines that
+//!   change the repository.
 //!
 //! `specs/Possible` says what existence means here, and `specs/Existence` has the statements on it. `specs/Alike` says what may
 //! differ between two runs over the same lines, and `specs/Uniqueness` has the statements that nothing else does.
-//! `specs/FedBack` has the law on certificates.
+//! `specs/FedBack` has the law on certificates, and `specs/Live` the one on lines that change the repository.
 #![tactic(auto)]
 
 pub mod laws;

@@ -37,7 +37,7 @@ use Rattle.cls_query.specs.FormAnswers.{SpelledListing, SpelledQuery, listing_te
 use Rattle.cls_query.specs.QueryForms.{listing_form, filtered_form}
 use Rattle.cls_query.specs.QueryReading.{said_of, query_after}
 use Rattle.cls_query.specs.Queries.{Listing, Query, QueryText, query_parts, with_names, tables_of, type_in, term_in, listing_of, query_of}
-use Rattle.cls_query.specs.QueryErrors.{query_types, is_large, is_outside, is_absent, is_unknown, is_unknown_in_term}
+use Rattle.cls_query.specs.QueryErrors.{query_types, is_large, is_outside, is_excessive, is_absent, is_unknown, is_unknown_in_term}
 use Rattle.cls_query.proofs.Searches.{behind}
 use Rattle.cls_query.proofs.FormParts.{comparison_inside, typing_inside, goal_inside, page_outside, comparison_known, typing_known, goal_known, page_known, comparison_in_term, typing_in_term, goal_in_term, plain_in_term, cursor_in_term, cursor_within, typing_within, comparison_names, typing_names, goal_names, page_names, page_types, filtered_outside, filtered_known, filtered_unknown, filtered_plain, filtered_in_term, filtered_within, filtered_names, filtered_types, or_nothing}
 use Rattle.cls_query.proofs.Numbering.{names_of_type}
@@ -108,21 +108,21 @@ filtered_large {q = q} {x = x} {l = l} e = ap has_large e ∙ (ap (list_any is_l
 
 -- NUMBERS
 abbrev has_outside : SpelledQuery → Bool
-has_outside q = list_any is_outside (query_parts (query_text q))
+has_outside q = is_excessive (query_text q)
 
-pub sub_inside : {q : SpelledQuery} {s t : SpelledType} → q ≡ Sub s t → false ≡ list_any is_outside (query_parts (query_text q))
+pub sub_inside : {q : SpelledQuery} {s t : SpelledType} → q ≡ Sub s t → false ≡ is_excessive (query_text q)
 sub_inside {q = q} {s = s} {t = t} e = sym (ap has_outside e ∙ comparison_inside (type_text s) (type_text t))
 
-pub typed_inside : {q : SpelledQuery} {e : SpelledTerm} {t : SpelledType} → q ≡ Typed e t → false ≡ list_any is_outside (query_parts (query_text q))
+pub typed_inside : {q : SpelledQuery} {e : SpelledTerm} {t : SpelledType} → q ≡ Typed e t → false ≡ is_excessive (query_text q)
 typed_inside {q = q} {e = x} {t = t} e = sym (ap has_outside e ∙ typing_inside (term_text x) (type_text t))
 
-pub about_inside : {q : SpelledQuery} {word : GoalWord} {t : SpelledType} → q ≡ About word t → false ≡ list_any is_outside (query_parts (query_text q))
+pub about_inside : {q : SpelledQuery} {word : GoalWord} {t : SpelledType} → q ≡ About word t → false ≡ is_excessive (query_text q)
 about_inside {q = q} {word = word} {t = t} e = sym (ap has_outside e ∙ goal_inside word (type_text t))
 
-pub page_outside_is : {q : SpelledQuery} {word : ListingWord} {l : SpelledListing} → q ≡ Page word l → list_any is_outside (query_parts (query_text q)) ≡ (outside max_term_size l.max.text.now || outside max_page_terms l.take.text.now)
+pub page_outside_is : {q : SpelledQuery} {word : ListingWord} {l : SpelledListing} → q ≡ Page word l → is_excessive (query_text q) ≡ (outside max_term_size l.max.text.now || outside max_page_terms l.take.text.now)
 page_outside_is {q = q} {word = word} {l = l} e = ap has_outside e ∙ page_outside word (listing_text l)
 
-pub filtered_outside_is : {q : SpelledQuery} {x : Bor (List ℕ)} {l : SpelledListing} → q ≡ Filtered x l → list_any is_outside (query_parts (query_text q)) ≡ (outside max_term_size l.max.text.now || outside max_page_terms l.take.text.now)
+pub filtered_outside_is : {q : SpelledQuery} {x : Bor (List ℕ)} {l : SpelledListing} → q ≡ Filtered x l → is_excessive (query_text q) ≡ (outside max_term_size l.max.text.now || outside max_page_terms l.take.text.now)
 filtered_outside_is {q = q} {x = x} {l = l} e = ap has_outside e ∙ filtered_outside x.now (listing_text l)
 
 pub none_is : {A : Type 0} (o : Option A) (b : Bool) → is_some o ≡ not b → b ≡ is_none o

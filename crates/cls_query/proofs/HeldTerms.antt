@@ -13,10 +13,11 @@ use Rattle.cls_term.specs.Components.{greatest_of, greatest_in}
 use Rattle.cls_term.specs.TermReadings.{term_of, terms_of}
 use Rattle.cls_term.specs.TokenFaults as faults
 use Rattle.cls_term.proofs.Spines.{greatest_of-spine_of}
-use Rattle.cls_query.specs.declared.query.Query.TheVariants.{Sub, Paths, Typed, About, Page, Filtered}
+use Rattle.cls_query.specs.declared.query.Query.TheVariants.{Sub, Paths, Typed, About, Page, Filtered, Batch}
 use Rattle.cls_query.specs.FormAnswers.{SpelledQuery, query_text, term_spelled, spelled_in}
 use Rattle.cls_query.specs.Queries.{query_parts}
 use Rattle.cls_query.specs.QueryErrors.{is_absent, is_unknown_in_term}
+use Rattle.cls_query.proofs.BatchLines.{batch_placed}
 use Rattle.cls_query.proofs.CodeForms.{sub_placed, about_placed, typed_placed, plain_placed, cursor_placed, filtered_plain_placed, filtered_cursor_placed}
 use Rattle.cls_query.proofs.Searches.{both_none, place_none, behind}
 
@@ -64,3 +65,4 @@ module _ (table : List (List ℕ)) where
   form_held (Page word l) (Some x) e h = cursor_placed table word l x e _ refl ∙ no_stray x h _
   form_held (Filtered f l) None e h = filtered_plain_placed table f l e
   form_held (Filtered f l) (Some x) e h = filtered_cursor_placed table f l x e _ refl ∙ no_stray x h _
+  form_held (Batch ts) o e h = sym (batch_placed table {ts = ts} refl)

@@ -1,3 +1,8 @@
+pub mod BatchLines
+pub mod ChangeErrors
+pub mod ChangeLaws
+pub mod ChangeLines
+pub mod ChangeTables
 pub mod ClosedTypes
 pub mod CodeForms
 pub mod Comparisons

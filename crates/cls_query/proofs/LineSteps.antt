@@ -20,7 +20,7 @@ use Rattle.cls_syntax.proofs.TypeFaults.{stops_at}
 use Rattle.std.specs.Prelude.{Err}
 use Rattle.cls_query.specs.QueryReading.{query_read}
 use Rattle.cls_query.specs.Queries.{QueryText, Tables, query_words, query_parts, QueryStands}
-use Rattle.cls_query.specs.QueryErrors.{query_types, is_large, is_outside, is_unknown, is_unknown_in_term, place_words, too_deep, too_many_nodes, has_variable, out_of_range, unknown_name, unknown_in_term, line_errors}
+use Rattle.cls_query.specs.QueryErrors.{query_types, is_large, is_excessive, is_unknown, is_unknown_in_term, place_words, too_deep, too_many_nodes, has_variable, out_of_range, unknown_name, unknown_in_term, line_errors}
 use Rattle.cls_query.specs.Steps.{text_errors, spelling_errors, type_errors, value_errors}
 use Rattle.cls_query.proofs.FirstErrors.{first_front, first_later, silent_both}
 use Rattle.cls_query.proofs.Searches.{nothing_found}
@@ -106,13 +106,13 @@ module _ (line : List ℕ) (said : QueryText) (says : Says query_words QueryStan
   ]
 
   module _ (components filters : List (List ℕ)) where
-    pub range_said : list_any is_outside (query_parts said) ≡ true → First (value_errors line components filters) (codes "number")
+    pub range_said : is_excessive said ≡ true → First (value_errors line components filters) (codes "number")
     range_said e = inl ((said, says, e), refl)
 
-    in_range : list_any is_outside (query_parts said) ≡ false → IsSilent (out_of_range line)
-    in_range e t h = true≢false (sym (holds_of line said says (λ v. list_any is_outside (query_parts v) ≡ true) h.0) ∙ e)
+    in_range : is_excessive said ≡ false → IsSilent (out_of_range line)
+    in_range e t h = true≢false (sym (holds_of line said says (λ v. is_excessive v ≡ true) h.0) ∙ e)
 
-    pub unknown_said : list_any is_outside (query_parts said) ≡ false → (role : Role) (x : List ℕ) → find (is_unknown components filters) (query_parts said) ≡ Some (naming role x) → First (value_errors line components filters) (codes "unknown " ++ x)
+    pub unknown_said : is_excessive said ≡ false → (role : Role) (x : List ℕ) → find (is_unknown components filters) (query_parts said) ≡ Some (naming role x) → First (value_errors line components filters) (codes "unknown " ++ x)
     unknown_said e role x f = inr (in_range e, inl (said, says, (role, x, f, refl)))
 
     known : find (is_unknown components filters) (query_parts said) ≡ None → IsSilent (unknown_name line components filters)
@@ -120,7 +120,7 @@ module _ (line : List ℕ) (said : QueryText) (says : Says query_words QueryStan
         let q = holds_of line said says (λ v. (role : Role) × (x : List ℕ) × (find (is_unknown components filters) (query_parts v) ≡ Some (naming role x)) × (t ≡ codes "unknown " ++ x)) h in
         nothing_found (naming q.0 q.1) (sym f ∙ q.2)
 
-    pub term_said : list_any is_outside (query_parts said) ≡ false → find (is_unknown components filters) (query_parts said) ≡ None → (place : ℕ)
+    pub term_said : is_excessive said ≡ false → find (is_unknown components filters) (query_parts said) ≡ None → (place : ℕ)
         → position (is_unknown_in_term components) (query_parts said) ≡ Some place → First (value_errors line components filters) (codes "token " ++ decimal (byte_at line place))
     term_said e f place p = inr (in_range e, inr (known f, inl (said, says, (place, p, refl))))
 
@@ -129,7 +129,7 @@ module _ (line : List ℕ) (said : QueryText) (says : Says query_words QueryStan
         let q = holds_of line said says (λ v. (place : ℕ) × (position (is_unknown_in_term components) (query_parts v) ≡ Some place) × (t ≡ codes "token " ++ decimal (byte_at line place))) h in
         nothing_found q.0 (sym p ∙ q.1)
 
-    pub values_silent : list_any is_outside (query_parts said) ≡ false → find (is_unknown components filters) (query_parts said) ≡ None
+    pub values_silent : is_excessive said ≡ false → find (is_unknown components filters) (query_parts said) ≡ None
         → position (is_unknown_in_term components) (query_parts said) ≡ None → IsSilent (First (value_errors line components filters))
     values_silent e f p t h = elim h [
       | inl a ↦ in_range e t a

@@ -23,14 +23,14 @@ use Rattle.cls_syntax.proofs.TypeFaults.{stops_at}
 use Rattle.cls_syntax.proofs.OnePlace.{one_byte}
 use Rattle.cls_query.specs.QueryReading.{query_read}
 use Rattle.cls_query.specs.Queries.{Tables, Query, QueryText, query_words, query_parts, QueryStands, with_query, query_of}
-use Rattle.cls_query.specs.QueryErrors.{query_types, is_large, is_outside, is_unknown, is_unknown_in_term, place_words, IsQuery, too_long, not_utf8, too_deep, leaves_table, too_many_nodes, has_variable, out_of_range, unknown_name, unknown_in_term, line_errors}
+use Rattle.cls_query.specs.QueryErrors.{query_types, is_large, is_excessive, is_unknown, is_unknown_in_term, place_words, IsQuery, too_long, not_utf8, too_deep, leaves_table, too_many_nodes, has_variable, out_of_range, unknown_name, unknown_in_term, line_errors}
 use Rattle.cls_query.specs.ReadQueries.{ReadsQuery}
 use Rattle.cls_query.specs.Laws.{ErrorsAreDetermined, LinesAreReadOnce, LinesAreDecided}
 use Rattle.cls_query.proofs.FirstErrors.{fourth_silent}
 use Rattle.cls_query.proofs.Searches.{find_passes, nothing_found, some_or}
 use Rattle.cls_query.proofs.QueryLines.{holds_of, stays_silent, stop_leaves, read_says, said_reads, said_one}
 
-said_alone : {T : Type 0} (A : Type 0) (c : T) → IsDetermined (λ t. A × (t ≡ c))
+pub said_alone : {T : Type 0} (A : Type 0) (c : T) → IsDetermined (λ t. A × (t ≡ c))
 said_alone A c t u p q = p.1 ∙ sym q.1
 
 abbrev text_in : Option Part → List ℕ
@@ -75,7 +75,7 @@ module _ (tables : Tables) (line : List ℕ) where
             (
               variable_one,
               (
-                said_alone (of_query (λ said. list_any is_outside (query_parts said) ≡ true)) (codes "number"),
+                said_alone (of_query (λ said. is_excessive said ≡ true)) (codes "number"),
                 (
                   unknown_one,
                   (
@@ -98,21 +98,21 @@ pub lines_read_once : LinesAreReadOnce
 lines_read_once words said other p q = said_one words said other p q
 
 -- A fact that is decided.
-abbrev Decided : Type 0 → Type 0
+abbrev pub Decided : Type 0 → Type 0
 Decided A = A ⊎ (A → ⊥)
 
-alone_decided : {T : Type 0} (A : Type 0) (c : T) → Decided A → IsDecided (λ t. A × (t ≡ c))
+pub alone_decided : {T : Type 0} (A : Type 0) (c : T) → Decided A → IsDecided (λ t. A × (t ≡ c))
 alone_decided A c (inl a) = inl (c, (a, refl))
 alone_decided A c (inr n) = inr (λ t p. n p.0)
 
-less_decided : (m n : ℕ) → Decided (m < n)
+pub less_decided : (m n : ℕ) → Decided (m < n)
 less_decided m n = elim (cases_lt m n) [ inl l ↦ inl l | inr h ↦ inr (λ l. omega (arith, l, h)) ]
 
-true_decided : (b : Bool) → Decided (b ≡ true)
+pub true_decided : (b : Bool) → Decided (b ≡ true)
 true_decided true = inl refl
 true_decided false = inr (λ e. true≢false (sym e))
 
-not_utf8_decided : (line : List ℕ) → Decided (IsUtf8 line → ⊥)
+pub not_utf8_decided : (line : List ℕ) → Decided (IsUtf8 line → ⊥)
 not_utf8_decided line = elim (true_decided (is_utf8 line)) [
   | inl e ↦ inr (λ n. n (IsUtf8-from_is_utf8 line e))
   | inr n ↦ inl (λ u. n (is_utf8-from_IsUtf8 line u))
@@ -122,7 +122,7 @@ not_utf8_decided line = elim (true_decided (is_utf8 line)) [
 abbrev IsSomeQuery : List ℕ → Type 0
 IsSomeQuery line = (said : QueryText) × Says query_words QueryStands said (words_of line)
 
-no_ok : {A E : Type 0} (a : A) (e : E) → ◌≡◌ {A = Result A E} (Ok a) (Err e) → ⊥
+pub no_ok : {A E : Type 0} (a : A) (e : E) → ◌≡◌ {A = Result A E} (Ok a) (Err e) → ⊥
 no_ok a e p = true≢false (ap is_ok p)
 
 -- the line is a query, or something is said of where it leaves the table
@@ -210,7 +210,7 @@ module _ (tables : Tables) (line : List ℕ) where
             (
               variable_decided,
               (
-                alone_decided (IsQuery line (λ said. list_any is_outside (query_parts said) ≡ true)) (codes "number") (fact_decided (λ said. list_any is_outside (query_parts said))),
+                alone_decided (IsQuery line (λ said. is_excessive said ≡ true)) (codes "number") (fact_decided (λ said. is_excessive said)),
                 (
                   of_query_decided says_unknown unknown_of,
                   (

@@ -13,7 +13,7 @@ use Rattle.cls_syntax.specs.TermTexts.{TermText}
 use Rattle.cls_syntax.proofs.ItemFronts.{item_ok}
 use Rattle.cls_syntax.proofs.LineParts.{line_exactly, line_reads}
 use Rattle.cls_syntax.proofs.OnePlace.{line_stays}
-use Rattle.cls_query.specs.declared.query.Query.TheVariants.{Sub, Paths, Typed, About, Page, Filtered}
+use Rattle.cls_query.specs.declared.query.Query.TheVariants.{Sub, Paths, Typed, About, Page, Filtered, Batch}
 use Rattle.cls_query.specs.declared.word.GoalWord.{GoalWord}
 use Rattle.cls_query.specs.declared.word.GoalWord.TheVariants.{Inhabit}
 use Rattle.cls_query.specs.declared.word.ListingWord.{ListingWord}
@@ -33,6 +33,7 @@ again word.Sub ws = refl
 again word.Paths ws = refl
 again word.Typed ws = refl
 again word.Filtered ws = refl
+again word.Batch ws = refl
 again (word.About Inhabit) ws = refl
 again (word.About w) ws = refl
 again (word.Page listing.List) ws = refl
@@ -61,8 +62,11 @@ module _ {W : Type 0} (text : W → List ℕ) where
   found [] ws p h = absurd (nothing_found p h)
   found (w ∷ all) ws p h = step w ws (front_in text all ws) p (λ k. found all ws p k) h
 
+abbrev behind_batch : List Word → Option (QueryWord × List Word)
+behind_batch ws = either_front (goal_front ws) (listing_front ws)
+
 abbrev behind_filtered : List Word → Option (QueryWord × List Word)
-behind_filtered ws = either_front (goal_front ws) (listing_front ws)
+behind_filtered ws = or_later word.Batch (item_front (the_word (word_text word.Batch)) ws) (behind_batch ws)
 
 abbrev behind_typed : List Word → Option (QueryWord × List Word)
 behind_typed ws = or_later word.Filtered (item_front (the_word (word_text word.Filtered)) ws) (behind_filtered ws)
@@ -85,7 +89,8 @@ front_is ws p h =
     step word_text word.Paths ws (behind_paths ws) p (λ m.
     step word_text word.Typed ws (behind_typed ws) p (λ n.
     step word_text word.Filtered ws (behind_filtered ws) p (λ j.
-    either ws (goal_front ws) (listing_front ws) p refl refl j) n) m) k) h
+    step word_text word.Batch ws (behind_batch ws) p (λ i.
+    either ws (goal_front ws) (listing_front ws) p refl refl i) j) n) m) k) h
 
 -- no word is in front of which one of a query would be found
 another : (w : QueryWord) (ws : List Word) → query_front (name (word_text w) ∷ ws) ≡ None → ⊥
@@ -102,6 +107,7 @@ form_good word.Sub = search rules
 form_good word.Paths = search rules
 form_good word.Typed = search rules
 form_good word.Filtered = search rules
+form_good word.Batch = search rules
 form_good (word.About w) = search rules
 form_good (word.Page w) = search rules
 
@@ -119,6 +125,7 @@ words_at word.Sub v = refl
 words_at word.Paths v = refl
 words_at word.Typed v = refl
 words_at word.Filtered v = ap (λ (o : Option (TermText × Unit {0})). name (codes "filtered") ∷ name v.0 ∷ line_words listing_form (v.1.0, (v.1.1.0, (v.1.1.1.0, o)))) (with_end v.1.1.1.1)
+words_at word.Batch v = refl
 words_at (word.About w) v = refl
 words_at (word.Page w) v = ap (λ (o : Option (TermText × Unit {0})). name (listing_word_text w) ∷ line_words listing_form (v.0, (v.1.0, (v.1.1.0, o)))) (with_end v.1.1.1)
 
@@ -127,6 +134,7 @@ stands_at word.Sub v s = s
 stands_at word.Paths v s = s
 stands_at word.Typed v s = s
 stands_at word.Filtered v s = (s.0, subst (λ (o : Option (TermText × Unit {0})). LineStands listing_form (v.1.0, (v.1.1.0, (v.1.1.1.0, o)))) (sym (with_end v.1.1.1.1)) s.1)
+stands_at word.Batch v s = s
 stands_at (word.About w) v s = s
 stands_at (word.Page w) v s = subst (λ (o : Option (TermText × Unit {0})). LineStands listing_form (v.0, (v.1.0, (v.1.1.0, o)))) (sym (with_end v.1.1.1)) s
 
@@ -141,6 +149,7 @@ said_again (Page w l) =
 said_again (Filtered x l) =
     let after : Option TermText → QueryText = λ o. Filtered x (record { goal = l.goal; max = l.max; take = l.take; after = o }) in
     ap after (without_end l.after)
+said_again (Batch ts) = refl
 
 -- THE LINE
 -- each query is read as what it is

@@ -25,16 +25,17 @@ use Rattle.cls_term.specs.TermReadings.{term_of, terms_of}
 use Rattle.cls_term.specs.TokenFaults as faults
 use Rattle.cls_term.specs.Weights.{length_of-spine}
 use Rattle.cls_term.proofs.TermFaults.{all_known}
-use Rattle.cls_query.specs.declared.query.Query.TheVariants.{Sub, Paths, Typed, About, Page, Filtered}
+use Rattle.cls_query.specs.declared.query.Query.TheVariants.{Sub, Paths, Typed, About, Page, Filtered, Batch}
 use Rattle.cls_query.specs.declared.word.GoalWord.TheVariants.{Verify}
 use Rattle.cls_query.specs.declared.word.ListingWord.{ListingWord}
 use Rattle.cls_query.specs.declared.word.ListingWord.TheVariants as listing
 use Rattle.cls_query.specs.FormAnswers.{AreInRange}
 use Rattle.cls_query.specs.Queries.{ListingText, Tables, Query, QueryText, query_words, query_parts, QueryStands, tables_of, listing_of, query_of, with_query, term_in}
-use Rattle.cls_query.specs.QueryErrors.{is_outside, is_absent, is_unknown_in_term, line_errors}
+use Rattle.cls_query.specs.QueryErrors.{is_excessive, is_absent, is_unknown_in_term, line_errors}
 use Rattle.cls_query.specs.Readable.{IsPageAsked, IsReadable, IsVerify, begins_with}
 use Rattle.cls_query.specs.ReadQueries.{ReadsQuery}
 use Rattle.cls_query.specs.Steps.{value_errors}
+use Rattle.cls_query.proofs.BatchLines.{batch_readable}
 use Rattle.cls_query.proofs.CodeForms.{both_within}
 use Rattle.cls_query.proofs.FirstErrors.{each_silent}
 use Rattle.cls_query.proofs.FormParts.{page_outside, paths_unknown, typing_in_term, cursor_in_term, cursor_within, filtered_outside, filtered_unknown, filtered_in_term, filtered_within}
@@ -42,7 +43,7 @@ use Rattle.cls_query.proofs.RowParts.{words_of_parts}
 use Rattle.cls_query.proofs.Searches.{neither, behind}
 
 -- a name of the table has a number below the table's length
-held_below : (table : List (List ℕ)) (x : List ℕ) → is_absent table x ≡ false → number_of table x < length table
+pub held_below : (table : List (List ℕ)) (x : List ℕ) → is_absent table x ≡ false → number_of table x < length table
 held_below [] x h = absurd (true≢false h)
 held_below (y ∷ ys) x h =
     (elim (bytes_eq x y) as (λ b. not (b || list_any (bytes_eq x) ys) ≡ false → cond (not b) (1 + number_of ys x) 0 < length (y ∷ ys)) [
@@ -142,7 +143,7 @@ module _ (tables : Tables) (line : List ℕ) (silent : IsSilent (First (line_err
     | inr g ↦ g
   ]
 
-  in_range : (q : QueryText) → IsLine q → list_any is_outside (query_parts q) ≡ false
+  in_range : (q : QueryText) → IsLine q → is_excessive q ≡ false
   in_range q says = false_from_ne_true _ (λ e. of_values.0 (codes "number") ((q, says, e), refl))
 
   named_known : (x : List ℕ) → IsLine (Paths x) → is_absent tables.components x ≡ false
@@ -211,6 +212,7 @@ module _ (tables : Tables) (line : List ℕ) (silent : IsSilent (First (line_err
   query_readable_in constructors variables (About word t) says = tt
   query_readable_in constructors variables (Page word l) says = page_readable word l says constructors variables tables.filters
   query_readable_in constructors variables (Filtered x l) says = (held_below tables.filters x (filter_known x l says), filtered_readable x l says constructors variables tables.filters)
+  query_readable_in constructors variables (Batch ts) says = batch_readable constructors ts (in_range (Batch ts) says)
 
 never : {A : Type 0} → (A → ⊥) → A ↔ (false ≡ true)
 never none = ((λ a. absurd (none a)), (λ h. absurd (true≢false (sym h))))
@@ -225,6 +227,7 @@ verify_begins tables (About word t) = never (λ a. a)
 verify_begins tables (Page listing.List l) = never (λ a. a)
 verify_begins tables (Page word l) = never (λ a. a)
 verify_begins tables (Filtered x l) = never (λ a. a)
+verify_begins tables (Batch ts) = never (λ a. a)
 
 -- THE QUERY
 module _ {tables : Tables} {line : List ℕ} {query : Query} {after : Tables} (r : ReadsQuery tables line query after) where

@@ -5,7 +5,7 @@ use Rattle.std.specs.Fmt.{decimal}
 use Rattle.std.specs.List.{list_any, AllByRecursion}
 use Rattle.std.proofs.lemmas.Bool.{true≢false}
 use Rattle.cls_base.specs.Firsts.{First, IsSilent}
-use Rattle.cls_lexer.specs.declared.token.TokenKind.TheVariants.{AtMost, Colon, Close, Comma}
+use Rattle.cls_lexer.specs.declared.token.TokenKind.TheVariants.{AtMost, Bar, Colon, Close, Comma}
 use Rattle.cls_lexer.specs.Names.{with_texts}
 use Rattle.cls_lexer.specs.Tokens.{byte_at}
 use Rattle.cls_lexer.specs.Words as word
@@ -13,16 +13,17 @@ use Rattle.cls_lexer.specs.Words.{Word, name, number, sign, words_of}
 use Rattle.cls_syntax.specs.declared.role.Role.TheVariants.{Variable, NewVariable}
 use Rattle.cls_syntax.specs.ClosedTypes.{HasNoDollar}
 use Rattle.cls_syntax.specs.Faults.{Says}
-use Rattle.cls_syntax.specs.Forms.{Part, fixed, naming, numeral, type_parts, term_parts, terms_parts, variables_named}
+use Rattle.cls_syntax.specs.Forms.{Part, fixed, naming, numeral, type_parts, term_parts, terms_parts, types_parts, variables_named}
 use Rattle.cls_syntax.specs.TermTexts as term
 use Rattle.cls_syntax.specs.TermTexts.{TermText, TermList}
 use Rattle.cls_syntax.specs.TypeSchemas.{is_dollar, name_text, variables_in}
-use Rattle.cls_syntax.specs.TypeTexts.{TypeText, type_words}
+use Rattle.cls_syntax.specs.TypeTexts.{TypeText, TypeList, type_words}
+use Rattle.cls_syntax.specs.TypeTexts as types
 use Rattle.cls_syntax.proofs.Dollars.{no_dollar}
 use Rattle.cls_syntax.proofs.PartNames.{type_variables}
-use Rattle.cls_query.specs.declared.query.Query.TheVariants.{Sub, Paths, Typed, About, Page, Filtered}
+use Rattle.cls_query.specs.declared.query.Query.TheVariants.{Sub, Paths, Typed, About, Page, Filtered, Batch}
 use Rattle.cls_query.specs.Queries.{Query, QueryText, Tables, tables_of, with_names, with_variables, with_query, query_of, query_words, query_parts, QueryStands}
-use Rattle.cls_query.specs.QueryErrors.{query_types, line_errors}
+use Rattle.cls_query.specs.QueryErrors.{query_types, list_of, line_errors}
 use Rattle.cls_query.specs.ReadQueries.{ReadsQuery}
 use Rattle.cls_query.proofs.ClosedTypes.{closed_query}
 use Rattle.cls_query.proofs.FirstErrors.{each_silent}
@@ -76,6 +77,10 @@ cursor_unnamed : (after : Option TermText) → variables_named (cursor_parts aft
 cursor_unnamed None = refl
 cursor_unnamed (Some e) = ap variables_named (append-nil (term_parts e)) ∙ term_unnamed e
 
+types_unnamed : (ts : TypeList) → AllByRecursion (λ t. HasNoDollar (type_words t)) (list_of ts) → variables_named (types_parts ts) ≡ []
+types_unnamed (types.last t) closed = type_unnamed t closed.0
+types_unnamed (types.more t ts) closed = none_joined (type_parts t) (sign Bar) (types_parts ts) (type_unnamed t closed.0) (types_unnamed ts closed.1)
+
 -- a query whose types have none
 query_unnamed : (q : QueryText) → AllByRecursion (λ t. HasNoDollar (type_words t)) (query_types q) → variables_named (query_parts q) ≡ []
 query_unnamed (Sub s t) closed = none_joined (type_parts s) (sign AtMost) (type_parts t ++ []) (type_unnamed s closed.0) (last_unnamed t closed.1.0)
@@ -90,6 +95,7 @@ query_unnamed (Filtered x l) closed =
     ap variables_named (split_filtered x l)
     ∙ (variables_join (type_parts l.goal) (number_parts l.max l.take ++ cursor_parts l.after)
     ∙ (λ i. type_unnamed l.goal closed.0 i ++ cursor_unnamed l.after i))
+query_unnamed (Batch ts) closed = types_unnamed ts closed
 
 -- A LINE
 module _ (tables : Tables) (line : List ℕ) (silent : IsSilent (First (line_errors tables line))) where

@@ -9,7 +9,8 @@ use Rattle.cls_lexer.specs.Numerals.{number_value}
 use Rattle.cls_syntax.specs.declared.spelled_term.SpelledTerm.{SpelledTerm}
 use Rattle.cls_syntax.specs.declared.spelled_type.SpelledType.{SpelledType}
 use Rattle.cls_syntax.specs.SpelledTerms.{term_text}
-use Rattle.cls_syntax.specs.SpelledTypes.{type_text}
+use Rattle.cls_syntax.specs.declared.spelled_types.SpelledTypes.{SpelledTypes}
+use Rattle.cls_syntax.specs.SpelledTypes.{type_text, types_text}
 use Rattle.cls_syntax.specs.TermTexts.{term_words}
 use Rattle.cls_term.specs.TokenFaults as faults
 use Rattle.cls_query.specs.declared.query.Listing as listings
@@ -21,7 +22,7 @@ abbrev pub SpelledListing : Type 0
 SpelledListing = listings.Listing SpelledType Numeral SpelledTerm
 
 abbrev pub SpelledQuery : Type 0
-SpelledQuery = queries.Query SpelledType (Bor (List ℕ)) SpelledTerm SpelledType SpelledListing
+SpelledQuery = queries.Query SpelledType (Bor (List ℕ)) SpelledTerm SpelledType SpelledListing SpelledTypes
 
 abbrev pub listing_text : SpelledListing → ListingText
 listing_text l = record {
@@ -33,7 +34,8 @@ listing_text l = record {
 
 abbrev pub query_text : SpelledQuery → QueryText
 query_text q =
-    map_query type_text (λ (x : Bor (List ℕ)). x.now) (λ (x : Bor (List ℕ)). x.now) term_text type_text listing_text q
+    map_query type_text (λ (x : Bor (List ℕ)). x.now) (λ (x : Bor (List ℕ)). x.now) term_text type_text listing_text
+    types_text q
 
 -- The number is within the range of a form that allows it up to the greatest one.
 abbrev pub IsWithin : (greatest : ℕ) → (digits : List ℕ) → Type 0

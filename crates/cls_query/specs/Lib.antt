@@ -1,4 +1,8 @@
--- Begin with QueryForms, Queries and QueryErrors.
+-- Begin with QueryForms, Queries and QueryErrors, and for changes with Changes and ChangeErrors.
+pub mod ChangeErrors
+pub mod ChangeLaws
+pub mod ChangeSteps
+pub mod Changes
 pub mod Comparisons
 pub mod FormAnswers
 pub mod Laws
@@ -6,6 +10,8 @@ pub mod Queries
 pub mod QueryErrors
 pub mod QueryForms
 pub mod QueryReading
+pub mod ReadChanges
 pub mod ReadQueries
 pub mod Readable
 pub mod Steps
+pub mod TypeCounts

@@ -1,5 +1,5 @@
 -- What a line says, in texts, and what it asks, with types, terms and numbers. Both are queries of one kind.
-use Rattle.std.specs.Prelude.{ℕ, List, ◌∷◌}
+use Rattle.std.specs.Prelude.{ℕ, List, [], ◌∷◌}
 use Rattle.std.specs.Option.{option_map}
 use Rattle.cls_base.specs.Types.{ClosedType}
 use Rattle.cls_base.specs.Terms.{Applicative}
@@ -10,11 +10,11 @@ use Rattle.cls_syntax.specs.ClosedTypes.{closed}
 use Rattle.cls_syntax.specs.Forms.{Values, Part, fixed, line_parts, line_words, LineStands, constructors_named, variables_named}
 use Rattle.cls_syntax.specs.TermTexts.{TermText}
 use Rattle.cls_syntax.specs.TypeSchemas.{type_schema}
-use Rattle.cls_syntax.specs.TypeTexts.{TypeText}
+use Rattle.cls_syntax.specs.TypeTexts.{TypeText, TypeList, last, more}
 use Rattle.cls_term.specs.TermReadings.{term_of}
 use Rattle.cls_query.specs.declared.query.Listing as listings
 use Rattle.cls_query.specs.declared.query.Query as queries
-use Rattle.cls_query.specs.declared.query.Query.TheVariants.{Sub, Paths, Typed, About, Page, Filtered}
+use Rattle.cls_query.specs.declared.query.Query.TheVariants.{Sub, Paths, Typed, About, Page, Filtered, Batch}
 use Rattle.cls_query.specs.declared.word.GoalWord.TheVariants.{Inhabit, Grammar, Audit, Certify, Verify, Finite}
 use Rattle.cls_query.specs.declared.word.ListingWord.TheVariants as listing
 use Rattle.cls_query.specs.declared.word.QueryWord.{QueryWord}
@@ -28,35 +28,37 @@ Listing = listings.Listing ClosedType ℕ Applicative
 
 -- A query with its types, terms and numbers. A component is its number, and so is a filter.
 abbrev pub Query : Type 0
-Query = queries.Query ClosedType ℕ Applicative ClosedType Listing
+Query = queries.Query ClosedType ℕ Applicative ClosedType Listing (List ClosedType)
 
 -- A listing and a query in the texts that stand in a line.
 abbrev pub ListingText : Type 0
 ListingText = listings.Listing TypeText (List ℕ) TermText
 
 abbrev pub QueryText : Type 0
-QueryText = queries.Query TypeText (List ℕ) TermText TypeText ListingText
+QueryText = queries.Query TypeText (List ℕ) TermText TypeText ListingText TypeList
 
 -- The query with other parts, each in place of its own: a component by n, and a filter by f.
 abbrev pub map_query :
-    {C N E T L C' N' E' T' L' : Type 0} → (C → C') → (n f : N → N') → (E → E') → (T → T') → (L → L')
-    → queries.Query C N E T L → queries.Query C' N' E' T' L'
-map_query c n f e t l (Sub lower upper) = Sub (c lower) (c upper)
-map_query c n f e t l (Paths component) = Paths (n component)
-map_query c n f e t l (Typed term type) = Typed (e term) (t type)
-map_query c n f e t l (About asks goal) = About asks (t goal)
-map_query c n f e t l (Page asks page) = Page asks (l page)
-map_query c n f e t l (Filtered filter page) = Filtered (f filter) (l page)
+    {C N E T L S C' N' E' T' L' S' : Type 0} → (C → C') → (n f : N → N') → (E → E') → (T → T') → (L → L') → (S → S')
+    → queries.Query C N E T L S → queries.Query C' N' E' T' L' S'
+map_query c n f e t l s (Sub lower upper) = Sub (c lower) (c upper)
+map_query c n f e t l s (Paths component) = Paths (n component)
+map_query c n f e t l s (Typed term type) = Typed (e term) (t type)
+map_query c n f e t l s (About asks goal) = About asks (t goal)
+map_query c n f e t l s (Page asks page) = Page asks (l page)
+map_query c n f e t l s (Filtered filter page) = Filtered (f filter) (l page)
+map_query c n f e t l s (Batch types) = Batch (s types)
 
 -- A LINE
 -- The word that it begins with, and what the form of the word says.
-abbrev pub word_of : {C N E T L : Type 0} → queries.Query C N E T L → QueryWord
+abbrev pub word_of : {C N E T L S : Type 0} → queries.Query C N E T L S → QueryWord
 word_of (Sub lower upper) = word.Sub
 word_of (Paths component) = word.Paths
 word_of (Typed term type) = word.Typed
 word_of (About asks goal) = word.About asks
 word_of (Page asks page) = word.Page asks
 word_of (Filtered filter page) = word.Filtered
+word_of (Batch types) = word.Batch
 
 abbrev pub listing_values : ListingText → Values listing_form
 listing_values page = (page.goal, (page.max, (page.take, option_map (λ e. (e, tt)) page.after)))
@@ -68,6 +70,7 @@ values_of (Typed term type) = (term, (type, tt))
 values_of (About asks goal) = (goal, tt)
 values_of (Page asks page) = listing_values page
 values_of (Filtered filter page) = (filter, listing_values page)
+values_of (Batch types) = types
 
 -- Its words, and its parts: the words, each with what it is for.
 abbrev pub query_words : QueryText → List Word
@@ -106,9 +109,13 @@ with_query tables said =
     tables.components tables.filters
 
 -- WHAT THE LINE ASKS
--- The type and the term that the texts spell, with the numbers of their names in the table.
+-- The type, the types and the term that the texts spell, with the numbers of their names in the table.
 abbrev pub type_in : List (List ℕ) → TypeText → ClosedType
 type_in constructors t = closed (type_schema (number_of constructors) (λ x. 0) t)
+
+abbrev pub types_in : List (List ℕ) → TypeList → List ClosedType
+types_in constructors (last t) = type_in constructors t ∷ []
+types_in constructors (more t ts) = type_in constructors t ∷ types_in constructors ts
 
 abbrev pub term_in : List (List ℕ) → TermText → Applicative
 term_in components e = term_of (number_of components) e
@@ -125,7 +132,7 @@ module _ (tables : Tables) where
   abbrev pub query_of : QueryText → Query
   query_of said =
       map_query (type_in tables.constructors) (number_of tables.components) (number_of tables.filters)
-      (term_in tables.components) (type_in tables.constructors) listing_of said
+      (term_in tables.components) (type_in tables.constructors) listing_of (types_in tables.constructors) said
 
 -- THE QUERIES BY THEIR WORDS
 abbrev pub sub : (lower upper : ClosedType) → Query
@@ -163,3 +170,6 @@ texts page = Page listing.Texts page
 
 abbrev pub filtered : (filter : ℕ) → Listing → Query
 filtered filter page = Filtered filter page
+
+abbrev pub batch : List ClosedType → Query
+batch types = Batch types

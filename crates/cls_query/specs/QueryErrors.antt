@@ -1,5 +1,5 @@
 -- The errors that the line of a query and the tables of names decide, in the order in which they are tested.
-use Rattle.std.specs.Prelude.{ℕ, ◌≡◌, ◌<◌, Bool, true, false, not, ◌&&◌, nat_le, nat_lt, List, [], ◌∷◌, ◌++◌, length, codes, IsUtf8, Some, position, find}
+use Rattle.std.specs.Prelude.{ℕ, suc, ◌≡◌, ◌<◌, Bool, true, false, not, ◌&&◌, nat_le, nat_lt, List, [], ◌∷◌, ◌++◌, length, codes, IsUtf8, Some, position, find}
 use Rattle.std.specs.Fmt.{decimal}
 use Rattle.std.specs.List.{list_any}
 use Rattle.std.specs.Str.{bytes_eq}
@@ -16,7 +16,8 @@ use Rattle.cls_syntax.specs.SyntaxFaults.{IsTooDeep, LeavesAt}
 use Rattle.cls_syntax.specs.TypeSchemas.{is_dollar}
 use Rattle.cls_syntax.specs.TypeTexts.{TypeText, TypeList, last, more, type_nodes}
 use Rattle.std.specs.Prelude.{None}
-use Rattle.cls_query.specs.QueryForms.{form_of}
+use Rattle.cls_query.specs.declared.query.Query.TheVariants.{Batch}
+use Rattle.cls_query.specs.QueryForms.{form_of, max_batch_types}
 use Rattle.cls_query.specs.Queries.{QueryText, Tables, word_of, values_of, query_words, query_parts, QueryStands}
 
 -- The types of a line in turn.
@@ -51,6 +52,16 @@ abbrev pub is_outside : Part → Bool
 is_outside (numeral least greatest digits) =
     not (nat_le least (number_value digits) && nat_le (number_value digits) greatest)
 is_outside _ = false
+
+-- The number of the types.
+abbrev pub count_types : TypeList → ℕ
+count_types (last t) = 1
+count_types (more t ts) = suc (count_types ts)
+
+-- The query has a number outside the range that the form gives it, or more types than a batch may have.
+abbrev pub is_excessive : QueryText → Bool
+is_excessive (Batch ts) = nat_lt max_batch_types (count_types ts)
+is_excessive said = list_any is_outside (query_parts said)
 
 -- The name isn't in the table.
 abbrev pub is_absent : List (List ℕ) → List ℕ → Bool
@@ -102,7 +113,7 @@ module _ (line : List ℕ) where
       × (t ≡ codes "variable " ++ decimal (byte_at line place))
 
   abbrev pub out_of_range : Cause (List ℕ)
-  out_of_range t = IsQuery (λ said. list_any is_outside (query_parts said) ≡ true) × (t ≡ codes "number")
+  out_of_range t = IsQuery (λ said. is_excessive said ≡ true) × (t ≡ codes "number")
 
   module _ (components : List (List ℕ)) where
     -- The first name of that kind is this one, with this role.

@@ -3,13 +3,13 @@ use Rattle.std.specs.Prelude.{ℕ, List, [], ◌∷◌, codes}
 use Rattle.cls_base.specs.Limits.{max_term_size, max_page_terms}
 use Rattle.cls_lexer.specs.declared.token.TokenKind.TheVariants.{Colon, AtMost}
 use Rattle.cls_syntax.specs.declared.role.Role.TheVariants.{Component, Filter}
-use Rattle.cls_syntax.specs.Forms.{Form, nothing, ◌⨾◌, perhaps, the_word, the_sign, a_name, a_number, a_type, a_term}
+use Rattle.cls_syntax.specs.Forms.{Form, nothing, ◌⨾◌, perhaps, types, the_word, the_sign, a_name, a_number, a_type, a_term}
 use Rattle.cls_query.specs.declared.word.GoalWord.{GoalWord}
 use Rattle.cls_query.specs.declared.word.GoalWord.TheVariants.{Inhabit, Grammar, Audit, Certify, Verify, Finite}
 use Rattle.cls_query.specs.declared.word.ListingWord.{ListingWord}
 use Rattle.cls_query.specs.declared.word.ListingWord.TheVariants as listing
 use Rattle.cls_query.specs.declared.word.QueryWord.{QueryWord}
-use Rattle.cls_query.specs.declared.word.QueryWord.TheVariants.{Sub, Paths, Typed, Filtered, About, Page}
+use Rattle.cls_query.specs.declared.word.QueryWord.TheVariants.{Sub, Paths, Typed, Filtered, Batch, About, Page}
 
 -- THE WORDS
 abbrev pub goal_word_text : GoalWord → List ℕ
@@ -29,6 +29,7 @@ word_text Sub = codes "sub"
 word_text Paths = codes "paths"
 word_text Typed = codes "typed"
 word_text Filtered = codes "filtered"
+word_text Batch = codes "batch"
 word_text (About word) = goal_word_text word
 word_text (Page word) = listing_word_text word
 
@@ -72,11 +73,20 @@ listing_form =
 abbrev pub filtered_form : Form
 filtered_form = a_name Filter ⨾ listing_form
 
+-- TYPE | TYPE ..
+abbrev pub batch_form : Form
+batch_form = types
+
+-- the most types that a batch may have
+abbrev pub max_batch_types : ℕ
+max_batch_types = 64
+
 -- what follows the word
 abbrev pub form_of : QueryWord → Form
 form_of Sub = comparison_form
 form_of Paths = component_form
 form_of Typed = typing_form
 form_of Filtered = filtered_form
+form_of Batch = batch_form
 form_of (About word) = goal_form
 form_of (Page word) = listing_form

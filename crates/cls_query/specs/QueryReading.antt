@@ -11,7 +11,7 @@ use Rattle.cls_query.specs.declared.query.Query.TheVariants as query
 use Rattle.cls_query.specs.declared.word.GoalWord.{GoalWord}
 use Rattle.cls_query.specs.declared.word.ListingWord.{ListingWord}
 use Rattle.cls_query.specs.declared.word.QueryWord.{QueryWord}
-use Rattle.cls_query.specs.declared.word.QueryWord.TheVariants.{Sub, Paths, Typed, Filtered, About, Page}
+use Rattle.cls_query.specs.declared.word.QueryWord.TheVariants.{Sub, Paths, Typed, Filtered, Batch, About, Page}
 use Rattle.cls_query.specs.FormAnswers.{SpelledQuery, query_text}
 use Rattle.cls_query.specs.QueryForms.{goal_word_text, listing_word_text, word_text, goal_words, listing_words, listing_form, form_of}
 use Rattle.cls_query.specs.Queries.{ListingText, QueryText}
@@ -46,7 +46,8 @@ query_front ws =
     (or_later Paths (item_front (the_word (word_text Paths)) ws)
     (or_later Typed (item_front (the_word (word_text Typed)) ws)
     (or_later Filtered (item_front (the_word (word_text Filtered)) ws)
-    (either_front (goal_front ws) (listing_front ws)))))
+    (or_later Batch (item_front (the_word (word_text Batch)) ws)
+    (either_front (goal_front ws) (listing_front ws))))))
 
 -- WHAT FOLLOWS IT
 abbrev pub listing_at : Values listing_form → ListingText
@@ -58,6 +59,7 @@ query_at Sub v = query.Sub v.0 v.1.0
 query_at Paths v = query.Paths v.0
 query_at Typed v = query.Typed v.0 v.1.0
 query_at Filtered v = query.Filtered v.0 (listing_at v.1)
+query_at Batch v = query.Batch v
 query_at (About word) v = query.About word v.0
 query_at (Page word) v = query.Page word (listing_at v)
 

@@ -1,5 +1,6 @@
 -- What the reader of queries answers.
-use Rattle.std.specs.Prelude.{ℕ, ◌≡◌, List, ◌++◌, Option, Some, None, codes}
+use Rattle.std.specs.Prelude.{ℕ, ◌≡◌, List, ◌++◌, Option, Some, None, Vec, codes, map}
+use Rattle.std.specs.Global.{Global}
 use Rattle.std.specs.Fmt.{decimal}
 use Rattle.cls_base.specs.declared.ty.Name.{Name}
 use Rattle.cls_base.specs.declared.ty.Ty.{Ty}
@@ -28,6 +29,7 @@ fault_words faults.TooManyNodes = Some (codes "nodes")
 fault_words (faults.Variable byte) = Some (codes "variable " ++ decimal byte)
 fault_words faults.OutOfRange = Some (codes "number")
 fault_words (faults.UnknownName text) = Some (codes "unknown " ++ text.now)
+fault_words (faults.Duplicate text) = Some (codes "duplicate " ++ text.now)
 fault_words (faults.UnknownInTerm byte) = Some (codes "token " ++ decimal byte)
 fault_words faults.OutOfMemory = None
 
@@ -36,13 +38,15 @@ abbrev pub BuiltListing : Type 0
 BuiltListing = listings.Listing Ty ℕ Applicative
 
 abbrev pub BuiltQuery : Type 0
-BuiltQuery = queries.Query MeasuredTy Name Applicative Ty BuiltListing
+BuiltQuery = queries.Query MeasuredTy Name Applicative Ty BuiltListing (Vec Ty Global)
 
 abbrev pub listing_of : BuiltListing → Listing
 listing_of l = record { goal = type_of l.goal; max = l.max; take = l.take; after = l.after }
 
 abbrev pub asked_of : BuiltQuery → Query
-asked_of q = map_query measured_type (λ (x : Name). x.0) (λ (x : Name). x.0) (λ (e : Applicative). e) type_of listing_of q
+asked_of q =
+    map_query measured_type (λ (x : Name). x.0) (λ (x : Name). x.0) (λ (e : Applicative). e) type_of listing_of
+    (λ (types : Vec Ty Global). map type_of types.items) q
 
 -- No error is said of the line, it asks this query, and these are the tables with its names.
 pub record ReadsQuery (tables : Tables) (line : List ℕ) (query : Query) (after : Tables) : Type 0 where

@@ -1,16 +1,20 @@
 //! Types, terms and numbers in place of the texts of a query.
-ghost use Rattle.std.specs.Prelude.{◌≡◌, false, [], IfOk, OnOk, OnErr};
-ghost use Rattle.std.specs.List.{AllByRecursion, list_any};
+ghost use Rattle.std.specs.Prelude.{◌≡◌, false, [], IfOk, OnOk, OnErr, map};
+ghost use Rattle.std.specs.List.{AllByRecursion};
 ghost use Rattle.std.specs.Option.{option_map};
 ghost use Rattle.cls_base.specs.Ty.{type_of};
+ghost use Rattle.cls_lexer.specs.declared.token.TokenKind.TheVariants.{Bar};
+ghost use Rattle.cls_lexer.specs.Names.{with_texts};
 ghost use Rattle.cls_syntax.specs.ClosedTypes.{HasNoDollar};
+ghost use Rattle.cls_syntax.specs.Forms.{types_parts, constructors_named};
 ghost use Rattle.cls_syntax.specs.MeasuredTypes.{measured_type};
-ghost use Rattle.cls_syntax.specs.SpelledTypes.{type_text, words_in};
+ghost use Rattle.cls_syntax.specs.SpelledTypes.{type_text, types_text, words_in};
+ghost use Rattle.cls_syntax.specs.TypeLists.{types_words};
 ghost use Rattle.cls_syntax.specs.TypeSchemas.{with_constructors};
 ghost use Rattle.cls_syntax.specs.TypeTexts.{type_words};
 ghost use Rattle.cls_query.specs.FormAnswers.{AreInRange, listing_text, query_text, term_spelled, spelled_in};
-ghost use Rattle.cls_query.specs.Queries.{query_parts, tables_of, with_names, type_in, listing_of, query_of};
-ghost use Rattle.cls_query.specs.QueryErrors.{query_types, is_outside};
+ghost use Rattle.cls_query.specs.Queries.{query_parts, tables_of, with_names, type_in, types_in, listing_of, query_of};
+ghost use Rattle.cls_query.specs.QueryErrors.{query_types, is_excessive};
 ghost use Rattle.cls_query.specs.ReadQueries.{asked_of};
 ghost use Rattle.cls_query.specs.ReadQueries as answers;
 
@@ -18,7 +22,7 @@ use crate::checks::numbers;
 use crate::query::{BuiltListing, BuiltQuery, Listing, Query, SpelledListing, SpelledQuery};
 use cls_base::{OutOfMemory, Ty};
 use cls_lexer::Names;
-use cls_syntax::{MeasuredTy, SpelledType};
+use cls_syntax::{MeasuredTy, SpelledType, SpelledTypes};
 use cls_term::{CodedTerm, Term};
 use std::alloc::Global;
 
@@ -33,7 +37,7 @@ pub(crate) fn build(
     term: Option<CodedTerm>,
 ) -> Result<BuiltQuery, OutOfMemory>
     requires closed { AllByRecursion (λ t. HasNoDollar (type_words t)) (query_types (query_text query.now)) }
-    requires in_range { list_any is_outside (query_parts (query_text query.now)) ≡ false }
+    requires in_range { is_excessive (query_text query.now) ≡ false }
     requires term { term ≡ option_map (spelled_in components.now) (term_spelled query.now) }
     ensures query { IfOk result (λ built. asked_of built
         ≡ query_of (tables_of constructors.new [] components.now filters.now) (query_text query.now)) }
@@ -64,6 +68,10 @@ pub(crate) fn build(
             let page = page(alloc, constructors, spelled, term)?;
             Ok(Query::Filtered(filters.number(name), page))
         }
+        Query::Batch(spelled) => {
+            let types = all_types(alloc, constructors, spelled)?;
+            Ok(Query::Batch(types))
+        }
     }
 }
 
@@ -78,6 +86,30 @@ fn closed(alloc: Global, constructors: &mut Names, spelled: &SpelledType) -> Res
 {
     let ty = spelled.ty(alloc, constructors)?;
     Ok(ty)
+}
+
+/// The types that are spelled. Their names are numbered in the order of their tokens. The only error is out of
+/// memory, and leaves the table as before.
+fn all_types(
+    alloc: Global,
+    constructors: &mut Names,
+    spelled: &SpelledTypes,
+) -> Result<Vec<Ty>, OutOfMemory>
+    requires { HasNoDollar (types_words Bar (types_text spelled.now)) }
+    ensures types { IfOk result (λ types.
+        map type_of types.items ≡ types_in constructors.new (types_text spelled.now)) }
+    ensures constructors { OnOk result (constructors.new
+        ≡ with_texts constructors.old (constructors_named (types_parts (types_text spelled.now)))) }
+    ensures stay { OnErr result (constructors.new ≡ constructors.old) }
+{
+    let before = constructors.len();
+    match spelled.types(alloc, constructors) {
+        Ok(types) => Ok(types),
+        Err(fault) => {
+            constructors.cut(before);
+            Err(fault)
+        }
+    }
 }
 
 /// The term as a tree, if there is one. The only error is out of memory.

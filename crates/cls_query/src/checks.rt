@@ -9,21 +9,22 @@ ghost use Rattle.cls_syntax.specs.ClosedTypes.{HasNoDollar};
 ghost use Rattle.cls_syntax.specs.Faults.{Says};
 ghost use Rattle.cls_syntax.specs.Forms.{naming};
 ghost use Rattle.cls_syntax.specs.SpelledTerms.{term_text};
-ghost use Rattle.cls_syntax.specs.SpelledTypes.{type_text};
+ghost use Rattle.cls_syntax.specs.SpelledTypes.{type_text, types_text};
 ghost use Rattle.cls_syntax.specs.TermTexts.{term_words};
 ghost use Rattle.cls_term.specs.TokenFaults as faults;
 ghost use Rattle.cls_query.specs.FormAnswers.{IsWithin, AreInRange, query_text, term_spelled, spelled_in, place_behind};
 ghost use Rattle.cls_query.specs.Queries.{query_words, query_parts, QueryStands};
-ghost use Rattle.cls_query.specs.QueryErrors.{query_types, is_large, is_outside, is_absent, is_unknown, is_unknown_in_term};
+ghost use Rattle.cls_query.specs.QueryErrors.{query_types, list_of, is_large, is_excessive, is_absent, is_unknown, is_unknown_in_term};
 ghost use Rattle.cls_query.specs.Steps.{type_errors, value_errors, Tests};
 
 use crate::fault::LineFault;
 use crate::greatest::greatest;
 use crate::line::CutLine;
 use crate::query::{Query, SpelledListing, SpelledQuery};
+use crate::type_count::has_too_many_types;
 use cls_base::limits::{MAX_PAGE_TERMS, MAX_TERM_SIZE};
 use cls_lexer::{Names, Numeral};
-use cls_syntax::{SpelledTerm, SpelledType, first_variable};
+use cls_syntax::{SpelledTerm, SpelledType, SpelledTypes, first_variable};
 use cls_term::{CodedTerm, first_unknown, spelled_term};
 use std::alloc::Global;
 
@@ -56,10 +57,10 @@ pub(crate) fn check_values<'t, 'a>(
 ) -> Result<Option<CodedTerm>, LineFault<'a>>
     requires { Says query_words QueryStands (query_text query.now) (words_of line.now.text.now) }
     ensures tested { Tests (value_errors line.now.text.now components.now filters.now) result }
-    ensures in_range { OnOk result (list_any is_outside (query_parts (query_text query.now)) ≡ false) }
+    ensures in_range { OnOk result (is_excessive (query_text query.now) ≡ false) }
     ensures term { IfOk result (λ term. term ≡ option_map (spelled_in components.now) (term_spelled query.now)) }
 {
-    if is_outside(query) {
+    if is_excessive(query, line) {
         return Err(LineFault::OutOfRange);
     }
     if let Some(name) = unknown(query, components, filters) {
@@ -102,7 +103,15 @@ fn has_large_type(query: &SpelledQuery) -> bool
         Query::About(_, goal) => is_large(goal),
         Query::Page(_, listing) => has_large_goal(listing),
         Query::Filtered(_, listing) => has_large_goal(listing),
+        Query::Batch(types) => has_large_among(types),
     }
+}
+
+/// Whether one of the types has too many nodes.
+fn has_large_among(types: &SpelledTypes) -> bool
+    ensures { result ≡ list_any is_large (list_of (types_text types.now)) }
+{
+    !types.are_small()
 }
 
 /// Whether the type of the listing has too many nodes.
@@ -112,9 +121,10 @@ fn has_large_goal(listing: &SpelledListing) -> bool
     is_large(&listing.goal)
 }
 
-/// Whether one of the numbers of the query isn't in its range.
-fn is_outside(query: &SpelledQuery) -> bool
-    ensures { result ≡ list_any is_outside (query_parts (query_text query.now)) }
+/// Whether one of the numbers of the query isn't in its range, or it is a batch of too many types.
+fn is_excessive(query: &SpelledQuery, line: &CutLine) -> bool
+    requires { Says query_words QueryStands (query_text query.now) (words_of line.now.text.now) }
+    ensures { result ≡ is_excessive (query_text query.now) }
 {
     match query {
         Query::Sub(..) => false,
@@ -123,6 +133,7 @@ fn is_outside(query: &SpelledQuery) -> bool
         Query::About(..) => false,
         Query::Page(_, listing) => numbers(listing).is_none(),
         Query::Filtered(_, listing) => numbers(listing).is_none(),
+        Query::Batch(_) => has_too_many_types(line.tokens),
     }
 }
 
@@ -138,11 +149,12 @@ fn unknown<'a>(query: &SpelledQuery<'_, 'a>, components: &Names, filters: &Names
         Query::About(..) => None,
         Query::Page(..) => None,
         Query::Filtered(name, _) => absent(filters, name),
+        Query::Batch(_) => None,
     }
 }
 
 /// The name, if it isn't in the table.
-fn absent<'a>(table: &Names, name: &'a str) -> Option<&'a str>
+pub(crate) fn absent<'a>(table: &Names, name: &'a str) -> Option<&'a str>
     ensures { MatchOption result (is_absent table.now name.now ≡ false)
         (λ absent. (is_absent table.now name.now ≡ true) × (absent.now ≡ name.now)) }
 {
@@ -164,6 +176,7 @@ fn unknown_in_term(query: &SpelledQuery, components: &Names, count: usize) -> Op
         Query::About(..) => None,
         Query::Page(_, listing) => unknown_in_cursor(components, &listing.after, count),
         Query::Filtered(_, listing) => unknown_in_cursor(components, &listing.after, count),
+        Query::Batch(_) => None,
     }
 }
 

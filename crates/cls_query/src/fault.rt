@@ -24,10 +24,14 @@ pub enum LineFault<'a> {
     /// The first `$` of the line is at this byte.
     Variable(u32),
     /// A number of a listing is 0, or greater than [`MAX_TERM_SIZE`](cls_base::limits::MAX_TERM_SIZE) behind `max` or
-    /// [`MAX_PAGE_TERMS`](cls_base::limits::MAX_PAGE_TERMS) behind `take`.
+    /// [`MAX_PAGE_TERMS`](cls_base::limits::MAX_PAGE_TERMS) behind `take`. Or a batch has more than
+    /// [`MAX_BATCH_TYPES`](crate::MAX_BATCH_TYPES) types.
     OutOfRange,
-    /// There is no component of this name, whose paths are asked for, or no filter of this name.
+    /// There is no component of this name, whose paths are asked for or which is to be dropped, or no filter of this
+    /// name.
     UnknownName(&'a str),
+    /// There is a component of this name, which is to be added.
+    Duplicate(&'a str),
     /// The name at this byte is the first one in a term that is no component.
     UnknownInTerm(u32),
     /// No memory was found.
@@ -59,10 +63,8 @@ impl LineFault<'_> {
             LineFault::TooManyNodes => text.push_str("nodes")?,
             LineFault::Variable(byte) => write_numbered(text, "variable ", *byte)?,
             LineFault::OutOfRange => text.push_str("number")?,
-            LineFault::UnknownName(name) => {
-                text.push_str("unknown ")?;
-                text.push_str(name)?;
-            }
+            LineFault::UnknownName(name) => write_named(text, "unknown ", name)?,
+            LineFault::Duplicate(name) => write_named(text, "duplicate ", name)?,
             LineFault::UnknownInTerm(byte) => write_numbered(text, "token ", *byte)?,
             LineFault::OutOfMemory => return Err(OutOfMemory),
         }
@@ -77,5 +79,14 @@ fn write_numbered(text: &mut String, word: &str, number: u32) -> Result<(), OutO
     let mut buffer = Buffer::new();
     text.push_str(word)?;
     text.push_str(buffer.format(number))?;
+    Ok(())
+}
+
+/// Writes the word and the name at the end.
+fn write_named(text: &mut String, word: &str, name: &str) -> Result<(), OutOfMemory>
+    ensures { OnOk result (string_bytes text.new ≡ string_bytes text.old ++ (word.now ++ name.now)) }
+{
+    text.push_str(word)?;
+    text.push_str(name)?;
     Ok(())
 }

@@ -13,7 +13,7 @@ use crate::word::{QueryWord, query_word};
 use cls_lexer::{Token, TokenKind};
 use cls_syntax::{
     Role, SpelledTerm, SpelledType, Stop, end_at, name_at, number_at, sign_at, term_at, type_at,
-    word_at,
+    types_at, word_at,
 };
 
 /// Reads a query.
@@ -54,6 +54,10 @@ fn query_after<'t, 'a>(
         QueryWord::Filtered => {
             let (filter, page) = filtered(tokens)?;
             Ok(Query::Filtered(filter, page))
+        }
+        QueryWord::Batch => {
+            let types = types_at(tokens)?;
+            Ok(Query::Batch(types))
         }
         QueryWord::About(asks) => {
             let goal = goal(tokens)?;

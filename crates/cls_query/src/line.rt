@@ -54,7 +54,7 @@ impl<'t, 'a> CutLine<'t, 'a> {
     }
 
     /// The fault of a line that is no query any more there.
-    fn left_at(&self, stop: &Stop) -> LineFault<'a>
+    pub(crate) fn left_at(&self, stop: &Stop) -> LineFault<'a>
         ensures { fault_words result
             ≡ Some (place_words (stop.now.wants_name && begins_reserved (words stop.now.rest.now))
             (byte_at self.now.text.now (length self.now.tokens.now - length stop.now.rest.now))) }

@@ -82,7 +82,7 @@ fn by_form<'a>(
 }
 
 /// The line as a text.
-fn text_of<'a>(line: &'a Line) -> Result<&'a str, LineFault<'a>>
+pub(crate) fn text_of<'a>(line: &'a Line) -> Result<&'a str, LineFault<'a>>
     ensures same { IfOk result (λ text. text.now ≡ line.now) }
     ensures text { OnOk result (IsText line.now) }
     ensures tested { Tests (text_errors line.now) result }

@@ -43,6 +43,8 @@ pub enum QueryWord {
     Typed,
     /// The name of a filter and a listing follow.
     Filtered,
+    /// Types follow, with `|` between them.
+    Batch,
     /// A type follows.
     About(GoalWord),
     /// A listing follows.
@@ -65,6 +67,9 @@ pub(crate) fn query_word<'t, 'a>(tokens: &'t [Token<'a>]) -> Option<(QueryWord, 
     }
     if let Ok(rest) = word_at(tokens, "filtered") {
         return Some((QueryWord::Filtered, rest));
+    }
+    if let Ok(rest) = word_at(tokens, "batch") {
+        return Some((QueryWord::Batch, rest));
     }
     match goal_word(tokens) {
         Some((word, rest)) => Some((QueryWord::About(word), rest)),

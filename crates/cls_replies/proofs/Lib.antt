@@ -1,6 +1,8 @@
 pub mod Asking
+pub mod Changing
 pub mod Counting
 pub mod Faulting
+pub mod FirstWords
 pub mod Holding
 pub mod Keeping
 pub mod LastLines

@@ -3,12 +3,13 @@ use Rattle.std.specs.Prelude.{ℕ, List, [], ◌∷◌, ◌++◌, codes, Option,
 use Rattle.std.specs.Fmt.{decimal}
 use Rattle.cls_base.specs.Firsts.{Cause}
 use Rattle.cls_enum.specs.Requests.{request}
-use Rattle.cls_query.specs.declared.query.Query.TheVariants.{Sub, Paths, Typed, About, Page, Filtered}
+use Rattle.cls_query.specs.declared.query.Query.TheVariants.{Sub, Paths, Typed, About, Page, Filtered, Batch}
 use Rattle.cls_query.specs.declared.word.GoalWord.TheVariants.{Verify}
 use Rattle.cls_query.specs.Queries.{Query}
 use Rattle.cls_proof.specs.declared.proof_fault.ProofFault.{ProofFault}
 use Rattle.cls_proof.specs.declared.proof_fault.ProofFault.TheVariants as proof
 use Rattle.cls_engine.specs.declared.fault.EngineFault.{EngineFault}
+use Rattle.cls_engine.specs.Batches.{batch_faults}
 use Rattle.cls_engine.specs.Faults.{compare_faults, closure_faults, list_faults, filter_faults}
 use Rattle.cls_replies.specs.Responder.{Responder, filter_in}
 
@@ -24,6 +25,7 @@ faults_of s (Page word q) =
 faults_of s (Filtered f q) =
     filter_faults s.engine.library s.engine.options q.goal (filter_in s f)
     (request s.engine.costs q.after q.max q.take)
+faults_of s (Batch ts) = batch_faults s.engine.library s.engine.options ts
 
 -- The words of what is wrong with the lines of a certificate. Out of memory has none.
 abbrev pub proof_words : ProofFault → Option (List ℕ)

@@ -1,4 +1,5 @@
 pub mod Answering
+pub mod Changing
 pub mod Errors
 pub mod LineKinds
 pub mod Lines

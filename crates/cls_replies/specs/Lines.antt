@@ -1,7 +1,8 @@
 -- How the lines after a repository are answered, one after another.
 use Rattle.std.specs.Prelude.{ℕ, ◌≡◌, List, [], ◌∷◌, ◌++◌}
 use Rattle.cls_lexer.specs.Skipped.{IsSkipped}
-use Rattle.cls_replies.specs.LineKinds.{Opens, IsQed, IsSingle}
+use Rattle.cls_replies.specs.Changing.{Changed}
+use Rattle.cls_replies.specs.LineKinds.{Opens, IsQed, IsSingle, Changes}
 use Rattle.cls_replies.specs.Responder.{Responder, holding}
 use Rattle.cls_replies.specs.Answering.{Answered, Verified}
 
@@ -10,6 +11,7 @@ pub data Goes (s : Responder) (line text : List ℕ) (s' : Responder) : Type 0 w
   -- outside of a certificate
   skips : s.held ≡ [] → IsSkipped line → text ≡ [] → s' ≡ s → Goes s line text s'
   asks : s.held ≡ [] → IsSingle line → Answered s line text s' → Goes s line text s'
+  changes : s.held ≡ [] → Changes line → Changed s line text s' → Goes s line text s'
   opens : s.held ≡ [] → Opens line → text ≡ [] → s' ≡ holding s (line ∷ []) → Goes s line text s'
   -- inside of one that the line `first` opened
   holds : (first : List ℕ) (inside : List (List ℕ)) → s.held ≡ first ∷ inside → (IsQed line → ⊥) → text ≡ []

@@ -16,19 +16,20 @@ use Rattle.cls_library.specs.Libraries.{Library, below_in, variances_in, paths_a
 use Rattle.cls_library.specs.Typing.{HasTypeIn}
 use Rattle.cls_proof.specs.Certificates.{Certificate}
 use Rattle.cls_proof.specs.Texts.{certificate_text}
-use Rattle.cls_query.specs.declared.query.Query.TheVariants.{Sub, Paths, Typed, About, Page, Filtered}
+use Rattle.cls_query.specs.declared.query.Query.TheVariants.{Sub, Paths, Typed, About, Page, Filtered, Batch}
 use Rattle.cls_query.specs.declared.word.GoalWord.TheVariants as word
 use Rattle.cls_query.specs.declared.word.ListingWord.TheVariants as listing
 use Rattle.cls_query.specs.Queries.{Listing, Query}
 use Rattle.cls_syntax.specs.TypePrinting.{name_in}
 use Rattle.cls_term.specs.Costs.{cost_of}
 use Rattle.cls_term.specs.Texts.{name_at}
+use Rattle.cls_engine.specs.Batches.{AreVerdicts}
 use Rattle.cls_engine.specs.Certified.{IsCertified}
 use Rattle.cls_engine.specs.Goals.{Goal, IsClosed}
 use Rattle.cls_engine.specs.Histories.{IsHistoryOf}
 use Rattle.cls_engine.specs.Sizes.{IsGreatest, IsGreatestOver, IsUnbounded, IsWalk}
 use Rattle.cls_replies.specs.Responder.{Responder, filter_in}
-use Rattle.cls_replies.specs.Texts.{reply_line, paths_text, history_text, sizes_text, term_line, term_lines, page_text}
+use Rattle.cls_replies.specs.Texts.{reply_line, paths_text, history_text, sizes_text, batch_text, term_line, term_lines, page_text}
 
 -- One of two lines, by whether the fact holds.
 abbrev pub Says : Type 0 → (so not_so text : List ℕ) → Type 0
@@ -85,3 +86,4 @@ module _ (s : Responder) where
   Reply (Page listing.List q) text = Lists q (term_line (name_at s.components)) text
   Reply (Page listing.Texts q) text = Lists q (term_lines (name_at s.components) s.templates) text
   Reply (Filtered f q) text = ListsFiltered f q (term_line (name_at s.components)) text
+  Reply (Batch ts) text = (says : List Bool) × AreVerdicts s.engine.library ts says × (text ≡ batch_text says)

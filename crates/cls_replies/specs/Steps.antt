@@ -6,7 +6,7 @@ use Rattle.cls_query.specs.Readable.{IsReadable}
 use Rattle.cls_engine.specs.declared.fault.EngineFault.{EngineFault}
 use Rattle.cls_engine.specs.declared.fault.EngineFault.TheVariants.{OutOfMemory}
 use Rattle.cls_replies.specs.declared.certificates.LineKind.{LineKind}
-use Rattle.cls_replies.specs.declared.certificates.LineKind.TheVariants.{Skipped, Opening, Single}
+use Rattle.cls_replies.specs.declared.certificates.LineKind.TheVariants.{Skipped, Opening, Changing, Single}
 use Rattle.cls_replies.specs.declared.printing.Printing.{Printing}
 use Rattle.cls_replies.specs.declared.responder.Held.{Held}
 use Rattle.cls_base.specs.Pages.{IsPage}
@@ -14,7 +14,7 @@ use Rattle.cls_enum.specs.Requests.{request}
 use Rattle.cls_enum.specs.declared.listed.Page.{Page}
 use Rattle.cls_filter.specs.Automata.{Accepts}
 use Rattle.cls_library.specs.Typing.{HasTypeIn}
-use Rattle.cls_replies.specs.LineKinds.{Opens, IsSingle}
+use Rattle.cls_replies.specs.LineKinds.{Opens, IsSingle, Changes}
 use Rattle.cls_replies.specs.Answering.{Answers, Verified}
 use Rattle.cls_replies.specs.Printing.{left_of}
 use Rattle.cls_replies.specs.Responder.{Responder, holding, filter_in}
@@ -35,6 +35,7 @@ Concludes s (first ∷ inside) text s' = Verified (holding s []) first inside te
 abbrev pub IsOfKind : List ℕ → LineKind → Type 0
 IsOfKind line Skipped = IsSkipped line
 IsOfKind line Opening = Opens line
+IsOfKind line Changing = Changes line
 IsOfKind line Single = IsSingle line
 
 -- the query can be read by the tables of names of what answers it

@@ -67,6 +67,13 @@ sizes_text (Finite n) = reply_line (codes "finite " ++ decimal n)
 sizes_text Over = reply_line (codes "finite over")
 sizes_text (Infinite walk) = reply_line (codes "infinite") ++ flat_map step_line walk ++ reply_line (codes "done")
 
+-- the line of a type, by whether some term has it; one for each type, and `done`
+abbrev pub inhabited_line : Bool → List ℕ
+inhabited_line inhabited = reply_line (if inhabited then codes "inhabited" else codes "uninhabited")
+
+abbrev pub batch_text : List Bool → List ℕ
+batch_text says = flat_map inhabited_line says ++ reply_line (codes "done")
+
 -- the line of a term
 abbrev pub term_line : (name : ℕ → List ℕ) → Applicative → List ℕ
 term_line name e = reply_line (codes "term " ++ text_of name e)

@@ -1,8 +1,9 @@
 //! The lines of errors.
-ghost use Rattle.std.specs.Prelude.{◌≡◌, Some, IfOk, string_bytes};
+ghost use Rattle.std.specs.Prelude.{◌≡◌, ◌++◌, Some, IfOk, codes, string_bytes};
 ghost use Rattle.std.specs.Option.{option_map};
 ghost use Rattle.cls_query.specs.ReadQueries as queries;
 ghost use Rattle.cls_engine.specs.declared.fault.EngineFault.TheVariants.{Wide};
+ghost use Rattle.cls_repo.specs.EndFaults.{library_words};
 ghost use Rattle.cls_replies.specs.Errors.{proof_words};
 ghost use Rattle.cls_replies.specs.Steps.{IsFaultLine};
 ghost use Rattle.cls_replies.specs.Texts.{error_line};
@@ -10,10 +11,12 @@ ghost use Rattle.cls_replies.specs.Texts.{error_line};
 use cls_base::OutOfMemory;
 use cls_engine::EngineFault;
 use cls_lexer::Names;
+use cls_library::LibraryKind;
 use cls_norm::type_of;
 use cls_path::Nf;
 use cls_proof::ProofFault;
 use cls_query::LineFault;
+use cls_repo::refusal_words;
 use cls_syntax::write_type;
 use std::alloc::Global;
 
@@ -36,6 +39,23 @@ pub(crate) fn proof_fault(alloc: Global, fault: &ProofFault) -> Result<String, O
         ProofFault::NoQed => Ok(String::from_str(alloc, "error no-qed\n")?),
         ProofFault::OutOfMemory => Err(OutOfMemory),
     }
+}
+
+/// The refusal of a component that is to be added, likewise: by the names of variables and the name of the component.
+pub(crate) fn refusal(
+    alloc: Global,
+    variables: &Names,
+    component: &str,
+    kind: LibraryKind,
+) -> Result<String, OutOfMemory>
+    ensures { IfOk result (λ text. option_map (λ words. error_line (codes "refused " ++ words))
+        (library_words variables.now component.now kind) ≡ Some (string_bytes text)) }
+{
+    let words = refusal_words(alloc, variables, component, kind)?;
+    let mut text = String::from_str(alloc, "error refused ")?;
+    text.push_str(words.as_str())?;
+    text.push('\n')?;
+    Ok(text)
 }
 
 /// The error of the engine, likewise. It takes the fault, so that the proofs of its callers have one case for it.

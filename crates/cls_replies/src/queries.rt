@@ -1,5 +1,5 @@
 //! The replies to queries: what the engine answers, in lines.
-ghost use Rattle.std.specs.Prelude.{◌≡◌, ◌<◌, ◌^◌, All, length, IfOk, IfErr, OnOk, OnErr, string_bytes};
+ghost use Rattle.std.specs.Prelude.{◌≡◌, ◌<◌, ◌≤◌, ◌^◌, All, length, map, IfOk, IfErr, OnOk, OnErr, string_bytes};
 ghost use Rattle.cls_base.specs.Firsts.{First, IsSilent};
 ghost use Rattle.cls_base.specs.Terms.{IsTermOver};
 ghost use Rattle.cls_base.specs.Ty.{type_of};
@@ -7,7 +7,8 @@ ghost use Rattle.cls_syntax.specs.MeasuredTypes.{measured_type};
 ghost use Rattle.cls_proof.specs.Seen.{certificate_of};
 ghost use Rattle.cls_check.specs.Verdicts.{rows_in};
 ghost use Rattle.cls_query.specs.declared.query.Query.TheVariants as queries;
-ghost use Rattle.cls_query.specs.Queries.{sub, typed, inhabit, grammar, audit, certify, finite, list, texts, filtered};
+ghost use Rattle.cls_query.specs.Queries.{sub, typed, inhabit, grammar, audit, certify, finite, list, texts, filtered, batch};
+ghost use Rattle.cls_query.specs.QueryForms.{max_batch_types};
 ghost use Rattle.cls_query.specs.Readable.{IsPageAsked, IsVerify};
 ghost use Rattle.cls_query.specs.ReadQueries.{listing_of, asked_of};
 ghost use Rattle.cls_engine.specs.Faults.{IsFaultOf};
@@ -16,6 +17,7 @@ ghost use Rattle.cls_replies.specs.Errors.{faults_of};
 ghost use Rattle.cls_replies.specs.Printing.{IsPrintable, left_of};
 ghost use Rattle.cls_replies.specs.Steps.{IsAnswerTo, IsPageOf, IsFilteredPageOf, IsReadableBy};
 
+use crate::batches::batch_lines;
 use crate::faults::engine_fault;
 use crate::printing::{
     Printing, certificate_printing, fault_printing, grammar_printing, history_printing,
@@ -55,6 +57,7 @@ impl Responder {
             Query::About(asks, ty) => self.about(host, *asks, ty),
             Query::Page(asks, listing) => self.show(host, *asks, listing),
             Query::Filtered(filter, listing) => self.filtered(host, *filter, listing),
+            Query::Batch(types) => text_printing(self.batch(host, types.as_slice())),
         }
     }
 
@@ -302,6 +305,23 @@ impl Responder {
         let by = self.filters.filter(filter.0);
         self.engine
             .filtered(host, goal, by, after.as_ref(), *max, *take)
+    }
+
+    fn batch<R: Threads + Wait + Sync, G: Gate + Sync>(
+        &mut self,
+        host: &Host<R, G>,
+        types: &[Ty],
+    ) -> Result<String, OutOfMemory>
+        requires some { 1 ≤ length types.now }
+        requires few { length types.now ≤ max_batch_types }
+        ensures answers { IfOk result (λ text.
+            Answers self.old (batch (map type_of types.now)) (string_bytes text) self.old) }
+        ensures same { self.new ≡ self.old }
+    {
+        match self.engine.batch(host, types) {
+            Ok(says) => batch_lines(self.empty_text(host.alloc), says),
+            Err(fault) => engine_fault(host.alloc, &self.names, fault),
+        }
     }
 
     /// What is written for a certificate of the goal.

@@ -45,7 +45,7 @@ pub struct Responder {
     pub(crate) names: Names,
     pub(crate) variables: Names,
     pub(crate) components: Names,
-    kinds: Kinds,
+    pub(crate) kinds: Kinds,
     pub(crate) templates: Templates,
     pub(crate) filter_names: Names,
     pub(crate) filters: Filters,
@@ -210,6 +210,7 @@ impl Responder {
                 });
                 Ok(Printing::nothing())
             }
+            LineKind::Changing => self.change(host.alloc, &line, room),
             LineKind::Single => self.ask(host, &line, room),
         }
     }

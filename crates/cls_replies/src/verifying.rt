@@ -61,5 +61,6 @@ fn verified(query: BuiltQuery) -> Ty
         Query::Typed(..) => unreachable!(),
         Query::Page(..) => unreachable!(),
         Query::Filtered(..) => unreachable!(),
+        Query::Batch(_) => unreachable!(),
     }
 }

@@ -24,6 +24,15 @@ pub(crate) fn says(
     Ok(text)
 }
 
+/// The line of one word.
+pub(crate) fn word_line(alloc: Global, word: &str) -> Result<String, OutOfMemory>
+    ensures { IfOk result (λ text. string_bytes text ≡ reply_line word.now) }
+{
+    let mut text = String::from_str(alloc, word)?;
+    text.push('\n')?;
+    Ok(text)
+}
+
 /// What is found of a certificate.
 pub(crate) fn verdict_line(alloc: Global, verdict: Verdict) -> Result<String, OutOfMemory>
     ensures { IfOk result (λ text. string_bytes text ≡ verdict_text verdict) }

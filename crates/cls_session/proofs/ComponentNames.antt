@@ -14,7 +14,7 @@ use Rattle.cls_repo.specs.LineFaults.{directive_faults, line_faults}
 use Rattle.cls_repo.specs.Readings.{Reading, Takes, skipped, declares, TakesAll}
 
 -- one text more, which is new
-distinct_push : (xs : List (List ℕ)) (x : List ℕ) → IsDistinct bytes_eq xs → (Contains xs x → ⊥) → IsDistinct bytes_eq (xs ++ x ∷ [])
+pub distinct_push : (xs : List (List ℕ)) (x : List ℕ) → IsDistinct bytes_eq xs → (Contains xs x → ⊥) → IsDistinct bytes_eq (xs ++ x ∷ [])
 unfolding IsDistinct
 distinct_push [] x d n = (tt, tt)
 distinct_push (y ∷ xs) x d n = (

@@ -1,4 +1,4 @@
-use Rattle.std.proofs.Common.{sym, ap, ◌∙◌, subst}
+use Rattle.std.proofs.Common.{map, sym, ap, ◌∙◌, subst}
 use Rattle.std.specs.List.{AllByRecursion}
 use Rattle.std.specs.Option.{option_map}
 use Rattle.cls_base.specs.Ty.{type_of}
@@ -8,6 +8,7 @@ use Rattle.cls_query.specs.FormAnswers.{SpelledQuery, query_text, term_spelled, 
 use Rattle.cls_query.specs.QueryErrors.{query_types}
 use Rattle.cls_query.specs.ReadQueries.{listing_of}
 use Rattle.cls_query.proofs.CodeForms.{page_outside_is, both_within, sub_named, typed_named, about_named, page_named, filtered_outside_is, filtered_named, typed_means, about_means, page_means, filtered_means}
+use Rattle.cls_query.proofs.BatchLines.{batch_closed, batch_means, batch_named}
 use Rattle.cls_query.proofs.Searches.{some_or}
 use Rattle.cls_query.proofs.build.build.Goals as goal
 
@@ -75,3 +76,13 @@ returns-in_ok-page-in-Filtered-clause-query c =
 
 pub returns-in_ok-page-in-Filtered-clause-constructors : goal.returns-in_ok-page-in-Filtered-clause-constructors
 returns-in_ok-page-in-Filtered-clause-constructors c = c.in_ok-page-in-Filtered.ensures.constructors ∙ filtered_named c.args.constructors.now c.in-Filtered.is
+
+pub all_types-requires : goal.all_types-requires
+all_types-requires c = batch_closed _ (subst AreClosed c.in-Batch.is c.requires.closed)
+
+pub returns-in_ok-types-in-Batch-clause-query : goal.returns-in_ok-types-in-Batch-clause-query
+returns-in_ok-types-in-Batch-clause-query c =
+    batch_means _ c.args.components.now c.args.filters.now c.in-Batch.is (map type_of c.in_ok-types-in-Batch.types.items) c.in_ok-types-in-Batch.ensures.types
+
+pub returns-in_ok-types-in-Batch-clause-constructors : goal.returns-in_ok-types-in-Batch-clause-constructors
+returns-in_ok-types-in-Batch-clause-constructors c = c.in_ok-types-in-Batch.ensures.constructors ∙ batch_named c.args.constructors.now c.in-Batch.is

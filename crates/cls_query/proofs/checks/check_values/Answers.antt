@@ -17,7 +17,7 @@ use Rattle.cls_query.proofs.checks.check_values.Goals as goal
 
 pub returns-in-Some-clause-tested : goal.returns-in-Some-clause-tested
 returns-in-Some-clause-tested c =
-    let inside = sym c.is_outside.ensures ∙ c.if-is_outside.false in
+    let inside = sym c.is_excessive.ensures ∙ c.if-is_excessive.false in
     unknown_said c.args.line.now.text.now (query_text c.args.query.now) c.requires c.args.components.now c.args.filters.now inside _ _ c.in-Some.ensures.1
 
 pub unknown_in_term-requires : goal.unknown_in_term-requires
@@ -28,7 +28,7 @@ unknown_in_term-requires c =
 pub returns-in-Some-unknown_in_term-clause-tested : goal.returns-in-Some-unknown_in_term-clause-tested
 returns-in-Some-unknown_in_term-clause-tested c =
     let line = c.args.line.now.text.now in
-    let inside = sym c.is_outside.ensures ∙ c.if-is_outside.false in
+    let inside = sym c.is_excessive.ensures ∙ c.if-is_excessive.false in
     let none = match_none _ _ c.unknown.result c.in_default.not-Some c.unknown.ensures in
     subst (λ (b : ℕ). First (value_errors line c.args.components.now c.args.filters.now) (codes "token " ++ decimal b)) (sym c.byte.ensures)
     (term_said line (query_text c.args.query.now) c.requires c.args.components.now c.args.filters.now inside none c.in-Some-unknown_in_term.place (sym c.unknown_in_term.ensures ∙ c.in-Some-unknown_in_term.is))
@@ -36,7 +36,7 @@ returns-in-Some-unknown_in_term-clause-tested c =
 pub returns-in_default-term-clause-tested : goal.returns-in_default-term-clause-tested
 returns-in_default-term-clause-tested c =
     let placed = form_held c.args.components.now c.args.query.now None (sym c.term.ensures ∙ c.in_default-term.is) tt in
-    let inside = sym c.is_outside.ensures ∙ c.if-is_outside.false in
+    let inside = sym c.is_excessive.ensures ∙ c.if-is_excessive.false in
     let none = match_none _ _ c.unknown.result c.in_default.not-Some c.unknown.ensures in
     values_silent c.args.line.now.text.now (query_text c.args.query.now) c.requires c.args.components.now c.args.filters.now inside none placed
 
@@ -44,12 +44,12 @@ pub returns-then-greatest-len-clause-tested : goal.returns-then-greatest-len-cla
 returns-then-greatest-len-clause-tested c =
     let below : greatest_of (spelled_in c.args.components.now c.in-Some-term.spelled) < length c.args.components.now = omega (arith, c.if-greatest-len.true, c.greatest.ensures, c.len.ensures.count, ap greatest_of c.in_ok-term.ensures) in
     let placed = form_held c.args.components.now c.args.query.now (Some c.in-Some-term.spelled) (sym c.term.ensures ∙ c.in-Some-term.is) below in
-    let inside = sym c.is_outside.ensures ∙ c.if-is_outside.false in
+    let inside = sym c.is_excessive.ensures ∙ c.if-is_excessive.false in
     let none = match_none _ _ c.unknown.result c.in_default.not-Some c.unknown.ensures in
     values_silent c.args.line.now.text.now (query_text c.args.query.now) c.requires c.args.components.now c.args.filters.now inside none placed
 
 pub returns-clause-tested : goal.returns-clause-tested
 returns-clause-tested c =
-    let inside = sym c.is_outside.ensures ∙ c.if-is_outside.false in
+    let inside = sym c.is_excessive.ensures ∙ c.if-is_excessive.false in
     let none = match_none _ _ c.unknown.result c.in_default.not-Some c.unknown.ensures in
     values_silent c.args.line.now.text.now (query_text c.args.query.now) c.requires c.args.components.now c.args.filters.now inside none (sym c.unknown_in_term.ensures ∙ c.in-None.is)

@@ -3,6 +3,7 @@ use Rattle.std.specs.Prelude.{◌||◌}
 use Rattle.cls_syntax.specs.SpelledTypes.{type_text}
 use Rattle.cls_query.specs.QueryErrors.{is_large}
 use Rattle.cls_query.proofs.CodeForms.{sub_large, typed_large, about_large, page_large, filtered_large}
+use Rattle.cls_query.proofs.BatchLines.{batch_large}
 use Rattle.cls_query.proofs.checks.has_large_type.Goals as goal
 
 pub returns-then-is_large : goal.returns-then-is_large
@@ -26,3 +27,6 @@ returns-in-Page c = c.has_large_goal.ensures ∙ sym (page_large c.in-Page.is)
 
 pub returns-in-Filtered : goal.returns-in-Filtered
 returns-in-Filtered c = c.has_large_goal-in-Filtered.ensures ∙ sym (filtered_large c.in-Filtered.is)
+
+pub returns-in-Batch : goal.returns-in-Batch
+returns-in-Batch c = c.has_large_among.ensures ∙ sym (batch_large c.in-Batch.is)

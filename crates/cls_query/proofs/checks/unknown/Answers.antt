@@ -6,6 +6,7 @@ use Rattle.cls_query.specs.FormAnswers.{SpelledQuery, query_text}
 use Rattle.cls_query.specs.Queries.{query_parts}
 use Rattle.cls_query.specs.QueryErrors.{is_unknown}
 use Rattle.cls_query.proofs.CodeForms.{sub_known, typed_known, about_known, listing_known, filter_known, filter_unknown}
+use Rattle.cls_query.proofs.BatchLines.{batch_named_known}
 use Rattle.cls_query.proofs.FormParts.{paths_unknown, paths_known}
 use Rattle.cls_query.proofs.Searches.{match_weaker}
 use Rattle.cls_query.proofs.checks.unknown.Goals as goal
@@ -24,6 +25,9 @@ returns-in-About c = about_known c.args.components.now c.args.filters.now c.in-A
 
 pub returns-in-Page : goal.returns-in-Page
 returns-in-Page c = listing_known c.args.components.now c.args.filters.now c.in-Page.is
+
+pub returns-in-Batch : goal.returns-in-Batch
+returns-in-Batch c = batch_named_known c.args.components.now c.args.filters.now c.in-Batch.is
 
 pub returns-in-Paths : goal.returns-in-Paths
 returns-in-Paths c =

@@ -1,5 +1,6 @@
 use Rattle.std.proofs.Common.{sym, ◌∙◌, arith}
 use Rattle.cls_query.proofs.CodeForms.{sub_placed, typed_placed, about_placed, page_placed, filtered_placed, typed_fits, page_fits, filtered_fits}
+use Rattle.cls_query.proofs.BatchLines.{batch_placed}
 use Rattle.cls_query.proofs.checks.unknown_in_term.Goals as goal
 
 pub unknown_behind-requires : goal.unknown_behind-requires
@@ -25,3 +26,6 @@ returns-in-Page c = c.unknown_in_cursor.ensures ∙ page_placed c.args.component
 
 pub returns-in-Filtered : goal.returns-in-Filtered
 returns-in-Filtered c = c.unknown_in_cursor-in-Filtered.ensures ∙ filtered_placed c.args.components.now c.in-Filtered.is c.args.count c.requires
+
+pub returns-in-Batch : goal.returns-in-Batch
+returns-in-Batch c = batch_placed c.args.components.now c.in-Batch.is

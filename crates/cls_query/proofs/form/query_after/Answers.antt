@@ -30,6 +30,10 @@ pub returns-in_err-filter-in-Filtered : goal.returns-in_err-filter-in-Filtered
 returns-in_err-filter-in-Filtered c =
     subst (λ (w : QueryWord). Gives (query_after w (words c.args.tokens.now)) c.from_residual-in_err-filter-in-Filtered.result) (sym c.in-Filtered.is) (search rules)
 
+pub returns-in_err-types-in-Batch : goal.returns-in_err-types-in-Batch
+returns-in_err-types-in-Batch c =
+    subst (λ (w : QueryWord). Gives (query_after w (words c.args.tokens.now)) c.from_residual-in_err-types-in-Batch.result) (sym c.in-Batch.is) (search rules)
+
 pub returns-in_err-goal-in-About : goal.returns-in_err-goal-in-About
 returns-in_err-goal-in-About c =
     subst (λ (w : QueryWord). Gives (query_after w (words c.args.tokens.now)) c.from_residual-in_err-goal-in-About.result) (sym c.in-About.is) (search rules)
@@ -51,6 +55,9 @@ pub returns-in_ok-filter-in-Filtered : goal.returns-in_ok-filter-in-Filtered
 returns-in_ok-filter-in-Filtered c =
     let ws = words c.args.tokens.now in
     ap (λ (w : QueryWord). query_after w ws) c.in-Filtered.is ∙ filtered_read c.in_ok-filter-in-Filtered.filter c.in_ok-filter-in-Filtered.page ws c.in_ok-filter-in-Filtered.ensures
+
+pub returns-in_ok-types-in-Batch : goal.returns-in_ok-types-in-Batch
+returns-in_ok-types-in-Batch c = by_form c.args.word (words c.args.tokens.now) c.in-Batch.is c.in_ok-types-in-Batch.ensures
 
 pub returns-in_ok-goal-in-About : goal.returns-in_ok-goal-in-About
 returns-in_ok-goal-in-About c = by_form c.args.word (words c.args.tokens.now) c.in-About.is c.in_ok-goal-in-About.ensures

@@ -1,10 +1,11 @@
 use Rattle.std.proofs.Common.{◌≡◌, ℕ, List, [], ◌∷◌, true, false, Option, Some, ap, sym, ◌∙◌, codes, slice_get}
-use Rattle.std.specs.Prelude.{Err}
-use Rattle.cls_lexer.specs.Words.{Word, words_of, word_of, omega, name, number, sign}
+use Rattle.std.specs.Prelude.{◌||◌, is_ok}
+use Rattle.std.proofs.lemmas.Bool.{true≢false}
+use Rattle.cls_lexer.specs.Words.{Word, words_of, word_of}
 use Rattle.cls_syntax.specs.Fronts.{is_word}
-use Rattle.cls_syntax.specs.Forms.{the_word}
-use Rattle.cls_syntax.specs.LineReading.{item_front}
+use Rattle.cls_query.specs.Changes.{begins_change}
 use Rattle.cls_query.specs.Readable.{begins_with}
+use Rattle.cls_replies.proofs.FirstWords.{another}
 use Rattle.cls_replies.proofs.certificates.kind_of.Goals as goal
 
 -- the first of the words alone decides
@@ -12,15 +13,23 @@ by_first : (x : List ℕ) (w : Word) (ws : List Word) → ◌≡◌ {A = Option 
 by_first x w [] e = absurd cc
 by_first x w (v ∷ ws) e = let same : w ≡ v = cc in ap (is_word x) (sym same)
 
--- a word that isn't taken is another one
-another : (x : List ℕ) (w : Word) (s : _) → item_front (the_word x) (w ∷ []) ≡ Err s → is_word x w ≡ true → ⊥
-another x omega s e h = absurd cc
-another x (name text) s e h = let f = rw h at e in absurd cc
-another x (number digits) s e h = absurd cc
-another x (sign kind) s e h = absurd cc
+change_by_first : (w : Word) (ws : List Word) → ◌≡◌ {A = Option Word} (Some w) (slice_get ws 0) → begins_change ws ≡ begins_change (w ∷ [])
+change_by_first w ws e = λ j. by_first (codes "add") w ws e j || by_first (codes "drop") w ws e j
 
-pub returns-in-Err-word_at : goal.returns-in-Err-word_at
-returns-in-Err-word_at c =
+pub returns-then-begins_change : goal.returns-then-begins_change
+returns-then-begins_change c =
+    let same = rw c.in-Ok-Some.field-0-is at c.in-Ok-Some.ensures.same in
+    let line = c.args.line.now in
+    record {
+      text = c.content.ensures.ok.0 (ap is_ok c.in-Ok-Some.is);
+      begins =
+          ap (λ (l : List ℕ). begins_change (words_of l)) (sym same)
+          ∙ (change_by_first (word_of c.in-Some.first) (words_of c.in-Ok-Some.text.now) c.in-Some.ensures.word
+          ∙ (sym c.begins_change.ensures ∙ c.if-begins_change.true));
+    }
+
+pub returns-else-begins_change : goal.returns-else-begins_change
+returns-else-begins_change c =
     let same = rw c.in-Ok-Some.field-0-is at c.in-Ok-Some.ensures.same in
     let skips = rw c.in-Ok-Some.field-0-is at c.in-Ok-Some.ensures.skipped in
     record {
@@ -28,4 +37,8 @@ returns-in-Err-word_at c =
       closed = λ opens. another (codes "verify") (word_of c.in-Some.first) _ c.in-Err-word_at.ensures
           (sym (by_first (codes "verify") (word_of c.in-Some.first) (words_of c.in-Ok-Some.text.now) c.in-Some.ensures.word)
           ∙ (ap (λ (line : List ℕ). begins_with (codes "verify") (words_of line)) same ∙ opens.begins));
+      unchanging = λ changes. true≢false (sym changes.begins
+          ∙ (ap (λ (l : List ℕ). begins_change (words_of l)) (sym same)
+          ∙ (change_by_first (word_of c.in-Some.first) (words_of c.in-Ok-Some.text.now) c.in-Some.ensures.word
+          ∙ (sym c.begins_change.ensures ∙ c.if-begins_change.false))));
     }

@@ -13,6 +13,6 @@ invariant_of-self c =
       in_range = i.in_range;
       costly = i.costly;
       kept = i.kept;
-      known = more-known c.self.inside.expander.library c.self.inside.options c.self.inside.recents.kept.items i.known c.args.grammar new c.put.new.self.kept.items c.put.ensures;
+      known = more-known c.self.inside.library c.self.inside.options c.self.inside.recents.kept.items i.known c.args.grammar new c.put.new.self.kept.items c.put.ensures;
       decided = i.decided;
     }

@@ -1,6 +1,6 @@
-use Rattle.cls_engine.proofs.Deciding.{outcome-at}
+use Rattle.cls_engine.proofs.Deciding.{verdict-at}
 use Rattle.cls_engine.proofs.outcomes.Outcomes.verdict.Goals as goal
 
 pub returns : goal.returns
 returns c =
-    outcome-at c.args.self.now.kept.items c.in_ok-place.place c.args.goal.now c.in_ok-place.ensures c.index.result.now c.index.ensures c.verdict.result c.verdict.ensures
+    verdict-at c.args.self.now.kept.items c.in_ok-place.place c.args.goal.now c.in_ok-place.ensures c.index.result.now c.index.ensures c.verdict.result c.verdict.ensures

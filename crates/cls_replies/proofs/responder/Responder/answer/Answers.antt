@@ -1,5 +1,9 @@
-use Rattle.std.proofs.Common.{List, ℕ, refl, rules}
-use Rattle.std.specs.Prelude.{IfOk}
+use Rattle.std.proofs.Common.{List, ℕ, length, map, ap, refl, rules, subst, arith}
+use Rattle.std.specs.Prelude.{IfOk, string_bytes}
+use Rattle.std.proofs.lemmas.List.{length-map}
+use Rattle.cls_base.specs.Ty.{type_of}
+use Rattle.cls_base.specs.declared.ty.Ty.{Ty}
+use Rattle.cls_query.specs.Queries.{batch}
 use Rattle.cls_query.specs.ReadQueries.{asked_of}
 use Rattle.cls_replies.specs.Answering.{Answers}
 use Rattle.cls_replies.specs.Answering as answering
@@ -65,4 +69,23 @@ returns-in-Filtered g c =
     let q = asked_of c.args.query.now in
     let told : IfOk c.filtered.result (IsAnswerTo s q) = rw c.in-Filtered.is c.filtered.ensures.answers in
     let k = kept c.filtered.result s c.filtered.new.self q c.filtered.ensures.same told c.filtered.ensures.printable in
+    record { answers = k.0; printable = k.1; same_held = k.2; unchanged = k.3 }
+
+pub batch-requires-clause-some : goal.batch-requires-clause-some
+batch-requires-clause-some g c =
+    let readable = (rw c.in-Batch.is at c.requires.readable).0 in
+    omega (arith, readable, length-map c.as_slice.result.now type_of, ap (λ (ts : List Ty). length (map type_of ts)) c.as_slice.ensures.value)
+
+pub batch-requires-clause-few : goal.batch-requires-clause-few
+batch-requires-clause-few g c =
+    let readable = (rw c.in-Batch.is at c.requires.readable).1 in
+    omega (arith, readable, length-map c.as_slice.result.now type_of, ap (λ (ts : List Ty). length (map type_of ts)) c.as_slice.ensures.value)
+
+pub returns-in-Batch : goal.returns-in-Batch
+returns-in-Batch g c =
+    let s = c.args.self.now in
+    let q = asked_of c.args.query.now in
+    let asked = subst (λ (ts : List Ty). IfOk c.batch.result (λ text. Answers s (batch (map type_of ts)) (string_bytes text) s)) c.as_slice.ensures.value c.batch.ensures.answers in
+    let told : IfOk c.text_printing-in-Batch.result (IsAnswerTo s q) = printing_as c.batch.result c.text_printing-in-Batch.result s (λ (t : List ℕ). Answers s q t s) c.text_printing-in-Batch.ensures.text (rw c.in-Batch.is asked) in
+    let k = kept c.text_printing-in-Batch.result s c.batch.new.self q c.batch.ensures.same told (c.text_printing-in-Batch.ensures.printable s) in
     record { answers = k.0; printable = k.1; same_held = k.2; unchanged = k.3 }

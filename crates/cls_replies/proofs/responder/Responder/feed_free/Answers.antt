@@ -2,7 +2,8 @@ use Rattle.std.proofs.Common.{Some, refl, subst}
 use Rattle.std.proofs.lemmas.Result.{IfOk-weaker}
 use Rattle.cls_lexer.specs.Skipped.{IsSkipped}
 use Rattle.cls_replies.specs.Answering.{Answered}
-use Rattle.cls_replies.specs.LineKinds.{IsSingle}
+use Rattle.cls_replies.specs.Changing.{Changed}
+use Rattle.cls_replies.specs.LineKinds.{IsSingle, Changes}
 use Rattle.cls_replies.specs.Lines.{Goes}
 use Rattle.cls_replies.specs.Lines as lines
 use Rattle.cls_replies.specs.Printing.{left_of}
@@ -30,3 +31,10 @@ returns-in-Single-clause-goes g c =
     let new = c.ask.new.self in
     IfOk-weaker c.ask.result (λ p. Answered c.args.self.now c.args.line (left_of new p) new) (λ p. Goes c.args.self.now c.args.line (left_of new p) new)
     (λ p a. lines.Goes.asks c.requires single a) c.ask.ensures.answered
+
+pub returns-in-Changing-clause-goes : goal.returns-in-Changing-clause-goes
+returns-in-Changing-clause-goes g c =
+    let changing : Changes c.args.line = subst (IsOfKind c.args.line) c.in-Changing.is c.in_ok-kind_of.ensures in
+    let new = c.change.new.self in
+    IfOk-weaker c.change.result (λ p. Changed c.args.self.now c.args.line (left_of new p) new) (λ p. Goes c.args.self.now c.args.line (left_of new p) new)
+    (λ p a. lines.Goes.changes c.requires changing a) c.change.ensures.changed
