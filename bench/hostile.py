@@ -89,7 +89,7 @@ def repeated_queries() -> Iterator[Case]:
     yield Case("two goals of 204,800 rules of 32 arguments, in turn", two, "uninhabited", 2.5, 220, MOST_RULES, open_seconds=3)
     two = make.dense() + "inhabit n0\ninhabit n1\n" * 50
     yield Case("two goals of 244,800 rules, 50 times in turn", two, "inhabited", 1, 60, MOST_RULES)
-    yield Case("100 times finite of 244,800 rules", make.dense() + "finite n0\n" * 100, "done", 0.8, 60, MOST_RULES, open_seconds=2)
+    yield Case("100 times finite of 244,800 rules", make.dense() + "finite n0\n" * 100, "done", 0.8, 60, MOST_RULES)
 
 
 def libraries() -> Iterator[Case]:
@@ -103,7 +103,7 @@ def heads_and_covers() -> Iterator[Case]:
     yield Case("inhabit, 500 goals of the head of 65,536 paths", make.goals_of_one_head(16, 500), "uninhabited", 1, 60)
     yield Case("inhabit, 5,000 goals of a head of 65,536 arrows", make.goals_of_arrows(16, 5_000), "uninhabited", 0.3, 40)
     yield Case("typed, 20 times 32 arguments of a head of 16,384", make.arguments_of_one_head(4, 20), "yes", 3, 40)
-    yield Case("a page of 1,000 texts by 300,000 holes each", make.many_holes(1_000), "more", 0.6, 40, MOST_TERMS, open_seconds=2)
+    yield Case("a page of 1,000 texts by 300,000 holes each", make.many_holes(1_000), "more", 0.6, 40, MOST_TERMS)
 
 
 def least_run(program: str, case: Case) -> Run:

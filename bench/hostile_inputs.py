@@ -183,8 +183,19 @@ def many_goals(components: int = 19) -> str:
 
 def wide() -> str:
     """The same with one goal that is wide."""
+    return many_goals() + wide_goal("X") + "end\n"
+
+
+def wide_goal(reached_from: str) -> str:
     type = meet(f"(A -> W{pair}) & (B -> W{pair})" for pair in range(11))
-    return many_goals() + f"comp w : {type}\ncomp v : ({meet(numbered('W', 11))}) -> X\nend\n"
+    return f"comp w : {type}\ncomp v : ({meet(numbered('W', 11))}) -> {reached_from}\n"
+
+
+def shared_goals(components: int = 4, has_wide: bool = False) -> str:
+    """64 types, asked at once, whose closures share 1,024 goals for each component. The last one may have a wide goal too."""
+    types = numbered("Y", 64)
+    leading = "".join(f"comp d{number} : X -> {type}\n" for number, type in enumerate(types))
+    return many_goals(components) + leading + (wide_goal(types[-1]) if has_wide else "") + f"end\nbatch {' | '.join(types)}\n"
 
 
 def two_large_goals(components: int, arguments: int = 32) -> str:

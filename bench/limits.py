@@ -153,6 +153,8 @@ def of_goals() -> Iterator[Input]:
         yield Input(goals, "of 341 long names, `inhabit`", partial(make.long_goals, "inhabit", components), options)
         yield Input(goals, "the same, `grammar`", partial(make.long_goals, "grammar", components), options)
         yield Input(goals, "the same, `certify`", partial(make.long_goals, "certify", components), options)
+    yield Input("64 types of a batch", "they share 4,098 goals", make.shared_goals)
+    yield Input("64 types of a batch", "the same, and the last has a wide goal", lambda: make.shared_goals(has_wide=True))
     yield Input("`error too-large`", "5,000 goals", lambda: make.too_large() + "inhabit X\n")
     yield Input("`error too-large`", "20,000 goals", lambda: make.too_large() + "inhabit X\n", "--max-goals 20000")
 

@@ -43,6 +43,7 @@ SESSION = [
     Asked(b"# a comment\n", b""),
     Asked(b"typed f(x) : List(Int)\n", b"yes\n"),
     Asked(b"inhabit Str\n", b"uninhabited\n"),
+    Asked(b"batch Nat | List(Str) | Nat\n", b"inhabited\nuninhabited\ninhabited\ndone\n"),
     Asked(b"list Nat max 4 take 2\n", b"term x\nterm g(f(x))\ndone\n"),
     Asked(b"list Nat max 4 take 1 after x\n", b"term g(f(x))\ndone\n"),
     Asked(b"texts List(Nat) max 2 take 1\n", b"term f(x)\ntext 3\n[x]\ndone\n"),
@@ -62,6 +63,13 @@ SESSION = [
     Asked(b"inhabit\n", b"error syntax 7\n"),
     Asked(b"typed h(x) : Nat\n", b"error token 6\n"),
     Asked(b"filtered g Nat max 4 take 2\n", b"error unknown g\n"),
+    Asked(b"add h : Nat -> Str\n", b"added\n"),
+    Asked(b"add x : Str\n", b"error duplicate x\n"),
+    Asked(b"add k : $b\n", b"error refused variable b\n"),
+    Asked(b"list Str max 5 take 1\n", b"term h(x)\nmore\n"),
+    Asked(b"drop g\n", b"dropped\n"),
+    Asked(b"drop g\n", b"error unknown g\n"),
+    Asked(b"list Str max 5 take 1\n", b"term h(x)\ndone\n"),
 ]
 
 INPUT = REPOSITORY + b"".join(asked.lines for asked in SESSION)

@@ -60,9 +60,9 @@ QUERY_CUTS = [
     (33, 34, "error syntax {length}\n"),
 ]
 
-# The last line of a reply to the front of a query, and the whole of such a reply. No front is answered `inhabited`.
-LAST_LINE = rb"(?:error .*|yes|no|uninhabited|done|more|qed|finite \d+)\n"
-ONE_REPLY = re.compile(rb"(?:(?!" + LAST_LINE + rb").*\n)*" + LAST_LINE)
+# The last line of a reply to the front of a query, and the whole of such a reply. No front is answered `inhabited` alone.
+LAST_LINE = rb"(?:error .*|yes|no|uninhabited|done|more|qed|finite \d+|added|dropped)\n"
+ONE_REPLY = re.compile(rb"(?:(?:un)?inhabited\n)+done\n|(?:(?!" + LAST_LINE + rb").*\n)*" + LAST_LINE)
 SOME_REPLY = b"some reply\n"
 
 

@@ -85,6 +85,10 @@ QUERIES = [
         "w       A w A",
     ),
     (
+        "batch a | b ( c ) & omega | d",
+        "w     A w C w a W w A     w A",
+    ),
+    (
         "grammar a",
         "w       A",
     ),
@@ -115,6 +119,14 @@ QUERIES = [
     (
         "filtered F a * b max 2 take 3 after x",
         "w        n a w a w   d w    D w     N",
+    ),
+    (
+        "add f : $ a -> a ( $ b ) & c",
+        "w   n w c N w  C w c n W w A",
+    ),
+    (
+        "drop f",
+        "w    N",
     ),
 ]
 

@@ -19,6 +19,7 @@ class Answers(unittest.IsolatedAsyncioTestCase):
                 self.assertEqual(await lists.paths("sort"), other.paths("sort"))
                 self.assertTrue(await lists.has_type("sort(input)", "Asc"))
                 self.assertFalse(await lists.inhabited("List(Str)"))
+                self.assertEqual(await lists.batch(["Asc", "List(Str)"]), other.batch(["Asc", "List(Str)"]))
                 self.assertEqual(await lists.page("Asc", 3, max_size=4, after="input"), other.page("Asc", 3, max_size=4, after="input"))
                 self.assertEqual(await lists.text_page("Asc", 3), other.text_page("Asc", 3))
                 self.assertEqual(await lists.grammar("Asc"), other.grammar("Asc"))
@@ -35,6 +36,12 @@ class Answers(unittest.IsolatedAsyncioTestCase):
             wanted = terms("x", "f(x)", "g(x)", "f(g(x))", "g(f(x))", "g(g(x))")
             self.assertEqual(await trees.filtered_page("once", "A", 2), clsynth.Page(wanted[:2], True))
             self.assertEqual([term async for term in trees.filtered("once", "A", max_size=3, page_size=2)], wanted)
+
+    async def test_components_come_and_go(self) -> None:
+        async with AsyncSession(CHAIN, program=PROGRAM) as chain:
+            await chain.add("y", "A")
+            await chain.drop("f")
+            self.assertEqual([term async for term in chain.terms("A")], terms("x", "y"))
 
     async def test_values(self) -> None:
         numbers = Repository()

@@ -30,7 +30,8 @@ ASKED: list[Query[Any]] = [
     queries.inhabited("Late"), queries.grammar("Third & Early & Late"), queries.certify("Early & Late & List(Str)"), queries.inhabited("Desc &"),
     queries.page("Desc", 7), queries.text_page("List(Int) & Desc", 3), queries.paths("sort"), queries.paths("nothing"),
     queries.has_type("rev(sort(input))", "Desc"), queries.is_subtype("A & B", "B"), queries.sizes("Asc"), queries.grammar("Early & Late & Later"),
-    queries.verify("Early", "empty\nmember Early\nqed"), queries.verify("Late", "empty\nqed"),
+    queries.verify("Early", "empty\nmember Early\nqed"), queries.verify("Late", "empty\nqed"), queries.batch(["Third"] * 65),
+    queries.batch(["Fourth", "Desc", "Fifth"]), queries.grammar("Third & Fifth & Fourth"),
 ]
 
 
@@ -49,6 +50,19 @@ def one_session(asked: list[Query[Any]]) -> list[Any]:
 def answers_of(executor: Executor, asked: list[Query[Any]], **options: Any) -> list[Any]:
     found = map_queries(executor, LISTS, asked, program=PROGRAM, **options)
     return [repr(answer) if isinstance(answer, clsynth.QueryError) else answer for answer in found]
+
+
+class Changes(unittest.TestCase):
+    def test_they_are_asked_of_one_session(self) -> None:
+        for query in (queries.add("y", "A"), queries.drop("x")):
+            self.assertEqual(pickle.loads(pickle.dumps(query)), query)
+            with SessionPool(CHAIN, 2, program=PROGRAM) as pool:
+                with self.assertRaises(ValueError):
+                    pool.ask(query)
+                with self.assertRaises(ValueError):
+                    pool.submit(query)
+            with ThreadPoolExecutor(1) as executor, self.assertRaises(ValueError):
+                answers_of(executor, [query])
 
 
 class Queries(unittest.TestCase):

@@ -170,6 +170,7 @@ class Json(Command):
     def test_answers(self) -> None:
         queries = {
             "sub A <= B": False, "typed f(x) : A": True, "inhabit A": True, "inhabit B": False, "paths f": ["A -> A"],
+            "batch A | B": [True, False],
             "list A max 2 take 1": {"terms": ["x"], "more": True},
             "texts A max 2 take 5": {"terms": [{"term": "x", "text": "x"}, {"term": "f(x)", "text": "{x\n}"}], "more": False},
             "grammar A": [{"type": "A", "rank": 1, "rules": [{"component": "x", "arguments": []}, {"component": "f", "arguments": [0]}]}],

@@ -32,6 +32,7 @@ end
 filtered once String max 6 take 2 after first(text)
 texts String & Joined max 6 take 2 after first(text, text)
 typed first(text) : String
+batch String | A
 sub A <= B(C)
 paths text
 certify A
@@ -39,6 +40,8 @@ row A & B by first 1 : 3 4
 block first 1
 set 0 1
 qed
+add next : $a -> List
+drop text
 helo
 """
 # The line, a piece of it, and what it is.
@@ -55,11 +58,13 @@ PIECES = [
     (13, "filtered", "query"), (13, "once", "variable"), (13, "String", "constructor"), (13, "max", "query"), (13, "2", "number"),
     (13, "after", "query"), (13, "first", "component"), (14, "texts", "query"), (14, "String", "constructor"), (14, "max", "query"),
     (14, "6", "number"), (14, "take", "query"), (14, "after", "query"), (14, "first", "component"), (14, "text)", "component"),
-    (15, "typed", "query"), (15, "first", "component"), (15, "String", "constructor"), (16, "<=", "operator"), (16, "C", "constructor"),
-    (17, "paths", "query"), (17, "text", "component"), (18, "certify", "query"), (18, "A", "constructor"), (19, "row", "certificate"),
-    (19, "B", "constructor"), (19, "by", "certificate"), (19, "first", "component"), (19, "1", "number"), (19, "4", "number"),
-    (20, "block", "certificate"), (20, "first", "component"), (21, "set", "certificate"), (21, "0", "number"), (22, "qed", "certificate"),
-    (23, "helo", "error"),
+    (15, "typed", "query"), (15, "first", "component"), (15, "String", "constructor"), (16, "batch", "query"),
+    (16, "String", "constructor"), (16, "A", "constructor"), (17, "<=", "operator"), (17, "C", "constructor"),
+    (18, "paths", "query"), (18, "text", "component"), (19, "certify", "query"), (19, "A", "constructor"),
+    (20, "row", "certificate"), (20, "B", "constructor"), (20, "by", "certificate"), (20, "first", "component"),
+    (20, "1", "number"), (20, "4", "number"), (21, "block", "certificate"), (21, "first", "component"), (22, "set", "certificate"),
+    (22, "0", "number"), (23, "qed", "certificate"), (24, "add", "query"), (24, "next", "component"), (24, "$a", "variable"),
+    (24, "->", "operator"), (24, "List", "constructor"), (25, "drop", "query"), (25, "text", "component"), (26, "helo", "error"),
 ]
 TEXTMATE = {
     "comment": "comment.line.number-sign", "declaration": "keyword.other.declaration", "constructor": "entity.name.type",

@@ -42,6 +42,8 @@ class Misfits(unittest.TestCase):
             "inhabit A ->": "syntax 12", "list A omega 3 take 1": "syntax 7", "hello": "syntax 0", " comp y : B": "syntax 1",
             "inhabit omega(A)": "syntax 13", "paths omega": "reserved 6", "typed omega : A": "reserved 6", "inhabit $omega": "reserved 9",
             "inhabit A # no": "syntax 10", "list A max 3 take 1 after": "syntax 25", "typed f(x,) : A": "syntax 10", "inhabit (A": "syntax 10",
+            "batch": "syntax 5", "batch A |": "syntax 9", "batch A | | B": "syntax 10", "batch | A": "syntax 6",
+            "batch A|B": "", "batch A": "",
             "sub A <= B & (C -> D * E)": "", "texts A max 1 take 2 after f(x, g(y))": "", "inhabit ä": "syntax 8", "sub A ä B": "syntax 6",
         }
         for line, wanted in cases.items():

@@ -17,10 +17,10 @@ from collections.abc import Iterator
 from pathlib import Path
 from random import Random
 
-from support import CHAIN, LISTS, PROGRAM, SOURCES, fake, freeze, session, take_interrupts
+from support import CHAIN, LISTS, PROGRAM, SOURCES, fake, freeze, session, take_interrupts, wait_until
 
 import clsynth
-from clsynth import Session
+from clsynth import Session, queries
 from clsynth.program import Program
 
 
@@ -71,6 +71,37 @@ class Restarts(unittest.TestCase):
                     for _ in range(17):
                         chain.inhabited(wide_query("A", 60_000))
         self.assertEqual(sizes, list(range(1, 65)))
+
+    def test_a_new_program_has_the_components_of_the_one_before(self) -> None:
+        with counted_programs() as started, session("kind a = A | Late\n" + CHAIN) as chain:
+            chain.drop("x")
+            chain.add("y", "New")
+            chain.add("g", "New -> $a")
+            chain.drop("y")
+            chain.add("y", "New")
+            asked = queries.page("A & Late", 9, max_size=4), queries.grammar("Early & New & Late & A")
+            wanted = [repr(chain.ask(query)) for query in asked]
+            self.assertEqual([str(term) for term in chain.page("omega", 9, max_size=1).entries], ["f", "g", "y"])
+            assert chain._program
+            chain._program.kill()
+            wait_until(lambda: chain._program and chain._program.has_ended)
+            self.assertEqual([repr(chain.ask(query)) for query in asked], wanted)
+            self.assertEqual(len(started), 2)
+            chain.drop("g")
+            for _ in range(18):
+                chain.inhabited(wide_query("A", 60_000))
+            self.assertEqual(len(started), 3)
+            self.assertFalse(chain.inhabited("A"))
+            self.assertEqual([str(term) for term in chain.page("omega", 9, max_size=1).entries], ["f", "y"])
+
+    def test_a_change_that_is_refused_is_not_made_later(self) -> None:
+        with session(CHAIN) as chain:
+            for change in (queries.add("x", "B"), queries.add("g", "$b"), queries.drop("g")):
+                with self.assertRaises(clsynth.QueryError):
+                    chain.ask(change)
+            for _ in range(18):
+                chain.inhabited(wide_query("A", 60_000))
+            self.assertEqual([str(term) for term in chain.page("omega", 9, max_size=1).entries], ["x", "f"])
 
     def test_types_are_written_in_the_same_order(self) -> None:
         # Late comes first to the program, so it is written first, also by a program that never saw the first query.

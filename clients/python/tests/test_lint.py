@@ -60,6 +60,7 @@ t.cls:2:10: warning: `Imt` is wanted, and no component makes it
         self.assertEqual(places(lint("comp x : Str\n", ["inhabit Strg", "list Str max 1 take 1"])), [(3, 8, "Strg")])
         self.assertEqual(places(lint("comp x : Str\n", [queries.inhabited("Strg")])), [(3, 8, "Strg")])
         self.assertEqual(places(lint("comp x : A\n", ["typed x : B & A"])), [(3, 10, "B")])
+        self.assertEqual(places(lint("comp x : A\n", ["batch A | A & B | C"])), [(3, 14, "B"), (3, 18, "C")])
         self.assertEqual(places(lint("comp x : A\n", ["sub B <= A", "paths x"])), [])
 
     def test_a_type_that_is_omega_wants_nothing(self) -> None:

@@ -34,6 +34,26 @@ class Answers(unittest.TestCase):
             self.assertFalse(lists.inhabited("List(Str)"))
             self.assertEqual(lists.paths("input"), ["List(Int)"])
 
+    def test_several_types_at_once(self) -> None:
+        # The closures of A, of B and of omega have a goal each. They have five rules: `x` and `f` of A and of omega, and `any`.
+        asked = ["A", clsynth.constructor("B"), "omega"]
+        with session(CHAIN, max_goals=3, max_rules=5) as chain:
+            self.assertEqual(chain.batch(asked), [True, False, True])
+            self.assertEqual(chain.batch(iter(["B"] * 64)), [False] * 64)
+            self.assertEqual(chain.batch(["A -> A", "B", "A -> A"]), [True, False, True])
+            with self.assertRaises(clsynth.NumberOutOfRange):
+                chain.batch(["A"] * 65)
+            with self.assertRaises(clsynth.SyntaxFault):
+                chain.batch([])
+            with self.assertRaises(ValueError):
+                chain.batch(["A | B"])
+            self.assertEqual(chain.ask(clsynth.queries.batch(asked)), [True, False, True])
+        for bound in ({"max_goals": 2}, {"max_rules": 4}):
+            with session(CHAIN, **bound) as chain:
+                with self.assertRaises(clsynth.ClosureTooLarge):
+                    chain.batch(asked)
+                self.assertEqual(chain.batch(asked[:1] * 2), [True, True])
+
     def test_end_may_be_left_out(self) -> None:
         for text in (CHAIN, CHAIN + "end", CHAIN + " end \r\n", CHAIN.rstrip()):
             with session(text) as chain:
@@ -95,6 +115,32 @@ class Answers(unittest.TestCase):
     def test_texts_are_utf8(self) -> None:
         with session("comp x : A\ntext x = über\n") as accents:
             self.assertEqual(list(accents.texts("A")), [TermText(Term("x"), "über")])
+
+    def test_components_come_and_go(self) -> None:
+        with session(CHAIN) as chain:
+            chain.add("g", "B -> A")
+            self.assertFalse(chain.inhabited("B"))
+            chain.add("y", clsynth.constructor("B"))
+            self.assertEqual(chain.page("A", 9, max_size=2).entries, terms("x", "f(x)", "g(y)"))
+            chain.drop("f")
+            self.assertEqual(chain.page("A", 9, max_size=3).entries, terms("x", "g(y)"))
+            with self.assertRaises(clsynth.UnknownComponent) as unknown:
+                chain.drop("f")
+            self.assertEqual(unknown.exception.detail, "f")
+            with self.assertRaises(clsynth.DuplicateComponent) as known:
+                chain.add("y", "A")
+            self.assertEqual(known.exception.detail, "y")
+            with self.assertRaises(clsynth.ComponentRefused) as refused:
+                chain.add("h", "$b")
+            self.assertEqual(refused.exception.detail, "variable b")
+            self.assertEqual(chain.page("A", 9, max_size=3).entries, terms("x", "g(y)"))
+
+    def test_a_component_that_is_added_again_is_a_new_one(self) -> None:
+        with session(CHAIN + "text f = [{1}]\ncost f 2\n") as chain:
+            self.assertEqual(chain.text_page("A", 2, max_size=3).entries[1], TermText(Term.parse("f(x)"), "[x]"))
+            chain.drop("f")
+            chain.add("f", "A -> A")
+            self.assertEqual(chain.text_page("A", 2, max_size=2).entries[1], TermText(Term.parse("f(x)"), "f(x)"))
 
     def test_sizes(self) -> None:
         with session(CHAIN + "comp y : B\ncost y 7\n") as chain:
@@ -188,7 +234,9 @@ class Errors(unittest.TestCase):
             "variable": lambda it: it.inhabited("$a"),
             "number": lambda it: it.page("A", 10_001),
             "unknown": lambda it: it.paths("g"),
+            "duplicate": lambda it: it.add("x", "B"),
             "token": lambda it: it.has_type("g(x)", "A"),
+            "refused": lambda it: it.add("g", "A -> $a"),
             "certificate": lambda it: it.verify("A", "empty\nhello\nqed"),
             "size": lambda it: it.is_subtype(tower(8), "omega"),
             "too-large": lambda it: it.inhabited("omega & A & B"),
@@ -213,7 +261,8 @@ class Errors(unittest.TestCase):
                 lambda: chain.inhabited(wrong), lambda: chain.page(wrong, 1), lambda: chain.verify(wrong, "empty\nqed"),
                 lambda: chain.paths(wrong), lambda: chain.has_type(wrong, "A"), lambda: chain.has_type("x", wrong),
                 lambda: chain.is_subtype("A", wrong), lambda: chain.page("A", 1, after=3),  # type: ignore[arg-type]
-                lambda: chain.filtered_page(wrong, "A", 1),
+                lambda: chain.filtered_page(wrong, "A", 1), lambda: chain.batch(wrong), lambda: chain.batch("AB"),
+                lambda: chain.batch(["A", wrong]), lambda: chain.batch(clsynth.omega),  # type: ignore[arg-type]
                 lambda: session(wrong), lambda: session(b"comp x : A\n"),  # type: ignore[arg-type]
             ]
             for ask in asked:

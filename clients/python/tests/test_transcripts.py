@@ -23,7 +23,7 @@ class Replies(unittest.TestCase):
             "sub A <= A": ["yes"], "paths f": ["path A -> A", "done"], "typed f : A": ["no"], "inhabit B": ["uninhabited"],
             "list A max 2 take 1": ["term x", "more"], "list B max 2 take 1": ["done"], "grammar B": ["grammar 1 0", "goal 0 empty B", "done"],
             "certify A": ["inhabited", "row A by x 0 : 0", "qed"], "finite B": ["finite 0"], "finite A": ["infinite", "walk 0 by 1 at 0", "done"],
-            "inhabit A ->": ["error syntax 12"],
+            "inhabit A ->": ["error syntax 12"], "batch A | B": ["inhabited", "uninhabited", "done"], "batch A |": ["error syntax 9"],
         }
         found = answered("\n# a comment\n\n".join(queries) + "\n")
         self.assertEqual([exchange.asked and exchange.asked.text for exchange in found], list(queries))

@@ -4,7 +4,7 @@ function! s:Detect() abort
   while getline(l:number) =~# '^\s*#'
     let l:number = nextnonblank(l:number + 1)
   endwhile
-  let l:words = 'sub|variance|kind|comp|text|cost|filter|leaf|app|other|end|paths|typed|inhabit|list|texts|filtered|grammar|audit|certify|verify|finite'
+  let l:words = 'sub|variance|kind|comp|text|cost|filter|leaf|app|other|end|paths|typed|inhabit|batch|list|texts|filtered|grammar|audit|certify|verify|finite|add|drop'
   if l:number == 0 || getline(l:number) =~# '\v^\s*(' . l:words . ')>'
     set filetype=clsynth
   endif

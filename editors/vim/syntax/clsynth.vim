@@ -53,8 +53,8 @@ syntax match clsynthSetAside "\<\%(none\|_\)\>" contained
 syntax match clsynthEnd "^\s*end\s*$"
 
 " Queries.
-syntax match clsynthQuery "^\s*\%(inhabit\|grammar\|audit\|certify\|verify\|finite\)\>" nextgroup=clsynthType
-syntax match clsynthQuery "^\s*paths\>" nextgroup=clsynthTerm
+syntax match clsynthQuery "^\s*\%(inhabit\|batch\|grammar\|audit\|certify\|verify\|finite\)\>" nextgroup=clsynthType
+syntax match clsynthQuery "^\s*\%(paths\|drop\)\>" nextgroup=clsynthTerm
 syntax match clsynthQuery "^\s*\%(list\|texts\)\>" nextgroup=clsynthListing
 syntax match clsynthQuery "^\s*filtered\>" nextgroup=clsynthAskedFilter skipwhite
 syntax match clsynthAskedFilter "\<\h\w*" contained nextgroup=clsynthListing
@@ -64,6 +64,7 @@ syntax match clsynthPageWord "\<\%(max\|take\)\>" contained
 syntax match clsynthAfter "\%(\d\s\+\)\@<=after\>" contained nextgroup=clsynthTerm
 syntax match clsynthTerm ".*$" contained contains=clsynthName,clsynthParenthesis,clsynthComma
 syntax match clsynthName "\<\h\w*" contained
+syntax match clsynthQuery "^\s*add\>" nextgroup=clsynthComponent skipwhite
 syntax match clsynthQuery "^\s*typed\>" nextgroup=clsynthTyped
 syntax match clsynthTyped "[^:]*" contained contains=clsynthName,clsynthParenthesis,clsynthComma nextgroup=clsynthColon
 

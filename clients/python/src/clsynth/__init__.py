@@ -18,12 +18,12 @@ from clsynth.aio import AsyncSession
 from clsynth.certificates import Block, Certificate, Empty, Inhabited, Member, Row, parse_certificate
 from clsynth.cluster import map_queries
 from clsynth.errors import (
-    ERRORS, AmbiguousType, BadCertificate, BadCost, BadName, BadReply, BadTemplate, ClosureTooLarge, ClsynthError, DuplicateName, EmptyKind,
-    FilteredTooLarge, InputFull, KindTooLarge, LimitExceeded, LineTooLong, MissingFunction, NoQed, NotUtf8, NumberOutOfRange, ParseFault,
-    PlacedError, ProcessFault, ProgramNotFound, QueryCancelled, QueryError, QueryStopped, QueryTimeout, RepositoryFault,
-    RepositoryLineTooLong, RepositoryRefused, RepositoryTooLong, ReservedName, SessionClosed, Status, SyntaxFault, TooDeep, TooManyComponents,
-    TooManyNodes, TooManyStates, TooManyTerms, TypeTooDeep, TypeTooLarge, TypeTooLong, UnknownComponent, UnknownInTerm, UsageFault,
-    VariableInKind, VariableInQuery, WideGoal,
+    ERRORS, AmbiguousType, BadCertificate, BadCost, BadName, BadReply, BadTemplate, ClosureTooLarge, ClsynthError, ComponentRefused,
+    DuplicateComponent, DuplicateName, EmptyKind, FilteredTooLarge, InputFull, KindTooLarge, LimitExceeded, LineTooLong, MissingFunction,
+    NoQed, NotUtf8, NumberOutOfRange, ParseFault, PlacedError, ProcessFault, ProgramNotFound, QueryCancelled, QueryError, QueryStopped,
+    QueryTimeout, RepositoryFault, RepositoryLineTooLong, RepositoryRefused, RepositoryTooLong, ReservedName, SessionClosed, Status,
+    SyntaxFault, TooDeep, TooManyComponents, TooManyNodes, TooManyStates, TooManyTerms, TypeTooDeep, TypeTooLarge, TypeTooLong,
+    UnknownComponent, UnknownInTerm, UsageFault, VariableInKind, VariableInQuery, WideGoal,
 )
 from clsynth.evaluation import Curried, curry, evaluate
 from clsynth.filters import EVERY, Filter
@@ -44,15 +44,15 @@ from clsynth.types import (
 
 __all__ = [
     "ERRORS", "EVERY", "MAX_INPUT_BYTES", "MAX_LINE_BYTES", "MAX_SIZE", "AmbiguousType", "Arrow", "AsyncSession", "BadCertificate",
-    "BadCost", "BadName", "BadReply", "BadTemplate", "Block", "Certificate", "ClosureTooLarge", "ClsynthError", "Component", "Constructor",
-    "Curried", "DuplicateName", "Empty", "EmptyKind", "Event", "Filter", "FilteredTooLarge", "Goal", "Grammar", "Inhabited", "InputFull",
-    "Intersection", "KindTooLarge", "LimitExceeded", "LineTooLong", "Member", "MissingFunction", "Names", "NoQed", "NotUtf8",
-    "NumberOutOfRange", "Omega", "Page", "ParseFault", "PlacedError", "ProcessFault", "Product", "ProgramNotFound", "Query",
-    "QueryCancelled", "QueryError", "QueryStopped", "QueryTimeout", "Repository", "RepositoryFault", "RepositoryLineTooLong",
-    "RepositoryRefused", "RepositoryTooLong", "ReservedName", "Row", "Rule", "Session", "SessionClosed", "SessionPool", "Sizes", "Status",
-    "Step", "SyntaxFault", "Term", "TermLike", "TermText", "TooDeep", "TooManyComponents", "TooManyNodes", "TooManyStates", "TooManyTerms",
-    "Type", "TypeLike", "TypeTooDeep", "TypeTooLarge", "TypeTooLong", "UnknownComponent", "UnknownInTerm", "UsageFault", "Variable",
-    "VariableInKind", "VariableInQuery", "Verdict", "WideGoal", "__version__", "aio", "arrow", "as_term", "as_type", "check_name",
-    "constructor", "curry", "evaluate", "find_program", "intersection", "map_queries", "numbers", "omega", "pairs", "parse_certificate",
-    "parse_grammar", "product", "queries", "steps", "var",
+    "BadCost", "BadName", "BadReply", "BadTemplate", "Block", "Certificate", "ClosureTooLarge", "ClsynthError", "Component",
+    "ComponentRefused", "Constructor", "Curried", "DuplicateComponent", "DuplicateName", "Empty", "EmptyKind", "Event", "Filter",
+    "FilteredTooLarge", "Goal", "Grammar", "Inhabited", "InputFull", "Intersection", "KindTooLarge", "LimitExceeded", "LineTooLong",
+    "Member", "MissingFunction", "Names", "NoQed", "NotUtf8", "NumberOutOfRange", "Omega", "Page", "ParseFault", "PlacedError",
+    "ProcessFault", "Product", "ProgramNotFound", "Query", "QueryCancelled", "QueryError", "QueryStopped", "QueryTimeout", "Repository",
+    "RepositoryFault", "RepositoryLineTooLong", "RepositoryRefused", "RepositoryTooLong", "ReservedName", "Row", "Rule", "Session",
+    "SessionClosed", "SessionPool", "Sizes", "Status", "Step", "SyntaxFault", "Term", "TermLike", "TermText", "TooDeep",
+    "TooManyComponents", "TooManyNodes", "TooManyStates", "TooManyTerms", "Type", "TypeLike", "TypeTooDeep", "TypeTooLarge", "TypeTooLong",
+    "UnknownComponent", "UnknownInTerm", "UsageFault", "Variable", "VariableInKind", "VariableInQuery", "Verdict", "WideGoal",
+    "__version__", "aio", "arrow", "as_term", "as_type", "check_name", "constructor", "curry", "evaluate", "find_program", "intersection",
+    "map_queries", "numbers", "omega", "pairs", "parse_certificate", "parse_grammar", "product", "queries", "steps", "var",
 ]

@@ -106,6 +106,10 @@ class AsyncSession:
         """Whether some term has the type."""
         return await self.ask(queries.inhabited(goal), timeout=timeout)
 
+    async def batch(self, goals: Iterable[TypeLike], *, timeout: float | None = None) -> list[bool]:
+        """Whether some term has each of up to 64 types. What they share is looked for once, and the bounds of the session count it once."""
+        return await self.ask(queries.batch(goals), timeout=timeout)
+
     async def page(
         self, goal: TypeLike, take: int, *, max_size: int = MAX_SIZE, after: TermLike | None = None, timeout: float | None = None,
     ) -> Page[Term]:
@@ -172,6 +176,14 @@ class AsyncSession:
     async def sizes(self, goal: TypeLike, *, timeout: float | None = None) -> Sizes:
         """How large the terms of the type are. All terms count, also those that are too long for a page."""
         return await self.ask(queries.sizes(goal), timeout=timeout)
+
+    async def add(self, component: str, type: TypeLike, *, timeout: float | None = None) -> None:
+        """Adds a component behind the others: each later query is answered as if it had been declared last."""
+        await self.ask(queries.add(component, type), timeout=timeout)
+
+    async def drop(self, component: str, *, timeout: float | None = None) -> None:
+        """Takes out a component, with its template, its cost, and what filters say of it."""
+        await self.ask(queries.drop(component), timeout=timeout)
 
     async def history(self, goal: TypeLike, *, timeout: float | None = None) -> list[Event]:
         """Which worker claimed and filed which row of the closure. It may differ from run to run."""

@@ -19,7 +19,7 @@ from typing import TypeVar
 from clsynth.errors import ParseFault, ProcessFault, QueryError, RepositoryFault
 from clsynth.lint import issue, warnings_of
 from clsynth.numbering import Numbering, is_read
-from clsynth.queries import Query
+from clsynth.queries import Query, check_keeps
 from clsynth.repository import Repository
 from clsynth.session import Session
 
@@ -37,8 +37,8 @@ def map_queries(
 ) -> Iterator[Answer | QueryError]:
     """The answers to the queries, in their order and each once. For a query with an error it is the error, as a value.
 
-    They are those that one session gives which is asked the queries in their order. Where types are written with names that the repository
-    hasn't, their order may differ only if a query had a bad certificate with such names.
+    They are those that one session gives which is asked the queries in their order. None of them may add or drop a component. Where types
+    are written with names that the repository hasn't, their order may differ only if a query had a bad certificate with such names.
 
     A worker answers `batch` queries at a time, by a program of its own, which it finds as `find_program` says there. The work of a worker
     that is lost is done again: a cluster does so by itself; where the executor is broken, as a pool of processes that lost one of them,
@@ -50,6 +50,8 @@ def map_queries(
     if batch < 1:
         raise ValueError(f"a batch has at least one query, and not {batch}")
     asked = list(queries)
+    for query in asked:
+        check_keeps(query)
     # This is sent to the workers.
     opened = partial(
         Session, str(repository), program=program, workers=workers, max_goals=max_goals, max_rules=max_rules, pool=pool, words=tuple(words),

@@ -18,12 +18,12 @@ from clsynth.limits import MAX_INPUT_BYTES, MAX_POOL
 
 __all__ = [
     "ERRORS", "AmbiguousType", "BadCertificate", "BadCost", "BadName", "BadReply", "BadTemplate", "ClosureTooLarge", "ClsynthError",
-    "DuplicateName", "EmptyKind", "FilteredTooLarge", "InputFull", "KindTooLarge", "LimitExceeded", "LineTooLong", "MissingFunction",
-    "NoQed", "NotUtf8", "NumberOutOfRange", "ParseFault", "PlacedError", "ProcessFault", "ProgramNotFound", "QueryCancelled", "QueryError",
-    "QueryStopped", "QueryTimeout", "RepositoryFault", "RepositoryLineTooLong", "RepositoryRefused", "RepositoryTooLong", "ReservedName",
-    "SessionClosed", "Status", "SyntaxFault", "TooDeep", "TooManyComponents", "TooManyNodes", "TooManyStates", "TooManyTerms",
-    "TypeTooDeep", "TypeTooLarge", "TypeTooLong", "UnknownComponent", "UnknownInTerm", "UsageFault", "VariableInKind", "VariableInQuery",
-    "WideGoal",
+    "ComponentRefused", "DuplicateComponent", "DuplicateName", "EmptyKind", "FilteredTooLarge", "InputFull", "KindTooLarge",
+    "LimitExceeded", "LineTooLong", "MissingFunction", "NoQed", "NotUtf8", "NumberOutOfRange", "ParseFault", "PlacedError", "ProcessFault",
+    "ProgramNotFound", "QueryCancelled", "QueryError", "QueryStopped", "QueryTimeout", "RepositoryFault", "RepositoryLineTooLong",
+    "RepositoryRefused", "RepositoryTooLong", "ReservedName", "SessionClosed", "Status", "SyntaxFault", "TooDeep", "TooManyComponents",
+    "TooManyNodes", "TooManyStates", "TooManyTerms", "TypeTooDeep", "TypeTooLarge", "TypeTooLong", "UnknownComponent", "UnknownInTerm",
+    "UsageFault", "VariableInKind", "VariableInQuery", "WideGoal",
 ]
 
 
@@ -317,13 +317,23 @@ class VariableInQuery(PlacedError):
 
 
 class NumberOutOfRange(QueryError):
-    """The greatest size isn't from 1 to 1,024, or the number of terms isn't from 1 to 10,000."""
+    """The greatest size isn't from 1 to 1,024, the number of terms isn't from 1 to 10,000, or more than 64 types are asked at once."""
     word = "number"
 
 
 class UnknownComponent(QueryError):
     """No component has the name `detail`, or no filter where the query is `filtered`."""
     word = "unknown"
+
+
+class DuplicateComponent(QueryError):
+    """A component to be added has the name `detail` of one that is there."""
+    word = "duplicate"
+
+
+class ComponentRefused(QueryError):
+    """A component to be added is refused. `detail` says what is wrong, in the words for which a repository is refused."""
+    word = "refused"
 
 
 class UnknownInTerm(PlacedError):

@@ -66,6 +66,10 @@ def _of_repository(given: Input, number: int, fault: Fault) -> Diagnostic:
 
 def _of_query(given: Input, asked: Asked, fault: Fault) -> Diagnostic:
     explanation = ERRORS.get(fault.word, _UNKNOWN)
+    if explanation.detail is Detail.WORDS:
+        # A component is refused for what a repository is refused for.
+        word, _, detail = fault.detail.partition(" ")
+        return _diagnostic(Case(given, asked.line, asked.text, Fault(word, detail), REFUSALS.get(word, _UNKNOWN), QUERIES))
     place = int(fault.detail) if explanation.detail is Detail.LINE and fault.detail.isdecimal() else len(asked.lines)
     if place < len(asked.lines):
         return _diagnostic(Case(given, asked.line + place, text_of(asked.lines[place]), fault, explanation, CERTIFICATE))

@@ -14,6 +14,7 @@ class Detail(Enum):
     NOTHING = "nothing"
     BYTE = "a byte of the line"
     NAME = "a name"
+    WORDS = "what a repository would be refused for"
     LINE = "the number of a line of a certificate"
     TYPE = "a type"
 
@@ -154,10 +155,17 @@ ERRORS: dict[str, Explanation] = {
     ),
     "number": Explanation(
         "a number is out of range",
-        "`max` takes 1 to 1,024, and `take` takes 1 to 10,000. Longer listings go on with `after` and the last term.",
+        "`max` takes 1 to 1,024, and `take` takes 1 to 10,000. Longer listings go on with `after` and the last term. `batch` takes at most "
+        "64 types.",
     ),
     "unknown": Explanation("nothing that may stand here has the name `{}`", "", Detail.NAME),
+    "duplicate": Explanation(
+        "there is a component `{}` already",
+        "Take another name, or `drop` the component first. With both types it has their intersection: `add f : (A -> B) & (C -> D)`.",
+        Detail.NAME,
+    ),
     "token": Explanation("this name in the term is none of a component", "", Detail.BYTE),
+    "refused": Explanation("the component can't be added: {}", "", Detail.WORDS),
     "certificate": Explanation(
         "line {} behind the `verify` line is no line that can stand there",
         "A certificate has the lines that `certify` prints, in their order, with components of this repository.",

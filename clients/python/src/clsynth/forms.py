@@ -1,8 +1,8 @@
 """The forms of lines, and where a line fits none of them.
 
-A form is written as in docs/LANGUAGE.md. Words in capitals stand for something: NAME, N and K (numbers), TYPE, TERM, `TYPE | TYPE ..` (any number of
-types), `I J ..` (any number of numbers), F (the name of a filter), Q (a state), `Q Q ..` (states, at least one), P (a state or `_`), S (a state or
-`none`) and REST (anything). What stands in brackets, at the end of a form, may be left out.
+A form is written as in docs/LANGUAGE.md. Words in capitals stand for something: NAME, N and K (numbers), TYPE, TERM, `TYPE | TYPE ..` (types, at least
+one, or none behind `=`), `I J ..` (any number of numbers), F (the name of a filter), Q (a state), `Q Q ..` (states, at least one), P (a state or `_`),
+S (a state or `none`) and REST (anything). What stands in brackets, at the end of a form, may be left out.
 """
 
 from __future__ import annotations
@@ -20,9 +20,9 @@ REPOSITORY = (
 """The lines of a repository."""
 
 QUERIES = (
-    "sub TYPE <= TYPE", "paths NAME", "typed TERM : TYPE", "inhabit TYPE", "list TYPE max N take K [after TERM]",
+    "sub TYPE <= TYPE", "paths NAME", "typed TERM : TYPE", "inhabit TYPE", "batch TYPE | TYPE ..", "list TYPE max N take K [after TERM]",
     "texts TYPE max N take K [after TERM]", "filtered F TYPE max N take K [after TERM]", "grammar TYPE", "audit TYPE", "certify TYPE",
-    "verify TYPE", "finite TYPE",
+    "verify TYPE", "finite TYPE", "add NAME : TYPE", "drop NAME",
 )
 """The lines behind a repository, but for those of a certificate."""
 
@@ -82,7 +82,8 @@ def misfit(line: str, forms: tuple[str, ...]) -> Misfit | None:
 
 def _words(form: str) -> list[str]:
     """The words of a form, with one word for what may stand any number of times, and brackets as words of their own."""
-    for many, word in (("TYPE | TYPE ..", "TYPES"), ("I J ..", "NUMBERS"), ("Q Q ..", "STATES"), ("[", "[ "), ("]", " ]")):
+    words = ("= TYPE | TYPE ..", "= KIND"), ("TYPE | TYPE ..", "TYPES"), ("I J ..", "NUMBERS"), ("Q Q ..", "STATES"), ("[", "[ "), ("]", " ]")
+    for many, word in words:
         form = form.replace(many, word)
     return form.split()
 
@@ -132,17 +133,22 @@ class _Reader:
                 return self._term()
             case "TYPES":
                 return self._types()
+            case "KIND":
+                return self._kind()
             case "NUMBERS":
                 while self._number():
                     pass
                 return True
         return self._takes(word)
 
-    def _types(self) -> bool:
+    def _kind(self) -> bool:
         self.wanted.append("a type")
         if self.next == len(self._tokens):
             return True
         self.wanted.clear()
+        return self._types()
+
+    def _types(self) -> bool:
         while self._type():
             if not self._takes("|"):
                 return True

@@ -3,8 +3,8 @@
 from __future__ import annotations
 
 __all__ = [
-    "MAX_CHOICES", "MAX_COMPONENTS", "MAX_COST", "MAX_INPUT_BYTES", "MAX_INSTANCE_NODES", "MAX_LENGTH", "MAX_LINE_BYTES", "MAX_NAME_BYTES",
-    "MAX_NODES", "MAX_PARENTHESES", "MAX_POOL", "MAX_SIZE", "MAX_SPREADS", "MAX_STATES", "MAX_TAKE",
+    "MAX_BATCH", "MAX_CHOICES", "MAX_COMPONENTS", "MAX_COST", "MAX_INPUT_BYTES", "MAX_INSTANCE_NODES", "MAX_LENGTH", "MAX_LINE_BYTES",
+    "MAX_NAME_BYTES", "MAX_NODES", "MAX_PARENTHESES", "MAX_POOL", "MAX_SIZE", "MAX_SPREADS", "MAX_STATES", "MAX_TAKE",
 ]
 
 MAX_INPUT_BYTES = 1_048_576
@@ -39,6 +39,9 @@ MAX_SPREADS = 1_000_000
 
 MAX_STATES = 16
 """States of a filter."""
+
+MAX_BATCH = 64
+"""Types that are asked at once."""
 
 MAX_SIZE = 1_024
 """The greatest size that a page may be bounded by."""

@@ -12,7 +12,8 @@ from collections.abc import Container, Iterable, Iterator
 from itertools import islice
 
 from clsynth.errors import (
-    BadCertificate, BadName, ClosureTooLarge, FilteredTooLarge, NoQed, ParseFault, QueryError, TooManyTerms, TypeTooDeep, TypeTooLarge, WideGoal,
+    BadCertificate, BadName, ClosureTooLarge, ComponentRefused, FilteredTooLarge, NoQed, ParseFault, QueryError, TooManyTerms, TypeTooDeep,
+    TypeTooLarge, WideGoal,
 )
 from clsynth.limits import MAX_NAME_BYTES, MAX_NODES, MAX_PARENTHESES
 from clsynth.queries import Query
@@ -22,10 +23,11 @@ from clsynth.types import Type, open_parentheses
 
 __all__ = ["Numbering", "is_read"]
 
-_NAME = re.compile(r"[A-Za-z_][A-Za-z0-9_]*", re.ASCII)
+# A variable, or a name that is none.
+_NAME = re.compile(r"\$[ \t\r]*[A-Za-z_][A-Za-z0-9_]*|([A-Za-z_][A-Za-z0-9_]*)", re.ASCII)
 _NAMES_OF_A_LINE = 100
 # The errors of a query that was read, with its certificate if it has one: all its names have numbers.
-_LATE = (ClosureTooLarge, FilteredTooLarge, TooManyTerms, TypeTooLarge, WideGoal)
+_LATE = (ClosureTooLarge, ComponentRefused, FilteredTooLarge, TooManyTerms, TypeTooLarge, WideGoal)
 # The errors of a query of which the first line was read.
 _OF_A_CERTIFICATE = (BadCertificate, NoQed)
 
@@ -59,7 +61,7 @@ class Numbering:
     def _take(self, *types: str) -> None:
         for type in types:
             for name in _NAME.findall(type):
-                if name != "omega" and len(name) <= MAX_NAME_BYTES:
+                if name and name != "omega" and len(name) <= MAX_NAME_BYTES:
                     self._names.setdefault(name)
 
 

@@ -8,7 +8,7 @@ Each function makes the query of the session's method with its name. A query has
 
 from __future__ import annotations
 
-from collections.abc import Callable, Iterator
+from collections.abc import Callable, Iterable, Iterator
 from dataclasses import dataclass, replace
 from typing import Generic, Protocol, TypeVar
 
@@ -16,15 +16,15 @@ from clsynth.certificates import Certificate, parse_certificate
 from clsynth.errors import LineTooLong, NoQed, NotUtf8
 from clsynth.filters import Filter
 from clsynth.grammars import Grammar, parse_grammar
-from clsynth.limits import MAX_LINE_BYTES, MAX_SIZE, MAX_TAKE
+from clsynth.limits import MAX_BATCH, MAX_LINE_BYTES, MAX_SIZE, MAX_TAKE
 from clsynth.replies import Event, Page, Sizes, Step, TermText, Verdict
 from clsynth.terms import Term, TermLike
 from clsynth.tokens import bytes_of, can_be_read
 from clsynth.types import Type, TypeLike
 
 __all__ = [
-    "Query", "Reader", "certify", "filtered_page", "grammar", "has_type", "history", "inhabited", "is_subtype", "page", "paths", "sizes",
-    "text_page", "verify",
+    "Query", "Reader", "add", "batch", "certify", "check_keeps", "drop", "filtered_page", "grammar", "has_type", "history", "inhabited",
+    "is_subtype", "page", "paths", "sizes", "text_page", "verify",
 ]
 
 Answer = TypeVar("Answer", covariant=True)
@@ -57,12 +57,22 @@ class Query(Generic[Answer]):
     """The terms in its first line."""
     filters: tuple[str, ...] = ()
     """The filters in its first line."""
+    added: str | None = None
+    """The component that it adds, if it adds one."""
+    dropped: str | None = None
+    """The component that it drops, if it drops one."""
 
     def __post_init__(self) -> None:
         if any("\n" in line for line in self.lines):
             raise ValueError("a line feed stands in a line of a query")
         if not self.lines or not self.lines[0].strip(" \t\r") or self.lines[0].lstrip(" \t\r").startswith("#"):
             raise ValueError("a line that is skipped gets no reply")
+
+
+def check_keeps(query: Query[object]) -> None:
+    """Raises a `ValueError` for a query that changes the repository."""
+    if query.added is not None or query.dropped is not None:
+        raise ValueError(f"a change of the repository is asked of one session: {query.lines[0][:200]}")
 
 
 def is_subtype(lower: TypeLike, upper: TypeLike) -> Query[bool]:
@@ -73,9 +83,7 @@ def is_subtype(lower: TypeLike, upper: TypeLike) -> Query[bool]:
 
 def paths(component: str) -> Query[list[str]]:
     """The paths of a component: the parts whose intersection is its type."""
-    if not isinstance(component, str):
-        raise TypeError(f"{component!r} is no name of a component")
-    return Query((f"paths {component}",), _paths)
+    return Query((f"paths {_component(component)}",), _paths)
 
 
 def has_type(term: TermLike, goal: TypeLike) -> Query[bool]:
@@ -87,6 +95,16 @@ def has_type(term: TermLike, goal: TypeLike) -> Query[bool]:
 def inhabited(goal: TypeLike) -> Query[bool]:
     """Whether some term has the type."""
     return _of_type("inhabit", goal, _is_inhabited)
+
+
+def batch(goals: Iterable[TypeLike]) -> Query[list[bool]]:
+    """Whether some term has each of up to 64 types. What they share is looked for once, and the bounds of the session count it once."""
+    if isinstance(goals, str | Type):
+        raise TypeError(f"{goals!r} is no list of types")
+    types = tuple(_type(goal) for goal in goals)
+    if any("|" in type for type in types):
+        raise ValueError("a bar stands in a type")
+    return Query((f"batch {' | '.join(types)}",), _verdicts, types if len(types) <= MAX_BATCH else ())
 
 
 def page(goal: TypeLike, take: int, *, max_size: int = MAX_SIZE, after: TermLike | None = None) -> Query[Page[Term]]:
@@ -138,6 +156,18 @@ def verify(goal: TypeLike, certificate: Certificate | str) -> Query[Verdict]:
     return Query((query, *lines), _verdict, (type,), tuple(_type_of(line) for line in lines if line.strip()))
 
 
+def add(component: str, type: TypeLike) -> Query[None]:
+    """Adds a component behind the others. Its template is its name, and its cost is 1."""
+    name, added = _component(component), _type(type)
+    return Query((f"add {name} : {added}",), _added, (added,), added=name)
+
+
+def drop(component: str) -> Query[None]:
+    """Takes out a component, with its template, its cost, and what filters say of it."""
+    name = _component(component)
+    return Query((f"drop {name}",), _dropped, dropped=name)
+
+
 def sizes(goal: TypeLike) -> Query[Sizes]:
     """How large the terms of the type are. All terms count, also those that are too long for a page."""
     return _of_type("finite", goal, _sizes)
@@ -174,6 +204,12 @@ def _term(term: TermLike) -> str:
     return str(term)
 
 
+def _component(name: str) -> str:
+    if not isinstance(name, str):
+        raise TypeError(f"{name!r} is no name of a component")
+    return name.strip(" \t\r")
+
+
 def _type_of(line: str) -> str:
     """The type in a line of a certificate, which is empty if it has none."""
     word, *rest = line.split(None, 1)
@@ -199,6 +235,18 @@ def _is_yes(first: str, reader: Reader) -> bool:
 
 def _is_inhabited(first: str, reader: Reader) -> bool:
     return ("uninhabited", "inhabited").index(first) == 1
+
+
+def _verdicts(first: str, reader: Reader) -> list[bool]:
+    return [_is_inhabited(line, reader) for line in _up_to("done", first, reader)]
+
+
+def _added(first: str, reader: Reader) -> None:
+    ("added",).index(first)
+
+
+def _dropped(first: str, reader: Reader) -> None:
+    ("dropped",).index(first)
 
 
 def _paths(first: str, reader: Reader) -> list[str]:

@@ -143,9 +143,11 @@ def _unknown(case: Case) -> Iterator[str]:
     place = case.place
     name = next((token.text for token in case.tokens if token.place == place), case.fault.detail)
     names = case.declared.filters if _is_of_filter(case) else case.declared.components
-    later = names.get(name)
-    if later is not None:
-        yield f"It is declared later, in line {later}."
+    declared = names.get(name)
+    if declared is not None and case.forms == QUERIES:
+        yield f"It is declared in line {declared}, and was dropped."
+    elif declared is not None:
+        yield f"It is declared later, in line {declared}."
     else:
         yield _meant(name, names)
 

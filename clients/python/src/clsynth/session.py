@@ -22,6 +22,7 @@ from typing import Any, TypeVar
 
 from clsynth import queries
 from clsynth.certificates import Certificate
+from clsynth.changes import Changes
 from clsynth.errors import (
     ERRORS, BadReply, InputFull, ProcessFault, QueryCancelled, QueryError, QueryStopped, QueryTimeout, RepositoryRefused, RepositoryTooLong,
     SessionClosed, TooManyTerms,
@@ -60,9 +61,9 @@ class Session:
     doesn't take them raises `UsageFault`. `timeout` bounds each query, in seconds, with the start of a new program if there is one.
 
     A program takes 1,048,576 bytes of input. Where a query has no room any more, a new program is started, which reads the repository
-    again and answers as the old one would have. One is also started for the query after one that was stopped by its time bound, by
-    `cancel` or by an exception, and after the program ended by itself. The text of a `Repository` is taken once: what is declared later
-    isn't in it.
+    again, and is told which components came and went, and answers as the old one would have. One is also started for the query after one
+    that was stopped by its time bound, by `cancel` or by an exception, and after the program ended by itself. The text of a `Repository` is
+    taken once: what is declared later isn't in it.
 
     Where a grammar or a certificate has constructors that the repository hasn't, its text depends on which of them came first. `names`
     count as if they had come before the first query, in this order. A new program is told the names that came before, until they take
@@ -84,6 +85,7 @@ class Session:
         self._functions = repository.functions if isinstance(repository, Repository) else {}
         self._repository = _with_end(str(repository))
         self._numbering = Numbering(map(check_name, names))
+        self._changes = Changes()
         self._timeout = timeout
         self._turn = threading.Lock()
         self._attempt: _Attempt | None = None
@@ -139,6 +141,7 @@ class Session:
             except (ValueError, LookupError) as error:
                 raise BadReply(query.lines[0], first) from error
             self._numbering.add(query)
+            self._changes.take(query)
             return answer
 
     def is_subtype(self, lower: TypeLike, upper: TypeLike, *, timeout: float | None = None) -> bool:
@@ -156,6 +159,10 @@ class Session:
     def inhabited(self, goal: TypeLike, *, timeout: float | None = None) -> bool:
         """Whether some term has the type."""
         return self.ask(queries.inhabited(goal), timeout=timeout)
+
+    def batch(self, goals: Iterable[TypeLike], *, timeout: float | None = None) -> list[bool]:
+        """Whether some term has each of up to 64 types. What they share is looked for once, and the bounds of the session count it once."""
+        return self.ask(queries.batch(goals), timeout=timeout)
 
     def page(
         self, goal: TypeLike, take: int, *, max_size: int = MAX_SIZE, after: TermLike | None = None, timeout: float | None = None,
@@ -234,6 +241,17 @@ class Session:
         """How large the terms of the type are. All terms count, also those that are too long for a page."""
         return self.ask(queries.sizes(goal), timeout=timeout)
 
+    def add(self, component: str, type: TypeLike, *, timeout: float | None = None) -> None:
+        """Adds a component behind the others: each later query is answered as if it had been declared last. Its template is its name, and
+        its cost is 1. Variables of its type have the kinds that the repository gives them. Raises `ComponentRefused` if no repository may
+        have it."""
+        self.ask(queries.add(component, type), timeout=timeout)
+
+    def drop(self, component: str, *, timeout: float | None = None) -> None:
+        """Takes out a component, with its template, its cost, and what filters say of it. One that is added again is a new one, and goes
+        last."""
+        self.ask(queries.drop(component), timeout=timeout)
+
     def history(self, goal: TypeLike, *, timeout: float | None = None) -> list[Event]:
         """Which worker claimed and filed which row of the closure. It may differ from run to run."""
         return self.ask(queries.history(goal), timeout=timeout)
@@ -284,7 +302,7 @@ class Session:
 
     def _make_room(self, size: int) -> None:
         """Has a new program take so many bytes, if any can. Names that take the room, or more than half of it, are forgotten."""
-        room = MAX_INPUT_BYTES - len(_bytes(*self._repository, _GREETING))
+        room = MAX_INPUT_BYTES - len(_bytes(*self._repository, *self._changed(), _GREETING))
         if room < 0:
             raise RepositoryTooLong("the repository", MAX_INPUT_BYTES - room, MAX_INPUT_BYTES)
         if size > room:
@@ -298,18 +316,21 @@ class Session:
 
     def _opening(self) -> bytes:
         """What a new program is sent first."""
-        return _bytes(*self._repository, *self._numbering.lines(), _GREETING)
+        return _bytes(*self._repository, *self._numbering.lines(), *self._changed(), _GREETING)
+
+    def _changed(self) -> Iterator[str]:
+        return (line for line, _ in self._changes.lines())
 
     def _greet(self, program: Program) -> None:
-        """Has a new program read the repository and the names that it should know."""
+        """Has a new program read the repository, and tells it the names that it should know and the components that came and went."""
         program.send(self._opening())
-        for _ in (*self._numbering.lines(), _GREETING):
+        for wanted in (*("yes" for _ in self._numbering.lines()), *(reply for _, reply in self._changes.lines()), "yes"):
             first = program.line()
             if first.startswith("refused "):
                 raise self._refusal(first)
             if first.startswith("usage: "):
                 raise program.fault()
-            if first != "yes":
+            if first != wanted:
                 raise BadReply(_GREETING, first)
 
     def _refusal(self, line: str) -> RepositoryRefused:

@@ -17,7 +17,7 @@ from typing import TypeVar
 
 from clsynth.errors import SessionClosed
 from clsynth.lint import issue, warnings_of
-from clsynth.queries import Query
+from clsynth.queries import Query, check_keeps
 from clsynth.repository import Repository
 from clsynth.session import Session
 
@@ -84,10 +84,13 @@ class SessionPool:
             self._idle.put(session)
 
     def ask(self, query: Query[Answer], *, timeout: float | None = None) -> Answer:
-        """The answer to a query of the module `queries`, by the session that is free first."""
+        """The answer to a query of the module `queries`, by the session that is free first. It may change no repository: only one of the
+        sessions would have the change."""
+        check_keeps(query)
         with self.session() as session:
             return session.ask(query, timeout=timeout)
 
     def submit(self, query: Query[Answer], *, timeout: float | None = None) -> Future[Answer]:
         """The same, without waiting for it."""
+        check_keeps(query)
         return self._threads.submit(lambda: self.ask(query, timeout=timeout))

@@ -137,6 +137,17 @@ class Survey:
         word = words[0]
         if word in _GOALS:
             self.goals.append(TypedLine(word, "", number, self._type(words, TypeReader(words, 1))))
+        elif word == "add":
+            reader = TypeReader(words, 1)
+            name = reader.name()
+            reader.wants(":")
+            self.components.append(TypedLine("comp", name, number, self._type(words, reader)))
+        elif word == "batch":
+            reader = TypeReader(words, 1)
+            is_open = True
+            while is_open:
+                self.goals.append(TypedLine(word, "", number, self._type(words, reader)))
+                is_open = reader.takes("|")
         elif word == "filtered":
             self.goals.append(TypedLine(word, "", number, self._type(words, TypeReader(words, 2))))
         elif word == "typed":

@@ -16,8 +16,8 @@ from clsynth.tokens import first_word, is_alone, is_skipped, lines_of, text_of
 __all__ = ["Asked", "Exchange", "Fault", "Input", "exchanges", "fault_of", "read_replies"]
 
 _LAST_LINES = {
-    "list": ("more", "done"), "texts": ("more", "done"), "filtered": ("more", "done"), "paths": ("done",), "grammar": ("done",),
-    "audit": ("done",), "certify": ("qed",),
+    "batch": ("done",), "list": ("more", "done"), "texts": ("more", "done"), "filtered": ("more", "done"), "paths": ("done",),
+    "grammar": ("done",), "audit": ("done",), "certify": ("qed",),
 }
 """With which line the reply to a query of several lines ends."""
 

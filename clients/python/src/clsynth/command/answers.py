@@ -11,7 +11,7 @@ from clsynth.transcripts import Asked, Exchange, Fault
 
 __all__ = ["answer_of", "asked_of", "fault_of"]
 
-_WORDS = {"yes": True, "no": False, "inhabited": True, "uninhabited": False}
+_WORDS = {"yes": True, "no": False, "inhabited": True, "uninhabited": False, "added": True, "dropped": True}
 
 
 def asked_of(asked: Asked) -> dict[str, Any]:
@@ -36,6 +36,8 @@ def answer_of(exchange: Exchange) -> Any:
     assert exchange.asked
     lines = [piece.decode() for piece in exchange.pieces]
     match exchange.asked.word:
+        case "batch":
+            return [_WORDS[line] for line in lines[:-1]]
         case "list" | "filtered":
             return {"terms": [line.removeprefix("term ") for line in lines[:-1]], "more": lines[-1] == "more"}
         case "texts":
