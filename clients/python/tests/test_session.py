@@ -36,7 +36,7 @@ class Answers(unittest.TestCase):
 
     def test_several_types_at_once(self) -> None:
         # The closures of A, of B and of omega have a goal each. They have five rules: `x` and `f` of A and of omega, and `any`.
-        asked = ["A", clsynth.constructor("B"), "omega"]
+        asked: list[clsynth.TypeLike] = ["A", clsynth.constructor("B"), "omega"]
         with session(CHAIN, max_goals=3, max_rules=5) as chain:
             self.assertEqual(chain.batch(asked), [True, False, True])
             self.assertEqual(chain.batch(iter(["B"] * 64)), [False] * 64)
